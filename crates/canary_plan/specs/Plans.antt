@@ -1,10 +1,11 @@
 -- Strategies: which are accepted.
-use Rattle.std.specs.Prelude.{ℕ, nat_le, ◌&&◌, not, Bool, true, if◌then◌else◌, List, length, Option, Some, None, Result, Ok, Err, ◌≡◌}
+use Rattle.std.specs.Prelude.{ℕ, nat_le, ◌&&◌, not, Bool, true, List, [], ◌∷◌, length, Option}
 use Rattle.std.specs.List.{list_all}
 use Rattle.canary_plan.specs.declared.plan.Step.{Step}
 use Rattle.canary_plan.specs.declared.plan.Step.TheVariants.{SetWeight, Pause}
 use Rattle.canary_plan.specs.declared.refusal.Refusal.{Refusal}
 use Rattle.canary_plan.specs.declared.refusal.Refusal.TheVariants.{BadStrategy}
+use Rattle.canary_plan.specs.Refusals.{first_that_holds}
 use Rattle.canary_plan.specs.StrategyViews.{StrategyView}
 
 -- a weight is at most 100 percent
@@ -18,7 +19,7 @@ is_strategy steps = nat_le (length steps) 64 && list_all has_weight_in_range ste
 
 -- why a strategy of these steps is refused, if it is
 abbrev pub strategy_refusal : List Step → Option Refusal
-strategy_refusal steps = if is_strategy steps then None else Some BadStrategy
+strategy_refusal steps = first_that_holds ((not (is_strategy steps), BadStrategy) ∷ [])
 
 -- the strategy of these steps
 abbrev pub strategy_of : List Step → StrategyView

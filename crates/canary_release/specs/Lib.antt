@@ -1,0 +1,10 @@
+pub mod Services
+pub mod Courses
+pub mod Entering
+pub mod Passing
+pub mod Commands
+pub mod Replies
+pub mod Desks
+pub mod Shapes
+pub mod KeptServices
+pub mod KeptDecisions

@@ -1,0 +1,72 @@
+-- Passing time: a chain of moves.
+use Rattle.std.specs.Prelude.{◌≡◌, ℕ, zero, suc, ◌+◌, ◌-◌, ◌≤◌, nat_le, Bool, true, false, IsTrue, if◌then◌else◌, length, Option, Some, None, max}
+use Rattle.canary_plan.specs.declared.plan.Step.{Step}
+use Rattle.canary_plan.specs.declared.plan.Step.TheVariants.{SetWeight, Pause}
+use Rattle.canary_release.specs.Services.{ModelService, is_going, step_of}
+use Rattle.canary_release.specs.Courses.{Course, with_service}
+use Rattle.canary_release.specs.Entering.{enter}
+
+-- only a release in progress moves
+abbrev pub is_free : ModelService → Bool
+is_free s = is_going s.state
+
+-- the moment at which a step that was entered at one moves by time, or none
+abbrev pub leaves_at : Option Step → ℕ → Option ℕ
+leaves_at (Some (SetWeight percent)) entered = Some entered
+leaves_at (Some Pause) entered = None
+leaves_at None entered = None
+
+-- a move at moment e: the next step is entered when the present one leaves
+abbrev pub Moves : Course → ℕ → Course → Type 0
+Moves c e next = IsTrue (is_free c.service) × (leaves_at (step_of c.service) c.service.entered ≡ Some e) × (next ≡ enter c (c.service.step + 1) e)
+
+-- so many moves with moments at most t lead from one to the other
+abbrev pub Chain : ℕ → ℕ → Course → Course → Type 0
+Chain zero t c end' = end' ≡ c
+Chain (suc n) t c end' = (e : ℕ) × (next : Course) × Moves c e next × (e ≤ t) × Chain n t next end'
+
+-- no further move with a moment at most t
+abbrev pub IsAtRest : ℕ → Course → Type 0
+IsAtRest t c = (e : ℕ) (next : Course) → Moves c e next → e ≤ t → ⊥
+
+abbrev pub with_last : Course → ℕ → Course
+with_last c t = with_service c (record c.service { last = t })
+
+-- the later of the moment and the service's last
+abbrev pub judged_at : ModelService → ℕ → ℕ
+judged_at s t = max t s.last
+
+-- passed to t: the end of the longest chain of moves up to the later of t and the last moment
+abbrev pub Passes : Course → ℕ → Course → Type 0
+Passes c t passed =
+    let at = judged_at c.service t in
+    (n : ℕ) × (end' : Course) × Chain n at c end' × IsAtRest at end' × (passed ≡ with_last end' at)
+
+-- The same, computed.
+
+-- the moment of the next move, or none
+abbrev pub next_move : ModelService → Option ℕ
+next_move s = if is_free s then leaves_at (step_of s) s.entered else None
+
+abbrev pub is_by : ℕ → Option ℕ → Bool
+is_by t None = false
+is_by t (Some e) = nat_le e t
+
+abbrev pub move_at : Course → Option ℕ → Course
+move_at c None = c
+move_at c (Some e) = enter c (c.service.step + 1) e
+
+-- at most so many moves with moments at most t
+abbrev pub chain_end : ℕ → ℕ → Course → Course
+chain_end zero t c = c
+chain_end (suc n) t c = elim (is_by t (next_move c.service)) [ true ↦ chain_end n t (move_at c (next_move c.service)) | false ↦ c ]
+
+-- passed to t; each move raises the step, so there are no more moves than steps
+abbrev pub pass : Course → ℕ → Course
+pass c t =
+    let at = judged_at c.service t in
+    with_last (chain_end (length c.service.strategy.steps - c.service.step) at c) at
+
+-- the law that joins them, at each service that stands on a step or after the last: there is a longest chain, it is the only one, and the computed one is it
+abbrev pub PassesAsComputed : Type 0
+PassesAsComputed = (c : Course) (t : ℕ) → c.service.step ≤ length c.service.strategy.steps → Passes c t (pass c t) × ((p : Course) → Passes c t p → p ≡ pass c t)

@@ -1,0 +1,31 @@
+-- The exact bytes of replies.
+use Rattle.std.specs.Prelude.{ℕ, List, [], ◌∷◌, ◌++◌, codes, decimal}
+use Rattle.canary_plan.specs.declared.refusal.Refusal.{Refusal}
+use Rattle.canary_plan.specs.Refusals.{code_of}
+use Rattle.canary_release.specs.declared.service.Status.{Status}
+use Rattle.canary_release.specs.declared.service.Status.TheVariants.{Healthy, Paused, Progressing}
+use Rattle.canary_release.specs.declared.reply.Reply.{Reply}
+use Rattle.canary_release.specs.Services.{ModelService, status, weight}
+
+abbrev pub status_text : Status → List ℕ
+status_text Healthy = codes "Healthy"
+status_text Paused = codes "Paused"
+status_text Progressing = codes "Progressing"
+
+-- {"code":"ok","service":NAME,"status":STATUS,"step":STEP,"weight":WEIGHT}
+abbrev pub shown_as : List ℕ → Status → ℕ → ℕ → Reply
+shown_as name status step weight =
+    record {
+      status = 200;
+      body = codes "{\"code\":\"ok\",\"service\":\"" ++ (name ++ (codes "\",\"status\":\"" ++ (status_text status ++ (codes "\",\"step\":" ++ (decimal step ++ (codes ",\"weight\":" ++ (decimal weight ++ codes "}")))))));
+    }
+
+abbrev pub shown : ModelService → Reply
+shown s = shown_as s.made.name (status s) s.step (weight s)
+
+-- {"code":CODE}
+abbrev pub code_alone : List ℕ → List ℕ
+code_alone code = codes "{\"code\":\"" ++ (code ++ codes "\"}")
+
+abbrev pub refused : Refusal → Reply
+refused refusal = record { status = 422; body = code_alone (code_of refusal) }

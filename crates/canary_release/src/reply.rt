@@ -1,0 +1,61 @@
+//! Replies to settled requests.
+ghost use Rattle.std.specs.Prelude.{◌≡◌, IfOk};
+ghost use Rattle.canary_release.specs.Replies.{shown_as, refused};
+
+use crate::service::Status;
+use canary_base::error::Memory;
+use canary_base::lists::Text;
+use canary_base::names::Name;
+use canary_plan::refusal::Refusal;
+use std::alloc::Global;
+
+/// The reply to a settled request: a status of HTTP, 200 or 422, and a body of JSON.
+#[derive(Drop)]
+pub struct Reply {
+    pub status: u16,
+    pub body: Text,
+}
+
+impl Reply {
+    /// A copy of it.
+    pub fn copy(&self, alloc: Global) -> Result<Reply, Memory>
+        ensures { IfOk result (λ copy. copy ≡ self.now) }
+    {
+        Ok(Reply {
+            status: self.status,
+            body: self.body.copy(alloc)?,
+        })
+    }
+
+    /// The reply that shows a service.
+    pub(crate) fn shows(
+        alloc: Global,
+        name: Name,
+        status: Status,
+        step: u32,
+        weight: u32,
+    ) -> Result<Reply, Memory>
+        ensures { IfOk result (λ reply. reply ≡ shown_as name status step weight) }
+    {
+        let status = status.text();
+        let body = format!(in alloc;
+            "{{\"code\":\"ok\",\"service\":\"{name}\",\"status\":\"{status}\",\"step\":{step},\"weight\":{weight}}}"
+        )?;
+        Ok(Reply {
+            status: 200,
+            body: Text::of(body),
+        })
+    }
+
+    /// The reply that refuses a command.
+    pub(crate) fn refuses(alloc: Global, refusal: Refusal) -> Result<Reply, Memory>
+        ensures { IfOk result (λ reply. reply ≡ refused refusal) }
+    {
+        let code = refusal.code();
+        let body = format!(in alloc; "{{\"code\":\"{code}\"}}")?;
+        Ok(Reply {
+            status: 422,
+            body: Text::of(body),
+        })
+    }
+}
