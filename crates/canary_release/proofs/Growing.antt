@@ -1,6 +1,7 @@
 -- A course of a service keeps the command that made it, and its history grows by the effects.
 use Rattle.std.proofs.Common.{◌≡◌, ℕ, zero, suc, ◌+◌, ◌-◌, List, [], ◌∷◌, ◌++◌, refl, ap, sym, ◌∙◌, append_assoc, append-nil}
 use Rattle.std.specs.Prelude.{true, false, if◌then◌else◌, Option, Some, None, ◌==◌, length, slice_get}
+use Rattle.canary_plan.specs.declared.plan.ServiceSpec.{ServiceSpec}
 use Rattle.canary_plan.specs.declared.plan.Step.{Step}
 use Rattle.canary_plan.specs.declared.plan.Step.TheVariants.{SetWeight, Pause}
 use Rattle.canary_plan.specs.declared.line.Line.{Line}
@@ -72,4 +73,6 @@ grows_promote m c t g = grows_enter m (tell c t Promoted) (c.service.step + 1) t
 
 -- the service that the code's change makes is the course's
 pub updated_is : (m : ModelService) (c : Course) → Grows m c → updated m (shape c.service) c.effects ≡ c.service
-updated_is m c g = λ i. record c.service { made = sym g.made i; history = sym g.history i }
+updated_is m c g =
+    let made : ◌≡◌ {A = ServiceSpec} (record m.made { name = c.service.made.name }) c.service.made = ap (λ (spec : ServiceSpec). record spec { name = c.service.made.name }) (sym g.made) in
+    λ i. record c.service { made = made i; history = sym g.history i }

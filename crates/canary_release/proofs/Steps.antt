@@ -27,12 +27,12 @@ use Rattle.canary_release.proofs.Growing.{Grows, updated_is, grows_pass, grows_p
 
 -- a decision stands for a ruling on a desk
 abbrev Stands : Desk → Command → Ruling → Decision → Type 0
-Stands desk command r d = (changed desk command d.change ≡ desk_after desk (subject_of command) r.change) × (d.reply ≡ r.reply)
+Stands desk command r d = (changed desk (subject_of command) d.change ≡ desk_after desk (subject_of command) r.change) × (d.reply ≡ r.reply)
 
 -- a service that is there and changes
 shown_stands : (desk : Desk) (command : Command) (m : ModelService) (c : Course) → get desk.services (subject_of command) ≡ Some m → Grows m c → Stands desk command (shows c) (kept_shows (draft_of c))
 shown_stands desk command m c found g = (
-  ap (λ (o : Option ModelService). put_updated desk (subject_of command) (before o command (shape c.service)) (shape c.service) c.effects) found
+  ap (λ (o : Option ModelService). put_updated desk (subject_of command) (before o (shape c.service)) (shape c.service) c.effects) found
       ∙ ap (λ (s : ModelService). let d : Desk = record desk { services = insert desk.services (subject_of command) s } in d) (updated_is m c g),
   refl,
 )
@@ -68,7 +68,7 @@ new_stands : (desk : Desk) (spec : ServiceSpec) (now : ℕ) (o : Option Refusal)
     → Stands desk (AddService spec) (rule_service None spec now) (decide_new spec now)
 new_stands desk spec now None none e =
     let c : Course = tell (course_of (new_service spec now)) now (Created spec.version) in
-    rw e (ap (λ (o : Option ModelService). put_updated desk spec.name (before o (AddService spec) (shape c.service)) (shape c.service) c.effects) none, refl)
+    rw e (ap (λ (o : Option ModelService). put_updated desk spec.name (before o (shape c.service)) (shape c.service) c.effects) none, refl)
 new_stands desk spec now (Some refusal) none e = rw e (refl, refl)
 
 adds : (desk : Desk) (spec : ServiceSpec) (now : ℕ) (g : Option ModelService) → get desk.services spec.name ≡ g → Stands desk (AddService spec) (rule_service g spec now) (decision_of (option_map shape g) now (AddService spec))

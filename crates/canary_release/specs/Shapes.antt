@@ -1,9 +1,7 @@
 -- What the code keeps of a service of the model, and when its answers are the model's.
 use Rattle.std.specs.Prelude.{◌≡◌, ℕ, ◌++◌, List, [], Option, Some, None, option_map}
 use Rattle.std.specs.FinMap.{get, insert}
-use Rattle.canary_plan.specs.declared.plan.ServiceSpec.{ServiceSpec}
 use Rattle.canary_plan.specs.declared.command.Command.{Command}
-use Rattle.canary_plan.specs.declared.command.Command.TheVariants.{Service as AddService}
 use Rattle.canary_plan.specs.Commands.{subject_of}
 use Rattle.canary_release.specs.declared.service.ServiceParts.{ServiceParts}
 use Rattle.canary_release.specs.declared.service.Effects.{Effects}
@@ -40,25 +38,11 @@ IsPassing s t p = (m : ModelService) → s ≡ shape m → p ≡ shape_of_course
 
 -- The model's service after a change that the code says.
 
--- the fields are the service's, and the history grows by the effects
-abbrev pub updated : ModelService → ServiceParts → Effects → ModelService
-updated m s effects =
-    record m {
-      strategy = s.strategy;
-      stable = s.stable;
-      version = s.version;
-      state = s.state;
-      step = s.step;
-      entered = s.entered;
-      last = s.last;
-      history = m.history ++ effects.lines;
-    }
-
--- a service that isn't there yet, with nothing recorded
-abbrev pub blank : ServiceSpec → ServiceParts → ModelService
-blank spec s =
+-- a service that isn't there yet, as its parts say that it was made, with nothing recorded
+abbrev pub blank : ServiceParts → ModelService
+blank s =
     record {
-      made = spec;
+      made = record { name = s.name; version = s.version; steps = s.strategy.steps };
       strategy = s.strategy;
       stable = s.stable;
       version = s.version;
@@ -69,20 +53,33 @@ blank spec s =
       history = [];
     }
 
--- the service before a change: as it stands, or blank by the command that makes it
-abbrev pub before : Option ModelService → Command → ServiceParts → Option ModelService
-before (Some m) command s = Some m
-before None (AddService spec) s = Some (blank spec s)
-before None command s = None
+-- the service before a change: as it stands, or blank
+abbrev pub before : Option ModelService → ServiceParts → ModelService
+before (Some m) s = m
+before None s = blank s
 
-abbrev pub put_updated : Desk → List ℕ → Option ModelService → ServiceParts → Effects → Desk
-put_updated desk name None s effects = desk
-put_updated desk name (Some m) s effects = record desk { services = insert desk.services name (updated m s effects) }
+-- the fields are those of the parts, and the history grows by the effects
+abbrev pub updated : ModelService → ServiceParts → Effects → ModelService
+updated m s effects =
+    record {
+      made = record m.made { name = s.name };
+      strategy = s.strategy;
+      stable = s.stable;
+      version = s.version;
+      state = s.state;
+      step = s.step;
+      entered = s.entered;
+      last = s.last;
+      history = m.history ++ effects.lines;
+    }
 
--- the desk with a change that a command brings
-abbrev pub changed : Desk → Command → DeskChange → Desk
-changed desk command Nothing = desk
-changed desk command (Updates s effects) = put_updated desk (subject_of command) (before (get desk.services (subject_of command)) command s) s effects
+abbrev pub put_updated : Desk → List ℕ → ModelService → ServiceParts → Effects → Desk
+put_updated desk name m s effects = record desk { services = insert desk.services name (updated m s effects) }
+
+-- the desk with a change of the service of that name
+abbrev pub changed : Desk → List ℕ → DeskChange → Desk
+changed desk name Nothing = desk
+changed desk name (Updates s effects) = put_updated desk name (before (get desk.services name) s) s effects
 
 -- what the code keeps of the service of that name, or none
 abbrev pub seen : Desk → List ℕ → Option ServiceParts
@@ -90,5 +87,5 @@ seen desk name = option_map shape (get desk.services name)
 
 -- the decision is the machine's step: the desk with its change is the desk after the command, and its reply is the command's
 pub record IsStep (desk : Desk) (now : ℕ) (command : Command) (d : Decision) : Type 0 where
-  pub desk_after : changed desk command d.change ≡ (apply desk now command).desk
+  pub desk_after : changed desk (subject_of command) d.change ≡ (apply desk now command).desk
   pub reply : d.reply ≡ (apply desk now command).reply

@@ -1,0 +1,112 @@
+-- What a list of settled requests contains, one after another.
+use Rattle.std.proofs.Common.{◌≡◌, ℕ, zero, suc, ◌+◌, ◌-◌, ◌≤◌, ◌<◌, List, [], ◌∷◌, ◌++◌, length, take, get_or, Bool, true, false, Some, None, refl, sym, ap, ◌∙◌, subst, arith, add-zero, true≢false}
+use Rattle.std.specs.Prelude.{Option, if◌then◌else◌, ◌==◌, ◌&&◌, unwrap_or, slice_get, cond, option_map}
+use Rattle.std.specs.Ordering.{nat_cmp}
+use Rattle.std.specs.Cmp.Lexicographic.{slice_cmp, nat_list_cmp_total}
+use Rattle.std.specs.Str.{bytes_eq}
+use Rattle.std.specs.FinMap.{get, insert, get-insert, get-empty}
+use Rattle.std.proofs.lemmas.Map.Text.{is_eq-slice_cmp}
+use Rattle.std.proofs.lemmas.Slice.Eq.{bytes_eq-Decides}
+use Rattle.std.proofs.lemmas.Bool.Decides.{Decides-eqb}
+use Rattle.std.proofs.lemmas.List.{take_more}
+use Rattle.canary_plan.specs.declared.command.Command.{Command}
+use Rattle.canary_plan.specs.declared.command.Command.TheVariants.{Service as AddService, Start, Promote}
+use Rattle.canary_plan.specs.Commands.{subject_of}
+use Rattle.canary_release.specs.declared.decide.DeskChange.{DeskChange}
+use Rattle.canary_release.specs.declared.decide.DeskChange.TheVariants.{Nothing, Service as Updates}
+use Rattle.canary_release.specs.declared.service.ServiceParts.{ServiceParts}
+use Rattle.canary_release.specs.declared.service.Effects.{Effects}
+use Rattle.canary_release.specs.Services.{ModelService}
+use Rattle.canary_release.specs.Desks.{Desk, ruling_on, desk_after}
+use Rattle.canary_release.specs.Shapes.{shape, updated, before, put_updated, changed, seen}
+use Rattle.canary_once.specs.declared.book.Change.{Change}
+use Rattle.canary_once.specs.declared.book.Kept.{Kept}
+use Rattle.canary_once.specs.Contents.{Contents, no_contents, committed, count_of, kept_of, kept_at, IsSettling}
+use Rattle.canary_once.specs.Logs.{committed_all, AreSettling, changed_service}
+use Rattle.canary_once.proofs.Events.{list_at, got, one_kept}
+
+pub committed-push : (c : Contents) (log : List Change) (x : Change) → committed_all c (log ++ x ∷ []) ≡ committed (committed_all c log) x
+committed-push c [] x = refl
+committed-push c (y ∷ log) x = committed-push (committed c y) log x
+
+pub sound-push : (c : Contents) (log : List Change) (x : Change) → AreSettling c log → IsSettling (committed_all c log) x → AreSettling c (log ++ x ∷ [])
+sound-push c [] x all one = (one, tt)
+sound-push c (y ∷ log) x all one = (all.0, sound-push (committed c y) log x all.1 one)
+
+pub sound-at : (c : Contents) (log : List Change) (i : ℕ) (x : Change) → AreSettling c log → i < length log → x ≡ get_or log i x → IsSettling (committed_all c (take i log)) x
+sound-at c [] i x all lt at = absurd (omega arith)
+sound-at c (y ∷ log) zero x all lt at = subst (IsSettling c) (sym at) all.0
+sound-at c (y ∷ log) (suc i) x all lt at = sound-at (committed c y) log i x all.1 (omega arith) at
+
+-- nothing at first
+pub none_settled : (q : List ℕ) → count_of no_contents q ≡ 0
+none_settled q = ap (λ (o : Option (List Kept)). length (unwrap_or o [])) (get-empty (slice_cmp nat_cmp) q)
+
+pub none_kept : (q : List ℕ) (n : ℕ) → kept_at no_contents q n ≡ None
+none_kept q n = ap (λ (o : Option (List Kept)). slice_get (unwrap_or o []) (n - 1)) (get-empty (slice_cmp nat_cmp) q)
+
+pub none_seen : (q : List ℕ) → None ≡ seen no_contents.desk q
+none_seen q = ap (option_map shape) (sym (get-empty (slice_cmp nat_cmp) q))
+
+-- the last number of a caller
+last_number : (c : Contents) (x : Change) (q : List ℕ) (b : Bool) → bytes_eq q x.caller ≡ b → IsSettling c x → count_of c q + cond b 1 0 ≡ (if b then x.number else count_of c q)
+last_number c x q true e sound = let same : q ≡ x.caller = (bytes_eq-Decides q x.caller).0 e in ap (λ (n : List ℕ). count_of c n + 1) same ∙ sym sound.number
+last_number c x q false e sound = add-zero _
+
+count-step : (c : Contents) (x : Change) (q : List ℕ) → IsSettling c x → count_of (committed c x) q ≡ (if bytes_eq q x.caller then x.number else count_of c q)
+count-step c x q sound = ap length (got c.callers x.caller q x.kept) ∙ one_kept c.callers x.caller q x.kept (bytes_eq q x.caller) refl ∙ last_number c x q (bytes_eq q x.caller) refl sound
+
+-- what is kept
+at_last : (kept : List Kept) (k : Kept) → slice_get (kept ++ k ∷ []) (length kept) ≡ Some k
+at_last [] k = refl
+at_last (x ∷ kept) k = at_last kept k
+
+at_other : (kept : List Kept) (k : Kept) (i : ℕ) → (i ≡ length kept → ⊥) → slice_get (kept ++ k ∷ []) i ≡ slice_get kept i
+at_other [] k zero apart = absurd (apart refl)
+at_other [] k (suc i) apart = refl
+at_other (x ∷ kept) k zero apart = refl
+at_other (x ∷ kept) k (suc i) apart = at_other kept k i (λ e. apart (ap suc e))
+
+place : (kept : List Kept) (k : Kept) (number n : ℕ) (b : Bool) → (number == n) ≡ b → number ≡ length kept + 1 → 1 ≤ n → slice_get (kept ++ k ∷ []) (n - 1) ≡ (if b then Some k else slice_get kept (n - 1))
+place kept k number n true e last h =
+    let same : number ≡ n = (Decides-eqb number n).0 e in
+    let i : n - 1 ≡ length kept = omega arith in
+    ap (slice_get (kept ++ k ∷ [])) i ∙ at_last kept k
+place kept k number n false e last h = at_other kept k (n - 1) (λ i. let same : number ≡ n = omega arith in true≢false (sym ((Decides-eqb number n).1 same) ∙ e))
+
+kept_place : (c : Contents) (x : Change) (q : List ℕ) (n : ℕ) (b : Bool) → bytes_eq q x.caller ≡ b → IsSettling c x → 1 ≤ n → slice_get (unwrap_or (cond b (Some (list_at c.callers x.caller ++ x.kept ∷ [])) (get c.callers q)) []) (n - 1) ≡ (if b && (x.number == n) then Some x.kept else kept_at c q n)
+kept_place c x q n true e sound h =
+    let same : q ≡ x.caller = (bytes_eq-Decides q x.caller).0 e in
+    place (list_at c.callers x.caller) x.kept x.number n (x.number == n) refl sound.number h ∙ ap (λ (p : List ℕ). if x.number == n then Some x.kept else kept_at c p n) (sym same)
+kept_place c x q n false e sound h = refl
+
+kept-step : (c : Contents) (x : Change) (q : List ℕ) (n : ℕ) → IsSettling c x → 1 ≤ n → kept_at (committed c x) q n ≡ (if bytes_eq q x.caller && (x.number == n) then Some x.kept else kept_at c q n)
+kept-step c x q n sound h = ap (λ (l : List Kept). slice_get l (n - 1)) (got c.callers x.caller q x.kept) ∙ kept_place c x q n (bytes_eq q x.caller) refl sound h
+
+-- the service of a name
+put_seen : (desk : Desk) (name subject : List ℕ) (m : ModelService) (o : Option ModelService) (b : Bool) → get (let d : Desk = record desk { services = insert desk.services subject m } in d).services name ≡ cond b (Some m) o
+    → seen (let d : Desk = record desk { services = insert desk.services subject m } in d) name ≡ (if b then Some (shape m) else option_map shape o)
+put_seen desk name subject m o true at = ap (option_map shape) at
+put_seen desk name subject m o false at = ap (option_map shape) at
+
+seen-step : (desk : Desk) (subject : List ℕ) (change : DeskChange) (name : List ℕ) → seen (changed desk subject change) name ≡ changed_service (seen desk name) subject change name
+seen-step desk subject Nothing name = refl
+seen-step desk subject (Updates s effects) name =
+    let m : ModelService = updated (before (get desk.services subject) s) s effects in
+    put_seen desk name subject m (get desk.services name) (bytes_eq name subject) (get-insert nat_list_cmp_total desk.services subject m name ∙ ap (λ b. cond b (Some m) (get desk.services name)) (is_eq-slice_cmp name subject))
+
+-- the steps of the loops that go over a log
+so_far : (log : List Change) (i : ℕ) (x : Change) → i < length log → x ≡ get_or log i x → committed_all no_contents (take (i + 1) log) ≡ committed (committed_all no_contents (take i log)) x
+so_far log i x lt at = ap (committed_all no_contents) (take_more log i x lt ∙ ap (λ (y : Change). take i log ++ y ∷ []) (sym at)) ∙ committed-push no_contents (take i log) x
+
+pub count_more : (log : List Change) (i : ℕ) (x : Change) (q : List ℕ) (last next : ℕ) → AreSettling no_contents log → i < length log → x ≡ get_or log i x → last ≡ count_of (committed_all no_contents (take i log)) q → next ≡ (if bytes_eq q x.caller then x.number else last) → next ≡ count_of (committed_all no_contents (take (i + 1) log)) q
+count_more log i x q last next sound lt at is so =
+    so ∙ ap (λ n. if bytes_eq q x.caller then x.number else n) is ∙ sym (ap (λ (c : Contents). count_of c q) (so_far log i x lt at) ∙ count-step _ x q (sound-at no_contents log i x sound lt at))
+
+pub kept_more : (log : List Change) (i : ℕ) (x : Change) (q : List ℕ) (n : ℕ) (found next : Option Kept) → AreSettling no_contents log → i < length log → x ≡ get_or log i x → 1 ≤ n → found ≡ kept_at (committed_all no_contents (take i log)) q n → next ≡ (if bytes_eq q x.caller && (x.number == n) then Some x.kept else found) → next ≡ kept_at (committed_all no_contents (take (i + 1) log)) q n
+kept_more log i x q n found next sound lt at h is so =
+    so ∙ ap (λ (o : Option Kept). if bytes_eq q x.caller && (x.number == n) then Some x.kept else o) is ∙ sym (ap (λ (c : Contents). kept_at c q n) (so_far log i x lt at) ∙ kept-step _ x q n (sound-at no_contents log i x sound lt at) h)
+
+pub seen_more : (log : List Change) (i : ℕ) (x : Change) (name : List ℕ) (found next : Option ServiceParts) → i < length log → x ≡ get_or log i x → found ≡ seen (committed_all no_contents (take i log)).desk name → next ≡ changed_service found (subject_of x.kept.command) x.desk name → next ≡ seen (committed_all no_contents (take (i + 1) log)).desk name
+seen_more log i x name found next lt at is so =
+    so ∙ ap (λ (o : Option ServiceParts). changed_service o (subject_of x.kept.command) x.desk name) is ∙ sym (ap (λ (c : Contents). seen c.desk name) (so_far log i x lt at) ∙ seen-step (committed_all no_contents (take i log)).desk (subject_of x.kept.command) x.desk name)

@@ -1,0 +1,117 @@
+-- Once and in order: the answers to a list of events, and the contents after them, by the small machine on the settled requests alone, each once.
+use Rattle.std.specs.Prelude.{◌≡◌, ℕ, ◌+◌, ◌==◌, nat_lt, Bool, if◌then◌else◌, List, [], ◌∷◌, ◌++◌, length, map, filter, Option, Some, None, codes, decimal}
+use Rattle.std.specs.Ordering.{nat_cmp}
+use Rattle.std.specs.Cmp.Lexicographic.{slice_cmp}
+use Rattle.std.specs.Str.{bytes_eq}
+use Rattle.std.specs.FinMap.{FinMap}
+use Rattle.canary_plan.specs.declared.command.Command.{Command}
+use Rattle.canary_plan.specs.Commands.{same_command}
+use Rattle.canary_release.specs.declared.reply.Reply.{Reply}
+use Rattle.canary_release.specs.Replies.{code_alone}
+use Rattle.canary_release.specs.Desks.{apply, machine}
+use Rattle.canary_once.specs.declared.book.Kept.{Kept}
+use Rattle.canary_once.specs.declared.event.Request.{Request}
+use Rattle.canary_once.specs.declared.event.Event.{Event}
+use Rattle.canary_once.specs.declared.event.Event.TheVariants.{Request as RequestEvent}
+use Rattle.canary_once.specs.declared.event.Answer.{Answer}
+use Rattle.canary_once.specs.declared.event.Answer.TheVariants.{Told, Unavailable}
+use Rattle.canary_once.specs.Contents.{Contents, count_of, kept_at, keep}
+
+-- the requests of events, in order
+abbrev pub requests_of : List Event → List Request
+requests_of [] = []
+requests_of (RequestEvent r ∷ es) = r ∷ requests_of es
+
+-- New, repeat, ahead.
+
+abbrev pub is_of : List ℕ → Request → Bool
+is_of caller r = bytes_eq caller r.caller
+
+-- the number that a caller's next new request has, after these new requests
+abbrev pub next_number : Contents → List Request → List ℕ → ℕ
+next_number c news caller = count_of c caller + length (filter (is_of caller) news) + 1
+
+-- a request is new where it has that number; a repeat has a lower one, and one ahead a higher one
+abbrev pub is_new : Contents → List Request → Request → Bool
+is_new c news r = r.number == next_number c news r.caller
+
+-- those that are new, after those new ones
+abbrev pub news_after : Contents → List Request → List Request → List Request
+news_after c news [] = news
+news_after c news (r ∷ rs) = news_after c (if is_new c news r then news ++ r ∷ [] else news) rs
+
+-- the new requests of events, in order
+abbrev pub news_of : Contents → List Event → List Request
+news_of c es = news_after c [] (requests_of es)
+
+-- callers and numbers dropped
+abbrev pub bare : Request → ℕ × Command
+bare r = (r.moment, r.command)
+
+-- the settled requests: the new ones, refused or not, with their moments
+abbrev pub settled : Contents → List Event → List (ℕ × Command)
+settled c es = map bare (news_of c es)
+
+-- Contents after events.
+
+abbrev pub kept_as : Request → Reply → Kept
+kept_as r reply = record { command = r.command; reply = reply }
+
+-- each new request is kept with its reply, under its caller
+abbrev pub keep_all : FinMap (slice_cmp nat_cmp) (List Kept) → List Request → List Reply → FinMap (slice_cmp nat_cmp) (List Kept)
+keep_all callers [] replies = callers
+keep_all callers (r ∷ rs) [] = callers
+keep_all callers (r ∷ rs) (reply ∷ replies) = keep_all (keep callers r.caller (kept_as r reply)) rs replies
+
+abbrev pub after : Contents → List Event → Contents
+after c es =
+    let run = machine c.desk (settled c es) in
+    record { callers = keep_all c.callers (news_of c es) run.replies; desk = run.desk }
+
+-- Answers.
+
+-- {"code":"reused"}
+abbrev pub reused : Reply
+reused = record { status = 409; body = code_alone (codes "reused") }
+
+-- {"code":"ahead","expected":NUMBER}
+abbrev pub ahead : ℕ → Reply
+ahead expected = record { status = 409; body = codes "{\"code\":\"ahead\",\"expected\":" ++ (decimal expected ++ codes "}") }
+
+-- a repeat gets what is kept under its number, if it is the same command
+abbrev pub repeated : Option Kept → Command → Reply
+repeated None command = reused
+repeated (Some kept) command = if same_command kept.command command then kept.reply else reused
+
+-- the reply to a request, after these events: the machine's where it is new; what is kept where it is a repeat; else that it is ahead
+abbrev pub answer_request : Contents → List Event → Request → Reply
+answer_request c before r =
+    let next = next_number c (news_of c before) r.caller in
+    if r.number == next
+    then (apply (machine c.desk (settled c before)).desk r.moment r.command).reply
+    else (if nat_lt r.number next then repeated (kept_at (after c before) r.caller r.number) r.command else ahead next)
+
+-- the reply to an event, after these
+abbrev pub answer : Contents → List Event → Event → Reply
+answer c before (RequestEvent r) = answer_request c before r
+
+-- the replies to events in order, after these
+abbrev pub answers_after : Contents → List Event → List Event → List Reply
+answers_after c before [] = []
+answers_after c before (e ∷ es) = answer c before e ∷ answers_after c (before ++ e ∷ []) es
+
+abbrev pub answers_of : Contents → List Event → List Reply
+answers_of c es = answers_after c [] es
+
+-- Events that were answered otherwise than by a 503, and their replies.
+
+abbrev pub heard : List Event → List Answer → List Event
+heard [] answers = []
+heard (e ∷ es) [] = []
+heard (e ∷ es) (Told reply ∷ answers) = e ∷ heard es answers
+heard (e ∷ es) (Unavailable fault ∷ answers) = heard es answers
+
+abbrev pub told : List Answer → List Reply
+told [] = []
+told (Told reply ∷ answers) = reply ∷ told answers
+told (Unavailable fault ∷ answers) = told answers

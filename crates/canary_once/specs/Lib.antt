@@ -1,0 +1,6 @@
+pub mod Contents
+pub mod Ticks
+pub mod AnswerTexts
+pub mod Answers
+pub mod Single
+pub mod Logs

@@ -1,0 +1,66 @@
+//! Clocks.
+ghost use Rattle.std.specs.Prelude.{◌≡◌, ◌+◌, ◌≤◌, min};
+
+use canary_base::moments::{LAST_MOMENT, Moment};
+use std::marker::Model;
+
+/// A clock, which is asked once for each message.
+pub trait Clock {
+    ghost use Rattle.std.specs.Prelude.{◌≡◌, ℕ, ◌+◌};
+    ghost use Rattle.canary_base.specs.declared.moments.Moment.{Moment};
+
+    /// It tells these moments, one after another: its k-th coming moment is that at k - 1.
+    ghost tells: { Self → (ℕ → Moment) → Type 0 };
+
+    /// The first coming moment; each other moves up by one.
+    fn now(&mut self) -> Moment
+        ensures told { (told : ℕ → Moment) → tells self.old told → (result ≡ told 0) × tells self.new (λ k. told (k + 1)) };
+}
+
+/// A clock that tells `at`, `at + step` and so on, each at most the greatest moment. Contracts see
+/// it as its next moment and its step, in seconds.
+#[derive(Clone, Copy, Debug)]
+pub struct StepClock {
+    at: Moment,
+    step: Moment,
+}
+
+impl Model for StepClock {
+    ghost use Rattle.std.specs.Prelude.{ℕ};
+
+    ghost Value = { ℕ × ℕ };
+
+    ghost view = { λ c. (c.at, c.step) };
+
+    ghost inverse = { λ v. record { at = v.0; step = v.1 } };
+}
+
+impl StepClock {
+    /// A clock whose first moment is `at`, and each next one `step` seconds later.
+    pub fn new(at: Moment, step: Moment) -> StepClock
+        ensures { result ≡ (at, step) }
+    {
+        StepClock { at, step }
+    }
+}
+
+impl Clock for StepClock {
+    ghost use Rattle.canary_once.specs.Ticks.{TellsSteps};
+
+    ghost tells = { λ c told. TellsSteps c.0 c.1 told };
+
+    fn now(&mut self) -> Moment {
+        let now = self.at;
+        self.at = later(now, self.step);
+        now
+    }
+}
+
+// So many seconds later, at most the greatest moment.
+fn later(at: Moment, step: Moment) -> Moment
+    ensures value { result ≡ min (at + step) LAST_MOMENT }
+    ensures limit { at ≤ LAST_MOMENT }
+{
+    let seconds = (at.get() + step.get()).min(LAST_MOMENT);
+    Moment::new(seconds).unwrap()
+}

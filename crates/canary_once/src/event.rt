@@ -1,0 +1,55 @@
+//! Requests as they arrive, and their answers.
+ghost use Rattle.std.specs.Prelude.{◌≡◌};
+ghost use Rattle.canary_once.specs.AnswerTexts.{status_of, body_of};
+
+use crate::book::BookFault;
+use canary_base::moments::Moment;
+use canary_base::names::Name;
+use canary_base::numbers::Number;
+use canary_plan::command::Command;
+use canary_release::reply::Reply;
+
+/// A request as it arrives: when, from whom, under which number, and what it asks.
+#[derive(Drop)]
+pub struct Request {
+    pub moment: Moment,
+    pub caller: Name,
+    pub number: Number,
+    pub command: Command,
+}
+
+/// What arrives at the desk.
+#[derive(Drop)]
+pub enum Event {
+    Request(Request),
+}
+
+/// The answer to an event: a reply, or 503 where the book had no memory or its store failed.
+#[derive(Drop)]
+pub enum Answer {
+    Told(Reply),
+    Unavailable(BookFault),
+}
+
+impl Answer {
+    /// Its status of HTTP (RFC 9110): the reply's, or 503.
+    pub fn status(&self) -> u16
+        ensures { result ≡ status_of self.now }
+    {
+        match self {
+            Answer::Told(reply) => reply.status,
+            Answer::Unavailable(_) => 503,
+        }
+    }
+
+    /// Its body of JSON: the reply's, or `{"code":"no-memory"}` or `{"code":"storage"}`.
+    pub fn body(&self) -> &str
+        ensures { result.now ≡ body_of self.now }
+    {
+        match self {
+            Answer::Told(reply) => reply.body.as_str(),
+            Answer::Unavailable(BookFault::Memory) => "{\"code\":\"no-memory\"}",
+            Answer::Unavailable(BookFault::Storage) => "{\"code\":\"storage\"}",
+        }
+    }
+}
