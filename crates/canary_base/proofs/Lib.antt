@@ -1,2 +1,4 @@
 pub mod Ascii
+pub mod DurationLemmas
 pub mod NumberLemmas
+pub mod Options

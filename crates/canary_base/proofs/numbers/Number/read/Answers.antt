@@ -1,7 +1,8 @@
 use Rattle.std.proofs.Common.{◌≡◌, Some, sym, ap, ◌∙◌, arith}
 use Rattle.std.specs.Prelude.{IsUtf8}
 use Rattle.canary_base.specs.Numbers.{SpellsNumber}
-use Rattle.canary_base.proofs.NumberLemmas.{begins, is_text, parses, printed, read_as_text, text_read, was_ok, stands, then_holds}
+use Rattle.canary_base.proofs.NumberLemmas.{begins, is_text, parses, printed}
+use Rattle.canary_base.proofs.Options.{read_as_text, text_read, was_ok, stands, then_holds}
 use Rattle.canary_base.proofs.numbers.Number.read.Goals as goal
 use Rattle.canary_base.proofs.numbers.Number.read.Goals.{then-is_empty-via-then-is_empty, then-is_empty-via-else-is_empty+then-bytes-lt49}
 
