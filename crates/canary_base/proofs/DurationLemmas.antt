@@ -61,12 +61,12 @@ reading-digits (d ∷ ds) rest total k h =
 -- a group is read whole
 reading-group : (g : Group) (rest : List ℕ) (total : ℕ) → IsGroup g → reading (g.digits ++ (g.unit ∷ rest)) total None ≡ reading rest (total + digits_value 10 g.digits * g.seconds) None
 reading-group g rest total h = group g.digits g.unit g.seconds rest total h.0.0 h.0.1 h.1 where
-    group : (ds : List ℕ) (unit seconds : ℕ) (rest : List ℕ) (total : ℕ) → 0 < length ds → AllDigits 10 ds → seconds_in unit ≡ Some seconds → reading (ds ++ (unit ∷ rest)) total None ≡ reading rest (total + digits_value 10 ds * seconds) None
-    group [] unit seconds rest total some h e = absurd (omega arith)
-    group (d ∷ ds) unit seconds rest total some h e =
-        let range = digit_from_value d h.0 in
-        let same : d - 48 ≡ digit_value d = omega (arith, digit_value_digit d range) in
-        reading-digit d (ds ++ (unit ∷ rest)) total None range ∙ ap (λ v. reading (ds ++ (unit ∷ rest)) total (Some (0 * 10 + v))) same ∙ reading-digits ds (unit ∷ rest) total (0 * 10 + digit_value d) h.1 ∙ reading-unit unit rest total _ seconds e
+  group : (ds : List ℕ) (unit seconds : ℕ) (rest : List ℕ) (total : ℕ) → 0 < length ds → AllDigits 10 ds → seconds_in unit ≡ Some seconds → reading (ds ++ (unit ∷ rest)) total None ≡ reading rest (total + digits_value 10 ds * seconds) None
+  group [] unit seconds rest total some h e = absurd (omega arith)
+  group (d ∷ ds) unit seconds rest total some h e =
+      let range = digit_from_value d h.0 in
+      let same : d - 48 ≡ digit_value d = omega (arith, digit_value_digit d range) in
+      reading-digit d (ds ++ (unit ∷ rest)) total None range ∙ ap (λ v. reading (ds ++ (unit ∷ rest)) total (Some (0 * 10 + v))) same ∙ reading-digits ds (unit ∷ rest) total (0 * 10 + digit_value d) h.1 ∙ reading-unit unit rest total _ seconds e
 
 -- so are the groups
 reading-groups : (gs : List Group) (total : ℕ) → AllByRecursion IsGroup gs → reading (text_of gs) total None ≡ Some (total + sum_of gs)
@@ -107,11 +107,11 @@ rest_from_digit b bs total (Some k) n range h =
 rest_from_unit : (b : ℕ) (bs : List ℕ) (total : ℕ) (number : Option ℕ) (n : ℕ) → is_ascii_digit b ≡ false → ((t : ℕ) → reading bs t None ≡ Some n → IsRest bs t None n) → reading (b ∷ bs) total number ≡ Some n → IsRest (b ∷ bs) total number n
 rest_from_unit b bs total None n other ih e = absurd (none-some n (rw other at e))
 rest_from_unit b bs total (Some k) n other ih e = go (seconds_in b) refl where
-    go : (unit : Option ℕ) → seconds_in b ≡ unit → IsRest (b ∷ bs) total (Some k) n
-    go None is = absurd (none-some n (rw (other, is) at e))
-    go (Some seconds) is =
-        let h = ih (total + k * seconds) (sym (reading-unit b bs total k seconds is) ∙ e) in
-        ([], b, seconds, h.0, tt, is, h.1, ap (λ x. b ∷ x) h.2, h.3)
+  go : (unit : Option ℕ) → seconds_in b ≡ unit → IsRest (b ∷ bs) total (Some k) n
+  go None is = absurd (none-some n (rw (other, is) at e))
+  go (Some seconds) is =
+      let h = ih (total + k * seconds) (sym (reading-unit b bs total k seconds is) ∙ e) in
+      ([], b, seconds, h.0, tt, is, h.1, ap (λ x. b ∷ x) h.2, h.3)
 
 -- a rest that comes to n spells it
 pub rest_is : (rest : List ℕ) (total : ℕ) (number : Option ℕ) (n : ℕ) → reading rest total number ≡ Some n → IsRest rest total number n
@@ -120,7 +120,7 @@ rest_is [] total (Some k) n e = absurd (none-some n e)
 rest_is (b ∷ bs) total number n e =
     elim (cases_Bool (is_ascii_digit b)) [
       | inl digit ↦ let range = in_range b digit in
-        rest_from_digit b bs total number n range (rest_is bs total _ n (sym (reading-digit b bs total number range) ∙ e))
+          rest_from_digit b bs total number n range (rest_is bs total _ n (sym (reading-digit b bs total number range) ∙ e))
       | inr other ↦ rest_from_unit b bs total number n other (λ t. rest_is bs t None n) e
     ]
 
@@ -143,11 +143,12 @@ reading_grows rest total number n e = rest_grows rest total number n (rest_is re
 -- a text that comes to n, and is not empty, adds up to it
 pub spelled : (text : List ℕ) (n : ℕ) → 0 < length text → reading text 0 None ≡ Some n → AddsUpTo text n
 spelled text n some e = from_rest text n some (rest_is text 0 None n e) where
-    from_groups : (text : List ℕ) (n : ℕ) → 0 < length text → (gs : List Group) → AllByRecursion IsGroup gs → text ≡ text_of gs → n ≡ 0 + sum_of gs → AddsUpTo text n
-    from_groups text n some [] h same sum = absurd (omega (arith, ap length same))
-    from_groups text n some (g ∷ gs) h same sum = (g, gs, h, same, omega (arith, sum))
-    from_rest : (text : List ℕ) (n : ℕ) → 0 < length text → IsRest text 0 None n → AddsUpTo text n
-    from_rest text n some h = from_groups text n some h.0 h.1 h.2 h.3
+  from_groups : (text : List ℕ) (n : ℕ) → 0 < length text → (gs : List Group) → AllByRecursion IsGroup gs → text ≡ text_of gs → n ≡ 0 + sum_of gs → AddsUpTo text n
+  from_groups text n some [] h same sum = absurd (omega (arith, ap length same))
+  from_groups text n some (g ∷ gs) h same sum = (g, gs, h, same, omega (arith, sum))
+
+  from_rest : (text : List ℕ) (n : ℕ) → 0 < length text → IsRest text 0 None n → AddsUpTo text n
+  from_rest text n some h = from_groups text n some h.0 h.1 h.2 h.3
 
 -- a text that adds up is not empty
 pub nonempty : (text : List ℕ) (n : ℕ) → AddsUpTo text n → 0 < length text

@@ -109,3 +109,44 @@ impl fmt::Display for Seconds {
         write!(f, "{}", self.seconds)
     }
 }
+
+#[cfg(test)]
+mod tests {
+    use super::*;
+
+    #[test]
+    fn adds_up_the_groups(rt: HostRuntime) {
+        for (text, want) in [
+            ("1h30m", Some(5400)),
+            ("30m1h", Some(5400)),
+            ("8760h", Some(31_536_000)),
+            ("8760h1s", None),
+            ("10", None),
+            ("1h30", None),
+            ("", None),
+            ("h", None),
+            ("+1s", None),
+            ("1 s", None),
+            ("0s", Some(0)),
+            ("000000000000000000000000000001m", Some(60)),
+            ("99999999999999999999h", None),
+            ("18446744073709551616s", None),
+        ] {
+            assert_eq!(rt;
+                Seconds::read(text).map(|seconds| seconds.get()),
+                want,
+                "{text}"
+            );
+        }
+    }
+
+    #[test]
+    fn ends_with_a_year(rt: HostRuntime) {
+        assert_eq!(rt;
+            Seconds::new(31_536_000).map(|seconds| seconds.get()),
+            Some(31_536_000)
+        );
+        assert_eq!(rt; Seconds::new(31_536_001), None);
+        assert_eq!(rt; Seconds::new(4_294_967_296), None);
+    }
+}

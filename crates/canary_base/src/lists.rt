@@ -6,7 +6,7 @@ use std::alloc::Global;
 use std::marker::Model;
 
 /// A text, which contracts see as its bytes.
-#[derive(Drop)]
+#[derive(Debug, Drop)]
 pub struct Text {
     text: String,
 }
@@ -20,7 +20,7 @@ impl Model for Text {
 }
 
 impl Text {
-    /// This text.
+    /// The text that the `String` holds, which takes no memory.
     pub fn of(text: String) -> Text
         ensures { result ≡ string_bytes text }
     {
@@ -41,7 +41,7 @@ impl Text {
         self.text
     }
 
-    /// A copy of it.
+    /// A copy of it, or `Memory`.
     pub fn copy(&self, alloc: Global) -> Result<Text, Memory>
         ensures { IfOk result (λ copy. copy ≡ self.now) }
     {
@@ -52,7 +52,7 @@ impl Text {
 }
 
 /// A list, which contracts see as its elements.
-#[derive(Drop)]
+#[derive(Debug, Drop)]
 pub struct Listed<T> {
     items: Vec<T>,
 }
@@ -66,14 +66,14 @@ impl<T> Model for Listed<T> {
 }
 
 impl<T> Listed<T> {
-    /// These elements.
+    /// The elements of the `Vec`, which takes no memory.
     pub fn of(items: Vec<T>) -> Listed<T>
         ensures { result ≡ items.items }
     {
         Listed { items }
     }
 
-    /// The elements.
+    /// Its elements.
     pub fn as_slice(&self) -> &[T]
         ensures { result.now ≡ self.now }
     {
@@ -89,7 +89,7 @@ impl<T> Listed<T> {
 }
 
 impl<T: Copy> Listed<T> {
-    /// A copy of it.
+    /// A copy of it, or `Memory`.
     pub fn copy(&self, alloc: Global) -> Result<Listed<T>, Memory>
         ensures { IfOk result (λ copy. copy ≡ self.now) }
     {

@@ -68,3 +68,38 @@ impl fmt::Display for Number {
         write!(f, "{}", self.number)
     }
 }
+
+#[cfg(test)]
+mod tests {
+    use super::*;
+
+    #[test]
+    fn reads_decimal_numbers(rt: HostRuntime) {
+        for (text, want) in [
+            ("1", Some(1)),
+            ("42", Some(42)),
+            ("1000000000", Some(1_000_000_000)),
+            ("1000000001", None),
+            ("4294967297", None),
+            ("0", None),
+            ("007", None),
+            ("+7", None),
+            ("7 ", None),
+            ("", None),
+        ] {
+            assert_eq!(rt;
+                Number::read(text.as_bytes()).map(|number| number.get()),
+                want,
+                "{text}"
+            );
+        }
+        assert_eq!(rt; Number::read(b"7\xff"), None);
+    }
+
+    #[test]
+    fn lie_from_1_to_a_billion(rt: HostRuntime) {
+        assert_eq!(rt; Number::new(0), None);
+        assert_eq!(rt; Number::new(1).map(|number| number.get()), Some(1));
+        assert_eq!(rt; Number::new(1_000_000_001), None);
+    }
+}
