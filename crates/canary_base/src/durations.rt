@@ -106,7 +106,7 @@ impl fmt::Display for Seconds {
     ghost output = { λ s. Some (decimal s) };
 
     fn fmt<W: fmt::Write>(&self, f: &mut fmt::Formatter<W>) -> fmt::Result {
-        write!(f, "{}", self.seconds)
+        write!(f, "{}", self.get())
     }
 }
 

@@ -46,7 +46,7 @@ impl Text {
         ensures { IfOk result (λ copy. copy ≡ self.now) }
     {
         Ok(Text {
-            text: String::from_str(alloc, self.text.as_str())?,
+            text: String::from_str(alloc, self.as_str())?,
         })
     }
 }
@@ -94,7 +94,7 @@ impl<T: Copy> Listed<T> {
         ensures { IfOk result (λ copy. copy ≡ self.now) }
     {
         Ok(Listed {
-            items: Vec::from_slice(alloc, self.items.as_slice())?,
+            items: Vec::from_slice(alloc, self.as_slice())?,
         })
     }
 }

@@ -49,7 +49,7 @@ impl Moment {
             (AppendsTextOf self.now (string_bytes out.old) (string_bytes out.new)) }
         ensures err { OnErr result (string_bytes out.new ≡ string_bytes out.old) }
     {
-        let instant = Timestamp::from_second(self.seconds as i64).unwrap();
+        let instant = Timestamp::from_second(self.get() as i64).unwrap();
         let text = DateTimePrinter::new().timestamp_text(instant.to_plain());
         out.push_str(text.as_str())?;
         Ok(())

@@ -65,7 +65,7 @@ impl fmt::Display for Number {
     ghost output = { λ n. Some (decimal n) };
 
     fn fmt<W: fmt::Write>(&self, f: &mut fmt::Formatter<W>) -> fmt::Result {
-        write!(f, "{}", self.number)
+        write!(f, "{}", self.get())
     }
 }
 
