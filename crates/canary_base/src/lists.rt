@@ -6,7 +6,7 @@ use std::alloc::Global;
 use std::marker::Model;
 
 /// A text, which contracts see as its bytes.
-#[derive(Drop)]
+#[derive(Debug, Drop)]
 pub struct Text {
     text: String,
 }
@@ -20,7 +20,7 @@ impl Model for Text {
 }
 
 impl Text {
-    /// This text.
+    /// The text that the `String` holds, which takes no memory.
     pub fn of(text: String) -> Text
         ensures { result ≡ string_bytes text }
     {
@@ -41,18 +41,18 @@ impl Text {
         self.text
     }
 
-    /// A copy of it.
+    /// A copy of it, or `Memory`.
     pub fn copy(&self, alloc: Global) -> Result<Text, Memory>
         ensures { IfOk result (λ copy. copy ≡ self.now) }
     {
         Ok(Text {
-            text: String::from_str(alloc, self.text.as_str())?,
+            text: String::from_str(alloc, self.as_str())?,
         })
     }
 }
 
 /// A list, which contracts see as its elements.
-#[derive(Drop)]
+#[derive(Debug, Drop)]
 pub struct Listed<T> {
     items: Vec<T>,
 }
@@ -66,14 +66,14 @@ impl<T> Model for Listed<T> {
 }
 
 impl<T> Listed<T> {
-    /// These elements.
+    /// The elements of the `Vec`, which takes no memory.
     pub fn of(items: Vec<T>) -> Listed<T>
         ensures { result ≡ items.items }
     {
         Listed { items }
     }
 
-    /// The elements.
+    /// Its elements.
     pub fn as_slice(&self) -> &[T]
         ensures { result.now ≡ self.now }
     {
@@ -100,12 +100,12 @@ impl<T> Listed<T> {
 }
 
 impl<T: Copy> Listed<T> {
-    /// A copy of it.
+    /// A copy of it, or `Memory`.
     pub fn copy(&self, alloc: Global) -> Result<Listed<T>, Memory>
         ensures { IfOk result (λ copy. copy ≡ self.now) }
     {
         Ok(Listed {
-            items: Vec::from_slice(alloc, self.items.as_slice())?,
+            items: Vec::from_slice(alloc, self.as_slice())?,
         })
     }
 }

@@ -13,7 +13,8 @@ use std::cmp::Ordering;
 use std::marker::Model;
 use std::{fmt, str};
 
-/// The name of a caller, a service or a template.
+/// The name of a caller, a service or a template: 1 to 63 bytes of `a-z`, `0-9` and `-`, the first
+/// and the last no `-`. Names are ordered as their bytes are.
 #[derive(Clone, Copy)]
 pub struct Name {
     word: Word,
@@ -33,7 +34,7 @@ impl Model for Name {
 }
 
 impl Name {
-    /// Reads a name.
+    /// The name with these bytes, or none where they are no name.
     pub fn read(bytes: &[u8]) -> Option<Name>
         ensures { SomeIff result (IsTrue (is_name bytes.now)) bytes.now }
     {
@@ -127,7 +128,8 @@ impl Ord for Name {
     }
 }
 
-/// The name of a version or a metric.
+/// The name of a version or a metric: 1 to 63 bytes of `A-Z`, `a-z`, `0-9`, `.`, `_` and `-`.
+/// Labels are ordered as their bytes are.
 #[derive(Clone, Copy)]
 pub struct Label {
     word: Word,
@@ -147,7 +149,7 @@ impl Model for Label {
 }
 
 impl Label {
-    /// Reads a label.
+    /// The label with these bytes, or none where they are no label.
     pub fn read(bytes: &[u8]) -> Option<Label>
         ensures { SomeIff result (IsTrue (is_label bytes.now)) bytes.now }
     {
@@ -250,3 +252,18 @@ impl fmt::Display for Label {
         f.pad(self.as_str())
     }
 }
+
+impl fmt::Debug for Name {
+    fn fmt<W: fmt::Write>(&self, f: &mut fmt::Formatter<W>) -> fmt::Result {
+        fmt::Debug::fmt(self.as_str(), f)
+    }
+}
+
+impl fmt::Debug for Label {
+    fn fmt<W: fmt::Write>(&self, f: &mut fmt::Formatter<W>) -> fmt::Result {
+        fmt::Debug::fmt(self.as_str(), f)
+    }
+}
+
+#[cfg(test)]
+mod tests;
