@@ -59,10 +59,10 @@ impl Seconds {
                 number = None;
             }
         }
-        if number.is_some() {
-            return None;
+        match number {
+            None => Seconds::new(total),
+            Some(_) => None,
         }
-        Seconds::new(total)
     }
 
     /// The seconds.

@@ -109,3 +109,20 @@ impl<T: Copy> Listed<T> {
         })
     }
 }
+
+#[cfg(test)]
+mod tests {
+    use super::*;
+    use std::test::Fail;
+
+    #[test]
+    fn are_copied(rt: HostRuntime) -> Result<(), Fail> {
+        let text = Text::of(String::from_str(rt.alloc(), "down")?);
+        let list = Listed::of(vec![in rt.alloc(); 3, 1, 2]?);
+        assert_eq!(rt; text.copy(rt.alloc())?.as_str(), "down");
+        assert_eq!(rt; list.copy(rt.alloc())?.as_slice(), [3, 1, 2].as_slice());
+        assert_eq!(rt; text.into_string().as_str(), "down");
+        assert_eq!(rt; list.into_vec().as_slice(), [3, 1, 2].as_slice());
+        Ok(())
+    }
+}

@@ -1,5 +1,5 @@
 //! Request numbers.
-ghost use Rattle.std.specs.Prelude.{◌≡◌, ℕ, ◌≤◌, IfSome, Some};
+ghost use Rattle.std.specs.Prelude.{◌≡◌, ◌↔◌, ℕ, ◌≤◌, ◌<◌, IsTrue, IfSome, Some, slice_index};
 ghost use Rattle.std.specs.Option.{SomeIff};
 ghost use Rattle.std.specs.Fmt.{decimal};
 ghost use Rattle.canary_base.specs.Numbers.{SpellsNumber};
@@ -45,7 +45,7 @@ impl Number {
         ensures found { (n : ℕ) → SpellsNumber bytes.now n → result ≡ Some n }
     {
         // `parse` alone would take a plus and leading zeros.
-        if bytes.is_empty() || bytes[0] < b'1' {
+        if !begins_above_0(bytes) {
             return None;
         }
         let text = str::from_utf8(bytes).ok()?;
@@ -59,6 +59,13 @@ impl Number {
     {
         self.number
     }
+}
+
+// Whether the first byte comes after the digit 0.
+fn begins_above_0(bytes: &[u8]) -> bool
+    ensures { IsTrue result ↔ (48 < slice_index bytes.now 0) }
+{
+    !bytes.is_empty() && bytes[0] > b'0'
 }
 
 impl fmt::Display for Number {
