@@ -80,7 +80,7 @@ impl<T> Listed<T> {
         self.items.as_slice()
     }
 
-    /// Appends an element.
+    /// Appends an element, or `Memory`; the list is then as before.
     pub fn push(&mut self, item: T) -> Result<(), Memory>
     where
         T: Drop,
@@ -123,6 +123,15 @@ mod tests {
         assert_eq!(rt; list.copy(rt.alloc())?.as_slice(), [3, 1, 2].as_slice());
         assert_eq!(rt; text.into_string().as_str(), "down");
         assert_eq!(rt; list.into_vec().as_slice(), [3, 1, 2].as_slice());
+        Ok(())
+    }
+
+    #[test]
+    fn grow_at_the_end(rt: HostRuntime) -> Result<(), Fail> {
+        let mut list = Listed::of(Vec::new(rt.alloc()));
+        list.push(3)?;
+        list.push(1)?;
+        assert_eq!(rt; list.as_slice(), [3, 1].as_slice());
         Ok(())
     }
 }
