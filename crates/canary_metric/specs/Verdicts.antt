@@ -1,5 +1,5 @@
 -- The verdict of a run.
-use Rattle.std.specs.Prelude.{ℕ, nat_lt, ◌||◌, Bool, true, false, not, if◌then◌else◌, List, [], ◌∷◌, map, filter}
+use Rattle.std.specs.Prelude.{ℕ, nat_lt, ◌||◌, Bool, true, false, not, if◌then◌else◌, List, [], ◌∷◌, map, filter, fold}
 use Rattle.std.specs.List.{list_any, list_all, zip}
 use Rattle.canary_condition.specs.declared.outcome.Phase.{Phase}
 use Rattle.canary_condition.specs.declared.outcome.Phase.TheVariants.{Running, Successful, Inconclusive, Error, Failed}
@@ -21,8 +21,7 @@ worst p q = if nat_lt (badness p) (badness q) then q else p
 
 -- the worst of a list, Successful for none
 abbrev pub worst_of : List Phase → Phase
-worst_of [] = Successful
-worst_of (p ∷ ps) = worst p (worst_of ps)
+worst_of ps = fold worst Successful ps
 
 -- a metric of a run, with the counts of its measurements
 abbrev pub Watched : Type 0

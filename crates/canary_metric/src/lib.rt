@@ -4,3 +4,4 @@
 pub mod measurement;
 pub mod metric;
 pub mod tally;
+pub mod verdict;
