@@ -128,24 +128,24 @@ fn verdicts(rt: HostRuntime) {
 #[test]
 fn counts(rt: HostRuntime) {
     let begin = Some(moment(&rt, BEGIN));
-    assert_eq!(rt; Tally::from_counts(0, 0, 0, 2, 1, begin), None);
-    assert_eq!(rt; Tally::from_counts(0, 0, 0, 0, 0, None), Some(Tally::new()));
+    let kept = Some(tally(&rt, "EEEESEEEE"));
+    assert_eq!(rt; Tally::from_counts(1, 0, 0, 8, 4, begin), kept);
     let kept = tally(&rt, "EEEESEEEE");
-    assert_eq!(rt; Tally::from_counts(1, 0, 0, 8, 4, begin), Some(kept));
-    assert_eq!(rt; kept.counted(), 1);
-    assert_eq!(rt; kept.failed(), 0);
-    assert_eq!(rt; kept.inconclusive(), 0);
-    assert_eq!(rt; kept.errors(), 8);
-    assert_eq!(rt; kept.consecutive(), 4);
+    assert_eq!(rt; numbers(&kept), [1, 0, 0, 8, 4, 9]);
     assert_eq!(rt; kept.last(), begin);
-    assert_eq!(rt; kept.measurements(), 9);
-    for (counted, failed, inconclusive, errors, consecutive) in [
-        (0, 0, 0, 0, 0),
-        (1, 1, 1, 0, 0),
-        (1, 0, 0, 2, 3),
-        (1_000_000, 0, 0, 1, 0),
-        (u32::MAX, 0, 0, 1, 0),
-        (1, u32::MAX, 2, 0, 0),
+    assert_eq!(rt;
+        Tally::from_counts(0, 0, 0, 0, 0, None),
+        Some(Tally::default())
+    );
+    assert_eq!(rt; Tally::from_counts(1, 0, 0, 0, 0, None), None);
+    for [counted, failed, inconclusive, errors, consecutive] in [
+        [0, 0, 0, 2, 1],
+        [0, 0, 0, 0, 0],
+        [1, 1, 1, 0, 0],
+        [1, 0, 0, 2, 3],
+        [1_000_000, 0, 0, 1, 0],
+        [u32::MAX, 0, 0, 1, 0],
+        [1, u32::MAX, 2, 0, 0],
     ] {
         let found = Tally::from_counts(counted, failed, inconclusive, errors, consecutive, begin);
         assert_eq!(rt;
@@ -154,24 +154,45 @@ fn counts(rt: HostRuntime) {
             "{counted} {failed} {inconclusive} {errors} {consecutive}"
         );
     }
-    assert_eq!(rt; Tally::from_counts(1, 0, 0, 0, 0, None), None);
+}
+
+fn numbers(tally: &Tally) -> [u32; 6] {
+    [
+        tally.counted(),
+        tally.failed(),
+        tally.inconclusive(),
+        tally.errors(),
+        tally.consecutive(),
+        tally.measurements(),
+    ]
 }
 
 #[test]
 fn metrics(rt: HostRuntime) -> Result<(), Fail> {
-    let endless = endless(&rt, false).copy(rt.alloc())?;
-    assert_eq!(rt; endless.name().as_str(), "m");
-    assert!(rt; endless.success().is_none() && endless.failure().is_none());
-    assert_eq!(rt; endless.interval(), Seconds::new(60));
-    assert_eq!(rt; Some(endless.initial_delay()), Seconds::new(0));
-    assert_eq!(rt; endless.count(), None);
-    assert_eq!(rt; endless.failure_limit(), 0);
-    assert_eq!(rt; endless.inconclusive_limit(), 0);
-    assert_eq!(rt; endless.consecutive_error_limit(), 4);
-    assert!(rt; !endless.dry_run());
-    assert_eq!(rt; effective_count(&endless), None);
+    let copy = endless(&rt, false).copy(rt.alloc())?;
+    assert_eq!(rt; copy.name().as_str(), "m");
+    assert!(rt; has_defaults(&copy));
+    assert_eq!(rt; effective_count(&copy), None);
     assert_eq!(rt; effective_count(&three(&rt)), Some(3));
     assert_eq!(rt; effective_count(&metric(&rt, settings(&rt, None))), Some(1));
+    Ok(())
+}
+
+/// Whether it is a metric with an interval of a minute, and else its defaults.
+fn has_defaults(metric: &Metric) -> bool {
+    metric.success().is_none()
+        && metric.failure().is_none()
+        && metric.interval() == Seconds::new(60)
+        && Some(metric.initial_delay()) == Seconds::new(0)
+        && metric.count().is_none()
+        && metric.failure_limit() == 0
+        && metric.inconclusive_limit() == 0
+        && metric.consecutive_error_limit() == 4
+        && !metric.dry_run()
+}
+
+#[test]
+fn counts_of_metrics(rt: HostRuntime) {
     for (count, stands) in [(0, None), (1, Some(1)), (1_000_000, Some(1_000_000))] {
         let mut settings = settings(&rt, Some(60));
         settings.count = Some(count);
@@ -180,7 +201,6 @@ fn metrics(rt: HostRuntime) -> Result<(), Fail> {
     let mut above = settings(&rt, Some(60));
     above.inconclusive_limit = Some(1_000_001);
     assert!(rt; Metric::new(above).is_none());
-    Ok(())
 }
 
 #[test]
