@@ -1,0 +1,114 @@
+//! Additions and phases a second, by the number of a tally's measurements.
+//!
+//! With a number as its word it makes so many additions, and asks so many phases, at each size,
+//! and prints a table. With no word it prints nothing.
+#![tactic(auto)]
+
+ghost use Rattle.std.specs.Prelude.{IsTrue};
+ghost use Rattle.canary_metric.specs.Measurements.{is_measured};
+
+use canary_base::durations::Seconds;
+use canary_base::moments::Moment;
+use canary_base::names::Label;
+use canary_condition::outcome::Phase;
+use canary_metric::metric::{Metric, MetricSettings};
+use canary_metric::tally::Tally;
+use std::time::{Duration, Instant};
+use std::{env, io};
+
+/// The tallies among which the phases are asked in turn.
+const TALLIES: usize = 4;
+
+fn main(rt: HostRuntime) -> io::Result<()> {
+    let mut words = env::args(&rt)?;
+    let _program = words.next();
+    let Some(word) = words.next() else {
+        return Ok(());
+    };
+    let Ok(work) = word.as_str().parse::<u32>() else {
+        return Ok(());
+    };
+    let Some((metric, begin)) = measured() else {
+        return Ok(());
+    };
+    println!(rt;
+        "{:>12} {:>14} {:>14}",
+        "measurements", "additions/s", "phases/s"
+    )?;
+    for size in [10, 100, 1_000, 10_000, 100_000, 1_000_000] {
+        let start = Instant::now(&rt)?;
+        let tallies = filled_often(size, work, begin);
+        let additions = rate(work, start.elapsed(&rt)?);
+        let start = Instant::now(&rt)?;
+        let running = count_running(&tallies, work, &metric);
+        let phases = rate(work, start.elapsed(&rt)?);
+        println!(rt; "{size:>12} {additions:>14} {phases:>14}")?;
+        if running > work {
+            println!(rt; "more phases than were asked")?;
+        }
+    }
+    Ok(())
+}
+
+/// A metric that stays Running, and a moment.
+fn measured() -> Option<(Metric, Moment)> {
+    let metric = Metric::new(MetricSettings {
+        name: Label::read(b"latency")?,
+        success: None,
+        failure: None,
+        interval: Seconds::new(60),
+        initial_delay: None,
+        count: None,
+        failure_limit: Some(1_000_000),
+        inconclusive_limit: Some(1_000_000),
+        consecutive_error_limit: Some(4),
+        dry_run: false,
+    })?;
+    Some((metric, Moment::new(1_767_225_600)?))
+}
+
+/// Fills tallies with so many measurements each, until about that work is done; gives the last.
+fn filled_often(size: u32, work: u32, begin: Moment) -> [Tally; TALLIES] {
+    let mut tallies = [Tally::new(); TALLIES];
+    for round in 0..work / size.max(1) {
+        tallies[round as usize % TALLIES] = filled(size, round, begin);
+    }
+    tallies
+}
+
+fn filled(size: u32, round: u32, begin: Moment) -> Tally {
+    let mut tally = Tally::new();
+    for k in 0..size {
+        if !tally.full() {
+            tally.add(phase_at(k ^ round), begin);
+        }
+    }
+    tally
+}
+
+fn phase_at(k: u32) -> Phase
+    ensures { IsTrue (is_measured result) }
+{
+    match k % 4 {
+        0 => Phase::Failed,
+        1 => Phase::Error,
+        2 => Phase::Inconclusive,
+        _ => Phase::Successful,
+    }
+}
+
+fn count_running(tallies: &[Tally; TALLIES], work: u32, metric: &Metric) -> u32 {
+    let mut running: u32 = 0;
+    for k in 0..work {
+        if tallies[k as usize % TALLIES].phase(metric, false) == Phase::Running {
+            running = running.saturating_add(1);
+        }
+    }
+    running
+}
+
+/// So many calls in that time, as calls a second.
+fn rate(calls: u32, time: Duration) -> u64 {
+    let micros = u64::try_from(time.as_micros()).unwrap_or(u64::MAX);
+    u64::from(calls) * 1_000_000 / micros.max(1)
+}
