@@ -1,0 +1,3 @@
+pub mod ParsesSoundly
+pub mod ParsesAll
+pub mod Evaluates

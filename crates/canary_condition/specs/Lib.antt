@@ -1,0 +1,9 @@
+pub mod Padding
+pub mod Trees
+pub mod Tokens
+pub mod Spelling
+pub mod Reading
+pub mod Parsing
+pub mod Meaning
+pub mod Evaluating
+pub mod Phases

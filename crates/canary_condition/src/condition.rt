@@ -1,0 +1,89 @@
+//! Conditions.
+ghost use Rattle.std.specs.Prelude.{◌≡◌};
+
+use std::marker::Model;
+
+/// A comparison of two numbers.
+#[derive(Clone, Copy, Debug, PartialEq, Eq)]
+pub enum Comparison {
+    Equal,
+    NotEqual,
+    Less,
+    AtMost,
+    Greater,
+    AtLeast,
+}
+
+/// What a comparison compares.
+#[derive(Clone, Copy, Debug, PartialEq, Eq)]
+pub enum Operand {
+    /// `result`: the number of a whole result.
+    Whole,
+    /// `result[i]`: the value at that place, from 0, of a list.
+    Item(u64),
+    /// A number.
+    Number(i64),
+}
+
+/// A part of a condition. The parts of a condition stand in the order in which it is evaluated:
+/// a sign comes after its operands, and between the operands of `or` and `and` stands a mark.
+#[derive(Clone, Copy, Debug, PartialEq, Eq)]
+pub enum Part {
+    /// A comparison.
+    Compare(Operand, Comparison, Operand),
+    /// Round brackets close.
+    Bracket,
+    /// `not` of what stands before.
+    Not,
+    /// The second operand of an `or` begins.
+    OrElse,
+    /// It ends.
+    Or,
+    /// The second operand of an `and` begins.
+    AndThen,
+    /// It ends.
+    And,
+}
+
+/// A condition that has been read.
+#[derive(Drop)]
+pub struct Condition {
+    parts: Vec<Part>,
+}
+
+impl Model for Condition {
+    ghost use Rattle.std.specs.Prelude.{◌≡◌};
+    ghost use Rattle.canary_condition.specs.Trees.{Tree, tree_code, parts_of, tree_of};
+
+    ghost Value = { Tree };
+
+    ghost coded = { tree_code };
+
+    ghost view = { λ c. tree_of c.parts.items };
+
+    ghost invariant = { λ c. parts_of (tree_of c.parts.items) ≡ c.parts.items };
+}
+
+/// What a condition says of a result.
+#[derive(Clone, Copy, Debug, PartialEq, Eq)]
+pub enum Verdict3 {
+    True,
+    False,
+    /// It asks for what the result does not have.
+    Fault,
+}
+
+/// Why a text is no condition.
+#[derive(Clone, Copy, Debug, PartialEq, Eq)]
+pub enum ConditionFault {
+    /// It is not made of tokens, or they spell no condition.
+    Syntax,
+    /// More than 32 round brackets are open at some place.
+    TooDeep,
+    /// A number lies outside an `i64`.
+    NumberRange,
+    /// An allocation was refused.
+    Memory,
+    /// It has more than 1,024 bytes.
+    TooLong,
+}

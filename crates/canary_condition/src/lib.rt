@@ -1,0 +1,9 @@
+//! Conditions on results, and the phases of measurements, after the profile of Argo Rollouts'
+//! conditions that `condition` describes.
+#![tactic(auto)]
+
+pub mod condition;
+mod evaluation;
+pub mod outcome;
+mod parser;
+pub mod token;
