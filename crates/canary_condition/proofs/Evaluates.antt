@@ -1,13 +1,13 @@
 -- Going from part to part gives the value of the tree.
-use Rattle.std.proofs.Common.{◌≡◌, ℕ, zero, suc, List, [], ◌∷◌, ◌++◌, refl, sym, ap, ◌∙◌, append_assoc}
-use Rattle.std.proofs.lemmas.List.{append-nil}
+use Rattle.std.proofs.Common.{◌≡◌, ℕ, zero, suc, ◌≤◌, List, [], ◌∷◌, ◌++◌, length, drop, refl, sym, ap, ◌∙◌, append_assoc}
+use Rattle.std.proofs.lemmas.List.{append-nil, drop_all}
 use Rattle.canary_condition.specs.declared.condition.Part.{Part}
 use Rattle.canary_condition.specs.declared.condition.Part.TheVariants.{Compare as ComparePart, Bracket as BracketPart, Not as NotPart, OrElse, Or as OrPart, AndThen, And as AndPart}
 use Rattle.canary_condition.specs.declared.condition.Verdict3.{Verdict3}
 use Rattle.canary_condition.specs.declared.condition.Verdict3.TheVariants.{True, False, Fault}
 use Rattle.canary_condition.specs.declared.evaluation.Evaluation.{Evaluation}
 use Rattle.canary_condition.specs.declared.outcome.Value.{Value}
-use Rattle.canary_condition.specs.Trees.{Tree, parts_of}
+use Rattle.canary_condition.specs.Trees.{Tree, parts_of, tree_of}
 use Rattle.canary_condition.specs.Trees.Tree.{Or, And, Not, Bracket, Compare}
 use Rattle.canary_condition.specs.Meaning.{value, or_of, and_of, not_of}
 use Rattle.canary_condition.specs.Evaluating.{evaluation, or_else, and_then, after_part, after_parts}
@@ -51,3 +51,10 @@ goes result (Compare x c y) v ps = refl
 
 pub parts_give_value : (result : Value) (t : Tree) (v : Verdict3) → after_parts result (evaluation v 0) (parts_of t) ≡ evaluation (value t result) 0
 parts_give_value result t v = ap (after_parts result (evaluation v 0)) (sym (append-nil (parts_of t))) ∙ goes result t v []
+
+-- what all parts of a condition lead to
+pub whole_value : (result : Value) (e : Evaluation) (xs ps : List Part) (t : Tree) (n : ℕ) → xs ≡ ps → length xs ≤ n → after_parts result e (drop n xs) ≡ after_parts result (evaluation True 0) xs → tree_of ps ≡ t → parts_of (tree_of ps) ≡ ps → e.verdict ≡ value t result
+whole_value result e xs ps t n same all leads view again =
+    let parts : xs ≡ parts_of t = same ∙ sym again ∙ ap parts_of view in
+    let goes : e ≡ evaluation (value t result) 0 = ap (after_parts result e) (sym (drop_all n xs all)) ∙ leads ∙ ap (after_parts result (evaluation True 0)) parts ∙ parts_give_value result t True in
+    ap (λ (r : Evaluation). r.verdict) goes

@@ -1,6 +1,10 @@
 //! Conditions.
-ghost use Rattle.std.specs.Prelude.{◌≡◌};
+ghost use Rattle.std.specs.Prelude.{◌≡◌, IfOk};
 
+use canary_base::error::Memory;
+use crate::evaluation::Evaluation;
+use crate::outcome::Value;
+use std::alloc::Global;
 use std::marker::Model;
 
 /// A comparison of two numbers.
@@ -62,6 +66,34 @@ impl Model for Condition {
     ghost view = { λ c. tree_of c.parts.items };
 
     ghost invariant = { λ c. parts_of (tree_of c.parts.items) ≡ c.parts.items };
+}
+
+impl Condition {
+    ghost use Rattle.canary_condition.specs.Meaning.{value};
+
+    /// What the condition says of a result. The second operand of an `or` counts only where the
+    /// first is false, that of an `and` only where the first is true.
+    pub fn eval(&self, value_of: &Value) -> Verdict3
+        ensures { result ≡ value self.now value_of.now }
+    {
+        let mut evaluation = Evaluation {
+            verdict: Verdict3::True,
+            passing: 0,
+        };
+        for part in self.parts.as_slice() {
+            evaluation = evaluation.after(*part, value_of);
+        }
+        evaluation.verdict
+    }
+
+    /// A copy of it.
+    pub fn copy(&self, alloc: Global) -> Result<Condition, Memory>
+        ensures { IfOk result (λ copy. copy ≡ self.now) }
+    {
+        Ok(Condition {
+            parts: Vec::from_slice(alloc, self.parts.as_slice())?,
+        })
+    }
 }
 
 /// What a condition says of a result.

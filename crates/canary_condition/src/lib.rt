@@ -4,6 +4,7 @@
 
 pub mod condition;
 mod evaluation;
+pub mod measurement;
 pub mod outcome;
 mod parser;
 pub mod token;
