@@ -1,3 +1,5 @@
 pub mod ParsesSoundly
 pub mod ParsesAll
 pub mod Evaluates
+pub mod Digits
+pub mod Lexing

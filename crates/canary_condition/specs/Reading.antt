@@ -1,5 +1,5 @@
 -- What reading a text as a condition may answer.
-use Rattle.std.specs.Prelude.{◌≡◌, ℕ, ◌<◌, ◌≤◌, List, length, Option, Some, None, Contains, ◌⊎◌}
+use Rattle.std.specs.Prelude.{◌≡◌, ℕ, ◌<◌, ◌≤◌, List, length, Option, Some, None, Result, Ok, Err, Contains, ◌⊎◌}
 use Rattle.canary_condition.specs.declared.condition.ConditionFault.{ConditionFault}
 use Rattle.canary_condition.specs.declared.condition.ConditionFault.TheVariants.{Syntax, TooDeep, NumberRange, Memory, TooLong}
 use Rattle.canary_condition.specs.declared.token.Token.{Token}
@@ -24,3 +24,10 @@ IsFaultOf text Syntax = ((length text ≤ 1024) × (tokens_of text ≡ None)) �
 IsFaultOf text NumberRange = (ts : List Token) × IsMadeOf text ts × Contains ts OutOfRange
 IsFaultOf text TooDeep = (ts : List Token) × IsMadeOf text ts × IsInRange ts × (32 < depth ts)
 IsFaultOf text Memory = length text ≤ 1024
+
+-- a step towards a condition gives what the definition gives; where that gives none the text is no condition, and memory may be refused
+abbrev pub Gives : {V A : Type 0} → Result V ConditionFault → (V → A) → Option A → Type 0
+Gives (Ok v) shown answer = answer ≡ Some (shown v)
+Gives (Err Syntax) shown answer = answer ≡ None
+Gives (Err Memory) shown answer = Unit {0}
+Gives (Err fault) shown answer = ⊥

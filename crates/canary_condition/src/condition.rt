@@ -4,7 +4,7 @@ ghost use Rattle.std.specs.Prelude.{◌≡◌, IfOk};
 use canary_base::error::Memory;
 use crate::evaluation::Evaluation;
 use crate::outcome::Value;
-use std::alloc::Global;
+use std::alloc::{AllocError, AllocFailed, Global};
 use std::marker::Model;
 
 /// A comparison of two numbers.
@@ -103,6 +103,26 @@ pub enum Verdict3 {
     False,
     /// It asks for what the result does not have.
     Fault,
+}
+
+impl From<AllocError> for ConditionFault {
+    ghost use Rattle.canary_condition.specs.declared.condition.ConditionFault.{ConditionFault};
+
+    ghost from_gives = { λ _ fault. fault ≡ ConditionFault.Memory };
+
+    fn from(_: AllocError) -> ConditionFault {
+        ConditionFault::Memory
+    }
+}
+
+impl<T: Drop> From<AllocFailed<T>> for ConditionFault {
+    ghost use Rattle.canary_condition.specs.declared.condition.ConditionFault.{ConditionFault};
+
+    ghost from_gives = { λ _ fault. fault ≡ ConditionFault.Memory };
+
+    fn from(_: AllocFailed<T>) -> ConditionFault {
+        ConditionFault::Memory
+    }
 }
 
 /// Why a text is no condition.

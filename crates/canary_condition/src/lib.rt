@@ -4,6 +4,7 @@
 
 pub mod condition;
 mod evaluation;
+mod lexer;
 pub mod measurement;
 pub mod outcome;
 mod parser;
