@@ -3,3 +3,4 @@ pub mod ParsesAll
 pub mod Evaluates
 pub mod Digits
 pub mod Lexing
+pub mod Steps

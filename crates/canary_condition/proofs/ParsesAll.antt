@@ -67,7 +67,7 @@ passed [] rest (suc n) s e = absurd (omega arith)
 passed (t ∷ front) rest zero s e = absurd (omega arith)
 passed (t ∷ front) rest (suc n) s e = passed front rest n s (omega arith)
 
-stepped : (s next : State) (t : Token) (ts : List Token) (n : ℕ) → step s (t ∷ ts) ≡ Some (next, n) → parse_after 0 s (t ∷ ts) ≡ parse_after (n - 1) next ts
+pub stepped : (s next : State) (t : Token) (ts : List Token) (n : ℕ) → step s (t ∷ ts) ≡ Some (next, n) → parse_after 0 s (t ∷ ts) ≡ parse_after (n - 1) next ts
 stepped s next t ts n e = ap (λ (r : Option (State × ℕ)). elim r [ None ↦ None | Some k ↦ parse_after (k.1 - 1) k.0 ts ]) e
 
 compare_goes : (x y : Operand) (c : Comparison) (signs : List Sign) (ps : List Part) (before after rest : List Token) → IsOperand x before → IsOperand y after → Follows rest → parse_after 0 (wants signs ps) (before ++ Compares c ∷ (after ++ rest)) ≡ parse_after 0 (ended signs (ps ++ ComparePart x c y ∷ [])) rest

@@ -209,6 +209,18 @@ left_holds ts (Some x) h =
 test_holds : (ts : List Token) → TestAt ts (front_test ts)
 test_holds ts = left_holds ts (front_operand ts) (operand_holds ts)
 
+abbrev pub TestWithin : List Token → Option (Part × ℕ) → Type 0
+TestWithin ts None = Unit {0}
+TestWithin ts (Some test) = (1 ≤ test.1) × (test.1 ≤ length ts)
+
+within_from_at : (ts : List Token) (test : Option (Part × ℕ)) → TestAt ts test → TestWithin ts test
+within_from_at ts None h = tt
+within_from_at ts (Some test) h = (h.some, omega (arith, ap (λ (r : List Token). length r) h.are, length-append h.front h.rest, h.size))
+
+-- a comparison has a token at least, and lies within the tokens
+pub test_within : (ts : List Token) → TestWithin ts (front_test ts)
+test_within ts = within_from_at ts (front_test ts) (test_holds ts)
+
 -- ---- one step
 
 abbrev Stands : Bool → State → List Token → Type 0

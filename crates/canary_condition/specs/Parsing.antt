@@ -32,6 +32,12 @@ ended (Or ∷ signs) parts = has (Or ∷ signs) parts
 ended (Not ∷ signs) parts = ended signs (parts ++ NotPart ∷ [])
 ended (And ∷ signs) parts = ended signs (parts ++ AndPart ∷ [])
 
+-- the part that ends the innermost sign, where that is a `not` or an `and`
+abbrev pub tight_end : List Sign → Option Part
+tight_end (Not ∷ signs) = Some NotPart
+tight_end (And ∷ signs) = Some AndPart
+tight_end signs = None
+
 -- an `or` that stands open ends
 abbrev pub without_or : List Sign → List Part → State
 without_or [] parts = has [] parts

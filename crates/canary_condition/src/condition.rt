@@ -4,7 +4,7 @@ ghost use Rattle.std.specs.Prelude.{◌≡◌, IfOk};
 use canary_base::error::Memory;
 use crate::evaluation::Evaluation;
 use crate::outcome::Value;
-use std::alloc::{AllocError, AllocFailed, Global};
+use std::alloc::{AllocFailed, Global};
 use std::marker::Model;
 
 /// A comparison of two numbers.
@@ -105,12 +105,12 @@ pub enum Verdict3 {
     Fault,
 }
 
-impl From<AllocError> for ConditionFault {
+impl From<Memory> for ConditionFault {
     ghost use Rattle.canary_condition.specs.declared.condition.ConditionFault.{ConditionFault};
 
     ghost from_gives = { λ _ fault. fault ≡ ConditionFault.Memory };
 
-    fn from(_: AllocError) -> ConditionFault {
+    fn from(_: Memory) -> ConditionFault {
         ConditionFault::Memory
     }
 }
