@@ -4,3 +4,5 @@ pub mod Evaluates
 pub mod Digits
 pub mod Lexing
 pub mod Steps
+pub mod Depth
+pub mod Readings

@@ -5,7 +5,7 @@
 --     atom    := "(" or ")" | operand compare operand
 --     operand := "result" | "result" "[" digits "]" | number
 -- Repeated `or` and `and` group from the left, and `not` applies to the comparison or bracket that follows. The relation splits the whole text at each level.
-use Rattle.std.specs.Prelude.{◌≡◌, ℕ, ◌+◌, ◌-◌, max, fold, map, List, [], ◌∷◌, ◌++◌, Bool, true, false, IsTrue, Contains, pos, ◌⊎◌}
+use Rattle.std.specs.Prelude.{◌≡◌, ℕ, ◌+◌, ◌-◌, max, fold, map, List, [], ◌∷◌, ◌++◌, Bool, true, false, IsTrue, pos, ◌⊎◌}
 use Rattle.canary_condition.specs.declared.condition.Operand.{Operand}
 use Rattle.canary_condition.specs.declared.condition.Operand.TheVariants.{Whole, Item, Number}
 use Rattle.canary_condition.specs.declared.token.Token.{Token}
@@ -50,10 +50,6 @@ Spells (Not a) level ts = IsTrue (has_not level) × (after : List Token) × (ts 
 -- a whole condition in round brackets
 Spells (Bracket a) level ts = (inside : List Token) × (ts ≡ Open ∷ inside ++ Close ∷ []) × Spells a AtOr inside
 Spells (Compare x c y) level ts = (before : List Token) × (after : List Token) × (ts ≡ before ++ Compares c ∷ after) × IsOperand x before × IsOperand y after
-
--- each number is one of an `i64`
-abbrev pub IsInRange : List Token → Type 0
-IsInRange ts = ¬ Contains ts OutOfRange
 
 -- one more token after so many open brackets; a `)` with none open counts for nothing
 abbrev pub with_token : ℕ → Token → ℕ

@@ -1,11 +1,20 @@
 //! Conditions.
-ghost use Rattle.std.specs.Prelude.{◌≡◌, IfOk};
+ghost use Rattle.std.specs.Prelude.{◌≡◌, ◌<◌, length, IfOk, MatchResult};
 
 use canary_base::error::Memory;
 use crate::evaluation::Evaluation;
+use crate::lexer;
+use crate::parser;
+use crate::token::{self, Token};
 use crate::outcome::Value;
 use std::alloc::{AllocFailed, Global};
 use std::marker::Model;
+
+/// The most bytes of a condition.
+pub const MOST_BYTES: usize = 1024;
+
+/// The most round brackets of a condition that are open at one place.
+pub const MOST_DEPTH: usize = 32;
 
 /// A comparison of two numbers.
 #[derive(Clone, Copy, Debug, PartialEq, Eq)]
@@ -70,6 +79,36 @@ impl Model for Condition {
 
 impl Condition {
     ghost use Rattle.canary_condition.specs.Meaning.{value};
+    ghost use Rattle.canary_condition.specs.Reading.{IsConditionOf, IsFaultOfTokens, IsConditionText, IsFaultOf};
+
+    /// The condition that a text spells, by the profile of Argo Rollouts' conditions.
+    pub fn parse(alloc: Global, text: &str) -> Result<Condition, ConditionFault>
+        ensures reads { MatchResult result
+            (λ condition. IsConditionText text.now condition)
+            (λ fault. IsFaultOf text.now fault) }
+    {
+        if text.len() > MOST_BYTES {
+            return Err(ConditionFault::TooLong);
+        }
+        let tokens = lexer::tokens_of(alloc, text.as_bytes())?;
+        Condition::of_tokens(alloc, tokens.as_slice())
+    }
+
+    /// The condition that tokens spell.
+    fn of_tokens(alloc: Global, tokens: &[Token]) -> Result<Condition, ConditionFault>
+        ensures { MatchResult result
+            (λ condition. IsConditionOf tokens.now condition)
+            (λ fault. IsFaultOfTokens tokens.now fault) }
+    {
+        if !token::are_in_range(tokens) {
+            return Err(ConditionFault::NumberRange);
+        }
+        if token::depth(tokens) > MOST_DEPTH {
+            return Err(ConditionFault::TooDeep);
+        }
+        let parts = parser::parts_of(alloc, tokens)?;
+        Ok(Condition { parts })
+    }
 
     /// What the condition says of a result. The second operand of an `or` counts only where the
     /// first is false, that of an `and` only where the first is true.

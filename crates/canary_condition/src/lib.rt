@@ -4,6 +4,7 @@
 
 pub mod condition;
 mod evaluation;
+pub mod laws;
 mod lexer;
 pub mod measurement;
 pub mod outcome;
