@@ -5,4 +5,7 @@ pub mod Digits
 pub mod Lexing
 pub mod Steps
 pub mod Depth
+pub mod Joins
+pub mod Numerals
+pub mod Pieces
 pub mod Readings
