@@ -193,8 +193,8 @@ or_loose a b la tb signs ps ts rest base h f =
     record {
       state = has (Or ∷ signs) ((first ++ OrElse ∷ []) ++ parts_of b);
       goes =
-        split_at signs ps ts h.1 h.2 rest OrSign h.3 ∙ r.goes ∙ or_goes r.state signs first (h.2 ++ rest) r.loosely
-        ∙ tb AtAnd (Or ∷ signs) (first ++ OrElse ∷ []) h.2 rest tt h.5 f;
+          split_at signs ps ts h.1 h.2 rest OrSign h.3 ∙ r.goes ∙ or_goes r.state signs first (h.2 ++ rest) r.loosely
+          ∙ tb AtAnd (Or ∷ signs) (first ++ OrElse ∷ []) h.2 rest tt h.5 f;
       loosely = record {
         given = refl;
         ends = ap (has signs) (ap (λ (r : List Part). (r ++ parts_of b) ++ OrPart ∷ []) (append_assoc ps (parts_of a) (OrElse ∷ [])) ∙ joined_parts ps (parts_of a) (parts_of b) OrElse OrPart);

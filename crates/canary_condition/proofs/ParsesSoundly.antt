@@ -351,10 +351,10 @@ parse_holds (t ∷ ts) zero s text h =
     elim (step s (t ∷ ts)) as (λ r. StepAt text t ts r → SpelledBy (text ++ t ∷ ts) (elim r [ None ↦ None | Some next ↦ parse_after (next.1 - 1) next.0 ts ])) [
       | None ↦ λ _. tt
       | Some next ↦ λ k.
-            subst (λ (r : List Token). SpelledBy r (parse_after (next.1 - 1) next.0 ts)) (append_assoc text (t ∷ []) ts)
-            (let m : next.1 - 1 ≡ k.more = omega (arith, k.is_more) in
-            let after : After (text ++ t ∷ []) ts next.0 (next.1 - 1) = subst (After (text ++ t ∷ []) ts next.0) (sym m) k.after in
-            parse_holds ts (next.1 - 1) next.0 (text ++ t ∷ []) after)
+          subst (λ (r : List Token). SpelledBy r (parse_after (next.1 - 1) next.0 ts)) (append_assoc text (t ∷ []) ts)
+          (let m : next.1 - 1 ≡ k.more = omega (arith, k.is_more) in
+          let after : After (text ++ t ∷ []) ts next.0 (next.1 - 1) = subst (After (text ++ t ∷ []) ts next.0) (sym m) k.after in
+          parse_holds ts (next.1 - 1) next.0 (text ++ t ∷ []) after)
     ] (step_holds s.wanted s.open_signs s.parts text t ts (subst (At s) (append-nil text) h.at))
 
 -- what the parser makes of tokens is the parts of a tree that they spell

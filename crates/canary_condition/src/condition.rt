@@ -1,12 +1,11 @@
 //! Conditions.
 ghost use Rattle.std.specs.Prelude.{◌≡◌, ◌<◌, length, IfOk, MatchResult};
 
-use canary_base::error::Memory;
 use crate::evaluation::Evaluation;
-use crate::lexer;
-use crate::parser;
-use crate::token::{self, Token};
 use crate::outcome::Value;
+use crate::token::{self, Token};
+use crate::{lexer, parser};
+use canary_base::error::Memory;
 use std::alloc::{AllocFailed, Global};
 use std::marker::Model;
 

@@ -9,4 +9,6 @@ mod lexer;
 pub mod measurement;
 pub mod outcome;
 mod parser;
+#[cfg(test)]
+mod tests;
 pub mod token;

@@ -74,7 +74,7 @@ impl Parser {
     }
 
     /// Ends the innermost sign.
-    fn close(&mut self) 
+    fn close(&mut self)
         ensures { self.new ≡ record self.old { open_signs = drop 1 self.old.open_signs } }
     {
         self.signs.pop();
