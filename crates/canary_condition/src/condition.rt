@@ -1,4 +1,27 @@
-//! Conditions.
+//! Conditions, by the profile of Argo Rollouts' conditions.
+//!
+//! Spaces, tabs, CR and LF may stand between the tokens, which are taken longest first from the
+//! left: `== != < <= > >= && || ! ( ) [ ]` and words, the longest runs of letters, digits and
+//! `_`. The words are `result`, `and`, `or`, `not` and numbers: digits alone, leading zeros
+//! allowed, with a value in an `i64`. A `-` directly before a digit belongs to the number.
+//!
+//! ```text
+//! or      := and  { ("||" | "or") and }
+//! and     := not  { ("&&" | "and") not }
+//! not     := ("!" | "not") not | atom
+//! atom    := "(" or ")" | operand compare operand
+//! operand := "result" | "result" "[" digits "]" | number
+//! ```
+//!
+//! Repeated `or` and `and` group from the left, and `not` applies to the comparison or bracket
+//! that follows. A condition has at most 1,024 bytes, and no more than 32 round brackets open at
+//! one place.
+//!
+//! On a result a condition is true, false or a fault. `result` is the number of a whole result,
+//! and a fault on a list; `result[i]` is the i-th value of a list, from 0, and a fault out of range
+//! or on a whole result. A comparison with a fault on either side is a fault, and so is `not` of
+//! one. `or` looks at its second operand only where the first is false, and `and` only where it is
+//! true.
 ghost use Rattle.std.specs.Prelude.{◌≡◌, ◌<◌, length, IfOk, MatchResult};
 
 use crate::evaluation::Evaluation;
@@ -80,7 +103,11 @@ impl Condition {
     ghost use Rattle.canary_condition.specs.Meaning.{value};
     ghost use Rattle.canary_condition.specs.Reading.{IsConditionOf, IsFaultOfTokens, IsConditionText, IsFaultOf};
 
-    /// The condition that a text spells, by the profile of Argo Rollouts' conditions.
+    /// The condition that a text spells. A text spells at most one. The first of these faults that
+    /// holds is answered: `TooLong`; `Syntax` where the text is not made of tokens; `NumberRange`;
+    /// `TooDeep`, where a `)` with none open counts for nothing; `Syntax` where the tokens spell no
+    /// condition. `Memory` may come of any text that is not too long. It takes time in proportion
+    /// to the text, and no more stack for a longer one.
     pub fn parse(alloc: Global, text: &str) -> Result<Condition, ConditionFault>
         ensures reads { MatchResult result
             (λ condition. IsConditionText text.now condition)
@@ -109,8 +136,8 @@ impl Condition {
         Ok(Condition { parts })
     }
 
-    /// What the condition says of a result. The second operand of an `or` counts only where the
-    /// first is false, that of an `and` only where the first is true.
+    /// What the condition says of a result. It takes no memory, and time in proportion to the
+    /// condition.
     pub fn eval(&self, value_of: &Value) -> Verdict3
         ensures { result ≡ value self.now value_of.now }
     {
