@@ -1,11 +1,11 @@
 -- What serde_json reads of a body.
-use Rattle.std.proofs.Common.{◌≡◌, ℕ, List, Bool, true, false, Option, Some, None, refl, sym, ◌∙◌, ap}
+use Rattle.std.proofs.Common.{◌≡◌, ℕ, List, Bool, true, false, Some, None, refl}
 use Rattle.std.specs.Str.{IsUtf8, is_utf8}
 use Rattle.std.proofs.lemmas.Str.{is_utf8-from_IsUtf8, IsUtf8-from_is_utf8}
 use Rattle.serde_json.specs.Data.{Data}
 use Rattle.serde_json.specs.Read.{read}
 use Rattle.canary_wire.specs.CommandReadings.{unreadable}
-use Rattle.canary_wire.specs.CommandForms.{json_in, reading_of_json, command_reading, body_reading}
+use Rattle.canary_wire.specs.CommandForms.{command_reading, body_reading}
 
 pub body_is_json : (bytes : List ℕ) (value : Data) → IsUtf8 bytes → read bytes ≡ Some value → body_reading bytes ≡ command_reading value
 body_is_json bytes value text found = rw (is_utf8-from_IsUtf8 bytes text, found) refl

@@ -1,7 +1,6 @@
 -- The members of an object, counted.
-use Rattle.std.proofs.Common.{◌≡◌, ◌≢◌, rules, ℕ, zero, suc, List, [], ◌∷◌, length, Option, Some, None, String, Global, string_bytes, refl, sym, ap, ◌∙◌, arith}
+use Rattle.std.proofs.Common.{◌≡◌, ◌≢◌, List, [], ◌∷◌, length, Some, None, String, Global, string_bytes, refl, arith}
 use Rattle.std.specs.Prelude.{slice_get}
-use Rattle.serde_json.specs.Data.{Data, Members, no_members, member}
 use Rattle.serde_json.specs.Events.{members_len}
 use Rattle.serde_json.specs.View.{view, members_view}
 use Rattle.serde_json.specs.declared.value.Value.{Value}

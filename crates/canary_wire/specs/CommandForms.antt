@@ -1,5 +1,5 @@
 -- Commands as JSON (RFC 8259).
-use Rattle.std.specs.Prelude.{ℕ, List, Bool, true, false, ◌==◌, Option, Some, None, option_map, option_and_then, unwrap_or, codes, if◌then◌else◌}
+use Rattle.std.specs.Prelude.{ℕ, List, Bool, false, ◌==◌, Option, Some, None, option_map, option_and_then, unwrap_or, codes, if◌then◌else◌}
 use Rattle.std.specs.Str.{is_utf8, bytes_eq}
 use Rattle.canary_plan.specs.declared.plan.Step.{Step}
 use Rattle.canary_plan.specs.declared.command.Command.{Command}
@@ -8,7 +8,7 @@ use Rattle.serde_json.specs.Data.{Data, Members, no_members, member}
 use Rattle.serde_json.specs.Events.{members_len}
 use Rattle.serde_json.specs.Find.{get, as_object}
 use Rattle.serde_json.specs.Read.{read}
-use Rattle.canary_wire.specs.CommandReadings.{Reading, unsupported, unreadable, readable_or_not}
+use Rattle.canary_wire.specs.CommandReadings.{Reading, unsupported, unreadable, reading_of_form}
 use Rattle.canary_wire.specs.ManifestForms.{has, name_in, label_in}
 use Rattle.canary_wire.specs.Rollouts.{rollout_name, rollout_steps, is_unsupported_rollout}
 
@@ -54,14 +54,14 @@ promote_in value = in_object_of 1 value (option_map Promote (at (codes "service"
 
 -- what is unsupported goes before what is unreadable
 abbrev pub service_reading : Data → Reading Command
-service_reading value = if has (codes "manifest") is_unsupported_rollout value then unsupported else readable_or_not (service_in value)
+service_reading value = if has (codes "manifest") is_unsupported_rollout value then unsupported else reading_of_form (service_in value)
 
 -- the reading of a command of that kind
 unfoldable pub reading_of_kind : List ℕ → Data → Reading Command
 reading_of_kind kind value =
     if bytes_eq kind (codes "service") then service_reading value
-    else (if bytes_eq kind (codes "start") then readable_or_not (start_in value)
-    else (if bytes_eq kind (codes "promote") then readable_or_not (promote_in value)
+    else (if bytes_eq kind (codes "start") then reading_of_form (start_in value)
+    else (if bytes_eq kind (codes "promote") then reading_of_form (promote_in value)
     else unreadable))
 
 abbrev pub only_member : Members → Option (List ℕ × Data)

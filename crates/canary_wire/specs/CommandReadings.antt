@@ -3,24 +3,25 @@ use Rattle.std.specs.Prelude.{◌≡◌, Option, Some, None, Result, Ok, Err}
 use Rattle.canary_wire.specs.declared.command.WireFault.{WireFault}
 use Rattle.canary_wire.specs.declared.command.WireFault.TheVariants.{Unreadable, Unsupported, Memory}
 
--- a body asks for what the desk does not do, or it has no reading, or it has this one
-pub data Reading {ℓ} (A : Type ℓ) : Type ℓ where
+-- it asks for what the desk does not do, or it can't be read, or it reads as this
+pub data Reading (A : Type 0) : Type 0 where
   unsupported : Reading A
   unreadable : Reading A
   readable : A → Reading A
 
-abbrev pub readable_or_not : {A : Type 0} → Option A → Reading A
-readable_or_not None = unreadable
-readable_or_not (Some a) = readable a
+-- readable as what a form gives, where it gives anything
+abbrev pub reading_of_form : {A : Type 0} → Option A → Reading A
+reading_of_form None = unreadable
+reading_of_form (Some a) = readable a
 
--- the answer is this reading, or want of memory
+-- the answer tells this reading, or want of memory
 abbrev pub IsReading : {A : Type 0} → Reading A → Result A WireFault → Type 0
 IsReading reading (Ok a) = reading ≡ readable a
 IsReading reading (Err Unreadable) = reading ≡ unreadable
 IsReading reading (Err Unsupported) = reading ≡ unsupported
 IsReading reading (Err Memory) = Unit {0}
 
--- the answer is what the form gives, or Unreadable where it gives nothing, or want of memory
+-- the answer is what a form gives, or Unreadable where it gives nothing, or want of memory
 abbrev pub IsRead : {A : Type 0} → Option A → Result A WireFault → Type 0
 IsRead form (Ok a) = form ≡ Some a
 IsRead form (Err Unreadable) = form ≡ None

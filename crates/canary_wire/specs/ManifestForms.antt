@@ -1,6 +1,6 @@
 -- The members of a manifest, as `kubectl get -o json` prints it: a null member is as if absent, and
 -- a member that no form asks for is passed over.
-use Rattle.std.specs.Prelude.{ℕ, List, [], ◌∷◌, Bool, true, false, not, ◌||◌, nat_le, ◌==◌, Option, Some, None, option_map, option_and_then, is_some, unwrap_or, if◌then◌else◌}
+use Rattle.std.specs.Prelude.{ℕ, List, [], ◌∷◌, Bool, true, false, not, ◌||◌, nat_le, ◌==◌, Option, Some, None, option_map, option_and_then, unwrap_or, if◌then◌else◌}
 use Rattle.std.specs.Str.{bytes_eq}
 use Rattle.canary_base.specs.Names.{is_name, is_label}
 use Rattle.serde_json.specs.Data.{Data, null, Items, no_items, item}
