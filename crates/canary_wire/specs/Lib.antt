@@ -1,0 +1,4 @@
+pub mod CommandReadings
+pub mod ManifestForms
+pub mod Rollouts
+pub mod CommandForms
