@@ -1,0 +1,71 @@
+-- Rollout manifests of Argo Rollouts.
+use Rattle.std.specs.Prelude.{ℕ, List, [], Bool, true, false, not, ◌&&◌, ◌||◌, Option, Some, None, option_map, is_some, is_none, unwrap_or, codes, if◌then◌else◌}
+use Rattle.std.specs.Str.{bytes_eq}
+use Rattle.canary_plan.specs.declared.plan.Step.{Step}
+use Rattle.canary_plan.specs.declared.plan.Step.TheVariants.{SetWeight, Pause}
+use Rattle.serde_json.specs.Data.{Data, Members, no_members, member}
+use Rattle.serde_json.specs.Find.{as_object}
+use Rattle.canary_wire.specs.ManifestForms.{unless_null, given, needed, optional, has, name_in, whole_up_to, list_of, is_true, is_other_text, is_no_empty_list, some_item}
+
+-- ---- what a manifest says
+
+abbrev pub rollout_name : Data → Option (List ℕ)
+rollout_name manifest = needed (codes "metadata") (needed (codes "name") name_in) manifest
+
+-- an object; a duration is not read yet
+abbrev pub pause_in : Data → Option Step
+pause_in pause = if is_some (as_object pause) && is_none (given (codes "duration") pause) then Some Pause else None
+
+-- exactly one of the three is there; an analysis is not read yet
+abbrev pub only_step : Option Data → Option Data → Option Data → Option Step
+only_step (Some weight) None None = option_map SetWeight (whole_up_to 1000000 weight)
+only_step None (Some pause) None = pause_in pause
+only_step weight pause analysis = None
+
+unfoldable pub step_in : Data → Option Step
+step_in step = only_step (given (codes "setWeight") step) (given (codes "pause") step) (given (codes "analysis") step)
+
+-- an object; an analysis beside the steps is not read yet
+abbrev pub canary_steps : Data → Option (List Step)
+canary_steps canary =
+    if is_some (as_object canary) && is_none (given (codes "analysis") canary) then optional (codes "steps") [] (list_of step_in) canary else None
+
+abbrev pub rollout_steps : Data → Option (List Step)
+rollout_steps manifest = needed (codes "spec") (needed (codes "strategy") (needed (codes "canary") canary_steps)) manifest
+
+-- ---- what the desk does not do
+
+abbrev pub is_unsupported_analysis : Data → Bool
+is_unsupported_analysis analysis =
+    has (codes "dryRun") is_no_empty_list analysis
+    || has (codes "measurementRetention") is_no_empty_list analysis
+    || has (codes "templates") (some_item (has (codes "clusterScope") is_true)) analysis
+
+abbrev pub is_step_key : List ℕ → Bool
+is_step_key key = bytes_eq key (codes "setWeight") || bytes_eq key (codes "pause") || bytes_eq key (codes "analysis")
+
+-- a member of another key, not null
+abbrev pub any_other : Members → Bool
+any_other no_members = false
+any_other (member key value rest) = (not (is_step_key key) && is_some (unless_null value)) || any_other rest
+
+abbrev pub has_other_member : Data → Bool
+has_other_member step = unwrap_or (option_map any_other (as_object step)) false
+
+unfoldable pub is_unsupported_step : Data → Bool
+is_unsupported_step step = has_other_member step || has (codes "analysis") is_unsupported_analysis step
+
+abbrev pub is_unsupported_canary : Data → Bool
+is_unsupported_canary canary = has (codes "steps") (some_item is_unsupported_step) canary || has (codes "analysis") is_unsupported_analysis canary
+
+abbrev pub anything : Data → Bool
+anything value = true
+
+abbrev pub is_unsupported_strategy : Data → Bool
+is_unsupported_strategy strategy = has (codes "blueGreen") anything strategy || has (codes "canary") is_unsupported_canary strategy
+
+abbrev pub is_unsupported_spec : Data → Bool
+is_unsupported_spec spec = has (codes "paused") is_true spec || has (codes "strategy") is_unsupported_strategy spec
+
+unfoldable pub is_unsupported_rollout : Data → Bool
+is_unsupported_rollout manifest = has (codes "kind") (is_other_text (codes "Rollout")) manifest || has (codes "spec") is_unsupported_spec manifest
