@@ -1,3 +1,12 @@
 pub mod Bodies
 pub mod Items
 pub mod Members
+pub mod TestLemmas
+pub mod CutLemmas
+pub mod CutLaw
+pub mod WriteLemmas
+pub mod AnswerLemmas
+pub mod ServeLemmas
+pub mod ExchangeLemmas
+pub mod RouteLemmas
+pub mod BufferLemmas

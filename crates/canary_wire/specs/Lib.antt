@@ -2,3 +2,12 @@ pub mod CommandReadings
 pub mod ManifestForms
 pub mod Rollouts
 pub mod CommandForms
+pub mod Heads
+pub mod Named
+pub mod Cuts
+pub mod ReplyTexts
+pub mod Writes
+pub mod Buffers
+pub mod Routes
+pub mod Exchanges
+pub mod Serving

@@ -3,6 +3,15 @@
 //! Callers may rest on this: a command is read from JSON exactly as its definition reads it.
 #![tactic(auto)]
 
+mod answer;
+mod buffer;
 pub mod command;
+mod cut;
 mod form;
+mod framing;
+pub mod laws;
+mod refusal;
+mod reply;
 mod rollout;
+mod routes;
+pub mod serve;

@@ -1,0 +1,6 @@
+-- What a buffer holds.
+use Rattle.std.specs.Prelude.{ℕ, List, slice_range}
+use Rattle.canary_wire.specs.declared.buffer.Buffer.{Buffer}
+
+abbrev pub held : Buffer → List ℕ
+held b = slice_range b.bytes.items b.start b.end

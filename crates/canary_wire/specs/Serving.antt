@@ -1,0 +1,144 @@
+-- What is served of a stream.
+use Rattle.std.specs.Prelude.{◌≡◌, ℕ, ◌<◌, ◌≤◌, Bool, true, List, [], ◌∷◌, ◌++◌, length, flat_map, Ok, Err, Result, if◌then◌else◌}
+use Rattle.std.specs.List.{list_all}
+use Rattle.std.specs.Io.KnownBytes.{Appends, Consumes, IsAtEnd}
+use Rattle.canary_wire.specs.declared.refusal.Refusal.{Refusal}
+use Rattle.canary_wire.specs.declared.reply.Said.TheVariants.{Refused}
+use Rattle.canary_wire.specs.declared.serve.Ended.{Ended}
+use Rattle.canary_wire.specs.declared.serve.Ended.TheVariants.{EndOfInput, Closed, Truncated, TurnsSpent}
+use Rattle.canary_wire.specs.declared.serve.Turn.{Turn}
+use Rattle.canary_wire.specs.declared.serve.Turn.TheVariants.{GoesOn, Ends}
+use Rattle.canary_wire.specs.declared.serve.TurnFault.{TurnFault}
+use Rattle.canary_wire.specs.declared.serve.TurnFault.TheVariants.{Read, Write}
+use Rattle.canary_wire.specs.declared.reply.WriteFault.{WriteFault}
+use Rattle.canary_wire.specs.Cuts.{is_newline, message_bytes, IsMessage, IsRefused, IsUnfinished, Begins, Ending, idle, cut_off, closing, refusing, IsCut}
+use Rattle.canary_wire.specs.ReplyTexts.{reply_text}
+use Rattle.canary_wire.specs.Writes.{Known, Writes}
+use Rattle.canary_wire.specs.Exchanges.{Exchange, messages_of, reply_bytes, Point, Holds, Went}
+
+-- how a stream ends whose input ends with these bytes behind the last message
+abbrev pub end_of : List ℕ → Ended
+end_of rest = if list_all is_newline rest then EndOfInput else Truncated
+
+-- the reply of the refusal that ends the stream
+abbrev pub last_reply : Ending → List ℕ
+last_reply idle = []
+last_reply cut_off = []
+last_reply closing = []
+last_reply (refusing r bare) = reply_text (Refused r) true bare
+
+-- more bytes might have gone on
+abbrev pub IsOpen : Ending → Type 0
+IsOpen idle = Unit {0}
+IsOpen cut_off = Unit {0}
+IsOpen closing = ⊥
+IsOpen (refusing r bare) = ⊥
+
+-- a message or a refusal ended the stream
+abbrev pub IsShut : Ending → Type 0
+IsShut idle = ⊥
+IsShut cut_off = ⊥
+IsShut closing = Unit {0}
+IsShut (refusing r bare) = Unit {0}
+
+-- how the serving ended, by how the cutting of the bytes that were read ended, and what the reader has left
+abbrev pub EndsAs : List ℕ → Ending → Known → Ended → Type 0
+EndsAs bytes end left EndOfInput = (end ≡ idle) × IsAtEnd left
+EndsAs bytes end left Truncated = (end ≡ cut_off) × IsAtEnd left
+EndsAs bytes end left Closed = IsShut end
+EndsAs bytes end left TurnsSpent = IsOpen end × (1000000000 ≤ length bytes)
+
+-- (here `r` is what the reader has left, `w` what the writer holds)
+-- the bytes that were read are cut into messages, and the bytes that were written are the replies to these, in order, and then that of the refusal that ends the stream
+pub record Serves (r new_r w new_w : Known) (old new : Point) (bytes : List ℕ) (end : Ending) : Type 0 where
+  pub exchanges : List Exchange
+  pub read : Consumes r new_r bytes
+  pub cut : IsCut bytes (messages_of exchanges) end
+  pub holds : Holds old new exchanges
+  pub written : Appends w new_w (flat_map reply_bytes exchanges ++ last_reply end)
+
+abbrev pub ServesTo : Known → Known → Known → Known → Point → Point → Ended → Type 0
+ServesTo r new_r w new_w old new ended =
+    (bytes : List ℕ) × (end : Ending) × EndsAs bytes end new_r ended × Serves r new_r w new_w old new bytes end
+
+-- all that was read was answered, up to where more bytes might have gone on
+abbrev pub ServesSome : Known → Known → Known → Known → Point → Point → Type 0
+ServesSome r new_r w new_w old new =
+    (bytes : List ℕ) × (end : Ending) × IsOpen end × Serves r new_r w new_w old new bytes end
+
+-- a text that did not go out whole
+pub record Cut (text front : List ℕ) : Type 0 where
+  pub back : List ℕ
+  pub parts : text ≡ front ++ back
+  pub short : 0 < length back
+
+-- these exchanges were held, and in the midst of the last one's reply, or of the refusal's behind it, the writer failed
+pub data IsCutShort (bytes text : List ℕ) : List Exchange → Type 0 where
+  in_reply : (xs : List Exchange) (last : Exchange) (rest front : List ℕ) → Begins bytes (messages_of xs) (message_bytes last.message ++ rest) → IsMessage last.message
+      → Cut (reply_bytes last) front → text ≡ flat_map reply_bytes xs ++ front → IsCutShort bytes text (xs ++ last ∷ [])
+  in_refusal : (xs : List Exchange) (rest front : List ℕ) (r : Refusal) (bare : Bool) → Begins bytes (messages_of xs) rest → IsRefused rest r bare
+      → Cut (last_reply (refusing r bare)) front → text ≡ flat_map reply_bytes xs ++ front → IsCutShort bytes text xs
+
+-- the writer failed: what went out is a front of the replies, and the last message is the one whose reply did not go out whole
+pub record ServesUntil (r new_r w new_w : Known) (old new : Point) : Type 0 where
+  pub bytes : List ℕ
+  pub text : List ℕ
+  pub exchanges : List Exchange
+  pub read : Consumes r new_r bytes
+  pub cut : IsCutShort bytes text exchanges
+  pub holds : Holds old new exchanges
+  pub written : Appends w new_w text
+
+abbrev pub TurnsTo : Known → Known → Known → Known → Point → Point → Result Ended TurnFault → Type 0
+TurnsTo r new_r w new_w old new (Ok ended) = ServesTo r new_r w new_w old new ended
+TurnsTo r new_r w new_w old new (Err Read) = ServesSome r new_r w new_w old new
+TurnsTo r new_r w new_w old new (Err Write) = ServesUntil r new_r w new_w old new
+
+-- ---- step by step
+
+-- bytes were answered as far as these that are held
+pub record IsSoFar (r now_r w now_w : Known) (old now : Point) (turns : ℕ) (held : List ℕ) : Type 0 where
+  pub bytes : List ℕ
+  pub exchanges : List Exchange
+  pub read : Consumes r now_r bytes
+  pub begins : Begins bytes (messages_of exchanges) held
+  pub unfinished : IsUnfinished held
+  pub went : Went old now exchanges
+  pub written : Appends w now_w (flat_map reply_bytes exchanges)
+  pub many : turns ≤ length bytes
+
+-- the messages that bytes begin with were answered
+pub record Answers (w new_w : Known) (old new : Point) (bytes rest : List ℕ) : Type 0 where
+  pub exchanges : List Exchange
+  pub begins : Begins bytes (messages_of exchanges) rest
+  pub went : Went old new exchanges
+  pub written : Appends w new_w (flat_map reply_bytes exchanges)
+
+-- and the stream ended
+pub record AnswersAll (w new_w : Known) (old new : Point) (bytes : List ℕ) : Type 0 where
+  pub exchanges : List Exchange
+  pub end : Ending
+  pub shut : IsShut end
+  pub cut : IsCut bytes (messages_of exchanges) end
+  pub went : Went old new exchanges
+  pub written : Appends w new_w (flat_map reply_bytes exchanges ++ last_reply end)
+
+-- or the writer failed
+pub record AnswersUntil (w new_w : Known) (old new : Point) (bytes : List ℕ) : Type 0 where
+  pub text : List ℕ
+  pub exchanges : List Exchange
+  pub cut : IsCutShort bytes text exchanges
+  pub went : Went old new exchanges
+  pub written : Appends w new_w text
+
+-- what became of held bytes
+abbrev pub AnswersHeld : Known → Known → Point → Point → List ℕ → List ℕ → Result Turn WriteFault → Type 0
+AnswersHeld w new_w old new held rest (Ok GoesOn) = Answers w new_w old new held rest × IsUnfinished rest
+AnswersHeld w new_w old new held rest (Ok Ends) = AnswersAll w new_w old new held
+AnswersHeld w new_w old new held rest (Err fault) = AnswersUntil w new_w old new held
+
+-- the text that ends the stream went out, or the writer failed in its midst
+abbrev pub RefusesAll : Known → Known → List ℕ → Result Turn WriteFault → Type 0
+RefusesAll w new_w text (Ok GoesOn) = ⊥
+RefusesAll w new_w text (Ok Ends) = Appends w new_w text
+RefusesAll w new_w text (Err fault) = (front : List ℕ) × Cut text front × Appends w new_w front

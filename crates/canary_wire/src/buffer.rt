@@ -1,0 +1,110 @@
+//! The bytes of a stream that were read and not yet answered.
+ghost use Rattle.std.specs.Prelude.{◌≡◌, ℕ, List, ◌+◌, ◌<◌, ◌≤◌, ◌++◌, [], length, take, drop, vec_len, IfOk, OnErr, Ok};
+ghost use Rattle.std.specs.Io.KnownBytes.{Consumes, IsAtEnd};
+
+use canary_base::error::Memory;
+use std::alloc::Global;
+use std::io::Read;
+
+/// The room: a head of 16,384 bytes and a body of 65,536.
+const ROOM: usize = 81_920;
+
+/// The reader failed.
+#[derive(Clone, Copy, Debug, PartialEq, Eq)]
+pub(crate) struct ReadFault;
+
+/// The bytes that were read and not yet taken.
+#[derive(Drop)]
+pub(crate) struct Buffer {
+    bytes: Vec<u8>,
+    start: usize,
+    end: usize,
+    ghost size: { vec_len bytes ≡ 81920 },
+    ghost ordered: { start ≤ end },
+    ghost fits: { end ≤ 81920 },
+}
+
+impl Buffer {
+    ghost use Rattle.canary_wire.specs.Buffers.{held};
+
+    /// An empty buffer, with all the room that it will ever need.
+    ///
+    /// # Errors
+    /// `Memory` where an allocation was refused.
+    pub(crate) fn new(alloc: Global) -> Result<Buffer, Memory>
+        ensures { IfOk result (λ buffer. held buffer ≡ []) }
+    {
+        let bytes = vec![in alloc; 0u8; ROOM]?;
+        Ok(Buffer {
+            bytes,
+            start: 0,
+            end: 0,
+        })
+    }
+
+    /// The bytes that it holds.
+    pub(crate) fn held(&self) -> &[u8]
+        ensures { result.now ≡ held self.now }
+    {
+        &self.bytes[self.start..self.end]
+    }
+
+    /// Lets the first bytes go.
+    pub(crate) fn take(&mut self, count: usize)
+        requires { count ≤ length (held self.old) }
+        ensures { held self.new ≡ drop count (held self.old) }
+    {
+        self.start += count;
+    }
+
+    /// Reads more bytes behind those that it holds, and says how many: none only at the end of the
+    /// input.
+    ///
+    /// # Errors
+    /// Where the reader fails, also where it is interrupted; nothing was read.
+    pub(crate) fn fill<R: Read>(&mut self, reader: &mut R) -> Result<usize, ReadFault>
+        requires { length (held self.old) < 81920 }
+        ensures more { IfOk result (λ n. (got : List ℕ) × (held self.new ≡ held self.old ++ got)
+            × Consumes (R.remaining reader.old) (R.remaining reader.new) got × (length got ≡ n)) }
+        ensures end { result ≡ Ok 0 → IsAtEnd (R.remaining reader.new) }
+        ensures err { OnErr result ((held self.new ≡ held self.old) × Consumes (R.remaining reader.old) (R.remaining reader.new) []) }
+    {
+        self.compact();
+        match read_at(reader, &mut self.bytes, self.end) {
+            Ok(n) => {
+                self.end += n;
+                Ok(n)
+            }
+            Err(fault) => Err(fault),
+        }
+    }
+
+    // Makes room behind the bytes that it holds.
+    fn compact(&mut self)
+        requires { length (held self.old) < 81920 }
+        ensures kept { held self.new ≡ held self.old }
+        ensures room { self.new.end < 81920 }
+    {
+        if self.end < ROOM {
+            return;
+        }
+        self.bytes.rotate_left(self.start);
+        self.end -= self.start;
+        self.start = 0;
+    }
+}
+
+// Reads into the bytes from a place on.
+fn read_at<R: Read>(reader: &mut R, bytes: &mut [u8], at: usize) -> Result<usize, ReadFault>
+    requires { at < length bytes.old }
+    ensures within { IfOk result (λ n. at + n ≤ length bytes.old) }
+    ensures more { IfOk result (λ n. (got : List ℕ) × (rest : List ℕ) × (bytes.new ≡ take at bytes.old ++ (got ++ rest))
+        × Consumes (R.remaining reader.old) (R.remaining reader.new) got × (length got ≡ n)) }
+    ensures end { result ≡ Ok 0 → IsAtEnd (R.remaining reader.new) }
+    ensures err { OnErr result ((rest : List ℕ) × (bytes.new ≡ take at bytes.old ++ rest) × Consumes (R.remaining reader.old) (R.remaining reader.new) []) }
+{
+    match reader.read(&mut bytes[at..]) {
+        Ok(n) => Ok(n),
+        Err(_) => Err(ReadFault),
+    }
+}

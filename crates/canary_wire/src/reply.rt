@@ -1,0 +1,166 @@
+//! Replies (RFC 9112), and writing them.
+ghost use Rattle.std.specs.Prelude.{◌≡◌, ◌++◌, ◌≤◌, length};
+ghost use Rattle.canary_wire.specs.ReplyTexts.{said_status, said_body, allows, status_code, reason_of, line_if, head_text, reply_text};
+ghost use Rattle.canary_wire.specs.Writes.{Writes};
+
+use crate::refusal::Refusal;
+use arrayvec::ArrayString;
+use canary_once::event::Answer;
+use http::StatusCode;
+use std::io::Write;
+
+/// Room for the head of any reply, and behind it for most bodies.
+const ROOM: usize = 512;
+
+/// What is said in the reply to a message.
+#[derive(Drop)]
+pub(crate) enum Said {
+    Refused(Refusal),
+    NoMemory,
+    Answered(Answer),
+}
+
+impl Said {
+    fn status(&self) -> u16
+        ensures { result ≡ said_status self.now }
+    {
+        match self {
+            Said::Refused(refusal) => refusal.status(),
+            Said::NoMemory => 503,
+            Said::Answered(answer) => answer.status(),
+        }
+    }
+
+    fn body(&self) -> &str
+        ensures { result.now ≡ said_body self.now }
+    {
+        match self {
+            Said::Refused(refusal) => refusal.body(),
+            Said::NoMemory => "{\"code\":\"no-memory\"}",
+            Said::Answered(answer) => answer.body(),
+        }
+    }
+
+    // Whether the reply names the method of the route.
+    fn allows(&self) -> bool
+        ensures { result ≡ allows self.now }
+    {
+        matches!(self, Said::Refused(Refusal::Method))
+    }
+}
+
+/// The writer failed, or took no byte.
+#[derive(Clone, Copy, Debug, PartialEq, Eq)]
+pub(crate) struct WriteFault;
+
+/// Writes the reply that says this: its head alone where that is asked, and with `Connection:
+/// close` where the stream ends after it. It takes no memory. What went out before a fault is a front of
+/// the reply.
+#[tactic(auto, unfolding(crate::specs::ReplyTexts::reply_text))]
+pub(crate) fn write_reply<W: Write>(
+    writer: &mut W,
+    said: &Said,
+    is_last: bool,
+    head_alone: bool,
+) -> Result<(), WriteFault>
+    ensures { Writes (W.contents writer.old) (W.contents writer.new) (reply_text said.now is_last head_alone) result }
+{
+    let body = said.body();
+    let head = reply_head(
+        status_code(said.status()),
+        body.len(),
+        said.allows(),
+        is_last,
+    );
+    if head_alone {
+        return write_all(writer, head.as_str().as_bytes());
+    }
+    write_both(writer, head, body)
+}
+
+// The status code, or 500 in place of a number that is none.
+fn status_code(status: u16) -> StatusCode
+    ensures { result ≡ status_code status }
+{
+    StatusCode::from_u16(status).unwrap_or(StatusCode::INTERNAL_SERVER_ERROR)
+}
+
+// The status line, the fields and the empty line.
+#[tactic(auto, unfolding(crate::specs::ReplyTexts::head_text))]
+fn reply_head(status: StatusCode, size: usize, allows: bool, is_last: bool) -> ArrayString<ROOM>
+    ensures { result.bytes ≡ head_text status size allows is_last }
+{
+    let mut digits = itoa::Buffer::new();
+    let mut head = ArrayString::new();
+    head.push_str("HTTP/1.1 ");
+    head.push_str(status.as_str());
+    head.push_str(" ");
+    head.push_str(reason(status.as_u16()));
+    head.push_str("\r\nContent-Type: application/json\r\nContent-Length: ");
+    head.push_str(digits.format(size));
+    head.push_str("\r\n");
+    head.push_str(line_if(allows, "Allow: PUT\r\n"));
+    head.push_str(line_if(is_last, "Connection: close\r\n"));
+    head.push_str("\r\n");
+    head
+}
+
+fn reason(status: u16) -> &'static str
+    ensures is { result.now ≡ reason_of status }
+    ensures short { length result.now ≤ 21 }
+{
+    match status {
+        200 => "OK",
+        400 => "Bad Request",
+        404 => "Not Found",
+        405 => "Method Not Allowed",
+        409 => "Conflict",
+        411 => "Length Required",
+        413 => "Content Too Large",
+        422 => "Unprocessable Content",
+        503 => "Service Unavailable",
+        _ => "",
+    }
+}
+
+fn line_if(stands: bool, line: &str) -> &str
+    ensures is { result.now ≡ line_if stands line.now }
+    ensures short { length result.now ≤ length line.now }
+{
+    if stands { line } else { "" }
+}
+
+// By one write, if there is room for both.
+fn write_both<W: Write>(
+    writer: &mut W,
+    mut head: ArrayString<ROOM>,
+    body: &str,
+) -> Result<(), WriteFault>
+    ensures { Writes (W.contents writer.old) (W.contents writer.new) (head.bytes ++ body.now) result }
+{
+    if body.len() <= head.remaining_capacity() {
+        head.push_str(body);
+        return write_all(writer, head.as_str().as_bytes());
+    }
+    if let Err(fault) = write_all(writer, head.as_str().as_bytes()) {
+        return Err(fault);
+    }
+    write_all(writer, body.as_bytes())
+}
+
+fn write_all<W: Write>(writer: &mut W, text: &[u8]) -> Result<(), WriteFault>
+    ensures { Writes (W.contents writer.old) (W.contents writer.new) text.now result }
+{
+    let mut rest = text;
+    while !rest.is_empty() {
+        match writer.write(rest) {
+            Ok(0) => return Err(WriteFault),
+            Ok(n) => {
+                let (_, after) = rest.split_at(n);
+                rest = after;
+            }
+            Err(_) => return Err(WriteFault),
+        }
+    }
+    Ok(())
+}

@@ -1,0 +1,216 @@
+//! Serving a stream.
+ghost use Rattle.std.specs.Prelude.{◌≡◌, [], ◌++◌, IfOk, Err};
+ghost use Rattle.std.specs.List.{list_all};
+ghost use Rattle.canary_once.specs.Contents.{KeepsEntries};
+ghost use Rattle.canary_wire.specs.Cuts.{is_newline, refusing};
+ghost use Rattle.canary_wire.specs.Exchanges.{point};
+ghost use Rattle.canary_wire.specs.Routes.{the_rows};
+ghost use Rattle.canary_wire.specs.Buffers.{held};
+ghost use Rattle.canary_wire.specs.Serving.{last_reply, end_of, ServesTo, ServesSome, ServesUntil, TurnsTo, AnswersHeld, RefusesAll};
+
+use crate::answer::answer;
+use crate::buffer::Buffer;
+use crate::cut::{Next, first};
+use crate::refusal::Refusal;
+use crate::reply::{Said, WriteFault, write_reply};
+use crate::routes::{Route, routes};
+use canary_once::book::Book;
+use canary_once::clock::Clock;
+use matchit::Router;
+use std::alloc::Global;
+use std::io::{Read, Write};
+
+/// The most reads of one stream.
+const MOST_READS: u32 = 1_000_000_000;
+
+/// How a stream ended.
+#[derive(Clone, Copy, Debug, PartialEq, Eq)]
+pub enum Ended {
+    /// The input ended, and nothing but line ends stood behind the last message.
+    EndOfInput,
+    /// The last message asked for that, or was refused in a way that ends the stream.
+    Closed,
+    /// The input ended in the midst of a message.
+    Truncated,
+    /// The stream went on after the most reads.
+    TurnsSpent,
+}
+
+/// Why a stream was not served to its end.
+#[derive(Clone, Copy, Debug, PartialEq, Eq)]
+pub enum ServeFault {
+    /// The reader failed.
+    Read,
+    /// The writer failed, or took no byte.
+    Write,
+    /// An allocation was refused.
+    Memory,
+}
+
+/// Whether a stream goes on.
+#[derive(Clone, Copy, Debug, PartialEq, Eq)]
+pub(crate) enum Turn {
+    GoesOn,
+    Ends,
+}
+
+/// Serves a stream of requests of HTTP (RFC 9110, RFC 9112), each answered as soon as it is whole.
+///
+/// The bytes that are read are cut into messages. For each the clock is asked once, the register is
+/// asked where the message is a request, and its reply is written. The stream ends at the end of
+/// the input, after a message of HTTP/1.0 or with `Connection: close`, at a message that is refused
+/// as `malformed`, `length` or `too-long`, or after 1,000,000,000 reads. Where memory is wanted
+/// later than before the first read, the reply is 503.
+///
+/// # Errors
+/// `Memory` where there was none for the buffer of 81,920 bytes or for the routes: nothing was
+/// read, written or asked. `Read` where the reader failed, also where it was interrupted: all that
+/// was read before is answered. `Write` where the writer failed or took no byte: what was written
+/// is a front of the replies, and the message whose reply did not go out whole is the last that was
+/// answered; if it was a new request, it is settled.
+pub fn serve<R: Read, W: Write, C: Clock, B: Book>(
+    alloc: Global,
+    reader: &mut R,
+    writer: &mut W,
+    clock: &mut C,
+    book: &mut B,
+) -> Result<Ended, ServeFault>
+    ensures ok { IfOk result (λ ended. ServesTo (R.remaining reader.old) (R.remaining reader.new) (W.contents writer.old) (W.contents writer.new)
+        (point (C.tells clock.old) (B.is_intact book.old) (B.is_sure book.old) (B.contents book.old))
+        (point (C.tells clock.new) (B.is_intact book.new) (B.is_sure book.new) (B.contents book.new)) ended) }
+    ensures read { result ≡ Err ServeFault.Read → ServesSome (R.remaining reader.old) (R.remaining reader.new) (W.contents writer.old) (W.contents writer.new)
+        (point (C.tells clock.old) (B.is_intact book.old) (B.is_sure book.old) (B.contents book.old))
+        (point (C.tells clock.new) (B.is_intact book.new) (B.is_sure book.new) (B.contents book.new)) }
+    ensures write { result ≡ Err ServeFault.Write → ServesUntil (R.remaining reader.old) (R.remaining reader.new) (W.contents writer.old) (W.contents writer.new)
+        (point (C.tells clock.old) (B.is_intact book.old) (B.is_sure book.old) (B.contents book.old))
+        (point (C.tells clock.new) (B.is_intact book.new) (B.is_sure book.new) (B.contents book.new)) }
+    ensures memory { result ≡ Err ServeFault.Memory → (reader.new ≡ reader.old) × (writer.new ≡ writer.old) × (clock.new ≡ clock.old) × (book.new ≡ book.old) }
+    ensures intact { B.is_intact book.new → B.is_intact book.old }
+    ensures sure { B.is_sure book.new ≡ B.is_sure book.old }
+    ensures kept { B.is_intact book.new → KeepsEntries (B.contents book.old) (B.contents book.new) }
+{
+    let Ok(mut buffer) = Buffer::new(alloc) else {
+        return Err(ServeFault::Memory);
+    };
+    let Ok(router) = routes(alloc) else {
+        return Err(ServeFault::Memory);
+    };
+    match serve_turns(alloc, &router, &mut buffer, reader, writer, clock, book) {
+        Ok(ended) => Ok(ended),
+        Err(TurnFault::Read) => Err(ServeFault::Read),
+        Err(TurnFault::Write) => Err(ServeFault::Write),
+    }
+}
+
+// Why the turns of a stream ended early.
+#[derive(Clone, Copy, Debug, PartialEq, Eq)]
+pub(crate) enum TurnFault {
+    Read,
+    Write,
+}
+
+// Reads and answers in turn, from an empty buffer on.
+fn serve_turns<R: Read, W: Write, C: Clock, B: Book>(
+    alloc: Global,
+    router: &Router<Route>,
+    buffer: &mut Buffer,
+    reader: &mut R,
+    writer: &mut W,
+    clock: &mut C,
+    book: &mut B,
+) -> Result<Ended, TurnFault>
+    requires empty { held buffer.old ≡ [] }
+    requires routes { router.now ≡ the_rows }
+    ensures { TurnsTo (R.remaining reader.old) (R.remaining reader.new) (W.contents writer.old) (W.contents writer.new)
+        (point (C.tells clock.old) (B.is_intact book.old) (B.is_sure book.old) (B.contents book.old))
+        (point (C.tells clock.new) (B.is_intact book.new) (B.is_sure book.new) (B.contents book.new)) result }
+{
+    'turns: for _turn in 0..MOST_READS {
+        let Ok(count) = buffer.fill(reader) else {
+            return Err(TurnFault::Read);
+        };
+        if count == 0 {
+            return Ok(end_of(buffer.held()));
+        }
+        match answer_held(alloc, router, buffer, writer, clock, book) {
+            Ok(Turn::GoesOn) => {}
+            Ok(Turn::Ends) => return Ok(Ended::Closed),
+            Err(_) => return Err(TurnFault::Write),
+        }
+    }
+    Ok(Ended::TurnsSpent)
+}
+
+// How a stream ended whose input ended with these bytes behind the last message.
+fn end_of(rest: &[u8]) -> Ended
+    ensures { result ≡ end_of rest.now }
+{
+    if is_blank(rest) {
+        Ended::EndOfInput
+    } else {
+        Ended::Truncated
+    }
+}
+
+// Whether there are only line ends.
+fn is_blank(rest: &[u8]) -> bool
+    ensures { result ≡ list_all is_newline rest.now }
+{
+    rest.iter().all(|byte| *byte == b'\r' || *byte == b'\n')
+}
+
+// Answers each message that the buffer holds whole.
+fn answer_held<W: Write, C: Clock, B: Book>(
+    alloc: Global,
+    router: &Router<Route>,
+    buffer: &mut Buffer,
+    writer: &mut W,
+    clock: &mut C,
+    book: &mut B,
+) -> Result<Turn, WriteFault>
+    requires routes { router.now ≡ the_rows }
+    ensures { AnswersHeld (W.contents writer.old) (W.contents writer.new)
+        (point (C.tells clock.old) (B.is_intact book.old) (B.is_sure book.old) (B.contents book.old))
+        (point (C.tells clock.new) (B.is_intact book.new) (B.is_sure book.new) (B.contents book.new))
+        (held buffer.old) (held buffer.new) result }
+{
+    'messages: loop {
+        match first(buffer.held()) {
+            Next::Message(parts) => {
+                if let Err(fault) = answer(
+                    alloc,
+                    router,
+                    buffer.held(),
+                    parts,
+                    writer,
+                    clock,
+                    book,
+                ) {
+                    return Err(fault);
+                }
+                if parts.is_last {
+                    return Ok(Turn::Ends);
+                }
+                buffer.take(parts.end);
+            }
+            Next::Refused(refusal, head_alone) => {
+                return refuse(writer, refusal, head_alone);
+            }
+            Next::Unfinished => return Ok(Turn::GoesOn),
+        }
+    }
+}
+
+// Writes the reply of a refusal that ends the stream.
+fn refuse<W: Write>(writer: &mut W, refusal: Refusal, head_alone: bool) -> Result<Turn, WriteFault>
+    ensures { RefusesAll (W.contents writer.old) (W.contents writer.new) (last_reply (refusing refusal head_alone)) result }
+{
+    let said = Said::Refused(refusal);
+    match write_reply(writer, &said, true, head_alone) {
+        Ok(()) => Ok(Turn::Ends),
+        Err(fault) => Err(fault),
+    }
+}
+
+#[cfg(test)]
+mod tests;
