@@ -7,3 +7,4 @@ pub mod Steps
 pub mod Stories
 pub mod Worlds
 pub mod Rows
+pub mod Refusing
