@@ -81,7 +81,7 @@ pub next_is : (c : Contents) (es : List Event) (caller : List ℕ) → next_numb
 next_is c es caller = ap (λ n. n + 1) (sym (count-after c.callers (news_of c es) (machine c.desk (settled c es)).replies caller (replies-long c.desk (news_of c es))))
 
 -- the answer after some events is that to one request
-request_is : (c : Contents) (before : List Event) (r : Request) → answer_request c before r ≡ reply_to (after c before) r
+pub request_is : (c : Contents) (before : List Event) (r : Request) → answer_request c before r ≡ reply_to (after c before) r
 request_is c before r =
     ap (λ next. if r.number == next then (apply (machine c.desk (settled c before)).desk r.moment r.command).reply else (if nat_lt r.number next then repeated (kept_at (after c before) r.caller r.number) r.command else ahead next))
     (next_is c before r.caller)

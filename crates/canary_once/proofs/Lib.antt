@@ -1,3 +1,6 @@
 pub mod Events
 pub mod Runs
 pub mod LogLemmas
+pub mod Worlds
+pub mod Rows
+pub mod Lawful

@@ -4,3 +4,4 @@ pub mod AnswerTexts
 pub mod Answers
 pub mod Single
 pub mod Logs
+pub mod Laws

@@ -8,6 +8,7 @@
 pub mod book;
 pub mod clock;
 pub mod event;
+pub mod laws;
 pub mod memory;
 pub mod post;
 pub mod run;

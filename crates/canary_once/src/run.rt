@@ -49,3 +49,6 @@ fn answer<B: Book>(alloc: Global, book: &mut B, event: &Event) -> Answer
         ),
     }
 }
+
+#[cfg(test)]
+mod tests;

@@ -6,8 +6,12 @@ use Rattle.canary_plan.specs.declared.plan.Step.{Step}
 use Rattle.canary_release.specs.Services.{step_of}
 use Rattle.canary_release.specs.Courses.{Course}
 use Rattle.canary_release.specs.Entering.{enter}
-use Rattle.canary_release.specs.Passing.{is_free, leaves_at, Moves, Chain, IsAtRest, with_last, judged_at, next_move, is_by, move_at, chain_end, PassesAsComputed}
+use Rattle.canary_release.specs.Passing.{is_free, leaves_at, Moves, Chain, IsLongest, with_last, judged_at, next_move, is_by, move_at, chain_end, PassesAsComputed}
 use Rattle.canary_release.proofs.Keeping.{enter_keeps}
+
+-- no further move with a moment at most t
+abbrev IsAtRest : ℕ → Course → Type 0
+IsAtRest t c = (e : ℕ) (next : Course) → Moves c e next → e ≤ t → ⊥
 
 -- a move is at the moment that is computed
 move_found : (c next : Course) (e : ℕ) → Moves c e next → next_move c.service ≡ Some e
@@ -79,20 +83,35 @@ some_injective a b h = cc h
 one_move : (c x y : Course) (d e : ℕ) → Moves c d x → Moves c e y → x ≡ y
 one_move c x y d e g h = g.2 ∙ ap (enter c (c.service.step + 1)) (some_injective d e (sym g.1 ∙ h.1)) ∙ sym h.2
 
--- there is one end at most
-one_end : (k l t : ℕ) (c x y : Course) → Chain k t c x → IsAtRest t x → Chain l t c y → IsAtRest t y → x ≡ y
-one_end zero zero t c x y g gr h hr = g ∙ sym h
-one_end zero (suc l) t c x y g gr h hr = absurd (subst (IsAtRest t) g gr h.0 h.1 h.2 h.3)
-one_end (suc k) zero t c x y g gr h hr = absurd (subst (IsAtRest t) h hr g.0 g.1 g.2 g.3)
-one_end (suc k) (suc l) t c x y g gr h hr =
-    one_end k l t g.1 x y g.4 gr (subst (λ (d : Course). Chain l t d y) (sym (one_move c g.1 h.1 g.0 h.0 g.2 h.2)) h.4) hr
+-- a chain that comes to rest is a longest one
+rest_is_longest : (k t : ℕ) (c x : Course) → Chain k t c x → IsAtRest t x → IsLongest t c k
+rest_is_longest zero t c x g rest zero d h = omega arith
+rest_is_longest zero t c x g rest (suc m) d h = absurd (subst (IsAtRest t) g rest h.0 h.1 h.2 h.3)
+rest_is_longest (suc k) t c x g rest zero d h = omega arith
+rest_is_longest (suc k) t c x g rest (suc m) d h =
+    let fewer : m ≤ k = rest_is_longest k t g.1 x g.4 rest m d (subst (λ (y : Course). Chain m t y d) (sym (one_move c g.1 h.1 g.0 h.0 g.2 h.2)) h.4) in
+    omega arith
+
+-- chains of so many moves have one end
+one_end : (n t : ℕ) (c x y : Course) → Chain n t c x → Chain n t c y → x ≡ y
+one_end zero t c x y g h = g ∙ sym h
+one_end (suc n) t c x y g h = one_end n t g.1 x y g.4 (subst (λ (d : Course). Chain n t d y) (sym (one_move c g.1 h.1 g.0 h.0 g.2 h.2)) h.4)
+
+-- longest chains have one end
+one_longest : (m n t : ℕ) (c x y : Course) → Chain m t c x → IsLongest t c m → Chain n t c y → IsLongest t c n → x ≡ y
+one_longest m n t c x y g gl h hl =
+    let below : m ≤ n = hl m x g in
+    let above : n ≤ m = gl n y h in
+    let same : m ≡ n = omega arith in
+    one_end n t c x y (subst (λ k. Chain k t c x) same g) h
 
 -- the law that joins the relation and what is computed
 pub passes_as_computed : PassesAsComputed
 passes_as_computed c t h =
     let at = judged_at c.service t in
     let n = length c.service.strategy.steps - c.service.step in
-    let found = chain_ends n at c (omega (arith, h)) in (
-      (found.0, chain_end n at c, found.1, found.2, refl),
-      λ p q. q.4 ∙ ap (λ (d : Course). with_last d at) (one_end q.0 found.0 at c q.1 (chain_end n at c) q.2 q.3 found.1 found.2),
+    let found = chain_ends n at c (omega (arith, h)) in
+    let longest = rest_is_longest found.0 at c (chain_end n at c) found.1 found.2 in (
+      (found.0, chain_end n at c, found.1, longest, refl),
+      λ p q. q.4 ∙ ap (λ (d : Course). with_last d at) (one_longest q.0 found.0 at c q.1 (chain_end n at c) q.2 q.3 found.1 longest),
     )

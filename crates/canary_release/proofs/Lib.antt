@@ -4,3 +4,7 @@ pub mod KeptChains
 pub mod Bridges
 pub mod Growing
 pub mod Steps
+pub mod Stories
+pub mod Worlds
+pub mod Rows
+pub mod Refusing

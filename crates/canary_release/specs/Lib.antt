@@ -8,3 +8,4 @@ pub mod Desks
 pub mod Shapes
 pub mod KeptServices
 pub mod KeptDecisions
+pub mod Laws

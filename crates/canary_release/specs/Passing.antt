@@ -25,9 +25,9 @@ abbrev pub Chain : ℕ → ℕ → Course → Course → Type 0
 Chain zero t c end' = end' ≡ c
 Chain (suc n) t c end' = (e : ℕ) × (next : Course) × Moves c e next × (e ≤ t) × Chain n t next end'
 
--- no further move with a moment at most t
-abbrev pub IsAtRest : ℕ → Course → Type 0
-IsAtRest t c = (e : ℕ) (next : Course) → Moves c e next → e ≤ t → ⊥
+-- no chain of moves with moments at most t has more than n of them
+abbrev pub IsLongest : ℕ → Course → ℕ → Type 0
+IsLongest t c n = (m : ℕ) (d : Course) → Chain m t c d → m ≤ n
 
 abbrev pub with_last : Course → ℕ → Course
 with_last c t = with_service c (record c.service { last = t })
@@ -40,7 +40,7 @@ judged_at s t = max t s.last
 abbrev pub Passes : Course → ℕ → Course → Type 0
 Passes c t passed =
     let at = judged_at c.service t in
-    (n : ℕ) × (end' : Course) × Chain n at c end' × IsAtRest at end' × (passed ≡ with_last end' at)
+    (n : ℕ) × (end' : Course) × Chain n at c end' × IsLongest at c n × (passed ≡ with_last end' at)
 
 -- The same, computed.
 
@@ -67,6 +67,6 @@ pass c t =
     let at = judged_at c.service t in
     with_last (chain_end (length c.service.strategy.steps - c.service.step) at c) at
 
--- the law that joins them, at each service that stands on a step or after the last: there is a longest chain, it is the only one, and the computed one is it
+-- the law that joins them, at each service that stands on a step or after the last: there is a longest chain, its end is the computed one, and no other passes
 abbrev pub PassesAsComputed : Type 0
 PassesAsComputed = (c : Course) (t : ℕ) → c.service.step ≤ length c.service.strategy.steps → Passes c t (pass c t) × ((p : Course) → Passes c t p → p ≡ pass c t)

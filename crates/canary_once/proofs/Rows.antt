@@ -1,0 +1,80 @@
+-- Worked rows of the register.
+use Rattle.std.proofs.Common.{◌≡◌, ℕ, ◌+◌, List, [], ◌∷◌, refl}
+use Rattle.std.specs.Prelude.{codes}
+use Rattle.std.specs.Fmt.{digits}
+use Rattle.canary_plan.specs.declared.command.Command.{Command}
+use Rattle.canary_plan.specs.declared.command.Command.TheVariants.{Start, Promote}
+use Rattle.canary_release.specs.declared.reply.Reply.{Reply}
+use Rattle.canary_release.proofs.Stories.{b, ok, no, web, v1, v2, v3, add, two_pauses}
+use Rattle.canary_once.specs.declared.event.Event.{Event}
+use Rattle.canary_once.specs.declared.event.Event.TheVariants.{Request as RequestEvent}
+use Rattle.canary_once.specs.Contents.{no_contents}
+use Rattle.canary_once.specs.Answers.{answers_of}
+use Rattle.canary_once.specs.Single.{request_of}
+use Rattle.canary_once.proofs.Worlds.{replies_from_nothing}
+
+abbrev conflict : List ℕ → Reply
+conflict body = record { status = 409; body = body }
+
+-- a request of that caller
+abbrev by : List ℕ → ℕ → ℕ → Command → Event
+by caller number moment command = RequestEvent (request_of moment caller number command)
+
+abbrev ops : ℕ → ℕ → Command → Event
+ops number moment command = by (codes "ops") number moment command
+
+-- A promotion that is sent twice acts once; a number ahead and another command under an old number change nothing.
+
+abbrev doubled : List Event
+doubled =
+    ops 1 b (add web two_pauses)
+    ∷ ops 2 (b + 1) (Start web v2)
+    ∷ ops 3 (b + 2) (Promote web)
+    ∷ ops 3 (b + 3) (Promote web)
+    ∷ ops 5 (b + 4) (Promote web)
+    ∷ ops 3 (b + 5) (Start web v3)
+    ∷ ops 2 (b + 6) (Start web v2)
+    ∷ ops 4 (b + 7) (Promote web)
+    ∷ ops 5 (b + 8) (Promote web)
+    ∷ ops 5 (b + 9) (Promote web)
+    ∷ ops 7 (b + 10) (Promote web)
+    ∷ []
+
+doubled_replies : answers_of no_contents doubled ≡
+    ok (codes "{\"code\":\"ok\",\"service\":\"web\",\"status\":\"Healthy\",\"step\":4,\"weight\":100}")
+    ∷ ok (codes "{\"code\":\"ok\",\"service\":\"web\",\"status\":\"Paused\",\"step\":1,\"weight\":20}")
+    ∷ ok (codes "{\"code\":\"ok\",\"service\":\"web\",\"status\":\"Paused\",\"step\":3,\"weight\":50}")
+    ∷ ok (codes "{\"code\":\"ok\",\"service\":\"web\",\"status\":\"Paused\",\"step\":3,\"weight\":50}")
+    ∷ conflict (codes "{\"code\":\"ahead\",\"expected\":4}")
+    ∷ conflict (codes "{\"code\":\"reused\"}")
+    ∷ ok (codes "{\"code\":\"ok\",\"service\":\"web\",\"status\":\"Paused\",\"step\":1,\"weight\":20}")
+    ∷ ok (codes "{\"code\":\"ok\",\"service\":\"web\",\"status\":\"Healthy\",\"step\":4,\"weight\":100}")
+    ∷ no (codes "{\"code\":\"not-in-progress\"}")
+    ∷ no (codes "{\"code\":\"not-in-progress\"}")
+    ∷ conflict (codes "{\"code\":\"ahead\",\"expected\":6}")
+    ∷ []
+unfolding digits
+doubled_replies = replies_from_nothing doubled _ refl
+
+-- Each caller has its own numbers, and a refusal is kept as a reply is: it stands even where the command would now be accepted.
+
+abbrev two_callers : List Event
+two_callers =
+    by (codes "ann") 1 b (Promote web)
+    ∷ by (codes "bob") 1 b (add web two_pauses)
+    ∷ by (codes "bob") 2 b (Start web v2)
+    ∷ by (codes "ann") 1 (b + 1) (Promote web)
+    ∷ by (codes "ann") 2 (b + 1) (Promote web)
+    ∷ by (codes "bob") 3 b (Promote web)
+    ∷ []
+
+two_callers_replies : answers_of no_contents two_callers ≡
+    no (codes "{\"code\":\"unknown-service\"}")
+    ∷ ok (codes "{\"code\":\"ok\",\"service\":\"web\",\"status\":\"Healthy\",\"step\":4,\"weight\":100}")
+    ∷ ok (codes "{\"code\":\"ok\",\"service\":\"web\",\"status\":\"Paused\",\"step\":1,\"weight\":20}")
+    ∷ no (codes "{\"code\":\"unknown-service\"}")
+    ∷ ok (codes "{\"code\":\"ok\",\"service\":\"web\",\"status\":\"Paused\",\"step\":3,\"weight\":50}")
+    ∷ ok (codes "{\"code\":\"ok\",\"service\":\"web\",\"status\":\"Healthy\",\"step\":4,\"weight\":100}")
+    ∷ []
+unfolding digits
+two_callers_replies = replies_from_nothing two_callers _ refl

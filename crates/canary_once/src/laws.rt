@@ -1,0 +1,21 @@
+//! Laws over the definitions alone.
+ghost use Rattle.canary_once.specs.Laws.{GoesOn, NoneIsAhead, ConflictsChangeNothing, RefusalsLeaveTheDesk};
+
+/// A list of events goes on where another stopped: it does not matter how events are cut into
+/// runs.
+pub fn going_on()
+    ensures { GoesOn }
+{}
+
+/// A caller with 1,000,000,000 settled requests has no number ahead: each number that a request
+/// can have is a repeat.
+pub fn last_number()
+    ensures { NoneIsAhead }
+{}
+
+/// A reply of status 409 leaves the contents as they were, and one of status 422 leaves the desk as
+/// it was.
+pub fn refusals()
+    ensures conflicts { ConflictsChangeNothing }
+    ensures refused { RefusalsLeaveTheDesk }
+{}

@@ -1,0 +1,146 @@
+-- Worked rows of the small machine, over its maps.
+use Rattle.std.proofs.Common.{◌≡◌, ℕ, ◌+◌, List, [], ◌∷◌, ◌++◌, refl}
+use Rattle.std.specs.Prelude.{codes, Option, Some, None, replicate}
+use Rattle.std.specs.Fmt.{digits}
+use Rattle.std.specs.FinMap.{get}
+use Rattle.canary_plan.specs.declared.plan.Step.{Step}
+use Rattle.canary_plan.specs.declared.plan.Step.TheVariants.{SetWeight, Pause}
+use Rattle.canary_plan.specs.declared.plan.ServiceSpec.{ServiceSpec}
+use Rattle.canary_plan.specs.declared.command.Command.{Command}
+use Rattle.canary_plan.specs.declared.command.Command.TheVariants.{Start, Promote}
+use Rattle.canary_plan.specs.declared.line.LineEvent.TheVariants.{Created, Started, WeightEntered, PauseEntered, Promoted, Finished}
+use Rattle.canary_plan.specs.declared.refusal.Refusal.TheVariants.{NotInProgress, NotPaused}
+use Rattle.canary_release.specs.declared.service.State.TheVariants.{InProgress, Done}
+use Rattle.canary_release.specs.Services.{ModelService}
+use Rattle.canary_release.specs.Commands.{promote_refusal}
+use Rattle.canary_release.specs.Desks.{machine, no_desk, new_service}
+use Rattle.canary_release.proofs.Stories.{b, ok, no, web, v1, v2, v3, add, two_pauses}
+use Rattle.canary_release.proofs.Worlds.{replies_from_nothing, service_from_nothing}
+
+-- A release from pause to pause, and to its end.
+
+abbrev to_second_pause : List (ℕ × Command)
+to_second_pause = (b, add web two_pauses) ∷ (b + 1, Start web v2) ∷ (b + 2, Promote web) ∷ []
+
+abbrev to_end : List (ℕ × Command)
+to_end = to_second_pause ++ ((b + 3, Promote web) ∷ (b + 4, Promote web) ∷ (b + 4, Start web v2) ∷ (b + 5, Start web v1) ∷ (b + 6, Start web v3) ∷ [])
+
+release_replies : (machine no_desk to_end).replies ≡
+    ok (codes "{\"code\":\"ok\",\"service\":\"web\",\"status\":\"Healthy\",\"step\":4,\"weight\":100}")
+    ∷ ok (codes "{\"code\":\"ok\",\"service\":\"web\",\"status\":\"Paused\",\"step\":1,\"weight\":20}")
+    ∷ ok (codes "{\"code\":\"ok\",\"service\":\"web\",\"status\":\"Paused\",\"step\":3,\"weight\":50}")
+    ∷ ok (codes "{\"code\":\"ok\",\"service\":\"web\",\"status\":\"Healthy\",\"step\":4,\"weight\":100}")
+    ∷ no (codes "{\"code\":\"not-in-progress\"}")
+    ∷ no (codes "{\"code\":\"already-stable\"}")
+    ∷ ok (codes "{\"code\":\"ok\",\"service\":\"web\",\"status\":\"Paused\",\"step\":1,\"weight\":20}")
+    ∷ no (codes "{\"code\":\"in-progress\"}")
+    ∷ []
+unfolding digits
+release_replies = replies_from_nothing to_end _ refl
+
+-- the service at its second pause, with its whole history
+paused_service : get (machine no_desk to_second_pause).desk.services web ≡ Some (record {
+    made = record { name = web; version = v1; steps = two_pauses };
+    strategy = record { steps = two_pauses };
+    stable = v1;
+    version = v2;
+    state = InProgress;
+    step = 3;
+    entered = b + 2;
+    last = b + 2;
+    history =
+        record { moment = b; event = Created v1 }
+        ∷ record { moment = b + 1; event = Started v2 }
+        ∷ record { moment = b + 1; event = WeightEntered 0 20 }
+        ∷ record { moment = b + 1; event = PauseEntered 1 }
+        ∷ record { moment = b + 2; event = Promoted }
+        ∷ record { moment = b + 2; event = WeightEntered 2 50 }
+        ∷ record { moment = b + 2; event = PauseEntered 3 }
+        ∷ [];
+  })
+paused_service = service_from_nothing to_second_pause web _ refl
+
+-- Moments that fall: a request is judged at the service's last moment, where that is later.
+
+abbrev falling : List (ℕ × Command)
+falling = (b + 9, add web (SetWeight 20 ∷ Pause ∷ [])) ∷ (b + 3, Start web v2) ∷ (b + 12, Promote web) ∷ (b, Start web v3) ∷ []
+
+falling_service : get (machine no_desk falling).desk.services web ≡ Some (record {
+    made = record { name = web; version = v1; steps = SetWeight 20 ∷ Pause ∷ [] };
+    strategy = record { steps = SetWeight 20 ∷ Pause ∷ [] };
+    stable = v2;
+    version = v3;
+    state = InProgress;
+    step = 1;
+    entered = b + 12;
+    last = b + 12;
+    history =
+        record { moment = b + 9; event = Created v1 }
+        ∷ record { moment = b + 9; event = Started v2 }
+        ∷ record { moment = b + 9; event = WeightEntered 0 20 }
+        ∷ record { moment = b + 9; event = PauseEntered 1 }
+        ∷ record { moment = b + 12; event = Promoted }
+        ∷ record { moment = b + 12; event = Finished v2 }
+        ∷ record { moment = b + 12; event = Started v3 }
+        ∷ record { moment = b + 12; event = WeightEntered 0 20 }
+        ∷ record { moment = b + 12; event = PauseEntered 1 }
+        ∷ [];
+  })
+falling_service = service_from_nothing falling web _ refl
+
+-- A service without steps, one with weights alone, and one that begins with a pause.
+
+abbrev without_pauses : List (ℕ × Command)
+without_pauses =
+    (b, add web []) ∷ (b, Start web v2)
+    ∷ (b, add (codes "api") (SetWeight 5 ∷ SetWeight 100 ∷ [])) ∷ (b, Start (codes "api") v2)
+    ∷ (b, add (codes "db") (Pause ∷ SetWeight 7 ∷ [])) ∷ (b, Start (codes "db") v2) ∷ (b, Promote (codes "db"))
+    ∷ []
+
+without_pauses_replies : (machine no_desk without_pauses).replies ≡
+    ok (codes "{\"code\":\"ok\",\"service\":\"web\",\"status\":\"Healthy\",\"step\":0,\"weight\":100}")
+    ∷ ok (codes "{\"code\":\"ok\",\"service\":\"web\",\"status\":\"Healthy\",\"step\":0,\"weight\":100}")
+    ∷ ok (codes "{\"code\":\"ok\",\"service\":\"api\",\"status\":\"Healthy\",\"step\":2,\"weight\":100}")
+    ∷ ok (codes "{\"code\":\"ok\",\"service\":\"api\",\"status\":\"Healthy\",\"step\":2,\"weight\":100}")
+    ∷ ok (codes "{\"code\":\"ok\",\"service\":\"db\",\"status\":\"Healthy\",\"step\":2,\"weight\":100}")
+    ∷ ok (codes "{\"code\":\"ok\",\"service\":\"db\",\"status\":\"Paused\",\"step\":0,\"weight\":0}")
+    ∷ ok (codes "{\"code\":\"ok\",\"service\":\"db\",\"status\":\"Healthy\",\"step\":2,\"weight\":100}")
+    ∷ []
+unfolding digits
+without_pauses_replies = replies_from_nothing without_pauses _ refl
+
+-- Strategies at their limits, and refusals in their order.
+
+abbrev limits : List (ℕ × Command)
+limits =
+    (b, add web (SetWeight 101 ∷ []))
+    ∷ (b, add web (replicate 65 Pause))
+    ∷ (b, Start web v2)
+    ∷ (b, Promote web)
+    ∷ (b, add web (replicate 63 Pause ++ SetWeight 100 ∷ []))
+    ∷ (b, add web (SetWeight 101 ∷ []))
+    ∷ []
+
+limits_replies : (machine no_desk limits).replies ≡
+    no (codes "{\"code\":\"bad-strategy\"}")
+    ∷ no (codes "{\"code\":\"bad-strategy\"}")
+    ∷ no (codes "{\"code\":\"unknown-service\"}")
+    ∷ no (codes "{\"code\":\"unknown-service\"}")
+    ∷ ok (codes "{\"code\":\"ok\",\"service\":\"web\",\"status\":\"Healthy\",\"step\":64,\"weight\":100}")
+    ∷ no (codes "{\"code\":\"service-exists\"}")
+    ∷ []
+unfolding digits
+limits_replies = replies_from_nothing limits _ refl
+
+-- A promotion is refused where the release is done, and then where it is not at a pause.
+
+at_weight : ModelService
+at_weight = record (new_service (record { name = web; version = v1; steps = two_pauses }) b) { state = InProgress; step = 2 }
+
+not_paused : promote_refusal at_weight ≡ Some NotPaused
+unfolding at_weight
+not_paused = refl
+
+not_in_progress : promote_refusal (record at_weight { state = Done }) ≡ Some NotInProgress
+unfolding at_weight
+not_in_progress = refl

@@ -1,0 +1,71 @@
+-- The small machine with the services as a function of their names, which computes, and that it is the machine.
+use Rattle.std.proofs.Common.{◌≡◌, ℕ, List, [], ◌∷◌, refl, ap, ◌∙◌}
+use Rattle.std.specs.Prelude.{cond, Option, Some, None}
+use Rattle.std.specs.Ordering.{nat_cmp, eq_by_cmp}
+use Rattle.std.specs.Cmp.Lexicographic.{slice_cmp, nat_list_cmp_total}
+use Rattle.std.specs.FinMap.{get, get-insert, get-empty}
+use Rattle.canary_plan.specs.declared.command.Command.{Command}
+use Rattle.canary_plan.specs.Commands.{subject_of}
+use Rattle.canary_release.specs.declared.reply.Reply.{Reply}
+use Rattle.canary_release.specs.Services.{ModelService}
+use Rattle.canary_release.specs.Desks.{Change, Ruling, ruling, Desk, no_desk, desk_after, apply, machine}
+use Rattle.canary_release.specs.Desks.Change.{Nothing, Becomes}
+
+pub record World : Type 0 where
+  pub services : List ℕ → Option ModelService
+
+abbrev pub nowhere : World
+nowhere = record { services = λ name. None }
+
+-- the function with another value at a name
+abbrev pub changed_at : {A : Type 0} → (List ℕ → Option A) → List ℕ → A → List ℕ → Option A
+changed_at f name a x = cond (eq_by_cmp (slice_cmp nat_cmp) x name) (Some a) (f x)
+
+abbrev pub with_change : World → List ℕ → Change → World
+with_change w name Nothing = w
+with_change w name (Becomes c) = let s = c.service in record w { services = changed_at w.services name s }
+
+abbrev pub ruling_in : World → ℕ → Command → Ruling
+ruling_in w now command = ruling (w.services (subject_of command)) now command
+
+abbrev pub world_after : World → ℕ → Command → World
+world_after w now command = with_change w (subject_of command) (ruling_in w now command).change
+
+abbrev pub replies_in : World → List (ℕ × Command) → List Reply
+replies_in w [] = []
+replies_in w (x ∷ xs) = (ruling_in w x.0 x.1).reply ∷ replies_in (world_after w x.0 x.1) xs
+
+abbrev pub world_after_all : World → List (ℕ × Command) → World
+world_after_all w [] = w
+world_after_all w (x ∷ xs) = world_after_all (world_after w x.0 x.1) xs
+
+abbrev pub world_of : Desk → World
+world_of desk = record { services = get desk.services }
+
+change_lem : (desk : Desk) (name : List ℕ) (c : Change) → world_of (desk_after desk name c) ≡ with_change (world_of desk) name c
+change_lem desk name Nothing = refl
+change_lem desk name (Becomes c) = λ i. record { services = λ q. get-insert nat_list_cmp_total desk.services name c.service q i }
+
+pub world-apply : (desk : Desk) (now : ℕ) (command : Command) → world_of (apply desk now command).desk ≡ world_after (world_of desk) now command
+world-apply desk now command = change_lem desk (subject_of command) (ruling_in (world_of desk) now command).change
+
+machine-replies : (desk : Desk) (xs : List (ℕ × Command)) → (machine desk xs).replies ≡ replies_in (world_of desk) xs
+machine-replies desk [] = refl
+machine-replies desk (x ∷ xs) =
+    ap (λ (rs : List Reply). (ruling_in (world_of desk) x.0 x.1).reply ∷ rs) (machine-replies (apply desk x.0 x.1).desk xs
+    ∙ ap (λ w. replies_in w xs) (world-apply desk x.0 x.1))
+
+machine-world : (desk : Desk) (xs : List (ℕ × Command)) → world_of (machine desk xs).desk ≡ world_after_all (world_of desk) xs
+machine-world desk [] = refl
+machine-world desk (x ∷ xs) = machine-world (apply desk x.0 x.1).desk xs ∙ ap (λ w. world_after_all w xs) (world-apply desk x.0 x.1)
+
+pub world-no_desk : world_of no_desk ≡ nowhere
+world-no_desk = λ i. record { services = λ q. get-empty (slice_cmp nat_cmp) q i }
+
+-- the machine's replies, from an empty desk
+pub replies_from_nothing : (xs : List (ℕ × Command)) (rs : List Reply) → replies_in nowhere xs ≡ rs → (machine no_desk xs).replies ≡ rs
+replies_from_nothing xs rs e = machine-replies no_desk xs ∙ ap (λ w. replies_in w xs) world-no_desk ∙ e
+
+-- and its service of a name
+pub service_from_nothing : (xs : List (ℕ × Command)) (name : List ℕ) (o : Option ModelService) → (world_after_all nowhere xs).services name ≡ o → get (machine no_desk xs).desk.services name ≡ o
+service_from_nothing xs name o e = ap (λ (w : World). w.services name) (machine-world no_desk xs ∙ ap (λ w. world_after_all w xs) world-no_desk) ∙ e
