@@ -1,0 +1,20 @@
+use Rattle.std.proofs.Common.{◌≡◌, ◌∙◌, [], ap, map, subst, sym, refl, string_bytes}
+use Rattle.clap.specs.Words.{App, HasKind, fault_of, is_simple, is_simple_and_free, subcommand_of}
+use Rattle.canary_desk.specs.CommandLine.{faults_of, HasPipe}
+use Rattle.canary_desk.proofs.Spelled.{desk_is_simple, spelled}
+use Rattle.canary_desk.proofs.words.read_words.Goals as goal
+
+pub program_of-requires : goal.program_of-requires
+program_of-requires c =
+    let words = map string_bytes c.args.words.now in
+    let ours = c.in-Ok.ensures in
+    let none = subst (λ (a : App). fault_of a words ≡ []) ours (c.in-Ok-try_get_matches_from.ensures.kinds (ap is_simple_and_free ours ∙ desk_is_simple)) in
+    let met = (c.in-Ok-try_get_matches_from.ensures.matches (ap is_simple ours ∙ refl)).1 in
+    subst HasPipe (sym (met ∙ ap (λ (a : App). subcommand_of a words) ours)) (spelled words none)
+
+pub returns-in-Err-clause-fault : goal.returns-in-Err-clause-fault
+returns-in-Err-clause-fault c =
+    let words = map string_bytes c.args.words.now in
+    let ours = c.in-Ok.ensures in
+    c.fault_of.ensures (faults_of words)
+    (subst (λ (a : App). HasKind (fault_of a words) c.in-Err.error) ours (c.in-Err.ensures.kinds (ap is_simple_and_free ours ∙ desk_is_simple)))
