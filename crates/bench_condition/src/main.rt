@@ -74,16 +74,23 @@ fn time_evaluation(rt: &HostRuntime, rounds: u32, text: &str) -> Result<u64> {
     Ok(nanos_of(start.elapsed(rt)?))
 }
 
+/// Tenths as a number with one decimal.
+fn with_decimal(alloc: Global, tenths: u64) -> Result<String> {
+    let whole = tenths / 10;
+    let tenth = tenths % 10;
+    Ok(format!(in alloc; "{whole}.{tenth}")?)
+}
+
 fn print_line(rt: &HostRuntime, rounds: u32, len: usize) -> Result<()> {
     let text = condition_text(rt.alloc(), len)?;
     let len = text.len();
     let parsing = time_parsing(rt, rounds, text.as_str())?;
     let evaluation = time_evaluation(rt, rounds, text.as_str())?;
     let parsed = per_second(rounds, parsing);
-    let parsed_byte = tenths_per_byte(rounds, len, parsing);
+    let parsed_byte = with_decimal(rt.alloc(), tenths_per_byte(rounds, len, parsing))?;
     let evaluated = per_second(rounds, evaluation);
-    let evaluated_byte = tenths_per_byte(rounds, len, evaluation);
-    println!(rt; "{len:5} {parsed:12} {parsed_byte:14} {evaluated:14} {evaluated_byte:14}")?;
+    let evaluated_byte = with_decimal(rt.alloc(), tenths_per_byte(rounds, len, evaluation))?;
+    println!(rt; "{len:5} {parsed:12} {parsed_byte:>12} {evaluated:14} {evaluated_byte:>12}")?;
     Ok(())
 }
 
@@ -97,7 +104,7 @@ fn main(rt: HostRuntime) -> Result<()> {
         .as_str()
         .parse::<u32>()
         .context("ROUNDS is no number")?;
-    println!(&rt; "bytes     parsed/s  0.1ns per byte    evaluated/s  0.1ns per byte")?;
+    println!(&rt; "bytes     parsed/s  ns per byte    evaluated/s  ns per byte")?;
     for len in [16, 256, 1024] {
         print_line(&rt, rounds, len)?;
     }
