@@ -1,17 +1,17 @@
 -- What the parser's answer means in the grammar.
-use Rattle.std.proofs.Common.{◌≡◌, List, Option, Some, None, sym, ap, ◌∙◌, subst}
+use Rattle.std.proofs.Common.{◌≡◌, List, Some, None, sym, ap, ◌∙◌, subst}
 use Rattle.canary_condition.specs.declared.condition.ConditionFault.{ConditionFault}
 use Rattle.canary_condition.specs.declared.condition.ConditionFault.TheVariants.{Syntax, TooDeep, NumberRange, Memory, TooLong}
 use Rattle.canary_condition.specs.declared.condition.Part.{Part}
 use Rattle.canary_condition.specs.declared.token.Token.{Token}
 use Rattle.canary_condition.specs.Trees.{Tree, parts_of, tree_of, tree_again}
-use Rattle.canary_condition.specs.Spelling.{Level, Spells}
+use Rattle.canary_condition.specs.Spelling.{Spells}
 use Rattle.canary_condition.specs.Spelling.Level.{AtOr}
 use Rattle.canary_condition.specs.Reading.{IsWithinLimits, IsFaultOfTokens, Gives}
 use Rattle.canary_condition.specs.Parsing.{parse}
 use Rattle.canary_condition.proofs.ParsesSoundly.{Spelled, SpelledBy, parse_is_sound}
 use Rattle.canary_condition.proofs.ParsesAll.{parse_is_complete}
-use Rattle.std.proofs.Common.{Result, Err}
+use Rattle.std.proofs.Common.{Err}
 
 spelled : (ts : List Token) (ps : List Part) → parse ts ≡ Some ps → Spelled ts ps
 spelled ts ps e = subst (SpelledBy ts) e (parse_is_sound ts)

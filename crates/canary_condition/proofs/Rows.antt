@@ -1,5 +1,5 @@
 -- Worked rows, computed on the definitions.
-use Rattle.std.proofs.Common.{◌≡◌, ℕ, List, [], ◌∷◌, ◌++◌, refl, Option, Some, None, pos, negsuc, inl}
+use Rattle.std.proofs.Common.{◌≡◌, ℕ, List, [], ◌∷◌, ◌++◌, refl, Some, None, pos, negsuc, inl}
 use Rattle.std.specs.Prelude.{codes, replicate, option_map}
 use Rattle.canary_condition.specs.declared.condition.Comparison.TheVariants.{Equal, Less, Greater}
 use Rattle.canary_condition.specs.declared.condition.Operand.TheVariants.{Whole, Item, Number}
@@ -7,14 +7,13 @@ use Rattle.canary_condition.specs.declared.outcome.Value.TheVariants.{Whole as W
 use Rattle.canary_condition.specs.declared.outcome.Outcome.TheVariants.{Result as Brought}
 use Rattle.canary_condition.specs.declared.outcome.Phase.TheVariants.{Successful, Inconclusive, Error, Failed}
 use Rattle.canary_condition.specs.declared.token.Token.{Token}
-use Rattle.canary_condition.specs.declared.token.Token.TheVariants.{Compares, OrSign, AndSign, NotSign, ResultWord, Digits, Minus, OutOfRange}
+use Rattle.canary_condition.specs.declared.token.Token.TheVariants.{Compares, AndSign, NotSign, ResultWord, Digits, Minus, OutOfRange}
 use Rattle.canary_condition.specs.Trees.{Tree}
 use Rattle.canary_condition.specs.Trees.Tree.{Or, And, Not, Compare}
 use Rattle.canary_condition.specs.Tokens.{tokens_of}
-use Rattle.canary_condition.specs.Spelling.{Level, Spells, depth}
-use Rattle.canary_condition.specs.Spelling.Level.{AtOr, AtAnd, AtNot}
+use Rattle.canary_condition.specs.Spelling.{Spells, depth}
+use Rattle.canary_condition.specs.Spelling.Level.{AtOr}
 use Rattle.canary_condition.specs.Phases.{phase_of}
-use Rattle.canary_condition.specs.Results.{words_of}
 
 decimal_is_no_token : tokens_of (codes "result > 0.5") ≡ None
 decimal_is_no_token = refl

@@ -1,0 +1,112 @@
+//! Times the reading and the evaluation of conditions.
+//!
+//! `bench_condition ROUNDS` reads and evaluates conditions of 16, 256 and 1,024 bytes that many
+//! times, and prints a table. With no argument it prints nothing.
+#![tactic(auto)]
+
+use anyhow::{Context, Result, ensure};
+use canary_condition::condition::{Condition, Verdict3};
+use canary_condition::outcome::Value;
+use std::alloc::Global;
+use std::env;
+use std::time::{Duration, Instant};
+
+/// A comparison of 16 bytes that is false at 0.
+const COMPARISON: &str = "result > 1000000";
+
+/// A condition of this many bytes, whose every comparison is evaluated at 0.
+fn condition_text(alloc: Global, len: usize) -> Result<String> {
+    let mut text = String::from_str(alloc, COMPARISON)?;
+    for _ in 0..len / 18 {
+        if text.len() < len && len - text.len() >= 18 {
+            text.push_str("||")?;
+            text.push_str(COMPARISON)?;
+        }
+    }
+    for _ in 0..18 {
+        if text.len() < len {
+            text.push(' ')?;
+        }
+    }
+    Ok(text)
+}
+
+fn nanos_of(took: Duration) -> u64 {
+    took.as_secs()
+        .saturating_mul(1_000_000_000)
+        .saturating_add(u64::from(took.subsec_nanos()))
+        .max(1)
+}
+
+fn per_second(rounds: u32, nanos: u64) -> u64 {
+    u64::from(rounds).saturating_mul(1_000_000_000) / nanos.max(1)
+}
+
+/// Tenths of a nanosecond for each byte.
+fn tenths_per_byte(rounds: u32, len: usize, nanos: u64) -> u64 {
+    let bytes = u64::from(rounds).saturating_mul(len as u64);
+    nanos.saturating_mul(10) / bytes.max(1)
+}
+
+/// The nanoseconds that reading the text so many times takes.
+fn time_parsing(rt: &HostRuntime, rounds: u32, text: &str) -> Result<u64> {
+    let start = Instant::now(rt)?;
+    for _ in 0..rounds {
+        let read = Condition::parse(rt.alloc(), text);
+        ensure!(read.is_ok(), "{text} is no condition");
+    }
+    Ok(nanos_of(start.elapsed(rt)?))
+}
+
+/// The nanoseconds that evaluating the condition so many times takes.
+fn time_evaluation(rt: &HostRuntime, rounds: u32, text: &str) -> Result<u64> {
+    let Ok(condition) = Condition::parse(rt.alloc(), text) else {
+        return Ok(0);
+    };
+    let value = Value::Whole(0);
+    let start = Instant::now(rt)?;
+    for _ in 0..rounds {
+        ensure!(
+            condition.eval(&value) == Verdict3::False,
+            "{text} holds at 0"
+        );
+    }
+    Ok(nanos_of(start.elapsed(rt)?))
+}
+
+/// Tenths as a number with one decimal.
+fn with_decimal(alloc: Global, tenths: u64) -> Result<String> {
+    let whole = tenths / 10;
+    let tenth = tenths % 10;
+    Ok(format!(in alloc; "{whole}.{tenth}")?)
+}
+
+fn print_line(rt: &HostRuntime, rounds: u32, len: usize) -> Result<()> {
+    let text = condition_text(rt.alloc(), len)?;
+    let len = text.len();
+    let parsing = time_parsing(rt, rounds, text.as_str())?;
+    let evaluation = time_evaluation(rt, rounds, text.as_str())?;
+    let parsed = per_second(rounds, parsing);
+    let parsed_byte = with_decimal(rt.alloc(), tenths_per_byte(rounds, len, parsing))?;
+    let evaluated = per_second(rounds, evaluation);
+    let evaluated_byte = with_decimal(rt.alloc(), tenths_per_byte(rounds, len, evaluation))?;
+    println!(rt; "{len:5} {parsed:12} {parsed_byte:>12} {evaluated:14} {evaluated_byte:>12}")?;
+    Ok(())
+}
+
+fn main(rt: HostRuntime) -> Result<()> {
+    let mut args = env::args(&rt)?;
+    let _program = args.next();
+    let Some(rounds) = args.next() else {
+        return Ok(());
+    };
+    let rounds = rounds
+        .as_str()
+        .parse::<u32>()
+        .context("ROUNDS is no number")?;
+    println!(&rt; "bytes     parsed/s  ns per byte    evaluated/s  ns per byte")?;
+    for len in [16, 256, 1024] {
+        print_line(&rt, rounds, len)?;
+    }
+    Ok(())
+}
