@@ -4,11 +4,10 @@ pub mod Members
 pub mod TestLemmas
 pub mod CutLemmas
 pub mod CutLaw
+pub mod EndLaw
 pub mod WriteLemmas
 pub mod AnswerLemmas
 pub mod ServeLemmas
 pub mod ExchangeLemmas
 pub mod RouteLemmas
 pub mod BufferLemmas
-pub mod NumberLemmas
-pub mod Options

@@ -19,11 +19,11 @@ abbrev pub ◌⊛◌ : {A B : Type 0} → Option (A → B) → Option A → Opti
 None ⊛ part = None
 (Some whole) ⊛ part = option_map whole part
 
--- what the form gives of the member of that key
+-- what the form gives of the member of that key, which may be null
 abbrev pub at : {A : Type 0} → List ℕ → (Data → Option A) → Data → Option A
 at key form value = option_and_then form (get key value)
 
--- an object with so many members
+-- an object with so many members; each key is there once, so that no key is beside those asked for
 abbrev pub is_object_of : ℕ → Data → Bool
 is_object_of count value = unwrap_or (option_map (λ members. members_len members == count) (as_object value)) false
 
@@ -56,7 +56,7 @@ promote_in value = in_object_of 1 value (option_map Promote (at (codes "service"
 abbrev pub service_reading : Data → Reading Command
 service_reading value = if has (codes "manifest") is_unsupported_rollout value then unsupported else reading_of_form (service_in value)
 
--- the reading of a command of that kind
+-- the reading of a command of that kind; the other kinds are not read yet
 unfoldable pub reading_of_kind : List ℕ → Data → Reading Command
 reading_of_kind kind value =
     if bytes_eq kind (codes "service") then service_reading value
@@ -64,6 +64,7 @@ reading_of_kind kind value =
     else (if bytes_eq kind (codes "promote") then reading_of_form (promote_in value)
     else unreadable))
 
+-- the key and the value of the only member
 abbrev pub only_member : Members → Option (List ℕ × Data)
 only_member (member key value no_members) = Some (key, value)
 only_member _ = None

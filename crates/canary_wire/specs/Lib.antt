@@ -4,10 +4,9 @@ pub mod Rollouts
 pub mod CommandForms
 pub mod Heads
 pub mod Named
-pub mod Cuts
+pub mod Cut
 pub mod ReplyTexts
 pub mod Writes
-pub mod Numbers
 pub mod Buffers
 pub mod Routes
 pub mod Exchanges

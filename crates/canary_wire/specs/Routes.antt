@@ -1,5 +1,5 @@
 -- Routes: what a method and a target ask for.
-use Rattle.std.specs.Prelude.{◌≡◌, ◌≢◌, ℕ, ◌<◌, Bool, true, false, ◌==◌, List, [], ◌∷◌, ◌++◌, length, codes, Result, Ok, Err, IsUtf8, IsTrue}
+use Rattle.std.specs.Prelude.{◌≡◌, ◌≢◌, ℕ, ◌<◌, false, ◌==◌, List, [], ◌∷◌, ◌++◌, length, codes, Result, Ok, Err, IsUtf8, IsTrue}
 use Rattle.std.specs.List.{list_any, before_first}
 use Rattle.matchit.specs.Rows.{RowsOf, param_token}
 use Rattle.matchit.specs.Router.{RouteOf}
@@ -9,7 +9,7 @@ use Rattle.canary_wire.specs.declared.refusal.Refusal.TheVariants.{NoRoute, Meth
 use Rattle.canary_wire.specs.declared.routes.Route.{Route}
 use Rattle.canary_wire.specs.declared.routes.Route.TheVariants.{Request}
 use Rattle.canary_wire.specs.declared.routes.Address.{Address}
-use Rattle.canary_wire.specs.Numbers.{SpellsNumber}
+use Rattle.canary_base.specs.Numbers.{SpellsNumber}
 
 -- what stands before the first question mark
 abbrev pub path_of : List ℕ → List ℕ

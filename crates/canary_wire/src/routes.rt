@@ -3,7 +3,6 @@ ghost use Rattle.std.specs.Prelude.{◌≡◌, ◌≢◌, ◌↔◌, ◌==◌, L
 ghost use Rattle.std.specs.List.{before_first, position};
 ghost use Rattle.canary_wire.specs.Routes.{the_rows, IsPart, IsSplit, IsRequestPath, HasNoRoute, IsAddress};
 
-use crate::number::read_number;
 use crate::refusal::Refusal;
 use canary_base::names::Name;
 use canary_base::numbers::Number;
@@ -60,7 +59,7 @@ pub(crate) fn address_of(
     let Some(caller) = Name::read(caller) else {
         return Err(Refusal::BadName);
     };
-    match read_number(number) {
+    match Number::read(number) {
         Some(number) => Ok(Address { caller, number }),
         None => Err(Refusal::BadNumber),
     }
