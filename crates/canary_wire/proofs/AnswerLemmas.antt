@@ -7,7 +7,7 @@ use Rattle.canary_wire.specs.declared.reply.Said.{Said}
 use Rattle.canary_wire.specs.declared.reply.WriteFault.{WriteFault}
 use Rattle.canary_wire.specs.ReplyTexts.{reply_text}
 use Rattle.canary_wire.specs.Writes.{Known, Writes}
-use Rattle.canary_wire.specs.Exchanges.{Outcome, refused, no_memory, posted, IsOutcome, Books}
+use Rattle.canary_wire.specs.Exchanges.{Outcome, refused, IsOutcome, Books}
 
 -- the book was not asked
 pub books_refused : (intact : Type 0) (sure : Bool) (c : Contents) (r : Refusal) → Books intact intact sure sure c c (refused r)

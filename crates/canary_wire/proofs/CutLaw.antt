@@ -1,5 +1,5 @@
 -- A stream has one list of messages.
-use Rattle.std.proofs.Common.{◌≡◌, ℕ, ◌+◌, ◌<◌, ◌≤◌, Bool, true, false, List, [], ◌∷◌, ◌++◌, take, drop, length, refl, sym, ap, ◌∙◌, subst, arith}
+use Rattle.std.proofs.Common.{◌≡◌, ℕ, Bool, true, false, List, [], ◌∷◌, ◌++◌, take, drop, length, refl, sym, ap, ◌∙◌, subst, arith}
 use Rattle.std.specs.List.{flat_map, AllByRecursion}
 use Rattle.std.proofs.lemmas.List.{append-nil, append_assoc, length-append}
 use Rattle.std.proofs.Math.Seq.{take-append_seam, drop-append_seam}
@@ -8,7 +8,7 @@ use Rattle.httparse.proofs.GrammarLemmas.{request_unique}
 use Rattle.canary_wire.specs.declared.framing.Framing.TheVariants.{Body, Refused}
 use Rattle.canary_wire.specs.declared.refusal.Refusal.{Refusal}
 use Rattle.canary_wire.specs.Heads.{head_framing, closes}
-use Rattle.canary_wire.specs.Cuts.{Message, message_bytes, IsMessage, GoesOn, IsRefused, malformed, framed, IsUnfinished, head, body, HasNoHead, HasHead, Begins, Ending, IsCut, unfinished, closed, refused}
+use Rattle.canary_wire.specs.Cut.{Message, message_bytes, IsMessage, GoesOn, IsRefused, malformed, framed, IsUnfinished, head, body, HasNoHead, HasHead, Begins, Ending, IsCut, unfinished, closed, refused}
 
 -- two fronts of one length
 fronts : (a b x y : List ℕ) → length a ≡ length b → a ++ x ≡ b ++ y → (a ≡ b) × (x ≡ y)
@@ -24,7 +24,7 @@ body_len m n e = cc
 head_of : (m : Message) (bytes x : List ℕ) → IsMessage m → bytes ≡ message_bytes m ++ x → HasHead bytes m.head (m.body ++ x)
 head_of m bytes x is e = (is.head, e ∙ append_assoc (print_request m.head) m.body x)
 
-same_head : (bytes : List ℕ) (h k : RequestHead) (r q : List ℕ) → HasHead bytes h r → HasHead bytes k q → (h ≡ k) × (r ≡ q)
+pub same_head : (bytes : List ℕ) (h k : RequestHead) (r q : List ℕ) → HasHead bytes h r → HasHead bytes k q → (h ≡ k) × (r ≡ q)
 same_head bytes h k r q a b = request_unique bytes h k r q (a.0.valid, a.1) (b.0.valid, b.1)
 
 pub same_first : (m n : Message) (x y : List ℕ) → IsMessage m → IsMessage n → message_bytes m ++ x ≡ message_bytes n ++ y → (m ≡ n) × (x ≡ y)
@@ -35,7 +35,7 @@ same_first m n x y a b e =
     (λ i. record { head = same.0 i; body = f.0 i }, f.1)
 
 unfinished_none : (bytes x : List ℕ) (m : Message) → IsUnfinished bytes → IsMessage m → bytes ≡ message_bytes m ++ x → ⊥
-unfinished_none bytes x m (head none short may) is e = none m.head (m.body ++ x) (head_of m bytes x is e)
+unfinished_none bytes x m (head none short may) is e = none m.head (m.body ++ x) (is.head.valid, (head_of m bytes x is e).1)
 unfinished_none bytes x m (body h after n has f small short) is e =
     let same = same_head bytes h m.head after (m.body ++ x) has (head_of m bytes x is e) in
     let l : n ≡ length m.body = body_len _ _ (sym f ∙ ap head_framing same.0 ∙ is.framed) in
@@ -52,7 +52,7 @@ refused_none bytes x r bare m (framed h after why has f) is e =
 -- ---- where messages stop
 
 -- no message after which the stream goes on stands first
-abbrev Stops : List ℕ → Type 0
+abbrev pub Stops : List ℕ → Type 0
 Stops rest = (m : Message) (x : List ℕ) → GoesOn m → rest ≡ message_bytes m ++ x → ⊥
 
 -- the list of messages after which the stream goes on, and what stands behind them
@@ -67,26 +67,26 @@ same_front (m ∷ ms) (n ∷ ns) r q same a b u v =
     let rest = same_front ms ns r q s.1 a.1 b.1 u v in
     (λ i. s.0 i ∷ rest.0 i, rest.1)
 
-begin_same : (bytes : List ℕ) (ms ns : List Message) (r q : List ℕ) → Begins bytes ms r → Begins bytes ns q → Stops r → Stops q → (ms ≡ ns) × (r ≡ q)
+pub begin_same : (bytes : List ℕ) (ms ns : List Message) (r q : List ℕ) → Begins bytes ms r → Begins bytes ns q → Stops r → Stops q → (ms ≡ ns) × (r ≡ q)
 begin_same bytes ms ns r q a b u v = same_front ms ns r q (sym a.whole ∙ b.whole) a.each b.each u v
 
-stops_unfinished : (rest : List ℕ) → IsUnfinished rest → Stops rest
+pub stops_unfinished : (rest : List ℕ) → IsUnfinished rest → Stops rest
 stops_unfinished rest u = λ m x g e. unfinished_none rest x m u g.is e
 
-stops_refused : (rest : List ℕ) (r : Refusal) (bare : Bool) → IsRefused rest r bare → Stops rest
+pub stops_refused : (rest : List ℕ) (r : Refusal) (bare : Bool) → IsRefused rest r bare → Stops rest
 stops_refused rest r bare u = λ m x g e. refused_none rest x r bare m u g.is e
 
-stops_closed : (last : Message) (rest : List ℕ) → IsMessage last → closes last.head ≡ true → Stops (message_bytes last ++ rest)
+pub stops_closed : (last : Message) (rest : List ℕ) → IsMessage last → closes last.head ≡ true → Stops (message_bytes last ++ rest)
 stops_closed last rest is shut = λ m x g e.
     let same = same_first last m rest x is g.is e in
     let stays : closes last.head ≡ false = ap (λ (k : Message). closes k.head) same.0 ∙ g.stays in
     let clash : true ≡ false = sym shut ∙ stays in cc
 
 -- a message stands first, and what is unfinished or refused does too
-not_unfinished : (last : Message) (rest q : List ℕ) → IsMessage last → IsUnfinished q → message_bytes last ++ rest ≡ q → ⊥
+pub not_unfinished : (last : Message) (rest q : List ℕ) → IsMessage last → IsUnfinished q → message_bytes last ++ rest ≡ q → ⊥
 not_unfinished last rest q is u e = unfinished_none q rest last u is (sym e)
 
-not_refused : (last : Message) (rest q : List ℕ) (r : Refusal) (bare : Bool) → IsMessage last → IsRefused q r bare → message_bytes last ++ rest ≡ q → ⊥
+pub not_refused : (last : Message) (rest q : List ℕ) (r : Refusal) (bare : Bool) → IsMessage last → IsRefused q r bare → message_bytes last ++ rest ≡ q → ⊥
 not_refused last rest q r bare is u e = refused_none q rest r bare last u is (sym e)
 
 pub cut_unique : (bytes : List ℕ) (ms ns : List Message) (e f : Ending) → IsCut bytes ms e → IsCut bytes ns f → ms ≡ ns

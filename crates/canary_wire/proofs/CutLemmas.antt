@@ -1,5 +1,5 @@
 -- What httparse's answers say of the first message of a stream.
-use Rattle.std.proofs.Common.{◌≡◌, ◌≢◌, ℕ, zero, suc, lit<, Bool, true, false, ◌||◌, ◌==◌, ◌+◌, ◌-◌, ◌<◌, ◌≤◌, List, ◌++◌, map, [], take, drop, length, refl, sym, ap, ◌∙◌, subst, inl, inr, arith}
+use Rattle.std.proofs.Common.{◌≡◌, ◌≢◌, ℕ, zero, suc, lit<, Bool, false, ◌||◌, ◌==◌, ◌+◌, ◌-◌, ◌<◌, ◌≤◌, List, ◌++◌, map, [], take, drop, length, refl, sym, ap, ◌∙◌, subst, inl, inr, arith}
 use Rattle.std.specs.Prelude.{slice_range, bytes_eq, codes}
 use Rattle.std.specs.Str.{IsAscii}
 use Rattle.std.proofs.lemmas.Str.{IsUtf8-from_ascii}
@@ -9,7 +9,7 @@ use Rattle.httparse.specs.declared.Error.{Error}
 use Rattle.httparse.specs.declared.Error.TheVariants.{TooManyHeaders, HeaderName, HeaderValue, NewLine, Status, Token, Version}
 use Rattle.httparse.specs.declared.spans.HeaderSpan.{HeaderSpan}
 use Rattle.httparse.specs.declared.spans.RequestSpans.{RequestSpans}
-use Rattle.httparse.specs.Grammar.{RequestHead, IsRequestHead, ReadsRequest, AllPass, is_token_byte, is_uri_byte, crlf, print_request, HasNoRequest, NeverHasRequest, MayBecomeRequest}
+use Rattle.httparse.specs.Grammar.{RequestHead, IsRequestHead, ReadsRequest, AllPass, is_token_byte, is_uri_byte, crlf, print_request, HasNoRequest, NeverHasRequest}
 use Rattle.httparse.specs.Spans.{span_bytes, header_bytes, name_and_value, IsRequestOf, IsRequestWithin, RequestOverflows, RequestExceeds}
 use Rattle.httparse.proofs.GrammarLemmas.{request_prefix_free}
 use Rattle.canary_wire.specs.declared.refusal.Refusal.{Refusal}
@@ -17,7 +17,7 @@ use Rattle.canary_wire.specs.declared.refusal.Refusal.TheVariants.{Malformed}
 use Rattle.canary_wire.specs.declared.framing.Framing.{Framing}
 use Rattle.canary_wire.specs.declared.framing.Framing.TheVariants.{Body, Refused}
 use Rattle.canary_wire.specs.Heads.{Header, framing_of, head_framing, headers_of, asks_to_close, closes, is_bare}
-use Rattle.canary_wire.specs.Cuts.{Message, message_bytes, IsMessage, IsFirst, HasHead, HasNoHead, NeverHasHead, Hopeless, long, beyond, never, lines, IsRefused, malformed, framed, IsUnfinished, head, body}
+use Rattle.canary_wire.specs.Cut.{Message, message_bytes, IsMessage, IsFirst, HasHead, NeverHasHead, long, beyond, never, lines, IsRefused, malformed, framed, IsUnfinished, head, body}
 
 -- no room for the fields of any head
 pub no_head_of_overflow : (bytes : List ℕ) → RequestOverflows 64 bytes → NeverHasHead bytes
@@ -43,12 +43,6 @@ front_of x bytes after more h e =
     let a : take (length x) (bytes ++ more) ≡ x = ap (take (length x)) e ∙ take-append_seam x after in
     let b : take (length x) (bytes ++ more) ≡ take (length x) bytes = take-append-le (length x) bytes more h in
     sym (take-append-drop (length x) bytes) ∙ ap (λ t. t ++ drop (length x) bytes) (sym b ∙ a)
-
-pub no_head_of_none : (bytes : List ℕ) → HasNoRequest bytes → HasNoHead bytes
-no_head_of_none bytes none h after has = none h after (has.0.valid, has.1)
-
-pub unfinished_head : (bytes : List ℕ) → HasNoRequest bytes → MayBecomeRequest bytes → length bytes < 16384 → IsUnfinished bytes
-unfinished_head bytes none may short = head (no_head_of_none bytes none) short may
 
 pub refused_long : (bytes : List ℕ) → HasNoRequest bytes → 16384 ≤ length bytes → IsRefused bytes Malformed false
 refused_long bytes none l =
@@ -202,7 +196,7 @@ may_become = (
 
 -- nothing is unfinished
 pub unfinished_empty : IsUnfinished []
-unfinished_empty = head (λ h after has. (let some = head_some h has.0.valid in let e = ap (λ t. length t) has.1 in omega (arith, e, length-append (print_request h) after))) (omega arith) (inl may_become)
+unfinished_empty = head (λ h after has. (let some = head_some h has.0 in let e = ap (λ t. length t) has.1 in omega (arith, e, length-append (print_request h) after))) (omega arith) (inl may_become)
 
 -- a message has a byte at least
 pub message_some : (m : Message) → IsMessage m → 0 < length (message_bytes m)

@@ -1,14 +1,12 @@
 -- Exchanges, one after another, and what they are as a whole.
-use Rattle.std.proofs.Common.{◌≡◌, ℕ, zero, suc, ◌+◌, ◌-◌, ◌<◌, ◌≤◌, ◌⊎◌, inl, inr, Bool, List, [], ◌∷◌, ◌++◌, map, length, get_or, refl, sym, ap, ◌∙◌, subst, arith, add-zero}
-use Rattle.std.specs.Prelude.{slice_index, flat_map}
+use Rattle.std.proofs.Common.{◌≡◌, ℕ, zero, suc, ◌+◌, ◌-◌, ◌<◌, ◌≤◌, ◌⊎◌, inl, inr, Bool, List, [], ◌∷◌, ◌++◌, length, refl, sym, ap, ◌∙◌, subst, arith, add-zero}
+use Rattle.std.specs.Prelude.{slice_index}
 use Rattle.std.specs.List.{AllByRecursion}
 use Rattle.std.proofs.lemmas.List.{append-nil, append_assoc, length-append, length-map, map-append, get_or_append_left, get_or-append_right}
-use Rattle.canary_once.specs.declared.event.Request.{Request}
 use Rattle.canary_once.specs.declared.event.Event.{Event}
 use Rattle.canary_once.specs.declared.event.Event.TheVariants.{Request as RequestEvent}
 use Rattle.canary_once.specs.declared.event.Answer.{Answer}
-use Rattle.canary_once.specs.Contents.{Contents, KeepsEntries}
-use Rattle.canary_once.specs.Answers.{answers_of}
+use Rattle.canary_once.specs.Contents.{Contents}
 use Rattle.canary_once.proofs.Runs.{IsRun, run-push}
 use Rattle.canary_wire.specs.Exchanges.{Outcome, refused, no_memory, posted, IsSureOutcome, Exchange, IsExchange, moments_of, event_in, answer_in, events_of, given_in, Point, AreTold, Holds, IsStep, AreSteps, Exchanges, Went}
 

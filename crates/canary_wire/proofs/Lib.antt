@@ -4,6 +4,7 @@ pub mod Members
 pub mod TestLemmas
 pub mod CutLemmas
 pub mod CutLaw
+pub mod EndLaw
 pub mod WriteLemmas
 pub mod AnswerLemmas
 pub mod ServeLemmas

@@ -1,9 +1,9 @@
 -- What the router finds for the path of a request, and how that path is split.
-use Rattle.std.proofs.Common.{◌≡◌, ◌≢◌, ℕ, zero, suc, ◌+◌, ◌-◌, ◌<◌, ◌≤◌, List, [], ◌∷◌, ◌++◌, length, drop, take, get_or, subst, Option, Some, None, Bool, true, false, cond, refl, sym, ap, ◌∙◌, arith, codes, nat_eq, ◌==◌, ◌&&◌}
+use Rattle.std.proofs.Common.{◌≡◌, ℕ, zero, suc, ◌+◌, ◌-◌, ◌<◌, List, [], ◌∷◌, ◌++◌, length, drop, take, get_or, subst, Option, Some, None, Bool, true, false, cond, refl, sym, ap, ◌∙◌, arith, codes, nat_eq, ◌==◌, ◌&&◌}
 use Rattle.std.proofs.lemmas.Bool.Decides.{nat_tests}
-use Rattle.std.proofs.lemmas.List.{append_assoc, append-nil, length-append, take_all, take-append-drop}
+use Rattle.std.proofs.lemmas.List.{length-append, take_all, take-append-drop}
 use Rattle.std.proofs.Math.Numerals.{one-add}
-use Rattle.std.specs.List.{ends_with, list_any, before_first, position, position_or_len}
+use Rattle.std.specs.List.{list_any, before_first, position, position_or_len}
 use Rattle.std.proofs.lemmas.Bool.{or_parts}
 use Rattle.std.proofs.lemmas.Option.{none-some}
 use Rattle.std.proofs.lemmas.List.{get_or-append-add}
@@ -11,10 +11,9 @@ use Rattle.std.specs.Cmp.Lexicographic.{pointwise}
 use Rattle.std.specs.Prelude.{ltb}
 use Rattle.std.proofs.lemmas.Bool.{and_from, lt-ltb, ltb-false}
 use Rattle.std.proofs.Math.Seq.{drop-append_seam}
-use Rattle.matchit.specs.Router.{RouteOf}
-use Rattle.canary_wire.specs.Routes.{the_rows, request_row, IsPart, IsSplit, IsRequestPath, HasNoRoute}
+use Rattle.canary_wire.specs.Routes.{the_rows, request_row, IsPart, IsSplit, HasNoRoute}
 use Rattle.matchit.specs.Rows.{RowsOf, param_token, catch_all_token}
-use Rattle.matchit.specs.Seek.{own, step, or_else, seek, first, param_step, has_slash, segment, cuts, better, longest_suffix, with_suffix}
+use Rattle.matchit.specs.Seek.{own, step, or_else, seek, first, param_step, has_slash, segment, cuts, longest_suffix, with_suffix}
 
 and_both : (a b : Bool) → (a && b) ≡ true → (a ≡ true) × (b ≡ true)
 and_both true b h = (refl, h)

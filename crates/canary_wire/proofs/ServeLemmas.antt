@@ -1,7 +1,7 @@
 -- A stream served so far, and how its serving ends.
-use Rattle.std.proofs.Common.{◌≡◌, ℕ, suc, ◌+◌, ◌<◌, ◌≤◌, Bool, true, false, List, [], ◌∷◌, ◌++◌, drop, length, refl, sym, ap, ◌∙◌, subst, arith}
+use Rattle.std.proofs.Common.{◌≡◌, ℕ, ◌+◌, ◌<◌, ◌≤◌, Bool, true, false, List, [], ◌∷◌, ◌++◌, drop, length, refl, sym, ap, ◌∙◌, subst, arith}
 use Rattle.std.specs.Prelude.{Result, Ok, Err, flat_map, if◌then◌else◌}
-use Rattle.std.specs.List.{list_all, AllByRecursion}
+use Rattle.std.specs.List.{list_all}
 use Rattle.std.specs.Io.KnownBytes.{Appends, Consumes, IsAtEnd}
 use Rattle.std.proofs.lemmas.List.{append-nil, append_assoc, length-append, map-append}
 use Rattle.std.proofs.lemmas.Grind.{flat_map-append}
@@ -14,12 +14,11 @@ use Rattle.canary_wire.specs.declared.serve.TurnFault.{TurnFault}
 use Rattle.canary_wire.specs.declared.serve.TurnFault.TheVariants.{Read, Write}
 use Rattle.canary_wire.specs.declared.serve.Turn.{Turn}
 use Rattle.canary_wire.specs.declared.serve.Turn.TheVariants.{GoesOn, Ends}
-use Rattle.canary_wire.specs.Heads.{closes}
-use Rattle.canary_wire.specs.Cuts.{Message, message_bytes, IsMessage, IsFirst, IsRefused, IsUnfinished, Begins, Ending, idle, cut_off, closing, refusing, is_newline, IsCut, unfinished, closed, refused}
-use Rattle.canary_wire.specs.Cuts.{GoesOn as KeepsOpen}
+use Rattle.canary_wire.specs.Cut.{Message, message_bytes, IsMessage, IsFirst, IsRefused, IsUnfinished, Begins, Ending, idle, cut_off, closing, refusing, is_newline, IsCut, unfinished, closed, refused}
+use Rattle.canary_wire.specs.Cut.{GoesOn as KeepsOpen}
 use Rattle.canary_wire.specs.Writes.{Known, Writes}
 use Rattle.canary_wire.specs.Exchanges.{Exchange, messages_of, reply_bytes, Point, Exchanges, Holds, Went}
-use Rattle.canary_wire.specs.Serving.{last_reply, end_of, IsOpen, IsShut, EndsAs, Serves, ServesTo, ServesSome, ServesUntil, TurnsTo, Cut, IsCutShort, in_reply, in_refusal, IsSoFar, Answers, AnswersAll, AnswersUntil, AnswersHeld, RefusesAll}
+use Rattle.canary_wire.specs.Serving.{last_reply, end_of, IsOpen, EndsAs, Serves, ServesTo, ServesSome, ServesUntil, TurnsTo, IsCutShort, in_reply, in_refusal, IsSoFar, Answers, AnswersAll, AnswersUntil, AnswersHeld, RefusesAll}
 use Rattle.canary_wire.proofs.CutLemmas.{unfinished_empty}
 use Rattle.canary_wire.proofs.WriteLemmas.{appends_none, appends_more, consumes_none, consumes_more, writes_all}
 use Rattle.canary_wire.proofs.ExchangeLemmas.{all-append, went_none, went_one, went_then, holds_of}

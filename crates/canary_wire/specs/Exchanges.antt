@@ -17,7 +17,7 @@ use Rattle.canary_wire.specs.declared.routes.Address.{Address}
 use Rattle.canary_wire.specs.CommandReadings.{unsupported, unreadable, readable}
 use Rattle.canary_wire.specs.CommandForms.{body_reading}
 use Rattle.canary_wire.specs.Heads.{closes, is_bare}
-use Rattle.canary_wire.specs.Cuts.{Message}
+use Rattle.canary_wire.specs.Cut.{Message}
 use Rattle.canary_wire.specs.ReplyTexts.{reply_text}
 use Rattle.canary_wire.specs.Routes.{IsAddress}
 

@@ -6,7 +6,6 @@ use Rattle.std.specs.Str.Parse.{digits_value}
 use Rattle.httparse.specs.Grammar.{RequestHead}
 use Rattle.httparse.specs.Spans.{name_and_value}
 use Rattle.http1.specs.Fields.{elements_named, has_option}
-use Rattle.canary_wire.specs.declared.refusal.Refusal.{Refusal}
 use Rattle.canary_wire.specs.declared.refusal.Refusal.TheVariants.{Malformed, Length, TooLong}
 use Rattle.canary_wire.specs.declared.framing.Framing.{Framing}
 use Rattle.canary_wire.specs.declared.framing.Framing.TheVariants.{Body, Refused}

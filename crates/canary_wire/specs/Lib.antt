@@ -4,7 +4,7 @@ pub mod Rollouts
 pub mod CommandForms
 pub mod Heads
 pub mod Named
-pub mod Cuts
+pub mod Cut
 pub mod ReplyTexts
 pub mod Writes
 pub mod Buffers

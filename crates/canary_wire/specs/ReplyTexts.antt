@@ -1,5 +1,5 @@
 -- The exact bytes of replies (RFC 9112).
-use Rattle.std.specs.Prelude.{ℕ, ◌≤◌, Bool, true, false, ◌&&◌, ◌==◌, nat_le, List, [], ◌∷◌, ◌++◌, length, codes, decimal, if◌then◌else◌}
+use Rattle.std.specs.Prelude.{ℕ, Bool, true, false, ◌&&◌, ◌==◌, nat_le, List, [], ◌++◌, length, codes, decimal, if◌then◌else◌}
 use Rattle.http.specs.StatusCode.{code_digits}
 use Rattle.canary_release.specs.Replies.{code_alone}
 use Rattle.canary_once.specs.AnswerTexts.{status_of, body_of}

@@ -11,9 +11,9 @@ use Rattle.canary_wire.specs.declared.serve.Turn.TheVariants.{GoesOn, Ends}
 use Rattle.canary_wire.specs.declared.serve.TurnFault.{TurnFault}
 use Rattle.canary_wire.specs.declared.serve.TurnFault.TheVariants.{Read, Write}
 use Rattle.canary_wire.specs.declared.reply.WriteFault.{WriteFault}
-use Rattle.canary_wire.specs.Cuts.{is_newline, message_bytes, IsMessage, IsRefused, IsUnfinished, Begins, Ending, idle, cut_off, closing, refusing, IsCut}
+use Rattle.canary_wire.specs.Cut.{is_newline, message_bytes, IsMessage, IsRefused, IsUnfinished, Begins, Ending, idle, cut_off, closing, refusing, IsCut}
 use Rattle.canary_wire.specs.ReplyTexts.{reply_text}
-use Rattle.canary_wire.specs.Writes.{Known, Writes}
+use Rattle.canary_wire.specs.Writes.{Known}
 use Rattle.canary_wire.specs.Exchanges.{Exchange, messages_of, reply_bytes, Point, Holds, Went}
 
 -- how a stream ends whose input ends with these bytes behind the last message
@@ -66,8 +66,8 @@ abbrev pub ServesSome : Known → Known → Known → Known → Point → Point 
 ServesSome r new_r w new_w old new =
     (bytes : List ℕ) × (end : Ending) × IsOpen end × Serves r new_r w new_w old new bytes end
 
--- a text that did not go out whole
-pub record Cut (text front : List ℕ) : Type 0 where
+-- a text of which a front went out, and not the whole
+pub record IsFrontOf (text front : List ℕ) : Type 0 where
   pub back : List ℕ
   pub parts : text ≡ front ++ back
   pub short : 0 < length back
@@ -75,9 +75,9 @@ pub record Cut (text front : List ℕ) : Type 0 where
 -- these exchanges were held, and in the midst of the last one's reply, or of the refusal's behind it, the writer failed
 pub data IsCutShort (bytes text : List ℕ) : List Exchange → Type 0 where
   in_reply : (xs : List Exchange) (last : Exchange) (rest front : List ℕ) → Begins bytes (messages_of xs) (message_bytes last.message ++ rest) → IsMessage last.message
-      → Cut (reply_bytes last) front → text ≡ flat_map reply_bytes xs ++ front → IsCutShort bytes text (xs ++ last ∷ [])
+      → IsFrontOf (reply_bytes last) front → text ≡ flat_map reply_bytes xs ++ front → IsCutShort bytes text (xs ++ last ∷ [])
   in_refusal : (xs : List Exchange) (rest front : List ℕ) (r : Refusal) (bare : Bool) → Begins bytes (messages_of xs) rest → IsRefused rest r bare
-      → Cut (last_reply (refusing r bare)) front → text ≡ flat_map reply_bytes xs ++ front → IsCutShort bytes text xs
+      → IsFrontOf (last_reply (refusing r bare)) front → text ≡ flat_map reply_bytes xs ++ front → IsCutShort bytes text xs
 
 -- the writer failed: what went out is a front of the replies, and the last message is the one whose reply did not go out whole
 pub record ServesUntil (r new_r w new_w : Known) (old new : Point) : Type 0 where
@@ -141,4 +141,4 @@ AnswersHeld w new_w old new held rest (Err fault) = AnswersUntil w new_w old new
 abbrev pub RefusesAll : Known → Known → List ℕ → Result Turn WriteFault → Type 0
 RefusesAll w new_w text (Ok GoesOn) = ⊥
 RefusesAll w new_w text (Ok Ends) = Appends w new_w text
-RefusesAll w new_w text (Err fault) = (front : List ℕ) × Cut text front × Appends w new_w front
+RefusesAll w new_w text (Err fault) = (front : List ℕ) × IsFrontOf text front × Appends w new_w front

@@ -1,6 +1,6 @@
 //! Answering one message.
 ghost use Rattle.std.specs.Prelude.{◌≡◌, ℕ, List, Ok};
-ghost use Rattle.canary_wire.specs.Cuts.{Message, IsFirst};
+ghost use Rattle.canary_wire.specs.Cut.{Message, IsFirst};
 ghost use Rattle.canary_wire.specs.Exchanges.{Outcome, Exchange, said_of, IsOutcome, reply_bytes, point, Books, Exchanges};
 ghost use Rattle.canary_wire.specs.Routes.{the_rows, IsAddress};
 ghost use Rattle.canary_wire.specs.Writes.{Writes};

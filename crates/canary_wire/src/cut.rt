@@ -1,7 +1,7 @@
 //! What stands first in a stream.
 ghost use Rattle.std.specs.Prelude.{◌≡◌, ℕ, ◌≤◌, length, All, take};
 ghost use Rattle.httparse.specs.Spans.{IsRequestWithin, IsRequestOf};
-ghost use Rattle.canary_wire.specs.Cuts.{Cuts};
+ghost use Rattle.canary_wire.specs.Cut.{Cuts};
 
 use crate::framing::{Framing, closes, frame, is_bare};
 use crate::refusal::Refusal;

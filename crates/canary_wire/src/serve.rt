@@ -2,7 +2,7 @@
 ghost use Rattle.std.specs.Prelude.{◌≡◌, [], ◌++◌, IfOk, Err};
 ghost use Rattle.std.specs.List.{list_all};
 ghost use Rattle.canary_once.specs.Contents.{KeepsEntries};
-ghost use Rattle.canary_wire.specs.Cuts.{is_newline, refusing};
+ghost use Rattle.canary_wire.specs.Cut.{is_newline, refusing};
 ghost use Rattle.canary_wire.specs.Exchanges.{point};
 ghost use Rattle.canary_wire.specs.Routes.{the_rows};
 ghost use Rattle.canary_wire.specs.Buffers.{held};

@@ -1,4 +1,4 @@
-use Rattle.std.proofs.Common.{◌∙◌, sym, refl}
+use Rattle.std.proofs.Common.{◌∙◌, refl}
 use Rattle.canary_wire.proofs.AnswerLemmas.{outcome_as, writes_as}
 use Rattle.canary_wire.specs.Exchanges.{said_of}
 use Rattle.canary_wire.proofs.answer.answer.Goals as goal

@@ -1,5 +1,5 @@
-use Rattle.std.proofs.Common.{◌≡◌, ℕ, List, sym, subst, length, arith}
-use Rattle.std.specs.Prelude.{Result, Ok}
+use Rattle.std.proofs.Common.{ℕ, List, sym, subst}
+use Rattle.std.specs.Prelude.{Result}
 use Rattle.canary_wire.specs.declared.reply.WriteFault.{WriteFault}
 use Rattle.canary_wire.specs.Buffers.{held}
 use Rattle.canary_wire.specs.Writes.{Writes}

@@ -1,11 +1,9 @@
-use Rattle.std.proofs.Common.{◌≡◌, ℕ, ◌+◌, ◌<◌, ◌≤◌, List, sym, ap, ◌∙◌, subst, length, arith}
-use Rattle.std.specs.Prelude.{Result, Ok}
+use Rattle.std.proofs.Common.{◌<◌, sym, ap, ◌∙◌, subst, length, arith}
+use Rattle.std.specs.Prelude.{Ok}
 use Rattle.canary_wire.specs.declared.serve.Ended.{Ended}
-use Rattle.canary_wire.specs.declared.serve.Turn.{Turn}
-use Rattle.canary_wire.specs.declared.reply.WriteFault.{WriteFault}
 use Rattle.canary_wire.specs.Buffers.{held}
 use Rattle.canary_wire.specs.Exchanges.{point}
-use Rattle.canary_wire.specs.Serving.{ServesTo, AnswersHeld, end_of}
+use Rattle.canary_wire.specs.Serving.{ServesTo, end_of}
 use Rattle.canary_wire.proofs.ServeLemmas.{so_far_none, so_far_more, so_far_all, so_far_until, so_far_open, so_far_spent, so_far_end}
 use Rattle.canary_wire.proofs.serve.serve_turns.Goals as goal
 

@@ -1,7 +1,7 @@
 -- How a stream is cut into messages, over the grammar of a request's head that `httparse` reads (RFC 9112).
 use Rattle.std.specs.Prelude.{◌≡◌, ℕ, ◌<◌, ◌≤◌, ◌⊎◌, Bool, true, false, ◌||◌, ◌==◌, List, [], ◌∷◌, ◌++◌, length, drop, if◌then◌else◌, flat_map, slice_range}
 use Rattle.std.specs.List.{list_all, AllByRecursion}
-use Rattle.httparse.specs.Grammar.{RequestHead, print_request, IsRequestHead, ReadsRequest, NeverHasRequest, MayBecomeRequest}
+use Rattle.httparse.specs.Grammar.{RequestHead, print_request, IsRequestHead, ReadsRequest, HasNoRequest, NeverHasRequest, MayBecomeRequest}
 use Rattle.httparse.specs.Spans.{span_bytes, RequestExceeds}
 use Rattle.canary_wire.specs.declared.refusal.Refusal.{Refusal}
 use Rattle.canary_wire.specs.declared.refusal.Refusal.TheVariants.{Malformed}
@@ -70,7 +70,7 @@ pub data IsRefused (bytes : List ℕ) : Refusal → Bool → Type 0 where
 
 -- no whole message, and more bytes may make one
 pub data IsUnfinished (bytes : List ℕ) : Type 0 where
-  head : HasNoHead bytes → length bytes < 16384 → MayBecomeRequest bytes → IsUnfinished bytes
+  head : HasNoRequest bytes → length bytes < 16384 → MayBecomeRequest bytes → IsUnfinished bytes
   body : (h : RequestHead) (after : List ℕ) (n : ℕ) → HasHead bytes h after → head_framing h ≡ Body n → n ≤ 65536 → length after < n → IsUnfinished bytes
 
 -- ---- a whole stream
@@ -97,6 +97,10 @@ pub data IsCut (bytes : List ℕ) : List Message → Ending → Type 0 where
       → IsCut bytes (ms ++ last ∷ []) closing
   refused : (ms : List Message) (rest : List ℕ) (r : Refusal) (bare : Bool) → Begins bytes ms rest → IsRefused rest r bare
       → IsCut bytes ms (refusing r bare)
+
+-- two ends of one stream are the same, but one that ends in the midst of a message, inside the target of a request or behind the 64th header line, may also be refused
+abbrev pub SameEnding : Ending → Ending → Type 0
+SameEnding e f = (e ≡ f) ⊎ ((e ≡ cut_off) × (f ≡ refusing Malformed false)) ⊎ ((f ≡ cut_off) × (e ≡ refusing Malformed false))
 
 -- ---- what the code finds first
 
