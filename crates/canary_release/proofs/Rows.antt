@@ -40,24 +40,24 @@ release_replies = replies_from_nothing to_end _ refl
 
 -- the service at its second pause, with its whole history
 paused_service : get (machine no_desk to_second_pause).desk.services web ≡ Some (record {
-    made = record { name = web; version = v1; steps = two_pauses };
-    strategy = record { steps = two_pauses };
-    stable = v1;
-    version = v2;
-    state = InProgress;
-    step = 3;
-    entered = b + 2;
-    last = b + 2;
-    history =
-        record { moment = b; event = Created v1 }
-        ∷ record { moment = b + 1; event = Started v2 }
-        ∷ record { moment = b + 1; event = WeightEntered 0 20 }
-        ∷ record { moment = b + 1; event = PauseEntered 1 }
-        ∷ record { moment = b + 2; event = Promoted }
-        ∷ record { moment = b + 2; event = WeightEntered 2 50 }
-        ∷ record { moment = b + 2; event = PauseEntered 3 }
-        ∷ [];
-  })
+  made = record { name = web; version = v1; steps = two_pauses };
+  strategy = record { steps = two_pauses };
+  stable = v1;
+  version = v2;
+  state = InProgress;
+  step = 3;
+  entered = b + 2;
+  last = b + 2;
+  history =
+      record { moment = b; event = Created v1 }
+      ∷ record { moment = b + 1; event = Started v2 }
+      ∷ record { moment = b + 1; event = WeightEntered 0 20 }
+      ∷ record { moment = b + 1; event = PauseEntered 1 }
+      ∷ record { moment = b + 2; event = Promoted }
+      ∷ record { moment = b + 2; event = WeightEntered 2 50 }
+      ∷ record { moment = b + 2; event = PauseEntered 3 }
+      ∷ [];
+})
 paused_service = service_from_nothing to_second_pause web _ refl
 
 -- Moments that fall: a request is judged at the service's last moment, where that is later.
@@ -66,26 +66,26 @@ abbrev falling : List (ℕ × Command)
 falling = (b + 9, add web (SetWeight 20 ∷ Pause ∷ [])) ∷ (b + 3, Start web v2) ∷ (b + 12, Promote web) ∷ (b, Start web v3) ∷ []
 
 falling_service : get (machine no_desk falling).desk.services web ≡ Some (record {
-    made = record { name = web; version = v1; steps = SetWeight 20 ∷ Pause ∷ [] };
-    strategy = record { steps = SetWeight 20 ∷ Pause ∷ [] };
-    stable = v2;
-    version = v3;
-    state = InProgress;
-    step = 1;
-    entered = b + 12;
-    last = b + 12;
-    history =
-        record { moment = b + 9; event = Created v1 }
-        ∷ record { moment = b + 9; event = Started v2 }
-        ∷ record { moment = b + 9; event = WeightEntered 0 20 }
-        ∷ record { moment = b + 9; event = PauseEntered 1 }
-        ∷ record { moment = b + 12; event = Promoted }
-        ∷ record { moment = b + 12; event = Finished v2 }
-        ∷ record { moment = b + 12; event = Started v3 }
-        ∷ record { moment = b + 12; event = WeightEntered 0 20 }
-        ∷ record { moment = b + 12; event = PauseEntered 1 }
-        ∷ [];
-  })
+  made = record { name = web; version = v1; steps = SetWeight 20 ∷ Pause ∷ [] };
+  strategy = record { steps = SetWeight 20 ∷ Pause ∷ [] };
+  stable = v2;
+  version = v3;
+  state = InProgress;
+  step = 1;
+  entered = b + 12;
+  last = b + 12;
+  history =
+      record { moment = b + 9; event = Created v1 }
+      ∷ record { moment = b + 9; event = Started v2 }
+      ∷ record { moment = b + 9; event = WeightEntered 0 20 }
+      ∷ record { moment = b + 9; event = PauseEntered 1 }
+      ∷ record { moment = b + 12; event = Promoted }
+      ∷ record { moment = b + 12; event = Finished v2 }
+      ∷ record { moment = b + 12; event = Started v3 }
+      ∷ record { moment = b + 12; event = WeightEntered 0 20 }
+      ∷ record { moment = b + 12; event = PauseEntered 1 }
+      ∷ [];
+})
 falling_service = service_from_nothing falling web _ refl
 
 -- A service without steps, one with weights alone, and one that begins with a pause.
