@@ -9,7 +9,8 @@ use crate::verdict::{verdict, worst};
 use canary_base::durations::{LONGEST, Seconds};
 use canary_base::moments::{LAST_MOMENT, Moment};
 use canary_base::names::Label;
-use canary_condition::outcome::Phase;
+use canary_condition::condition::{Condition, Verdict3};
+use canary_condition::outcome::{Phase, Value};
 use std::process::Abort;
 use std::test::Fail;
 
@@ -189,6 +190,19 @@ fn has_defaults(metric: &Metric) -> bool {
         && metric.inconclusive_limit() == 0
         && metric.consecutive_error_limit() == 4
         && !metric.dry_run()
+}
+
+#[test]
+fn conditions_of_copies(rt: HostRuntime) -> Result<(), Fail> {
+    let mut both = settings(&rt, Some(60));
+    both.success = Some(Condition::parse(rt.alloc(), "result > 10")?);
+    both.failure = Some(Condition::parse(rt.alloc(), "result < 5")?);
+    let copy = metric(&rt, both).copy(rt.alloc())?;
+    let success = copy.success().expect(&rt, "a success condition");
+    let failure = copy.failure().expect(&rt, "a failure condition");
+    assert_eq!(rt; success.eval(&Value::Whole(11)), Verdict3::True);
+    assert_eq!(rt; failure.eval(&Value::Whole(11)), Verdict3::False);
+    Ok(())
 }
 
 #[test]
