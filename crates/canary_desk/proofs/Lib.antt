@@ -1,2 +1,3 @@
 pub mod Walks
 pub mod Spelled
+pub mod Served

@@ -66,10 +66,16 @@ program_of words = option_and_then program_in (subcommand_of desk_command words)
 
 -- ---- faults
 
+abbrev pub AsksForHelp : Kinds → Type 0
+AsksForHelp kinds = IsAmong DisplayHelp kinds
+
+abbrev pub HasMistake : Kinds → Type 0
+HasMistake kinds = (k : ErrorKind) × IsAmong k kinds × (k ≢ DisplayHelp)
+
 -- help is answered only where it is asked for, and usage only where the words have a mistake
 abbrev pub IsFor : Kinds → WordsFault → Type 0
-IsFor kinds (Help text) = IsAmong DisplayHelp kinds
-IsFor kinds (Usage text) = (k : ErrorKind) × IsAmong k kinds × (k ≢ DisplayHelp)
+IsFor kinds (Help text) = AsksForHelp kinds
+IsFor kinds (Usage text) = HasMistake kinds
 IsFor kinds Memory = Unit {0}
 
 -- ---- what the matches hold

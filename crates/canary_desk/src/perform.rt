@@ -1,4 +1,11 @@
 //! Running a command line.
+ghost use Rattle.std.specs.Prelude.{◌≡◌, ◌↔◌, ℕ, Some, Ok, Err, OnOk, [], map, string_bytes};
+ghost use Rattle.std.specs.IoError.{error_kind};
+ghost use Rattle.std.specs.Io.KnownBytes.{Appends};
+ghost use Rattle.canary_desk.specs.CommandLine.{faults_of, program_of};
+ghost use Rattle.canary_desk.specs.Performed.{done_of, line_of, status_of};
+ghost use Rattle.canary_desk.specs.Performed.{IsPiped, IsPipedTo, IsRun, IsTurnedAway};
+
 use crate::words::{Program, WordsFault, read_words};
 use canary_base::moments::Moment;
 use canary_once::clock::StepClock;
@@ -7,42 +14,39 @@ use canary_wire::serve::{Ended, ServeFault, serve};
 use std::alloc::Global;
 use std::io::{self, ErrorKind, Read, Write};
 
-// What was asked was done.
-const DONE: u8 = 0;
-// It was begun and met a fault.
-const FAULT: u8 = 1;
-// The command line is none that the desk takes.
-const USAGE: u8 = 2;
+/// The exit status where what was asked was done.
+pub const DONE: u8 = 0;
+/// The exit status of a fault.
+pub const FAULT: u8 = 1;
+/// The exit status where the command line is none that the desk takes.
+pub const USAGE: u8 = 2;
 
-// Why what was asked was not done to its end.
+/// Why what was asked was not done to its end.
 #[derive(Clone, Copy, Debug, PartialEq, Eq)]
-enum Fault {
+pub enum Fault {
+    /// An allocation was refused.
     Memory,
+    /// The input failed.
     Read,
+    /// The output failed.
     Write,
+    /// The input ended in the midst of a message.
     Truncated,
+    /// The input went on after the most reads.
     TurnsSpent,
 }
 
 impl Fault {
-    // The line that says so on the error stream.
-    fn line(self) -> &'static str {
+    // The line that names it on the error stream.
+    fn line(self) -> &'static str
+        ensures { result.now ≡ line_of self }
+    {
         match self {
             Fault::Memory => "canary: memory\n",
             Fault::Read => "canary: read\n",
             Fault::Write => "canary: write\n",
             Fault::Truncated => "canary: truncated\n",
             Fault::TurnsSpent => "canary: turns-spent\n",
-        }
-    }
-}
-
-impl From<ServeFault> for Fault {
-    fn from(fault: ServeFault) -> Fault {
-        match fault {
-            ServeFault::Memory => Fault::Memory,
-            ServeFault::Read => Fault::Read,
-            ServeFault::Write => Fault::Write,
         }
     }
 }
@@ -60,30 +64,36 @@ pub fn perform<R: Read, W: Write, F: Write>(
     input: &mut R,
     output: &mut W,
     errors: &mut F,
-) -> u8 {
-    let done = match read_words(alloc, words) {
-        Ok(program) => run(alloc, program, input, output),
-        Err(WordsFault::Help(text)) => show(text.as_str(), output),
+) -> u8
+    ensures piped { (at step : ℕ) → faults_of (map string_bytes words.now) ≡ []
+        → program_of (map string_bytes words.now) ≡ Some (Program.Pipe at step)
+        → IsPipedTo (R.remaining input.old) (R.remaining input.new) (W.contents output.old) (W.contents output.new) at step result }
+    ensures turned_away { (faults_of (map string_bytes words.now) ≡ [] → ⊥)
+        → IsTurnedAway (faults_of (map string_bytes words.now)) (W.contents output.old) (W.contents output.new) result }
+    ensures unread { (faults_of (map string_bytes words.now) ≡ [] → ⊥) → input.new ≡ input.old }
+{
+    match read_words(alloc, words) {
+        Ok(program) => finish(run(alloc, program, input, output), errors),
+        Err(WordsFault::Help(text)) => finish(show(text.as_str(), output), errors),
         Err(WordsFault::Usage(text)) => {
             let _ = errors.write_all(text.as_bytes());
-            return USAGE;
+            USAGE
         }
-        Err(WordsFault::Memory) => Err(Fault::Memory),
-    };
-    match done {
-        Ok(()) => DONE,
-        Err(fault) => report(fault, errors),
+        Err(WordsFault::Memory) => finish(Err(Fault::Memory), errors),
     }
 }
 
 /// The exit status where the words of the command line could not be had: 2 where one of them is
 /// not UTF-8, else 1 for want of memory. `errors` has the text that says so.
-pub fn refuse<F: Write>(error: &io::Error, errors: &mut F) -> u8 {
+pub fn refuse<F: Write>(error: &io::Error, errors: &mut F) -> u8
+    ensures usage { (result ≡ USAGE) ↔ (error_kind error.now ≡ ErrorKind.InvalidData) }
+    ensures fault { (error_kind error.now ≡ ErrorKind.InvalidData → ⊥) → result ≡ FAULT }
+{
     if error.kind() == ErrorKind::InvalidData {
         let _ = errors.write_all(b"error: a word of the command line is not UTF-8\n");
         return USAGE;
     }
-    report(Fault::Memory, errors)
+    finish(Err(Fault::Memory), errors)
 }
 
 fn run<R: Read, W: Write>(
@@ -91,7 +101,9 @@ fn run<R: Read, W: Write>(
     program: Program,
     input: &mut R,
     output: &mut W,
-) -> Result<(), Fault> {
+) -> Result<(), Fault>
+    ensures { IsRun (R.remaining input.old) (R.remaining input.new) (W.contents output.old) (W.contents output.new) program result }
+{
     match program {
         Program::Pipe { at, step } => pipe(alloc, at, step, input, output),
     }
@@ -105,24 +117,45 @@ fn pipe<R: Read, W: Write>(
     step: Moment,
     input: &mut R,
     output: &mut W,
-) -> Result<(), Fault> {
+) -> Result<(), Fault>
+    ensures { IsPiped (R.remaining input.old) (R.remaining input.new) (W.contents output.old) (W.contents output.new) at step result }
+{
     let mut clock = StepClock::new(at, step);
     let mut book = MemoryBook::new(alloc);
-    match serve(alloc, input, output, &mut clock, &mut book)? {
-        Ended::EndOfInput | Ended::Closed => Ok(()),
-        Ended::Truncated => Err(Fault::Truncated),
-        Ended::TurnsSpent => Err(Fault::TurnsSpent),
+    done_of(serve(alloc, input, output, &mut clock, &mut book))
+}
+
+// Whether a stream that was served so was served to its end.
+fn done_of(served: Result<Ended, ServeFault>) -> Result<(), Fault>
+    ensures { result ≡ done_of served }
+{
+    match served {
+        Ok(Ended::EndOfInput | Ended::Closed) => Ok(()),
+        Ok(Ended::Truncated) => Err(Fault::Truncated),
+        Ok(Ended::TurnsSpent) => Err(Fault::TurnsSpent),
+        Err(ServeFault::Read) => Err(Fault::Read),
+        Err(ServeFault::Write) => Err(Fault::Write),
+        Err(ServeFault::Memory) => Err(Fault::Memory),
     }
 }
 
-fn show<W: Write>(text: &str, output: &mut W) -> Result<(), Fault> {
+fn show<W: Write>(text: &str, output: &mut W) -> Result<(), Fault>
+    ensures { OnOk result (Appends (W.contents output.old) (W.contents output.new) text.now) }
+{
     output.write_all(text.as_bytes()).map_err(|_| Fault::Write)
 }
 
-// The status of a fault, with its line on `errors`.
-fn report<F: Write>(fault: Fault, errors: &mut F) -> u8 {
-    let _ = errors.write_all(fault.line().as_bytes());
-    FAULT
+// The status, with the line of a fault on `errors`.
+fn finish<F: Write>(done: Result<(), Fault>, errors: &mut F) -> u8
+    ensures { result ≡ status_of done }
+{
+    match done {
+        Ok(()) => DONE,
+        Err(fault) => {
+            let _ = errors.write_all(fault.line().as_bytes());
+            FAULT
+        }
+    }
 }
 
 #[cfg(test)]

@@ -1,0 +1,29 @@
+-- From the clauses of `serve` to how the input of `pipe` was served.
+use Rattle.std.proofs.Common.{◌≡◌, ◌∙◌, ℕ, List, [], Result, Ok, Err, IfOk, ap, refl}
+use Rattle.canary_once.specs.declared.book.Change.{Change}
+use Rattle.canary_once.specs.Contents.{no_contents}
+use Rattle.canary_once.specs.Logs.{committed_all}
+use Rattle.canary_wire.specs.Serving.{ServesTo, ServesSome, ServesUntil}
+use Rattle.canary_wire.specs.Writes.{Known}
+use Rattle.canary_wire.specs.declared.serve.Ended.{Ended}
+use Rattle.canary_wire.specs.declared.serve.ServeFault.{ServeFault}
+use Rattle.canary_wire.specs.declared.serve.ServeFault.TheVariants.{Read, Write, Memory}
+use Rattle.canary_desk.specs.Performed.{Standing, point_of, fresh, IsServed}
+
+-- a clock of steps, and a book that is a list of what was settled
+abbrev pub standing : ℕ × ℕ → List Change → Standing
+standing clock book = record { at = clock.0; step = clock.1; contents = committed_all no_contents book }
+
+pub standing_fresh : (clock : ℕ × ℕ) (book : List Change) (at step : ℕ) → clock ≡ (at, step) → book ≡ [] → standing clock book ≡ fresh at step
+standing_fresh clock book at step clock_is book_is = ap (λ c. standing c book) clock_is ∙ ap (standing (at, step)) book_is
+
+pub served_so : (r new_r w new_w : Known) (start end : Standing) (served : Result Ended ServeFault)
+    → IfOk served (λ ended. ServesTo r new_r w new_w (point_of start) (point_of end) ended)
+    → (served ≡ Err Read → ServesSome r new_r w new_w (point_of start) (point_of end))
+    → (served ≡ Err Write → ServesUntil r new_r w new_w (point_of start) (point_of end))
+    → (served ≡ Err Memory → (new_r ≡ r) × (new_w ≡ w))
+    → IsServed r new_r w new_w start served
+served_so r new_r w new_w start end (Ok ended) ok read write memory = (end, ok)
+served_so r new_r w new_w start end (Err Read) ok read write memory = (end, read refl)
+served_so r new_r w new_w start end (Err Write) ok read write memory = (end, write refl)
+served_so r new_r w new_w start end (Err Memory) ok read write memory = memory refl

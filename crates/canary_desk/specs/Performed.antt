@@ -1,0 +1,94 @@
+-- What a command line comes to: what is read, what is written, and the exit status.
+use Rattle.std.specs.Prelude.{◌≡◌, ◌⊎◌, ◌++◌, ℕ, true, List, [], ◌∷◌, Result, Ok, Err, codes}
+use Rattle.std.specs.Io.KnownBytes.{Appends}
+use Rattle.clap.specs.Words.{Kinds}
+use Rattle.canary_once.specs.Contents.{Contents, no_contents}
+use Rattle.canary_once.specs.Ticks.{TellsSteps}
+use Rattle.canary_wire.specs.Exchanges.{Point, point}
+use Rattle.canary_wire.specs.Serving.{ServesTo, ServesSome, ServesUntil}
+use Rattle.canary_wire.specs.Writes.{Known}
+use Rattle.canary_wire.specs.declared.serve.Ended.{Ended}
+use Rattle.canary_wire.specs.declared.serve.Ended.TheVariants.{EndOfInput, Closed, Truncated, TurnsSpent}
+use Rattle.canary_wire.specs.declared.serve.ServeFault.{ServeFault}
+use Rattle.canary_wire.specs.declared.serve.ServeFault.TheVariants.{Read, Write, Memory}
+use Rattle.canary_desk.specs.declared.perform.Fault.{Fault}
+use Rattle.canary_desk.specs.declared.perform.Fault.TheVariants as fault
+use Rattle.canary_desk.specs.declared.words.Program.{Program}
+use Rattle.canary_desk.specs.declared.words.Program.TheVariants.{Pipe}
+use Rattle.canary_desk.specs.CommandLine.{AsksForHelp, HasMistake}
+
+-- ---- faults and statuses
+
+abbrev pub word_of : Fault → List ℕ
+word_of fault.Memory = codes "memory"
+word_of fault.Read = codes "read"
+word_of fault.Write = codes "write"
+word_of fault.Truncated = codes "truncated"
+word_of fault.TurnsSpent = codes "turns-spent"
+
+-- `canary: WORD` and a line end
+abbrev pub line_of : Fault → List ℕ
+line_of f = codes "canary: " ++ word_of f ++ 10 ∷ []
+
+-- whether a stream that was served so was served to its end, or the fault
+abbrev pub done_of : Result Ended ServeFault → Result (Unit {0}) Fault
+done_of (Ok EndOfInput) = Ok tt
+done_of (Ok Closed) = Ok tt
+done_of (Ok Truncated) = Err fault.Truncated
+done_of (Ok TurnsSpent) = Err fault.TurnsSpent
+done_of (Err Read) = Err fault.Read
+done_of (Err Write) = Err fault.Write
+done_of (Err Memory) = Err fault.Memory
+
+-- 0 where it was done, and 1 for a fault
+abbrev pub status_of : Result (Unit {0}) Fault → ℕ
+status_of (Ok done) = 0
+status_of (Err f) = 1
+
+-- ---- what `pipe` does
+
+-- a desk in memory whose clock ticks from `at` by `step`, and which contains this
+pub record Standing : Type 0 where
+  pub at : ℕ
+  pub step : ℕ
+  pub contents : Contents
+
+-- nothing else writes its book, whose store can't fail
+abbrev pub point_of : Standing → Point
+point_of s = point (TellsSteps s.at s.step) (Unit {0}) true s.contents
+
+abbrev pub fresh : ℕ → ℕ → Standing
+fresh at step = record { at = at; step = step; contents = no_contents }
+
+-- (here `r` is what the input has left, `w` what the output holds)
+-- the input was served on the output by such a desk, and this is how it ended
+abbrev pub IsServed : Known → Known → Known → Known → Standing → Result Ended ServeFault → Type 0
+IsServed r new_r w new_w start (Ok ended) =
+    (end : Standing) × ServesTo r new_r w new_w (point_of start) (point_of end) ended
+IsServed r new_r w new_w start (Err Read) =
+    (end : Standing) × ServesSome r new_r w new_w (point_of start) (point_of end)
+IsServed r new_r w new_w start (Err Write) =
+    (end : Standing) × ServesUntil r new_r w new_w (point_of start) (point_of end)
+IsServed r new_r w new_w start (Err Memory) = (new_r ≡ r) × (new_w ≡ w)
+
+-- `pipe` served its input on its output from a fresh desk, and this says whether to its end
+abbrev pub IsPiped : Known → Known → Known → Known → ℕ → ℕ → Result (Unit {0}) Fault → Type 0
+IsPiped r new_r w new_w at step done = (served : Result Ended ServeFault)
+    × (done ≡ done_of served) × IsServed r new_r w new_w (fresh at step) served
+
+-- the program was run so
+abbrev pub IsRun : Known → Known → Known → Known → Program → Result (Unit {0}) Fault → Type 0
+IsRun r new_r w new_w (Pipe at step) done = IsPiped r new_r w new_w at step done
+
+-- `pipe` ended with this exit status
+abbrev pub IsPipedTo : Known → Known → Known → Known → ℕ → ℕ → ℕ → Type 0
+IsPipedTo r new_r w new_w at step status = (done : Result (Unit {0}) Fault)
+    × (status ≡ status_of done) × IsPiped r new_r w new_w at step done
+
+-- ---- what comes of words that have no program
+
+-- the exit status is 0 only where help is asked for, and a text was written out; 2 only where the words have a mistake, and nothing was written out; and else 1
+abbrev pub IsTurnedAway : Kinds → Known → Known → ℕ → Type 0
+IsTurnedAway kinds w new_w status =
+    ((status ≡ 0) × AsksForHelp kinds × ((text : List ℕ) × Appends w new_w text))
+    ⊎ (((status ≡ 2) × HasMistake kinds × (new_w ≡ w)) ⊎ (status ≡ 1))
