@@ -110,3 +110,27 @@ kept_more log i x q n found next sound lt at h is so =
 pub seen_more : (log : List Change) (i : ℕ) (x : Change) (name : List ℕ) (found next : Option ServiceParts) → i < length log → x ≡ get_or log i x → found ≡ seen (committed_all no_contents (take i log)).desk name → next ≡ changed_service found (subject_of x.kept.command) x.desk name → next ≡ seen (committed_all no_contents (take (i + 1) log)).desk name
 seen_more log i x name found next lt at is so =
     so ∙ ap (λ (o : Option ServiceParts). changed_service o (subject_of x.kept.command) x.desk name) is ∙ sym (ap (λ (c : Contents). seen c.desk name) (so_far log i x lt at) ∙ seen-step (committed_all no_contents (take i log)).desk (subject_of x.kept.command) x.desk name)
+
+-- the steps of the loop that goes over a log from its end
+
+pub last_number_at : (log : List Change) (i : ℕ) (x : Change) (q : List ℕ) (b : Bool) → bytes_eq q x.caller ≡ b → AreSettling no_contents log → i < length log → x ≡ get_or log i x → (if b then x.number else count_of (committed_all no_contents (take i log)) q) ≡ count_of (committed_all no_contents (take (i + 1) log)) q
+last_number_at log i x q b e sound lt at =
+    ap (λ c. if c then x.number else count_of (committed_all no_contents (take i log)) q) (sym e)
+    ∙ count_more log i x q (count_of (committed_all no_contents (take i log)) q) (if bytes_eq q x.caller then x.number else count_of (committed_all no_contents (take i log)) q) sound lt at refl refl
+
+-- the newest change of the caller has its last number
+pub found_last : (log : List Change) (left : ℕ) (x : Change) (q : List ℕ) → AreSettling no_contents log → 0 < left → left ≤ length log → x ≡ get_or log (left - 1) x → bytes_eq q x.caller ≡ true → count_of (committed_all no_contents (take left log)) q ≡ count_of (committed_all no_contents log) q → x.number ≡ count_of (committed_all no_contents log) q
+found_last log left x q sound some within at e same =
+    let back : left - 1 + 1 ≡ left = omega arith in
+    last_number_at log (left - 1) x q true e sound (omega arith) at ∙ ap (λ n. count_of (committed_all no_contents (take n log)) q) back ∙ same
+
+-- a change of another caller is passed over
+pub passed_over : (log : List Change) (left : ℕ) (x : Change) (q : List ℕ) → AreSettling no_contents log → 0 < left → left ≤ length log → x ≡ get_or log (left - 1) x → bytes_eq q x.caller ≡ false → count_of (committed_all no_contents (take left log)) q ≡ count_of (committed_all no_contents log) q → count_of (committed_all no_contents (take (left - 1) log)) q ≡ count_of (committed_all no_contents log) q
+passed_over log left x q sound some within at e same =
+    let back : left - 1 + 1 ≡ left = omega arith in
+    last_number_at log (left - 1) x q false e sound (omega arith) at ∙ ap (λ n. count_of (committed_all no_contents (take n log)) q) back ∙ same
+
+pub none_left : (log : List Change) (left : ℕ) (q : List ℕ) → left ≤ 0 → count_of (committed_all no_contents (take left log)) q ≡ count_of (committed_all no_contents log) q → 0 ≡ count_of (committed_all no_contents log) q
+none_left log left q gone same =
+    let zero_left : 0 ≡ left = omega arith in
+    sym (none_settled q) ∙ ap (λ n. count_of (committed_all no_contents (take n log)) q) zero_left ∙ same

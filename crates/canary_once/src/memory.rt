@@ -93,26 +93,20 @@ fn append(log: &mut Vec<Change>, change: Change) -> Result<(), BookFault>
     Ok(())
 }
 
-// The number of the caller's last request.
+// The number of the caller's last request, which is looked for from the newest change on.
 fn settled_in(log: &[Change], caller: &Name) -> u32
     requires { AreSettling no_contents log.now }
     ensures { result ≡ count_of (committed_all no_contents log.now) caller.now }
 {
-    let mut last = 0;
-    for change in log {
-        last = number_after(last, change, caller);
+    let mut left = log.len();
+    while left > 0 {
+        left -= 1;
+        let change = &log[left];
+        if *caller == change.caller {
+            return change.number.get();
+        }
     }
-    last
-}
-
-fn number_after(last: u32, change: &Change, caller: &Name) -> u32
-    ensures { result ≡ (if bytes_eq caller.now change.now.caller then change.now.number else last) }
-{
-    if *caller == change.caller {
-        change.number.get()
-    } else {
-        last
-    }
+    0
 }
 
 // What is kept for that number of the caller.
@@ -136,7 +130,7 @@ fn kept_after<'a>(
 ) -> Option<&'a Kept>
     ensures { option_copied result ≡ (if bytes_eq caller.now change.now.caller && change.now.number == number then Some change.now.kept else option_copied found.entry) }
 {
-    if *caller == change.caller && change.number.get() == number {
+    if change.number.get() == number && *caller == change.caller {
         Some(&change.kept)
     } else {
         found

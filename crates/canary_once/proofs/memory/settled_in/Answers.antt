@@ -1,9 +1,16 @@
-use Rattle.std.proofs.Common.{◌<◌, ◌+◌, length, sym, arith}
-use Rattle.canary_once.proofs.LogLemmas.{none_settled, count_more}
+use Rattle.std.proofs.Common.{◌≤◌, sym, ◌∙◌, arith}
+use Rattle.canary_once.proofs.LogLemmas.{found_last, passed_over, none_left}
 use Rattle.canary_once.proofs.memory.settled_in.Goals as goal
 
-pub loop-change-init : goal.loop-change-init
-loop-change-init c = sym (none_settled c.args.caller.now)
+pub returns-then-eq : goal.returns-then-eq
+returns-then-eq c =
+    c.get.ensures.value ∙ found_last c.args.log.now c.loop-left.left c.index-log-left.result c.args.caller.now c.requires (omega arith) c.loop-left.invariant.within c.index-log-left.is (sym c.eq.ensures ∙ c.if-eq.true) c.loop-left.invariant.same
 
-pub loop-change-preserved : goal.loop-change-preserved
-loop-change-preserved c = count_more c.args.log.now _ _ _ _ _ c.requires (omega arith) c.change-item.is c.loop-change.invariant c.number_after-last.ensures
+pub loop-left-preserved : goal.loop-left-preserved
+loop-left-preserved c = record {
+  within = omega arith;
+  same = passed_over c.args.log.now c.loop-left.left c.index-log-left.result c.args.caller.now c.requires (omega arith) c.loop-left.invariant.within c.index-log-left.is (sym c.eq.ensures ∙ c.if-eq.false) c.loop-left.invariant.same;
+}
+
+pub returns : goal.returns
+returns c = none_left c.args.log.now c.loop-left.left c.args.caller.now (omega arith) c.loop-left.invariant.same

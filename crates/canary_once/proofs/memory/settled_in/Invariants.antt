@@ -1,7 +1,14 @@
-use Rattle.std.proofs.Common.{◌≡◌, take}
+use Rattle.std.proofs.Common.{◌≡◌, ◌≤◌, length, take}
 use Rattle.canary_once.specs.Contents.{no_contents, count_of}
 use Rattle.canary_once.specs.Logs.{committed_all}
 use Rattle.canary_once.proofs.memory.settled_in.Given as goal
 
-abbrev pub invariant-loop-change : goal.invariant-loop-change
-invariant-loop-change l = l.last ≡ count_of (committed_all no_contents (take l.change-index l.log)) l.caller
+-- the changes that were passed over are of other callers
+abbrev pub invariant-loop-left : goal.invariant-loop-left
+invariant-loop-left l = record {
+  within : l.left ≤ length l.log;
+  same : count_of (committed_all no_contents (take l.left l.log)) l.caller ≡ count_of (committed_all no_contents l.log) l.caller;
+}
+
+abbrev pub decreases-loop-left : goal.decreases-loop-left
+decreases-loop-left l = l.left
