@@ -1,5 +1,5 @@
 -- Strategies: which are accepted.
-use Rattle.std.specs.Prelude.{ℕ, nat_le, ◌&&◌, not, Bool, true, List, [], ◌∷◌, length, Option}
+use Rattle.std.specs.Prelude.{nat_le, ◌&&◌, not, Bool, true, List, [], ◌∷◌, length, Option}
 use Rattle.std.specs.List.{list_all}
 use Rattle.canary_plan.specs.declared.plan.Step.{Step}
 use Rattle.canary_plan.specs.declared.plan.Step.TheVariants.{SetWeight, Pause}

@@ -1,22 +1,19 @@
 -- What the code does to what it keeps is what the model does, seen by its shape.
-use Rattle.std.proofs.Common.{◌≡◌, ℕ, zero, suc, ◌+◌, ◌-◌, List, [], ◌∷◌, refl, ap, sym, ◌∙◌, subst}
-use Rattle.std.specs.Prelude.{true, false, if◌then◌else◌, Option, Some, None, ◌==◌, length, slice_get, max, Result, Ok, Err, IfOk}
+use Rattle.std.proofs.Common.{◌≡◌, ℕ, zero, suc, ◌+◌, ◌-◌, List, refl, ap, ◌∙◌}
+use Rattle.std.specs.Prelude.{true, false, if◌then◌else◌, Option, Some, None, ◌==◌, length, slice_get}
 use Rattle.canary_plan.specs.declared.plan.Step.{Step}
 use Rattle.canary_plan.specs.declared.plan.Step.TheVariants.{SetWeight, Pause}
-use Rattle.canary_plan.specs.declared.line.LineEvent.{LineEvent}
 use Rattle.canary_plan.specs.declared.line.LineEvent.TheVariants.{Started, Promoted}
-use Rattle.canary_release.specs.declared.service.State.TheVariants.{InProgress}
 use Rattle.canary_release.specs.declared.service.ServiceParts.{ServiceParts}
 use Rattle.canary_release.specs.declared.service.Passed.{Passed}
 use Rattle.canary_release.specs.declared.draft.Draft.{Draft}
-use Rattle.canary_release.specs.Services.{ModelService}
 use Rattle.canary_release.specs.Courses.{Course, course_of, with_service, tell}
 use Rattle.canary_release.specs.Entering.{enter, finish, show_step}
 use Rattle.canary_release.specs.Passing.{next_move, is_by, move_at, chain_end, judged_at, pass}
 use Rattle.canary_release.specs.Commands.{start, promote, begun}
-use Rattle.canary_release.specs.Shapes.{shape, shape_of_course, IsPassing}
-use Rattle.canary_release.specs.KeptServices.{kept_unchanged, with_kept, kept_finish, kept_show, kept_enter, kept_next_move, kept_move_at, kept_chain_end, kept_with_last, kept_pass}
-use Rattle.canary_release.specs.KeptDecisions.{kept_begin, kept_start, kept_promote}
+use Rattle.canary_release.specs.Shapes.{shape, IsPassing}
+use Rattle.canary_release.specs.KeptServices.{kept_unchanged, kept_finish, kept_show, kept_enter, kept_move_at, kept_chain_end, kept_with_last, kept_pass}
+use Rattle.canary_release.specs.KeptDecisions.{kept_start, kept_promote}
 
 -- what the code keeps of a course
 abbrev pub draft_of : Course → Draft

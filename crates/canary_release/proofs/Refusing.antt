@@ -5,7 +5,6 @@ use Rattle.std.specs.FinMap.{get}
 use Rattle.canary_plan.specs.declared.command.Command.{Command}
 use Rattle.canary_plan.specs.declared.command.Command.TheVariants.{Service as AddService, Start, Promote}
 use Rattle.canary_plan.specs.declared.line.LineEvent.TheVariants.{Created}
-use Rattle.canary_plan.specs.declared.plan.ServiceSpec.{ServiceSpec}
 use Rattle.canary_plan.specs.declared.refusal.Refusal.{Refusal}
 use Rattle.canary_plan.specs.declared.refusal.Refusal.TheVariants.{ServiceExists}
 use Rattle.canary_plan.specs.Commands.{subject_of}
@@ -14,7 +13,7 @@ use Rattle.canary_release.specs.Services.{ModelService}
 use Rattle.canary_release.specs.Courses.{Course, course_of, tell}
 use Rattle.canary_release.specs.Passing.{pass, judged_at}
 use Rattle.canary_release.specs.Commands.{start_refusal, promote_refusal, start, promote}
-use Rattle.canary_release.specs.Desks.{Change, Ruling, unless, shows, refused_if, new_service, rule_on, rule_start, rule_promote, ruling, ruling_on, Desk, desk_after}
+use Rattle.canary_release.specs.Desks.{Ruling, unless, shows, refused_if, new_service, rule_on, rule_start, rule_promote, ruling, ruling_on, Desk, desk_after}
 use Rattle.canary_release.specs.Desks.Change.{Nothing}
 use Rattle.canary_release.specs.Laws.{RefusalsLeaveTheDesk}
 

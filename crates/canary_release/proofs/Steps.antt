@@ -1,6 +1,6 @@
 -- What is decided from what the code keeps of one service is a step of the machine.
 use Rattle.std.proofs.Common.{◌≡◌, ℕ, List, refl, ap, sym, ◌∙◌, subst}
-use Rattle.std.specs.Prelude.{Option, Some, None, option_map, max}
+use Rattle.std.specs.Prelude.{Option, Some, None, option_map}
 use Rattle.std.specs.FinMap.{get, insert}
 use Rattle.canary_plan.specs.declared.plan.ServiceSpec.{ServiceSpec}
 use Rattle.canary_plan.specs.declared.command.Command.{Command}
@@ -12,15 +12,13 @@ use Rattle.canary_plan.specs.Commands.{subject_of}
 use Rattle.canary_release.specs.declared.service.ServiceParts.{ServiceParts}
 use Rattle.canary_release.specs.declared.draft.Draft.{Draft}
 use Rattle.canary_release.specs.declared.decide.Decision.{Decision}
-use Rattle.canary_release.specs.declared.decide.DeskChange.TheVariants.{Service as Updates}
 use Rattle.canary_release.specs.Services.{ModelService}
 use Rattle.canary_release.specs.Courses.{Course, course_of, tell}
 use Rattle.canary_release.specs.Passing.{pass, judged_at}
 use Rattle.canary_release.specs.Commands.{start, promote, start_refusal, promote_refusal}
-use Rattle.canary_release.specs.Desks.{Desk, Ruling, ruling, rule_on, rule_start, rule_promote, rule_service, desk_after, unless, shows, new_service}
-use Rattle.canary_release.specs.Desks.Change.{Becomes}
+use Rattle.canary_release.specs.Desks.{Desk, Ruling, rule_on, rule_start, rule_promote, rule_service, desk_after, unless, shows, new_service}
 use Rattle.canary_release.specs.Shapes.{shape, before, put_updated, changed, seen, IsStep}
-use Rattle.canary_release.specs.KeptServices.{kept_unchanged, kept_pass}
+use Rattle.canary_release.specs.KeptServices.{kept_pass}
 use Rattle.canary_release.specs.KeptDecisions.{kept_shows, kept_unless, decide_on, decide_start, decide_promote, decide_new, decision_of, kept_start, kept_promote}
 use Rattle.canary_release.proofs.Bridges.{draft_of, pass_alike, start_alike, promote_alike}
 use Rattle.canary_release.proofs.Growing.{Grows, updated_is, grows_pass, grows_passed, grows_start, grows_promote}

@@ -1,5 +1,5 @@
 -- What the code decides, from the service that it keeps. Each definition here has its twin in Commands and Desks.
-use Rattle.std.specs.Prelude.{ℕ, ◌+◌, ◌&&◌, not, Bool, if◌then◌else◌, List, [], ◌∷◌, length, Option, Some, None, is_some, max}
+use Rattle.std.specs.Prelude.{ℕ, ◌+◌, ◌&&◌, not, List, [], ◌∷◌, length, Option, Some, None, max}
 use Rattle.std.specs.Str.{bytes_eq}
 use Rattle.canary_plan.specs.declared.plan.ServiceSpec.{ServiceSpec}
 use Rattle.canary_plan.specs.declared.command.Command.{Command}

@@ -1,5 +1,5 @@
 -- The exact bytes of replies.
-use Rattle.std.specs.Prelude.{ℕ, List, [], ◌∷◌, ◌++◌, codes, decimal}
+use Rattle.std.specs.Prelude.{ℕ, List, ◌++◌, codes, decimal}
 use Rattle.canary_plan.specs.declared.refusal.Refusal.{Refusal}
 use Rattle.canary_plan.specs.Refusals.{code_of}
 use Rattle.canary_release.specs.declared.service.Status.{Status}
