@@ -1,0 +1,4 @@
+//! The tests of the crates below the program: worked rows, printed texts, and each allocation, read
+//! and write failing in turn. What a contract says is not tested again. They stand here, in a crate of
+//! their own, so that no other crate is proved twice.
+#![tactic(auto)]
