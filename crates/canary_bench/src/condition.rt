@@ -1,14 +1,9 @@
 //! Times the reading and the evaluation of conditions.
-//!
-//! `bench_condition ROUNDS` reads and evaluates conditions of 16, 256 and 1,024 bytes that many
-//! times, and prints a table. With no argument it prints nothing.
-#![tactic(auto)]
 
-use anyhow::{Context, Result, ensure};
+use anyhow::{Result, ensure};
 use canary_condition::condition::{Condition, Verdict3};
 use canary_condition::outcome::Value;
 use std::alloc::Global;
-use std::env;
 use std::time::{Duration, Instant};
 
 /// A comparison of 16 bytes that is false at 0.
@@ -94,19 +89,11 @@ fn print_line(rt: &HostRuntime, rounds: u32, len: usize) -> Result<()> {
     Ok(())
 }
 
-fn main(rt: HostRuntime) -> Result<()> {
-    let mut args = env::args(&rt)?;
-    let _program = args.next();
-    let Some(rounds) = args.next() else {
-        return Ok(());
-    };
-    let rounds = rounds
-        .as_str()
-        .parse::<u32>()
-        .context("ROUNDS is no number")?;
-    println!(&rt; "bytes     parsed/s  ns per byte    evaluated/s  ns per byte")?;
+/// Reads and evaluates conditions of 16, 256 and 1,024 bytes that many times, and prints a table.
+pub fn measure(rt: &HostRuntime, rounds: u32) -> Result<()> {
+    println!(rt; "bytes     parsed/s  ns per byte    evaluated/s  ns per byte")?;
     for len in [16, 256, 1024] {
-        print_line(&rt, rounds, len)?;
+        print_line(rt, rounds, len)?;
     }
     Ok(())
 }

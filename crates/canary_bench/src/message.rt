@@ -1,18 +1,12 @@
 //! Times the bare parts that a message needs, so that the desk's own figures can be read beside
 //! them: a head through `httparse`, and a body through `serde_json`.
-//!
-//! With the argument `time` it prints a line for each part; else it prints nothing.
-#![tactic(auto)]
 
+use anyhow::Result;
 use httparse::Status;
 use httparse::spans::{EMPTY_HEADER_SPAN, parse_request};
 use serde_json::Value;
 use std::alloc::Global;
 use std::time::Instant;
-use std::{env, io};
-
-/// How often each part runs.
-const TURNS: u32 = 200_000;
 
 const HEAD: &[u8; 60] = b"PUT /callers/ops/requests/1 HTTP/1.1\r\nContent-Length: 29\r\n\r\n";
 
@@ -38,40 +32,34 @@ fn read_body(alloc: Global, bytes: &[u8]) -> usize {
     }
 }
 
-// The request number differs from turn to turn, so that each head is read anew.
-fn read_heads() -> usize {
+// The request number differs from round to round, so that each head is read anew.
+fn read_heads(rounds: u32) -> usize {
     let mut total = 0usize;
     let mut head = *HEAD;
-    for turn in 0..TURNS {
-        head[NUMBER_AT] = b'1' + (turn % 9) as u8;
+    for round in 0..rounds {
+        head[NUMBER_AT] = b'1' + (round % 9) as u8;
         total = total.wrapping_add(read_head(&head));
     }
     total
 }
 
-fn read_bodies(alloc: Global) -> usize {
+fn read_bodies(alloc: Global, rounds: u32) -> usize {
     let mut total = 0usize;
-    for _ in 0..TURNS {
+    for _ in 0..rounds {
         total = total.wrapping_add(read_body(alloc, BODY));
     }
     total
 }
 
-fn main(rt: HostRuntime) -> io::Result<()> {
-    let mut words = env::args(&rt)?;
-    let _program = words.next();
-    let Some(word) = words.next() else {
-        return Ok(());
-    };
-    if word.as_str() != "time" {
-        return Ok(());
-    }
-    let start = Instant::now(&rt)?;
-    let heads = read_heads();
-    let nanos = start.elapsed(&rt)?.as_nanos() / u128::from(TURNS);
+/// Prints what each part of a message takes.
+pub fn measure(rt: &HostRuntime, rounds: u32) -> Result<()> {
+    let start = Instant::now(rt)?;
+    let heads = read_heads(rounds);
+    let nanos = start.elapsed(rt)?.as_nanos() / u128::from(rounds.max(1));
     println!(rt; "head {nanos} ns ({heads})")?;
-    let start = Instant::now(&rt)?;
-    let bodies = read_bodies(rt.alloc());
-    let nanos = start.elapsed(&rt)?.as_nanos() / u128::from(TURNS);
-    println!(rt; "body {nanos} ns ({bodies})")
+    let start = Instant::now(rt)?;
+    let bodies = read_bodies(rt.alloc(), rounds);
+    let nanos = start.elapsed(rt)?.as_nanos() / u128::from(rounds.max(1));
+    println!(rt; "body {nanos} ns ({bodies})")?;
+    Ok(())
 }

@@ -1,12 +1,9 @@
 //! Additions and phases a second, by the number of a tally's measurements.
-//!
-//! With a number as its word it makes so many additions, and asks so many phases, at each size,
-//! and prints a table. With no word it prints nothing.
-#![tactic(auto)]
 
 ghost use Rattle.std.specs.Prelude.{IsTrue};
 ghost use Rattle.canary_metric.specs.Measurements.{is_measured};
 
+use anyhow::Result;
 use canary_base::durations::Seconds;
 use canary_base::moments::Moment;
 use canary_base::names::Label;
@@ -14,20 +11,12 @@ use canary_condition::outcome::Phase;
 use canary_metric::metric::{Metric, MetricSettings};
 use canary_metric::tally::Tally;
 use std::time::{Duration, Instant};
-use std::{env, io};
 
 /// The tallies among which the phases are asked in turn.
 const TALLIES: usize = 4;
 
-fn main(rt: HostRuntime) -> io::Result<()> {
-    let mut words = env::args(&rt)?;
-    let _program = words.next();
-    let Some(word) = words.next() else {
-        return Ok(());
-    };
-    let Ok(work) = word.as_str().parse::<u32>() else {
-        return Ok(());
-    };
+/// Makes about so many additions and asks so many phases at each size, and prints a table.
+pub fn measure(rt: &HostRuntime, work: u32) -> Result<()> {
     let Some((metric, begin)) = measured() else {
         return Ok(());
     };
@@ -36,12 +25,13 @@ fn main(rt: HostRuntime) -> io::Result<()> {
         "measurements", "additions/s", "phases/s"
     )?;
     for size in [10, 100, 1_000, 10_000, 100_000, 1_000_000] {
-        let start = Instant::now(&rt)?;
-        let tallies = filled_often(size, work, begin);
-        let additions = rate(work, start.elapsed(&rt)?);
-        let start = Instant::now(&rt)?;
+        let start = Instant::now(rt)?;
+        let fillings = (work / size).max(1);
+        let tallies = filled_often(size, fillings, begin);
+        let additions = rate(u64::from(fillings) * u64::from(size), start.elapsed(rt)?);
+        let start = Instant::now(rt)?;
         let running = count_running(&tallies, work, &metric);
-        let phases = rate(work, start.elapsed(&rt)?);
+        let phases = rate(u64::from(work), start.elapsed(rt)?);
         println!(rt; "{size:>12} {additions:>14} {phases:>14}")?;
         if running > work {
             println!(rt; "more phases than were asked")?;
@@ -67,10 +57,10 @@ fn measured() -> Option<(Metric, Moment)> {
     Some((metric, Moment::new(1_767_225_600)?))
 }
 
-/// Fills tallies with so many measurements each, until about that work is done; gives the last.
-fn filled_often(size: u32, work: u32, begin: Moment) -> [Tally; TALLIES] {
+/// Fills tallies with so many measurements each, again and again; gives the last.
+fn filled_often(size: u32, fillings: u32, begin: Moment) -> [Tally; TALLIES] {
     let mut tallies = [Tally::new(); TALLIES];
-    for round in 0..work / size.max(1) {
+    for round in 0..fillings {
         tallies[round as usize % TALLIES] = filled(size, round, begin);
     }
     tallies
@@ -108,7 +98,7 @@ fn count_running(tallies: &[Tally; TALLIES], work: u32, metric: &Metric) -> u32 
 }
 
 /// So many calls in that time, as calls a second.
-fn rate(calls: u32, time: Duration) -> u64 {
+fn rate(calls: u64, time: Duration) -> u64 {
     let micros = u64::try_from(time.as_micros()).unwrap_or(u64::MAX);
-    u64::from(calls) * 1_000_000 / micros.max(1)
+    calls.saturating_mul(1_000_000) / micros.max(1)
 }

@@ -1,0 +1,29 @@
+//! Prints figures of this machine. `canary_bench SUBJECT ROUNDS` measures one subject, so many
+//! times over: `condition`, `metric` or `message`. With no words it prints nothing.
+#![tactic(auto)]
+
+mod condition;
+mod message;
+mod metric;
+
+use anyhow::{Context, Result, bail};
+use std::env;
+
+fn main(rt: HostRuntime) -> Result<()> {
+    let mut words = env::args(&rt)?;
+    let _program = words.next();
+    let Some(subject) = words.next() else {
+        return Ok(());
+    };
+    let rounds = words.next().context("ROUNDS is missing")?;
+    let rounds = rounds
+        .as_str()
+        .parse::<u32>()
+        .context("ROUNDS is no number")?;
+    match subject.as_str() {
+        "condition" => condition::measure(&rt, rounds),
+        "metric" => metric::measure(&rt, rounds),
+        "message" => message::measure(&rt, rounds),
+        other => bail!("no such subject: {other}"),
+    }
+}
