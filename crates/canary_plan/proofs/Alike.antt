@@ -11,8 +11,7 @@ use Rattle.canary_plan.specs.declared.plan.Step.TheVariants.{SetWeight, Pause}
 use Rattle.canary_plan.specs.declared.plan.ServiceSpec.{ServiceSpec}
 use Rattle.canary_plan.specs.declared.command.Command.{Command}
 use Rattle.canary_plan.specs.declared.command.Command.TheVariants.{Service, Start, Promote}
-use Rattle.canary_plan.specs.Same.{same_step}
-use Rattle.canary_plan.specs.Commands.{same_service, same_command, SameWhereEqual}
+use Rattle.canary_plan.specs.Commands.{same_step, same_service, same_command, SameWhereEqual}
 
 both : (a b : Bool) → (a && b) ≡ true → (a ≡ true) × (b ≡ true)
 both true b e = (refl, e)

@@ -2,5 +2,4 @@ pub mod StrategyViews
 pub mod Plans
 pub mod Checking
 pub mod Refusals
-pub mod Same
 pub mod Commands

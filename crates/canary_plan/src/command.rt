@@ -1,8 +1,9 @@
 //! Commands.
 ghost use Rattle.std.specs.Prelude.{◌≡◌, IfOk};
-ghost use Rattle.canary_plan.specs.Commands.{subject_of, same_command, same_service};
+ghost use Rattle.std.specs.Cmp.Lexicographic.{pointwise};
+ghost use Rattle.canary_plan.specs.Commands.{subject_of, same_step, same_command, same_service};
 
-use crate::plan::{ServiceSpec, are_same_steps};
+use crate::plan::{ServiceSpec, Step};
 use canary_base::error::Memory;
 use canary_base::names::{Label, Name};
 use std::alloc::Global;
@@ -73,4 +74,10 @@ fn is_same_service(ours: &ServiceSpec, theirs: &ServiceSpec) -> bool
     ours.name == theirs.name
         && ours.version == theirs.version
         && are_same_steps(ours.steps.as_slice(), theirs.steps.as_slice())
+}
+
+fn are_same_steps(ours: &[Step], theirs: &[Step]) -> bool
+    ensures { result ≡ pointwise same_step ours.now theirs.now }
+{
+    ours == theirs
 }

@@ -1,9 +1,7 @@
 //! Steps, services as they are asked for, and strategies.
 ghost use Rattle.std.specs.Prelude.{◌≡◌, IfOk, IsTrue};
 ghost use Rattle.std.specs.List.{list_all};
-ghost use Rattle.std.specs.Cmp.Lexicographic.{pointwise};
 ghost use Rattle.canary_plan.specs.Plans.{is_strategy, has_weight_in_range};
-ghost use Rattle.canary_plan.specs.Same.{same_step};
 
 use crate::refusal::Refusal;
 use canary_base::error::Memory;
@@ -140,11 +138,4 @@ fn has_weight_in_range(step: Step) -> bool
         Step::SetWeight(percent) => percent <= GREATEST_WEIGHT,
         Step::Pause => true,
     }
-}
-
-/// Whether these are the same steps.
-pub(crate) fn are_same_steps(ours: &[Step], theirs: &[Step]) -> bool
-    ensures { result ≡ pointwise same_step ours.now theirs.now }
-{
-    ours == theirs
 }

@@ -14,7 +14,7 @@ pub enum Refusal {
     BadStrategy,
     /// A release is in progress.
     InProgress,
-    /// The version is the stable one.
+    /// The service is healthy, and the version is its stable one.
     AlreadyStable,
     /// No release is in progress.
     NotInProgress,
