@@ -6,4 +6,8 @@
 #[cfg(test)]
 mod base;
 #[cfg(test)]
+mod condition;
+#[cfg(test)]
+mod metric;
+#[cfg(test)]
 mod plan;

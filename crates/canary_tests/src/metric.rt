@@ -1,16 +1,16 @@
-//! Worked values, and long lists.
+//! Metrics, tallies and verdicts: worked values, and long lists.
 ghost use Rattle.std.specs.Prelude.{IsTrue};
 ghost use Rattle.canary_metric.specs.Measurements.{is_measured};
 
-use crate::measurement::Measurement;
-use crate::metric::{Metric, MetricSettings, effective_count};
-use crate::tally::{MOST_MEASUREMENTS, Tally, recount};
-use crate::verdict::{verdict, worst};
 use canary_base::durations::{LONGEST, Seconds};
 use canary_base::moments::{LAST_MOMENT, Moment};
 use canary_base::names::Label;
 use canary_condition::condition::{Condition, Verdict3};
 use canary_condition::outcome::{Phase, Value};
+use canary_metric::measurement::Measurement;
+use canary_metric::metric::{Metric, MetricSettings, effective_count};
+use canary_metric::tally::{MOST_MEASUREMENTS, Tally, recount};
+use canary_metric::verdict::{verdict, worst};
 use std::process::Abort;
 use std::test::Fail;
 
@@ -232,26 +232,6 @@ fn due(rt: HostRuntime) {
     let mut tally = Tally::new();
     tally.add(Phase::Successful, last);
     assert_eq!(rt; tally.due(&rare, begin), 253_402_300_799);
-}
-
-#[test]
-fn whole_lists(rt: HostRuntime) -> Result<(), Fail> {
-    let begin = moment(&rt, BEGIN);
-    let mut seed: u32 = 20_260_101;
-    let mut list = Vec::new(rt.alloc());
-    let mut tally = Tally::new();
-    for _ in 0..10_000 {
-        assert!(rt; !tally.full() && list.len() < 10_000);
-        assert_eq!(rt; recount(&list), tally, "after {} measurements", list.len());
-        seed = seed.wrapping_mul(1_664_525).wrapping_add(1_013_904_223);
-        let letter = b"SFIE"[(seed >> 30) as usize];
-        let taken = moment(&rt, BEGIN + u64::from(seed >> 20));
-        let measurement = Measurement::new(taken, phase_of(letter));
-        tally.add(measurement.phase(), measurement.taken());
-        list.push(measurement)?;
-    }
-    assert_eq!(rt; tally.measurements(), 10_000);
-    Ok(())
 }
 
 #[test]
