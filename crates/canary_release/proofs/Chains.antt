@@ -10,7 +10,7 @@ use Rattle.canary_release.specs.Passing.{is_free, leaves_at, Moves, Chain, IsLon
 use Rattle.canary_release.proofs.Keeping.{enter_keeps}
 
 -- no further move with a moment at most t
-abbrev IsAtRest : ℕ → Course → Type 0
+abbrev pub IsAtRest : ℕ → Course → Type 0
 IsAtRest t c = (e : ℕ) (next : Course) → Moves c e next → e ≤ t → ⊥
 
 -- a move is at the moment that is computed
@@ -34,23 +34,23 @@ at_end c t h e next m le =
     cc gone
 
 -- where a chain of at most so many moves comes to an end
-abbrev IsEnd : ℕ → Course → Course → Type 0
+abbrev pub IsEnd : ℕ → Course → Course → Type 0
 IsEnd t c end' = (k : ℕ) × Chain k t c end' × IsAtRest t end'
 
 -- what a move by time is
-record Going (t : ℕ) (c : Course) : Type 0 where
-  e : ℕ
-  next : Course
-  moves : Moves c e next
-  in_time : e ≤ t
-  is_next : next ≡ move_at c (next_move c.service)
+pub record Going (t : ℕ) (c : Course) : Type 0 where
+  pub e : ℕ
+  pub next : Course
+  pub moves : Moves c e next
+  pub in_time : e ≤ t
+  pub is_next : next ≡ move_at c (next_move c.service)
 
 free_case : (b : Bool) (o : Option ℕ) (t : ℕ) → is_by t (if b then o else None) ≡ true → (e : ℕ) × (IsTrue b) × (o ≡ Some e) × (e ≤ t)
 free_case true None t h = cc h
 free_case true (Some e) t h = (e, refl, refl, grind (arith, nat_tests, h))
 free_case false o t h = cc h
 
-going : (c : Course) (t : ℕ) → is_by t (next_move c.service) ≡ true → Going t c
+pub going : (c : Course) (t : ℕ) → is_by t (next_move c.service) ≡ true → Going t c
 going c t h =
     let f = free_case (is_free c.service) (leaves_at (step_of c.service) c.service.entered) t h in
     record {
@@ -62,7 +62,7 @@ going c t h =
     }
 
 -- with so many steps left at most, the computed chain ends where no move is left
-chain_ends : (n t : ℕ) (c : Course) → length c.service.strategy.steps ≤ c.service.step + n → IsEnd t c (chain_end n t c)
+pub chain_ends : (n t : ℕ) (c : Course) → length c.service.strategy.steps ≤ c.service.step + n → IsEnd t c (chain_end n t c)
 chain_ends zero t c h = (0, refl, at_end c t (omega arith))
 chain_ends (suc n) t c h =
     elim (is_by t (next_move c.service))
@@ -107,10 +107,10 @@ one_longest m n t c x y g gl h hl =
 
 -- the law that joins the relation and what is computed
 pub passes_as_computed : PassesAsComputed
-passes_as_computed c t h =
+passes_as_computed c t =
     let at = judged_at c.service t in
     let n = length c.service.strategy.steps - c.service.step in
-    let found = chain_ends n at c (omega (arith, h)) in
+    let found = chain_ends n at c (omega arith) in
     let longest = rest_is_longest found.0 at c (chain_end n at c) found.1 found.2 in (
       (found.0, chain_end n at c, found.1, longest, refl),
       λ p q. q.4 ∙ ap (λ (d : Course). with_last d at) (one_longest q.0 found.0 at c q.1 (chain_end n at c) q.2 q.3 found.1 longest),

@@ -8,3 +8,4 @@ pub mod Stories
 pub mod Worlds
 pub mod Rows
 pub mod Refusing
+pub mod Ordering

@@ -107,6 +107,59 @@ without_pauses_replies : (machine no_desk without_pauses).replies ≡
 unfolding digits
 without_pauses_replies = replies_from_nothing without_pauses _ refl
 
+-- Weights alone are passed as the release starts, each told in its turn.
+
+abbrev weights_alone : List (ℕ × Command)
+weights_alone = (b, add web (SetWeight 5 ∷ SetWeight 100 ∷ [])) ∷ (b + 4, Start web v2) ∷ []
+
+weights_service : get (machine no_desk weights_alone).desk.services web ≡ Some (record {
+  made = record { name = web; version = v1; steps = SetWeight 5 ∷ SetWeight 100 ∷ [] };
+  strategy = record { steps = SetWeight 5 ∷ SetWeight 100 ∷ [] };
+  stable = v2;
+  version = v2;
+  state = Done;
+  step = 2;
+  entered = b + 4;
+  last = b + 4;
+  history =
+      record { moment = b; event = Created v1 }
+      ∷ record { moment = b + 4; event = Started v2 }
+      ∷ record { moment = b + 4; event = WeightEntered 0 5 }
+      ∷ record { moment = b + 4; event = WeightEntered 1 100 }
+      ∷ record { moment = b + 4; event = Finished v2 }
+      ∷ [];
+})
+weights_service = service_from_nothing weights_alone web _ refl
+
+-- A command that is refused passes no time, and one on another service changes nothing here.
+
+abbrev refused_late : List (ℕ × Command)
+refused_late =
+    (b, add web (Pause ∷ Pause ∷ [])) ∷ (b, Start web v2)
+    ∷ (b + 50, Start web v3)
+    ∷ (b + 60, add (codes "api") []) ∷ (b + 70, Start (codes "api") v3)
+    ∷ (b + 10, Promote web)
+    ∷ []
+
+refused_late_service : get (machine no_desk refused_late).desk.services web ≡ Some (record {
+  made = record { name = web; version = v1; steps = Pause ∷ Pause ∷ [] };
+  strategy = record { steps = Pause ∷ Pause ∷ [] };
+  stable = v1;
+  version = v2;
+  state = InProgress;
+  step = 1;
+  entered = b + 10;
+  last = b + 10;
+  history =
+      record { moment = b; event = Created v1 }
+      ∷ record { moment = b; event = Started v2 }
+      ∷ record { moment = b; event = PauseEntered 0 }
+      ∷ record { moment = b + 10; event = Promoted }
+      ∷ record { moment = b + 10; event = PauseEntered 1 }
+      ∷ [];
+})
+refused_late_service = service_from_nothing refused_late web _ refl
+
 -- Strategies at their limits, and refusals in their order.
 
 abbrev limits : List (ℕ × Command)

@@ -17,7 +17,7 @@ use Rattle.canary_release.specs.Courses.{Course, course_of, tell}
 use Rattle.canary_release.specs.Passing.{pass, judged_at}
 use Rattle.canary_release.specs.Commands.{start, promote, start_refusal, promote_refusal}
 use Rattle.canary_release.specs.Desks.{Desk, Ruling, rule_on, rule_start, rule_promote, rule_service, desk_after, unless, shows, new_service}
-use Rattle.canary_release.specs.Shapes.{shape, before, put_updated, changed, seen, IsStep}
+use Rattle.canary_release.specs.Shapes.{shape, before, put_updated, changed, said, seen, IsStep}
 use Rattle.canary_release.specs.KeptServices.{kept_pass}
 use Rattle.canary_release.specs.KeptDecisions.{kept_shows, kept_unless, decide_on, decide_start, decide_promote, decide_new, decision_of, kept_start, kept_promote}
 use Rattle.canary_release.proofs.Bridges.{draft_of, pass_alike, start_alike, promote_alike}
@@ -25,7 +25,7 @@ use Rattle.canary_release.proofs.Growing.{Grows, updated_is, grows_pass, grows_p
 
 -- a decision stands for a ruling on a desk
 abbrev Stands : Desk → Command → Ruling → Decision → Type 0
-Stands desk command r d = (changed desk (subject_of command) d.change ≡ desk_after desk (subject_of command) r.change) × (d.reply ≡ r.reply)
+Stands desk command r d = (changed desk (subject_of command) d.change ≡ desk_after desk (subject_of command) r.change) × (d.change ≡ said r.change) × (d.reply ≡ r.reply)
 
 -- a service that is there and changes
 shown_stands : (desk : Desk) (command : Command) (m : ModelService) (c : Course) → get desk.services (subject_of command) ≡ Some m → Grows m c → Stands desk command (shows c) (kept_shows (draft_of c))
@@ -33,18 +33,19 @@ shown_stands desk command m c found g = (
   ap (λ (o : Option ModelService). put_updated desk (subject_of command) (before o (shape c.service)) (shape c.service) c.effects) found
       ∙ ap (λ (s : ModelService). let d : Desk = record desk { services = insert desk.services (subject_of command) s } in d) (updated_is m c g),
   refl,
+  refl,
 )
 
 unless_stands : (desk : Desk) (command : Command) (m : ModelService) (o : Option Refusal) (c : Course) (d : Draft) → get desk.services (subject_of command) ≡ Some m → Grows m c → d ≡ draft_of c
     → Stands desk command (unless o (shows c)) (kept_unless o (kept_shows d))
 unless_stands desk command m None c d found g is = subst (λ (x : Draft). Stands desk command (shows c) (kept_shows x)) (sym is) (shown_stands desk command m c found g)
-unless_stands desk command m (Some refusal) c d found g is = (refl, refl)
+unless_stands desk command m (Some refusal) c d found g is = (refl, refl, refl)
 
 -- a rule on a service that may be there, and the decision beside it
 on_stands : (desk : Desk) (command : Command) (g : Option ModelService) (now : ℕ) (rule : Course → ℕ → Ruling) (decides : Draft → ℕ → Decision)
     → ((m : ModelService) → g ≡ Some m → (c : Course) → Grows m c → (t : ℕ) → Stands desk command (rule c t) (decides (draft_of c) t))
     → Stands desk command (rule_on g now rule) (decide_on (option_map shape g) now decides)
-on_stands desk command None now rule decides stands = (refl, refl)
+on_stands desk command None now rule decides stands = (refl, refl, refl)
 on_stands desk command (Some m) now rule decides stands =
     subst (λ (d : Draft). Stands desk command (rule (pass (course_of m) now) (judged_at m now)) (decides d (judged_at m now))) (sym (pass_alike (course_of m) now))
     (stands m refl (pass (course_of m) now) (grows_passed m now) (judged_at m now))
@@ -66,22 +67,22 @@ new_stands : (desk : Desk) (spec : ServiceSpec) (now : ℕ) (o : Option Refusal)
     → Stands desk (AddService spec) (rule_service None spec now) (decide_new spec now)
 new_stands desk spec now None none e =
     let c : Course = tell (course_of (new_service spec now)) now (Created spec.version) in
-    rw e (ap (λ (o : Option ModelService). put_updated desk spec.name (before o (shape c.service)) (shape c.service) c.effects) none, refl)
-new_stands desk spec now (Some refusal) none e = rw e (refl, refl)
+    rw e (ap (λ (o : Option ModelService). put_updated desk spec.name (before o (shape c.service)) (shape c.service) c.effects) none, refl, refl)
+new_stands desk spec now (Some refusal) none e = rw e (refl, refl, refl)
 
 adds : (desk : Desk) (spec : ServiceSpec) (now : ℕ) (g : Option ModelService) → get desk.services spec.name ≡ g → Stands desk (AddService spec) (rule_service g spec now) (decision_of (option_map shape g) now (AddService spec))
 adds desk spec now None found = new_stands desk spec now (strategy_refusal spec.steps) found refl
-adds desk spec now (Some m) found = (refl, refl)
+adds desk spec now (Some m) found = (refl, refl, refl)
 
 -- the decision is a step of the machine
 step_is : (desk : Desk) (now : ℕ) (command : Command) → IsStep desk now command (decision_of (seen desk (subject_of command)) now command)
-step_is desk now (AddService spec) = let h = adds desk spec now (get desk.services spec.name) refl in record { desk_after = h.0; reply = h.1 }
+step_is desk now (AddService spec) = let h = adds desk spec now (get desk.services spec.name) refl in record { change = h.1; desk_after = h.0; reply = h.2 }
 step_is desk now (Start name version) =
     let h = on_stands desk (Start name version) (get desk.services name) now (rule_start version) (decide_start version) (start_stands desk name version) in
-    record { desk_after = h.0; reply = h.1 }
+    record { change = h.1; desk_after = h.0; reply = h.2 }
 step_is desk now (Promote name) =
     let h = on_stands desk (Promote name) (get desk.services name) now rule_promote decide_promote (promote_stands desk name) in
-    record { desk_after = h.0; reply = h.1 }
+    record { change = h.1; desk_after = h.0; reply = h.2 }
 
 pub told_step : (desk : Desk) (o : Option ServiceParts) (now : ℕ) (command : Command) (d : Decision) → d ≡ decision_of o now command → o ≡ seen desk (subject_of command) → IsStep desk now command d
 told_step desk o now command d e known =

@@ -1,4 +1,4 @@
--- The same on what the code keeps of a service. Each definition here has its twin in Courses, Entering and Passing.
+-- Entering steps and passing time, on what the code keeps of a service. Each definition here has its twin in Courses, Entering and Passing.
 use Rattle.std.specs.Prelude.{ℕ, zero, suc, ◌+◌, ◌-◌, ◌==◌, nat_le, true, false, if◌then◌else◌, [], ◌∷◌, ◌++◌, length, slice_get, Option, Some, None, max}
 use Rattle.canary_plan.specs.declared.plan.Step.{Step}
 use Rattle.canary_plan.specs.declared.plan.Step.TheVariants.{SetWeight, Pause}

@@ -9,3 +9,4 @@ pub mod Shapes
 pub mod KeptServices
 pub mod KeptDecisions
 pub mod Laws
+pub mod Order

@@ -67,6 +67,6 @@ pass c t =
     let at = judged_at c.service t in
     with_last (chain_end (length c.service.strategy.steps - c.service.step) at c) at
 
--- the law that joins them, at each service that stands on a step or after the last: there is a longest chain, its end is the computed one, and no other passes
+-- the law that joins them: there is a longest chain, its end is the computed one, and no other passes
 abbrev pub PassesAsComputed : Type 0
-PassesAsComputed = (c : Course) (t : ℕ) → c.service.step ≤ length c.service.strategy.steps → Passes c t (pass c t) × ((p : Course) → Passes c t p → p ≡ pass c t)
+PassesAsComputed = (c : Course) (t : ℕ) → Passes c t (pass c t) × ((p : Course) → Passes c t p → p ≡ pass c t)

@@ -12,7 +12,8 @@ use Rattle.canary_release.specs.declared.decide.Decision.{Decision}
 use Rattle.canary_release.specs.Services.{ModelService}
 use Rattle.canary_release.specs.Courses.{Course, course_of}
 use Rattle.canary_release.specs.Passing.{pass}
-use Rattle.canary_release.specs.Desks.{Desk, apply}
+use Rattle.canary_release.specs.Desks.{Change, Desk, ruling_on, apply}
+use Rattle.canary_release.specs.Desks.Change.{Nothing as Stays, Becomes}
 
 -- what the code keeps of a service
 abbrev pub shape : ModelService → ServiceParts
@@ -81,11 +82,17 @@ abbrev pub changed : Desk → List ℕ → DeskChange → Desk
 changed desk name Nothing = desk
 changed desk name (Updates s effects) = put_updated desk name (before (get desk.services name) s) s effects
 
+-- a change of the machine, as the code says it
+abbrev pub said : Change → DeskChange
+said Stays = Nothing
+said (Becomes c) = Updates (shape c.service) c.effects
+
 -- what the code keeps of the service of that name, or none
 abbrev pub seen : Desk → List ℕ → Option ServiceParts
 seen desk name = option_map shape (get desk.services name)
 
--- the decision is the machine's step: the desk with its change is the desk after the command, and its reply is the command's
+-- the decision is the machine's step: its change is the command's, none where the command changes nothing; the desk with it is the desk after the command; and its reply is the command's
 pub record IsStep (desk : Desk) (now : ℕ) (command : Command) (d : Decision) : Type 0 where
+  pub change : d.change ≡ said (ruling_on desk now command).change
   pub desk_after : changed desk (subject_of command) d.change ≡ (apply desk now command).desk
   pub reply : d.reply ≡ (apply desk now command).reply

@@ -1,6 +1,8 @@
 //! Laws over the definitions alone.
 ghost use Rattle.canary_release.specs.Passing.{PassesAsComputed};
 ghost use Rattle.canary_release.specs.Laws.{RefusalsLeaveTheDesk};
+ghost use Rattle.canary_release.specs.Desks.{no_desk};
+ghost use Rattle.canary_release.specs.Order.{AreInOrder, StayInOrder};
 
 /// A service passes as it is computed: there is a longest chain of moves, the computed end is its
 /// end, and it has no other.
@@ -12,4 +14,13 @@ pub fn passing()
 /// desk as it was.
 pub fn refusals()
     ensures { RefusalsLeaveTheDesk }
+{}
+
+/// The machine keeps each service in order: it stands under the name of the command that made it,
+/// with that command's strategy, which is accepted; it is done exactly where it stands after the
+/// last step; it entered its step no later than it was judged last, and no move was left undone
+/// then. An empty desk is in order.
+pub fn services_in_order()
+    ensures none { AreInOrder no_desk }
+    ensures machine { StayInOrder }
 {}

@@ -9,7 +9,8 @@ use canary_base::names::Name;
 use canary_plan::refusal::Refusal;
 use std::alloc::Global;
 
-/// The reply to a settled request: a status of HTTP, 200 or 422, and a body of JSON.
+/// A reply: a status of HTTP and a body of JSON. A command's is of status 200, or 422 where it is
+/// refused.
 #[derive(Drop)]
 pub struct Reply {
     pub status: u16,

@@ -11,3 +11,5 @@ mod condition;
 mod metric;
 #[cfg(test)]
 mod plan;
+#[cfg(test)]
+mod release;

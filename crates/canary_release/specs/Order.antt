@@ -1,0 +1,25 @@
+-- What holds of each service that commands have made.
+use Rattle.std.specs.Prelude.{◌≡◌, ℕ, ◌≤◌, ◌==◌, IsTrue, false, List, length, Some}
+use Rattle.std.specs.FinMap.{get}
+use Rattle.canary_plan.specs.declared.command.Command.{Command}
+use Rattle.canary_plan.specs.Plans.{strategy_of, is_strategy}
+use Rattle.canary_release.specs.Services.{ModelService, is_done}
+use Rattle.canary_release.specs.Passing.{next_move, is_by}
+use Rattle.canary_release.specs.Desks.{Desk, machine}
+
+-- a service under a name: the name is its command's, and so is its strategy, which is accepted; it stands on a step, or after the last exactly where it is done; it entered there no later than it was judged last; and no move was left undone then
+pub record IsInOrder (name : List ℕ) (s : ModelService) : Type 0 where
+  pub named : s.made.name ≡ name
+  pub strategy : s.strategy ≡ strategy_of s.made.steps
+  pub accepted : IsTrue (is_strategy s.made.steps)
+  pub on_steps : s.step ≤ length s.strategy.steps
+  pub done : is_done s.state ≡ (s.step == length s.strategy.steps)
+  pub entered : s.entered ≤ s.last
+  pub at_rest : is_by s.last (next_move s) ≡ false
+
+abbrev pub AreInOrder : Desk → Type 0
+AreInOrder desk = (name : List ℕ) (s : ModelService) → get desk.services name ≡ Some s → IsInOrder name s
+
+-- the law: the machine keeps services in order
+abbrev pub StayInOrder : Type 0
+StayInOrder = (desk : Desk) (xs : List (ℕ × Command)) → AreInOrder desk → AreInOrder (machine desk xs).desk
