@@ -4,3 +4,4 @@ pub mod LogLemmas
 pub mod Worlds
 pub mod Rows
 pub mod Lawful
+pub mod Settled

@@ -1,5 +1,18 @@
 //! Laws over the definitions alone.
-ghost use Rattle.canary_once.specs.Laws.{GoesOn, NoneIsAhead, ConflictsChangeNothing, RefusalsLeaveTheDesk};
+ghost use Rattle.canary_once.specs.Laws.{NewAreOfTheMachine, EachOnce, OneRequest, GoesOn, NoneIsAhead, ConflictsChangeNothing, RefusalsLeaveTheDesk};
+
+/// The new requests of a list of events are answered by one run of the small machine over the
+/// settled requests alone, and each number of a caller is settled once, in order.
+pub fn settled_requests()
+    ensures machine { NewAreOfTheMachine }
+    ensures once { EachOnce }
+{}
+
+/// What one request comes to: a new one is settled, a repeat gets what is kept, and one ahead is
+/// told so; neither of these changes anything.
+pub fn one_request()
+    ensures { OneRequest }
+{}
 
 /// A list of events goes on where another stopped: it does not matter how events are cut into
 /// runs.
