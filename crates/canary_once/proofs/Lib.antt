@@ -5,3 +5,4 @@ pub mod Worlds
 pub mod Rows
 pub mod Lawful
 pub mod Settled
+pub mod Statuses

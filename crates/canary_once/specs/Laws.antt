@@ -1,7 +1,8 @@
 -- Laws of the register.
-use Rattle.std.specs.Prelude.{◌≡◌, ℕ, ◌+◌, ◌≤◌, if◌then◌else◌, List, [], ◌∷◌, ◌++◌, map, filter}
+use Rattle.std.specs.Prelude.{◌≡◌, ◌⊎◌, ℕ, ◌+◌, ◌≤◌, if◌then◌else◌, List, [], ◌∷◌, ◌++◌, map, filter, Some}
 use Rattle.canary_release.specs.declared.reply.Reply.{Reply}
 use Rattle.canary_release.specs.Desks.{machine}
+use Rattle.canary_once.specs.declared.book.Kept.{Kept}
 use Rattle.canary_once.specs.declared.event.Request.{Request}
 use Rattle.canary_once.specs.declared.event.Event.{Event}
 use Rattle.canary_once.specs.declared.event.Event.TheVariants.{Request as RequestEvent}
@@ -52,3 +53,19 @@ ConflictsChangeNothing = (c : Contents) (e : Event) → (answer c [] e).status �
 -- one of status 422 leaves the desk as it was
 abbrev pub RefusalsLeaveTheDesk : Type 0
 RefusalsLeaveTheDesk = (c : Contents) (e : Event) → (answer c [] e).status ≡ 422 → (after c (e ∷ [])).desk ≡ c.desk
+
+-- 200 or 422
+abbrev pub IsSettledStatus : ℕ → Type 0
+IsSettledStatus status = (status ≡ 200) ⊎ (status ≡ 422)
+
+-- each kept reply has such a status
+abbrev pub KeepsSettled : Contents → Type 0
+KeepsSettled c = (caller : List ℕ) (number : ℕ) (kept : Kept) → kept_at c caller number ≡ Some kept → IsSettledStatus kept.reply.status
+
+-- contents that keep such replies alone go on so
+abbrev pub StaysSettled : Type 0
+StaysSettled = (c : Contents) (es : List Event) → KeepsSettled c → KeepsSettled (after c es)
+
+-- and an answer has such a status, or 409
+abbrev pub AnswersSettled : Type 0
+AnswersSettled = (c : Contents) (e : Event) → KeepsSettled c → IsSettledStatus (answer c [] e).status ⊎ ((answer c [] e).status ≡ 409)
