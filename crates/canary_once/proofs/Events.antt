@@ -1,5 +1,5 @@
 -- Event after event, the answers and the contents are those of the whole list.
-use Rattle.std.proofs.Common.{◌≡◌, ℕ, zero, suc, ◌+◌, ◌-◌, List, [], ◌∷◌, ◌++◌, length, Bool, true, false, Some, None, refl, sym, ap, ◌∙◌, subst, arith, add-zero, length-append}
+use Rattle.std.proofs.Common.{◌≡◌, ℕ, zero, suc, ◌+◌, ◌-◌, List, [], ◌∷◌, ◌++◌, length, Bool, true, false, Some, refl, sym, ap, ◌∙◌, subst, arith, add-zero, length-append}
 use Rattle.std.specs.Prelude.{if◌then◌else◌, ◌==◌, nat_lt, map, filter, Option, unwrap_or, cond, slice_get}
 use Rattle.std.specs.Ordering.{nat_cmp}
 use Rattle.std.specs.Cmp.Lexicographic.{slice_cmp, nat_list_cmp_total}
@@ -21,20 +21,20 @@ use Rattle.canary_once.specs.Answers.{requests_of, is_of, next_number, is_new, n
 use Rattle.canary_once.specs.Single.{settle, reply_to, after_one, IsAnswer}
 
 -- a machine goes on where it stopped
-machine-push : (desk : Desk) (xs : List (ℕ × Command)) (x : ℕ × Command) → let run = machine desk xs in let a = apply run.desk x.0 x.1 in ((machine desk (xs ++ x ∷ [])).desk ≡ a.desk) × ((machine desk (xs ++ x ∷ [])).replies ≡ run.replies ++ a.reply ∷ [])
+pub machine-push : (desk : Desk) (xs : List (ℕ × Command)) (x : ℕ × Command) → let run = machine desk xs in let a = apply run.desk x.0 x.1 in ((machine desk (xs ++ x ∷ [])).desk ≡ a.desk) × ((machine desk (xs ++ x ∷ [])).replies ≡ run.replies ++ a.reply ∷ [])
 machine-push desk [] x = (refl, refl)
 machine-push desk (y ∷ ys) x = let rest = machine-push (apply desk y.0 y.1).desk ys x in (rest.0, ap (λ (rs : List Reply). (apply desk y.0 y.1).reply ∷ rs) rest.1)
 
-requests-push : (es : List Event) (r : Request) → requests_of (es ++ RequestEvent r ∷ []) ≡ requests_of es ++ r ∷ []
+pub requests-push : (es : List Event) (r : Request) → requests_of (es ++ RequestEvent r ∷ []) ≡ requests_of es ++ r ∷ []
 requests-push [] r = refl
 requests-push (RequestEvent x ∷ es) r = ap (λ (rs : List Request). x ∷ rs) (requests-push es r)
 
 -- one more request, new or not
-news-push : (c : Contents) (news : List Request) (rs : List Request) (r : Request) → news_after c news (rs ++ r ∷ []) ≡ (if is_new c (news_after c news rs) r then news_after c news rs ++ r ∷ [] else news_after c news rs)
+pub news-push : (c : Contents) (news : List Request) (rs : List Request) (r : Request) → news_after c news (rs ++ r ∷ []) ≡ (if is_new c (news_after c news rs) r then news_after c news rs ++ r ∷ [] else news_after c news rs)
 news-push c news [] r = refl
 news-push c news (x ∷ rs) r = news-push c (if is_new c news x then news ++ x ∷ [] else news) rs r
 
-map-push : (es : List Request) (e : Request) → map bare (es ++ e ∷ []) ≡ map bare es ++ bare e ∷ []
+pub map-push : (es : List Request) (e : Request) → map bare (es ++ e ∷ []) ≡ map bare es ++ bare e ∷ []
 map-push [] e = refl
 map-push (x ∷ es) e = ap (λ (xs : List (ℕ × Command)). bare x ∷ xs) (map-push es e)
 

@@ -1,17 +1,16 @@
 -- The laws of the register.
-use Rattle.std.proofs.Common.{◌≡◌, ◌⊎◌, inl, inr, ℕ, ◌+◌, ◌≤◌, List, [], ◌∷◌, ◌++◌, Bool, true, false, refl, sym, ap, ◌∙◌, arith, append_assoc, append-nil}
+use Rattle.std.proofs.Common.{◌≡◌, inl, inr, ℕ, ◌+◌, ◌≤◌, List, [], ◌∷◌, ◌++◌, Bool, true, false, refl, sym, ap, ◌∙◌, arith, append_assoc, append-nil}
 use Rattle.std.specs.Prelude.{◌==◌, nat_lt, if◌then◌else◌}
-use Rattle.std.proofs.lemmas.Bool.Decides.{nat_tests, Decides-eqb}
+use Rattle.std.proofs.lemmas.Bool.Decides.{nat_tests}
 use Rattle.canary_release.specs.declared.reply.Reply.{Reply}
 use Rattle.canary_release.specs.Desks.{apply}
-use Rattle.canary_release.specs.Laws.{RefusalsLeaveTheDesk as LeavesTheDesk}
 use Rattle.canary_release.proofs.Refusing.{refusals_leave_the_desk as leaves_the_desk}
 use Rattle.canary_once.specs.declared.event.Request.{Request}
 use Rattle.canary_once.specs.declared.event.Event.{Event}
 use Rattle.canary_once.specs.declared.event.Event.TheVariants.{Request as RequestEvent}
 use Rattle.canary_once.specs.Contents.{Contents, count_of, kept_at}
 use Rattle.canary_once.specs.Answers.{answer, answers_after, answers_of, after, repeated, ahead}
-use Rattle.canary_once.specs.Single.{reply_to, after_one, settle}
+use Rattle.canary_once.specs.Single.{reply_to, settle}
 use Rattle.canary_once.specs.Laws.{GoesOn, NoneIsAhead, ConflictsChangeNothing, RefusalsLeaveTheDesk}
 use Rattle.canary_once.proofs.Events.{request_is, answer_on, after_on, reply_first, after_first}
 

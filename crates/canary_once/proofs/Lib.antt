@@ -4,3 +4,5 @@ pub mod LogLemmas
 pub mod Worlds
 pub mod Rows
 pub mod Lawful
+pub mod Settled
+pub mod Statuses

@@ -4,24 +4,22 @@ use Rattle.std.specs.Prelude.{Option, if◌then◌else◌, ◌==◌, ◌&&◌, u
 use Rattle.std.specs.Ordering.{nat_cmp}
 use Rattle.std.specs.Cmp.Lexicographic.{slice_cmp, nat_list_cmp_total}
 use Rattle.std.specs.Str.{bytes_eq}
+use Rattle.std.specs.Option.{option_or}
 use Rattle.std.specs.FinMap.{get, insert, get-insert, get-empty}
 use Rattle.std.proofs.lemmas.Map.Text.{is_eq-slice_cmp}
 use Rattle.std.proofs.lemmas.Slice.Eq.{bytes_eq-Decides}
 use Rattle.std.proofs.lemmas.Bool.Decides.{Decides-eqb}
 use Rattle.std.proofs.lemmas.List.{take_more}
-use Rattle.canary_plan.specs.declared.command.Command.{Command}
-use Rattle.canary_plan.specs.declared.command.Command.TheVariants.{Service as AddService, Start, Promote}
 use Rattle.canary_plan.specs.Commands.{subject_of}
 use Rattle.canary_release.specs.declared.decide.DeskChange.{DeskChange}
 use Rattle.canary_release.specs.declared.decide.DeskChange.TheVariants.{Nothing, Service as Updates}
 use Rattle.canary_release.specs.declared.service.ServiceParts.{ServiceParts}
-use Rattle.canary_release.specs.declared.service.Effects.{Effects}
 use Rattle.canary_release.specs.Services.{ModelService}
-use Rattle.canary_release.specs.Desks.{Desk, ruling_on, desk_after}
-use Rattle.canary_release.specs.Shapes.{shape, updated, before, put_updated, changed, seen}
+use Rattle.canary_release.specs.Desks.{Desk}
+use Rattle.canary_release.specs.Shapes.{shape, updated, before, changed, seen}
 use Rattle.canary_once.specs.declared.book.Change.{Change}
 use Rattle.canary_once.specs.declared.book.Kept.{Kept}
-use Rattle.canary_once.specs.Contents.{Contents, no_contents, committed, count_of, kept_of, kept_at, IsSettling}
+use Rattle.canary_once.specs.Contents.{Contents, no_contents, committed, count_of, kept_at, IsSettling}
 use Rattle.canary_once.specs.Logs.{committed_all, AreSettling, changed_service}
 use Rattle.canary_once.proofs.Events.{list_at, got, one_kept}
 
@@ -95,7 +93,7 @@ seen-step desk subject (Updates s effects) name =
     let m : ModelService = updated (before (get desk.services subject) s) s effects in
     put_seen desk name subject m (get desk.services name) (bytes_eq name subject) (get-insert nat_list_cmp_total desk.services subject m name ∙ ap (λ b. cond b (Some m) (get desk.services name)) (is_eq-slice_cmp name subject))
 
--- the steps of the loops that go over a log
+-- the contents with one more change of a log
 so_far : (log : List Change) (i : ℕ) (x : Change) → i < length log → x ≡ get_or log i x → committed_all no_contents (take (i + 1) log) ≡ committed (committed_all no_contents (take i log)) x
 so_far log i x lt at = ap (committed_all no_contents) (take_more log i x lt ∙ ap (λ (y : Change). take i log ++ y ∷ []) (sym at)) ∙ committed-push no_contents (take i log) x
 
@@ -103,15 +101,7 @@ pub count_more : (log : List Change) (i : ℕ) (x : Change) (q : List ℕ) (last
 count_more log i x q last next sound lt at is so =
     so ∙ ap (λ n. if bytes_eq q x.caller then x.number else n) is ∙ sym (ap (λ (c : Contents). count_of c q) (so_far log i x lt at) ∙ count-step _ x q (sound-at no_contents log i x sound lt at))
 
-pub kept_more : (log : List Change) (i : ℕ) (x : Change) (q : List ℕ) (n : ℕ) (found next : Option Kept) → AreSettling no_contents log → i < length log → x ≡ get_or log i x → 1 ≤ n → found ≡ kept_at (committed_all no_contents (take i log)) q n → next ≡ (if bytes_eq q x.caller && (x.number == n) then Some x.kept else found) → next ≡ kept_at (committed_all no_contents (take (i + 1) log)) q n
-kept_more log i x q n found next sound lt at h is so =
-    so ∙ ap (λ (o : Option Kept). if bytes_eq q x.caller && (x.number == n) then Some x.kept else o) is ∙ sym (ap (λ (c : Contents). kept_at c q n) (so_far log i x lt at) ∙ kept-step _ x q n (sound-at no_contents log i x sound lt at) h)
-
-pub seen_more : (log : List Change) (i : ℕ) (x : Change) (name : List ℕ) (found next : Option ServiceParts) → i < length log → x ≡ get_or log i x → found ≡ seen (committed_all no_contents (take i log)).desk name → next ≡ changed_service found (subject_of x.kept.command) x.desk name → next ≡ seen (committed_all no_contents (take (i + 1) log)).desk name
-seen_more log i x name found next lt at is so =
-    so ∙ ap (λ (o : Option ServiceParts). changed_service o (subject_of x.kept.command) x.desk name) is ∙ sym (ap (λ (c : Contents). seen c.desk name) (so_far log i x lt at) ∙ seen-step (committed_all no_contents (take i log)).desk (subject_of x.kept.command) x.desk name)
-
--- the steps of the loop that goes over a log from its end
+-- The steps of the loops that go over a log from its end.
 
 pub last_number_at : (log : List Change) (i : ℕ) (x : Change) (q : List ℕ) (b : Bool) → bytes_eq q x.caller ≡ b → AreSettling no_contents log → i < length log → x ≡ get_or log i x → (if b then x.number else count_of (committed_all no_contents (take i log)) q) ≡ count_of (committed_all no_contents (take (i + 1) log)) q
 last_number_at log i x q b e sound lt at =
@@ -134,3 +124,53 @@ pub none_left : (log : List Change) (left : ℕ) (q : List ℕ) → left ≤ 0 �
 none_left log left q gone same =
     let zero_left : 0 ≡ left = omega arith in
     sym (none_settled q) ∙ ap (λ n. count_of (committed_all no_contents (take n log)) q) zero_left ∙ same
+
+-- what is seen of some changes is what the newest of them says, or else what is seen of those before it
+
+if_or : {A : Type 0} (b : Bool) (v : A) (rest : Option A) → (if b then Some v else rest) ≡ option_or (if b then Some v else None) rest
+if_or true v rest = refl
+if_or false v rest = refl
+
+changed_or : (found : Option ServiceParts) (subject : List ℕ) (change : DeskChange) (name : List ℕ) → changed_service found subject change name ≡ option_or (changed_service None subject change name) found
+changed_or found subject Nothing name = refl
+changed_or found subject (Updates s effects) name = if_or (bytes_eq name subject) s found
+
+newest_committed : (log : List Change) (left : ℕ) (x : Change) → 0 < left → left ≤ length log → x ≡ get_or log (left - 1) x → committed_all no_contents (take left log) ≡ committed (committed_all no_contents (take (left - 1) log)) x
+newest_committed log left x some within at =
+    let back : left ≡ left - 1 + 1 = omega arith in
+    ap (λ i. committed_all no_contents (take i log)) back ∙ so_far log (left - 1) x (omega arith) at
+
+-- what a loop finds at a change, or else goes on with
+pub kept_from_end : (log : List Change) (left : ℕ) (x : Change) (q : List ℕ) (n : ℕ) (o p : Option Kept) → AreSettling no_contents log → 0 < left → left ≤ length log → x ≡ get_or log (left - 1) x → 1 ≤ n
+    → o ≡ (if bytes_eq q x.caller && (x.number == n) then Some x.kept else None) → o ≡ p
+    → kept_at (committed_all no_contents (take left log)) q n ≡ kept_at (committed_all no_contents log) q n
+    → option_or p (kept_at (committed_all no_contents (take (left - 1) log)) q n) ≡ kept_at (committed_all no_contents log) q n
+kept_from_end log left x q n o p sound some within at h says is same =
+    let before = committed_all no_contents (take (left - 1) log) in
+    ap (λ (found : Option Kept). option_or found (kept_at before q n)) (sym is ∙ says)
+    ∙ sym (if_or (bytes_eq q x.caller && (x.number == n)) x.kept (kept_at before q n))
+    ∙ sym (kept-step before x q n (sound-at no_contents log (left - 1) x sound (omega arith) at) h)
+    ∙ sym (ap (λ (c : Contents). kept_at c q n) (newest_committed log left x some within at))
+    ∙ same
+
+pub seen_from_end : (log : List Change) (left : ℕ) (x : Change) (name : List ℕ) (o p : Option ServiceParts) → 0 < left → left ≤ length log → x ≡ get_or log (left - 1) x
+    → o ≡ changed_service None (subject_of x.kept.command) x.desk name → o ≡ p
+    → seen (committed_all no_contents (take left log)).desk name ≡ seen (committed_all no_contents log).desk name
+    → option_or p (seen (committed_all no_contents (take (left - 1) log)).desk name) ≡ seen (committed_all no_contents log).desk name
+seen_from_end log left x name o p some within at says is same =
+    let before = committed_all no_contents (take (left - 1) log) in
+    ap (λ (found : Option ServiceParts). option_or found (seen before.desk name)) (sym is ∙ says)
+    ∙ sym (changed_or (seen before.desk name) (subject_of x.kept.command) x.desk name)
+    ∙ sym (seen-step before.desk (subject_of x.kept.command) x.desk name)
+    ∙ sym (ap (λ (c : Contents). seen c.desk name) (newest_committed log left x some within at))
+    ∙ same
+
+pub none_kept_left : (log : List Change) (left : ℕ) (q : List ℕ) (n : ℕ) → left ≤ 0 → kept_at (committed_all no_contents (take left log)) q n ≡ kept_at (committed_all no_contents log) q n → None ≡ kept_at (committed_all no_contents log) q n
+none_kept_left log left q n gone same =
+    let zero_left : 0 ≡ left = omega arith in
+    sym (none_kept q n) ∙ ap (λ i. kept_at (committed_all no_contents (take i log)) q n) zero_left ∙ same
+
+pub none_seen_left : (log : List Change) (left : ℕ) (name : List ℕ) → left ≤ 0 → seen (committed_all no_contents (take left log)).desk name ≡ seen (committed_all no_contents log).desk name → None ≡ seen (committed_all no_contents log).desk name
+none_seen_left log left name gone same =
+    let zero_left : 0 ≡ left = omega arith in
+    none_seen name ∙ ap (λ i. seen (committed_all no_contents (take i log)).desk name) zero_left ∙ same

@@ -1,17 +1,18 @@
 -- Worked rows of the register.
 use Rattle.std.proofs.Common.{◌≡◌, ℕ, ◌+◌, List, [], ◌∷◌, refl}
-use Rattle.std.specs.Prelude.{codes}
+use Rattle.std.specs.Prelude.{codes, map}
 use Rattle.std.specs.Fmt.{digits}
 use Rattle.canary_plan.specs.declared.command.Command.{Command}
 use Rattle.canary_plan.specs.declared.command.Command.TheVariants.{Start, Promote}
 use Rattle.canary_release.specs.declared.reply.Reply.{Reply}
-use Rattle.canary_release.proofs.Stories.{b, ok, no, web, v1, v2, v3, add, two_pauses}
+use Rattle.canary_release.proofs.Stories.{b, ok, no, web, v2, v3, add, two_pauses}
+use Rattle.canary_once.specs.declared.book.Kept.{Kept}
 use Rattle.canary_once.specs.declared.event.Event.{Event}
 use Rattle.canary_once.specs.declared.event.Event.TheVariants.{Request as RequestEvent}
-use Rattle.canary_once.specs.Contents.{no_contents}
-use Rattle.canary_once.specs.Answers.{answers_of}
+use Rattle.canary_once.specs.Contents.{no_contents, kept_of}
+use Rattle.canary_once.specs.Answers.{answers_of, after}
 use Rattle.canary_once.specs.Single.{request_of}
-use Rattle.canary_once.proofs.Worlds.{replies_from_nothing}
+use Rattle.canary_once.proofs.Worlds.{replies_from_nothing, kept_from_nothing}
 
 abbrev conflict : List ℕ → Reply
 conflict body = record { status = 409; body = body }
@@ -55,6 +56,17 @@ doubled_replies : answers_of no_contents doubled ≡
     ∷ []
 unfolding digits
 doubled_replies = replies_from_nothing doubled _ refl
+
+-- five are settled, and kept with their replies
+doubled_kept : map (λ (k : Kept). k.reply) (kept_of (after no_contents doubled) (codes "ops")) ≡
+    ok (codes "{\"code\":\"ok\",\"service\":\"web\",\"status\":\"Healthy\",\"step\":4,\"weight\":100}")
+    ∷ ok (codes "{\"code\":\"ok\",\"service\":\"web\",\"status\":\"Paused\",\"step\":1,\"weight\":20}")
+    ∷ ok (codes "{\"code\":\"ok\",\"service\":\"web\",\"status\":\"Paused\",\"step\":3,\"weight\":50}")
+    ∷ ok (codes "{\"code\":\"ok\",\"service\":\"web\",\"status\":\"Healthy\",\"step\":4,\"weight\":100}")
+    ∷ no (codes "{\"code\":\"not-in-progress\"}")
+    ∷ []
+unfolding digits
+doubled_kept = kept_from_nothing doubled (codes "ops") _ refl
 
 -- Each caller has its own numbers, and a refusal is kept as a reply is: it stands even where the command would now be accepted.
 

@@ -1,6 +1,6 @@
 -- The register with its maps as functions of names, which computes, and that it is the register.
-use Rattle.std.proofs.Common.{◌≡◌, ℕ, ◌+◌, ◌-◌, List, [], ◌∷◌, ◌++◌, length, Bool, true, false, refl, ap, ◌∙◌, append-nil}
-use Rattle.std.specs.Prelude.{◌==◌, nat_lt, if◌then◌else◌, Option, Some, None, unwrap_or, slice_get}
+use Rattle.std.proofs.Common.{◌≡◌, ℕ, ◌+◌, ◌-◌, List, [], ◌∷◌, ◌++◌, length, Bool, true, false, refl, sym, ap, ◌∙◌, append_assoc, append-nil}
+use Rattle.std.specs.Prelude.{◌==◌, nat_lt, if◌then◌else◌, map, Option, None, unwrap_or, slice_get}
 use Rattle.std.specs.Ordering.{nat_cmp}
 use Rattle.std.specs.Cmp.Lexicographic.{slice_cmp, nat_list_cmp_total}
 use Rattle.std.specs.FinMap.{get, get-insert, get-empty}
@@ -10,9 +10,9 @@ use Rattle.canary_once.specs.declared.book.Kept.{Kept}
 use Rattle.canary_once.specs.declared.event.Request.{Request}
 use Rattle.canary_once.specs.declared.event.Event.{Event}
 use Rattle.canary_once.specs.declared.event.Event.TheVariants.{Request as RequestEvent}
-use Rattle.canary_once.specs.Contents.{Contents, no_contents, count_of}
+use Rattle.canary_once.specs.Contents.{Contents, no_contents, count_of, kept_of}
 use Rattle.canary_once.specs.Answers.{kept_as, repeated, ahead, answers_after, answers_of, after}
-use Rattle.canary_once.specs.Single.{after_one, settle}
+use Rattle.canary_once.specs.Single.{settle}
 use Rattle.canary_once.proofs.Events.{request_is, after_is}
 
 pub record World : Type 0 where
@@ -77,6 +77,18 @@ replies-after c before (RequestEvent r ∷ es) =
 world-no_contents : world_of no_contents ≡ nowhere
 world-no_contents = λ i. record { callers = λ q. get-empty (slice_cmp nat_cmp) q i; desk = desks.world-no_desk i }
 
+contents-after : (c : Contents) (before es : List Event) → world_of (after c (before ++ es)) ≡ world_after_all (world_of (after c before)) es
+contents-after c before [] = ap (λ (b : List Event). world_of (after c b)) (append-nil before)
+contents-after c before (RequestEvent r ∷ es) =
+    ap (λ (b : List Event). world_of (after c b)) (sym (append_assoc before (RequestEvent r ∷ []) es))
+    ∙ contents-after c (before ++ RequestEvent r ∷ []) es
+    ∙ ap (λ (w : World). world_after_all w es) (one_more c before r)
+
 -- the replies, from empty contents
 pub replies_from_nothing : (es : List Event) (rs : List Reply) → replies_in nowhere es ≡ rs → answers_of no_contents es ≡ rs
 replies_from_nothing es rs e = replies-after no_contents [] es ∙ ap (λ (w : World). replies_in w es) world-no_contents ∙ e
+
+-- and what is kept of a caller
+pub kept_from_nothing : (es : List Event) (caller : List ℕ) (rs : List Reply) → map (λ (k : Kept). k.reply) (kept_in (world_after_all nowhere es) caller) ≡ rs → map (λ (k : Kept). k.reply) (kept_of (after no_contents es) caller) ≡ rs
+kept_from_nothing es caller rs e =
+    ap (λ (w : World). map (λ (k : Kept). k.reply) (kept_in w caller)) (contents-after no_contents [] es ∙ ap (λ (w : World). world_after_all w es) world-no_contents) ∙ e

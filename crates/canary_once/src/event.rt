@@ -1,13 +1,15 @@
 //! Requests as they arrive, and their answers.
-ghost use Rattle.std.specs.Prelude.{◌≡◌};
+ghost use Rattle.std.specs.Prelude.{◌≡◌, IfOk};
 ghost use Rattle.canary_once.specs.AnswerTexts.{status_of, body_of};
 
 use crate::book::BookFault;
+use canary_base::error::Memory;
 use canary_base::moments::Moment;
 use canary_base::names::Name;
 use canary_base::numbers::Number;
 use canary_plan::command::Command;
 use canary_release::reply::Reply;
+use std::alloc::Global;
 
 /// A request as it arrives: when, from whom, under which number, and what it asks.
 #[derive(Drop)]
@@ -18,10 +20,35 @@ pub struct Request {
     pub command: Command,
 }
 
+impl Request {
+    /// A copy of it.
+    pub fn copy(&self, alloc: Global) -> Result<Request, Memory>
+        ensures { IfOk result (λ copy. copy ≡ self.now) }
+    {
+        Ok(Request {
+            moment: self.moment,
+            caller: self.caller,
+            number: self.number,
+            command: self.command.copy(alloc)?,
+        })
+    }
+}
+
 /// What arrives at the desk.
 #[derive(Drop)]
 pub enum Event {
     Request(Request),
+}
+
+impl Event {
+    /// A copy of it.
+    pub fn copy(&self, alloc: Global) -> Result<Event, Memory>
+        ensures { IfOk result (λ copy. copy ≡ self.now) }
+    {
+        match self {
+            Event::Request(request) => Ok(Event::Request(request.copy(alloc)?)),
+        }
+    }
 }
 
 /// The answer to an event: a reply, or 503 where the book had no memory or its store failed.
@@ -32,6 +59,16 @@ pub enum Answer {
 }
 
 impl Answer {
+    /// A copy of it.
+    pub fn copy(&self, alloc: Global) -> Result<Answer, Memory>
+        ensures { IfOk result (λ copy. copy ≡ self.now) }
+    {
+        Ok(match self {
+            Answer::Told(reply) => Answer::Told(reply.copy(alloc)?),
+            Answer::Unavailable(fault) => Answer::Unavailable(*fault),
+        })
+    }
+
     /// Its status of HTTP (RFC 9110): the reply's, or 503.
     pub fn status(&self) -> u16
         ensures { result ≡ status_of self.now }

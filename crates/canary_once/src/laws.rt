@@ -1,5 +1,18 @@
 //! Laws over the definitions alone.
-ghost use Rattle.canary_once.specs.Laws.{GoesOn, NoneIsAhead, ConflictsChangeNothing, RefusalsLeaveTheDesk};
+ghost use Rattle.canary_once.specs.Laws.{NewAreOfTheMachine, EachOnce, OneRequest, GoesOn, NoneIsAhead, ConflictsChangeNothing, RefusalsLeaveTheDesk, StaysSettled, AnswersSettled};
+
+/// The new requests of a list of events are answered by one run of the small machine over the
+/// settled requests alone, and each number of a caller is settled once, in order.
+pub fn settled_requests()
+    ensures machine { NewAreOfTheMachine }
+    ensures once { EachOnce }
+{}
+
+/// What one request comes to: a new one is settled, a repeat gets what is kept, and one ahead is
+/// told so; neither of these changes anything.
+pub fn one_request()
+    ensures { OneRequest }
+{}
 
 /// A list of events goes on where another stopped: it does not matter how events are cut into
 /// runs.
@@ -18,4 +31,11 @@ pub fn last_number()
 pub fn refusals()
     ensures conflicts { ConflictsChangeNothing }
     ensures refused { RefusalsLeaveTheDesk }
+{}
+
+/// Where each kept reply has status 200 or 422, as where none is kept, it stays so, and each answer
+/// has status 200, 409 or 422: no 503 is ever kept.
+pub fn statuses()
+    ensures kept { StaysSettled }
+    ensures told { AnswersSettled }
 {}

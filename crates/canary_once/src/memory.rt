@@ -109,60 +109,59 @@ fn settled_in(log: &[Change], caller: &Name) -> u32
     0
 }
 
-// What is kept for that number of the caller.
+// What is kept for that number of the caller, which is looked for likewise.
 fn kept_in<'a>(log: &'a [Change], caller: &Name, number: Number) -> Option<&'a Kept>
     requires { AreSettling no_contents log.now }
     ensures { option_copied result ≡ kept_at (committed_all no_contents log.now) caller.now number }
 {
     let wanted = number.get();
-    let mut found = None;
-    for change in log {
-        found = kept_after(found, change, caller, wanted);
+    let mut left = log.len();
+    while left > 0 {
+        left -= 1;
+        if let Some(kept) = kept_by(&log[left], caller, wanted) {
+            return Some(kept);
+        }
     }
-    found
+    None
 }
 
-fn kept_after<'a>(
-    found: Option<&'a Kept>,
-    change: &'a Change,
-    caller: &Name,
-    number: u32,
-) -> Option<&'a Kept>
-    ensures { option_copied result ≡ (if bytes_eq caller.now change.now.caller && change.now.number == number then Some change.now.kept else option_copied found.entry) }
+// What a change keeps, if it is for that number of the caller.
+fn kept_by<'a>(change: &'a Change, caller: &Name, number: u32) -> Option<&'a Kept>
+    ensures { option_copied result ≡ (if bytes_eq caller.now change.now.caller && change.now.number == number then Some change.now.kept else None) }
 {
     if change.number.get() == number && *caller == change.caller {
         Some(&change.kept)
     } else {
-        found
+        None
     }
 }
 
-// The service of that name, as it was changed last.
+// The service of that name, as the newest change of it left it.
 fn service_in<'a>(log: &'a [Change], name: &Name) -> Option<&'a Service>
     ensures { option_copied result ≡ seen (committed_all no_contents log.now).desk name.now }
 {
-    let mut found = None;
-    for change in log {
-        found = service_after(found, change, name);
+    let mut left = log.len();
+    while left > 0 {
+        left -= 1;
+        if let Some(service) = service_by(&log[left], name) {
+            return Some(service);
+        }
     }
-    found
+    None
 }
 
-fn service_after<'a>(
-    found: Option<&'a Service>,
-    change: &'a Change,
-    name: &Name,
-) -> Option<&'a Service>
-    ensures { option_copied result ≡ changed_service (option_copied found.entry) (subject_of change.now.kept.command) change.now.desk name.now }
+// The service of that name, if the change left one.
+fn service_by<'a>(change: &'a Change, name: &Name) -> Option<&'a Service>
+    ensures { option_copied result ≡ changed_service None (subject_of change.now.kept.command) change.now.desk name.now }
 {
     match &change.desk {
         DeskChange::Service { service, .. } => {
             if *name == change.kept.command.subject() {
                 Some(service)
             } else {
-                found
+                None
             }
         }
-        DeskChange::Nothing => found,
+        DeskChange::Nothing => None,
     }
 }

@@ -1,8 +1,14 @@
-use Rattle.std.proofs.Common.{◌≡◌, take}
-use Rattle.std.specs.Option.{option_copied}
+use Rattle.std.proofs.Common.{◌≡◌, ◌≤◌, length, take}
 use Rattle.canary_once.specs.Contents.{no_contents, kept_at}
 use Rattle.canary_once.specs.Logs.{committed_all}
 use Rattle.canary_once.proofs.memory.kept_in.Given as goal
 
-abbrev pub invariant-loop-change : goal.invariant-loop-change
-invariant-loop-change l = option_copied l.found ≡ kept_at (committed_all no_contents (take l.change-index l.log)) l.caller l.wanted
+-- the changes that were passed over are not kept under that number of the caller
+abbrev pub invariant-loop-left : goal.invariant-loop-left
+invariant-loop-left l = record {
+  within : l.left ≤ length l.log;
+  same : kept_at (committed_all no_contents (take l.left l.log)) l.caller l.wanted ≡ kept_at (committed_all no_contents l.log) l.caller l.wanted;
+}
+
+abbrev pub decreases-loop-left : goal.decreases-loop-left
+decreases-loop-left l = l.left

@@ -1,9 +1,17 @@
-use Rattle.std.proofs.Common.{◌<◌, ◌+◌, length, sym, arith}
-use Rattle.canary_once.proofs.LogLemmas.{none_seen, seen_more}
+use Rattle.std.proofs.Common.{refl, ap, arith}
+use Rattle.std.specs.Option.{option_copied}
+use Rattle.canary_once.proofs.LogLemmas.{seen_from_end, none_seen_left}
 use Rattle.canary_once.proofs.memory.service_in.Goals as goal
 
-pub loop-change-init : goal.loop-change-init
-loop-change-init c = none_seen c.args.name.now
+pub returns-in-Some : goal.returns-in-Some
+returns-in-Some c =
+    seen_from_end c.args.log.now c.loop-left.left c.index-log-left.result c.args.name.now _ _ (omega arith) c.loop-left.invariant.within c.index-log-left.is c.in-Some.ensures refl c.loop-left.invariant.same
 
-pub loop-change-preserved : goal.loop-change-preserved
-loop-change-preserved c = seen_more c.args.log.now _ _ _ _ _ (omega arith) c.change-item.is c.loop-change.invariant c.service_after-found.ensures
+pub loop-left-preserved : goal.loop-left-preserved
+loop-left-preserved c = record {
+  within = omega arith;
+  same = seen_from_end c.args.log.now c.loop-left.left c.index-log-left.result c.args.name.now _ _ (omega arith) c.loop-left.invariant.within c.index-log-left.is c.service_by.ensures (ap option_copied c.in_default.is) c.loop-left.invariant.same;
+}
+
+pub returns : goal.returns
+returns c = none_seen_left c.args.log.now c.loop-left.left c.args.name.now (omega arith) c.loop-left.invariant.same

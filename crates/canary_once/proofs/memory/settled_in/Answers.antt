@@ -1,4 +1,4 @@
-use Rattle.std.proofs.Common.{◌≤◌, sym, ◌∙◌, arith}
+use Rattle.std.proofs.Common.{sym, ◌∙◌, arith}
 use Rattle.canary_once.proofs.LogLemmas.{found_last, passed_over, none_left}
 use Rattle.canary_once.proofs.memory.settled_in.Goals as goal
 

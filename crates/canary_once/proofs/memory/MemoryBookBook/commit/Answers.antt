@@ -1,7 +1,7 @@
 use Rattle.std.proofs.Common.{◌≡◌, List, [], ◌∷◌, ◌++◌, sym, ap, ◌∙◌, subst}
 use Rattle.std.specs.Prelude.{Result, Ok, Err, OnOk, OnErr}
 use Rattle.canary_once.specs.declared.book.Change.{Change}
-use Rattle.canary_once.specs.Contents.{Contents, no_contents, committed, IsSettling, KeepsEntries}
+use Rattle.canary_once.specs.Contents.{no_contents, committed, IsSettling, KeepsEntries}
 use Rattle.canary_once.proofs.Events.{keep_keeps, same_keeps}
 use Rattle.canary_once.specs.Logs.{committed_all, AreSettling}
 use Rattle.canary_once.proofs.LogLemmas.{committed-push, sound-push}
