@@ -1,5 +1,5 @@
 //! The words of a command line.
-ghost use Rattle.std.specs.Prelude.{◌≡◌, Some, [], map, false, IfOk, IfErr, string_bytes, option_and_then};
+ghost use Rattle.std.specs.Prelude.{◌≡◌, Some, [], map, false, IfOk, IfErr, IsSome, string_bytes, option_and_then};
 ghost use Rattle.clap.specs.Words.{app_of, found_of, kind_of, rows_of, rule_of, subcommand_rows_of};
 ghost use Rattle.canary_desk.specs.CommandLine.{desk_command, pipe_command, moment_option};
 ghost use Rattle.canary_desk.specs.CommandLine.{faults_of, program_of, program_in, number_given};
@@ -50,10 +50,12 @@ pub enum WordsFault {
 }
 
 /// Reads a command line, of which the first word is the program's name.
+#[tactic(auto, using(crate::proofs::Spelled::some_program))]
 pub fn read_words(alloc: Global, words: &[String]) -> Result<Program, WordsFault>
     ensures program { IfOk result (λ p. program_of (map string_bytes words.now) ≡ Some p) }
     ensures taken { IfOk result (λ _. faults_of (map string_bytes words.now) ≡ []) }
     ensures fault { IfErr result (IsFor (faults_of (map string_bytes words.now))) }
+    ensures spelled { faults_of (map string_bytes words.now) ≡ [] → IsSome (program_of (map string_bytes words.now)) }
 {
     let Ok(command) = desk_command(alloc) else {
         return Err(WordsFault::Memory);
