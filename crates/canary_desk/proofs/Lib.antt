@@ -1,3 +1,4 @@
 pub mod Walks
 pub mod Spelled
 pub mod Served
+pub mod TurnedAway

@@ -1,6 +1,6 @@
 -- What the words spell where clap finds no fault in them: the command `pipe`, with both of its moments.
-use Rattle.std.proofs.Common.{inl, inr, ◌≡◌, ◌≤◌, ℕ, Result, Ok, Err, ◌∙◌, ap, sym, ◌||◌, Bool, true, false, not, cond, List, [], ◌∷◌, Option, Some, None, is_some, codes, refl}
-use Rattle.std.specs.Prelude.{slice_get, unwrap_or, option_map}
+use Rattle.std.proofs.Common.{inl, inr, ◌≡◌, ◌≤◌, ℕ, Result, Ok, Err, ◌∙◌, ap, subst, sym, ◌||◌, Bool, true, false, not, cond, List, [], ◌∷◌, Option, Some, None, is_some, codes, refl}
+use Rattle.std.specs.Prelude.{IsSome, slice_get, unwrap_or, option_and_then, option_map}
 use Rattle.std.specs.Option.{SomeIff, option_map_or}
 use Rattle.std.specs.Str.Parse.{ParsesUnsigned, digits_value, without_leading_plus}
 use Rattle.clap.specs.Words.{IsUnsignedIn, ReadsOne, Row, Shape, Text, built, is_simple_and_free, one_text, rows_of, subcommand_of}
@@ -15,7 +15,7 @@ use Rattle.clap.specs.declared.error.kind.ErrorKind.TheVariants.{MissingSubcomma
 use Rattle.clap.specs.declared.parser.matches.Found.{Found}
 use Rattle.clap.proofs.WalkLemmas.{one_text-rows}
 use Rattle.clap.proofs.ValueTestLemmas.{accepts-Accepts}
-use Rattle.canary_desk.specs.CommandLine.{desk_command, pipe_command, faults_of, number_given, HasMoment, HasPipe}
+use Rattle.canary_desk.specs.CommandLine.{desk_command, pipe_command, faults_of, number_given, pipe_of, program_in, program_of, HasMoment, HasPipe}
 use Rattle.canary_desk.proofs.Walks.{AreOptions, below_none, given_text, read-level}
 
 -- the desk and its command `pipe`, as they are built
@@ -96,3 +96,17 @@ moment_made n (Some m) made small = ap (λ k. Some k) made.1
 -- where clap finds no fault, the words have met `pipe`, with a moment for each of its options
 pub spelled : (words : List Text) → faults_of words ≡ [] → HasPipe (subcommand_of desk_command words)
 spelled words none = met (stop_after desk.rules (names_of (built desk_command)) (argument_words desk_command words)) (argument_words desk_command words) none
+
+number_is : (name : Text) (rows : List Row) (h : HasMoment name rows) → number_given name rows ≡ Some (digits_value 10 (without_leading_plus h.0))
+number_is name rows h = ap (option_map (λ text. digits_value 10 (without_leading_plus text))) h.1
+
+-- so they spell a program
+pub some_program : (words : List Text) → faults_of words ≡ [] → IsSome (program_of words)
+some_program words none =
+    let h = spelled words none in
+    let at : ℕ = digits_value 10 (without_leading_plus h.2.0) in
+    let step : ℕ = digits_value 10 (without_leading_plus h.3.0) in
+    let is : program_of words ≡ pipe_of (Some at) (Some step) =
+    ap (option_and_then program_in) h.1
+    ∙ (ap (λ o. pipe_of o (number_given (codes "step") h.0)) (number_is (codes "at") h.0 h.2) ∙ ap (pipe_of (Some at)) (number_is (codes "step") h.0 h.3)) in
+    subst IsSome (sym is) refl

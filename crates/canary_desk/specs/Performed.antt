@@ -1,5 +1,5 @@
 -- What a command line comes to: what is read, what is written, and the exit status.
-use Rattle.std.specs.Prelude.{◌≡◌, ◌⊎◌, ◌++◌, ℕ, true, List, [], ◌∷◌, Result, Ok, Err, codes}
+use Rattle.std.specs.Prelude.{◌≡◌, ◌⊎◌, ◌++◌, ℕ, true, List, [], ◌∷◌, Result, Ok, Err, codes, string_bytes}
 use Rattle.std.specs.Io.KnownBytes.{Appends}
 use Rattle.clap.specs.Words.{Kinds}
 use Rattle.canary_once.specs.Contents.{Contents, no_contents}
@@ -15,7 +15,9 @@ use Rattle.canary_desk.specs.declared.perform.Fault.{Fault}
 use Rattle.canary_desk.specs.declared.perform.Fault.TheVariants as fault
 use Rattle.canary_desk.specs.declared.words.Program.{Program}
 use Rattle.canary_desk.specs.declared.words.Program.TheVariants.{Pipe}
-use Rattle.canary_desk.specs.CommandLine.{AsksForHelp, HasMistake}
+use Rattle.canary_desk.specs.declared.words.WordsFault.{WordsFault}
+use Rattle.canary_desk.specs.declared.words.WordsFault.TheVariants.{Help, Usage, Memory as NoMemory}
+use Rattle.canary_desk.specs.CommandLine.{IsFor}
 
 -- ---- faults and statuses
 
@@ -87,8 +89,12 @@ IsPipedTo r new_r w new_w at step status = (done : Result (Unit {0}) Fault)
 
 -- ---- what comes of words that have no program
 
--- the exit status is 0 only where help is asked for, and a text was written out; 2 only where the words have a mistake, and nothing was written out; and else 1
+-- help goes out whole, with status 0, or the output fails; why the words have no program leaves the output as it was
+abbrev pub IsTold : WordsFault → Known → Known → ℕ → Type 0
+IsTold (Help text) w new_w status = ((status ≡ 0) × Appends w new_w (string_bytes text)) ⊎ (status ≡ 1)
+IsTold (Usage text) w new_w status = (status ≡ 2) × (new_w ≡ w)
+IsTold NoMemory w new_w status = (status ≡ 1) × (new_w ≡ w)
+
+-- help is told only where it is asked for, and a mistake only where the words have one
 abbrev pub IsTurnedAway : Kinds → Known → Known → ℕ → Type 0
-IsTurnedAway kinds w new_w status =
-    ((status ≡ 0) × AsksForHelp kinds × ((text : List ℕ) × Appends w new_w text))
-    ⊎ (((status ≡ 2) × HasMistake kinds × (new_w ≡ w)) ⊎ (status ≡ 1))
+IsTurnedAway kinds w new_w status = (fault : WordsFault) × IsFor kinds fault × IsTold fault w new_w status

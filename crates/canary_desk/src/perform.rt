@@ -4,7 +4,7 @@ ghost use Rattle.std.specs.IoError.{error_kind};
 ghost use Rattle.std.specs.Io.KnownBytes.{Appends};
 ghost use Rattle.canary_desk.specs.CommandLine.{faults_of, program_of};
 ghost use Rattle.canary_desk.specs.Performed.{done_of, line_of, status_of};
-ghost use Rattle.canary_desk.specs.Performed.{IsPiped, IsPipedTo, IsRun, IsTurnedAway};
+ghost use Rattle.canary_desk.specs.Performed.{IsPiped, IsPipedTo, IsRun, IsTold, IsTurnedAway};
 
 use crate::words::{Program, WordsFault, read_words};
 use canary_base::moments::Moment;
@@ -20,6 +20,13 @@ pub const DONE: u8 = 0;
 pub const FAULT: u8 = 1;
 /// The exit status where the command line is none that the desk takes.
 pub const USAGE: u8 = 2;
+
+// What is said of a word that is not UTF-8, laid out as clap says what is wrong with words.
+const NOT_UTF8: &str = concat!(
+    "error: a word of the command line is not UTF-8\n\n",
+    "Usage: canary <COMMAND>\n\n",
+    "For more information, try '--help'.\n"
+);
 
 /// Why what was asked was not done to its end.
 #[derive(Clone, Copy, Debug, PartialEq, Eq)]
@@ -71,15 +78,26 @@ pub fn perform<R: Read, W: Write, F: Write>(
     ensures turned_away { (faults_of (map string_bytes words.now) ≡ [] → ⊥)
         → IsTurnedAway (faults_of (map string_bytes words.now)) (W.contents output.old) (W.contents output.new) result }
     ensures unread { (faults_of (map string_bytes words.now) ≡ [] → ⊥) → input.new ≡ input.old }
+    ensures quiet { result ≡ DONE → errors.new ≡ errors.old }
 {
     match read_words(alloc, words) {
         Ok(program) => finish(run(alloc, program, input, output), errors),
-        Err(WordsFault::Help(text)) => finish(show(text.as_str(), output), errors),
-        Err(WordsFault::Usage(text)) => {
+        Err(fault) => turn_away(&fault, output, errors),
+    }
+}
+
+// Says why the words of the command line give no program, or gives the help that they ask for.
+fn turn_away<W: Write, F: Write>(fault: &WordsFault, output: &mut W, errors: &mut F) -> u8
+    ensures told { IsTold fault.now (W.contents output.old) (W.contents output.new) result }
+    ensures quiet { result ≡ DONE → errors.new ≡ errors.old }
+{
+    match fault {
+        WordsFault::Help(text) => finish(show(text.as_str(), output), errors),
+        WordsFault::Usage(text) => {
             let _ = errors.write_all(text.as_bytes());
             USAGE
         }
-        Err(WordsFault::Memory) => finish(Err(Fault::Memory), errors),
+        WordsFault::Memory => finish(Err(Fault::Memory), errors),
     }
 }
 
@@ -90,7 +108,7 @@ pub fn refuse<F: Write>(error: &io::Error, errors: &mut F) -> u8
     ensures fault { (error_kind error.now ≡ ErrorKind.InvalidData → ⊥) → result ≡ FAULT }
 {
     if error.kind() == ErrorKind::InvalidData {
-        let _ = errors.write_all(b"error: a word of the command line is not UTF-8\n");
+        let _ = errors.write_all(NOT_UTF8.as_bytes());
         return USAGE;
     }
     finish(Err(Fault::Memory), errors)
@@ -147,7 +165,8 @@ fn show<W: Write>(text: &str, output: &mut W) -> Result<(), Fault>
 
 // The status, with the line of a fault on `errors`.
 fn finish<F: Write>(done: Result<(), Fault>, errors: &mut F) -> u8
-    ensures { result ≡ status_of done }
+    ensures status { result ≡ status_of done }
+    ensures quiet { result ≡ DONE → errors.new ≡ errors.old }
 {
     match done {
         Ok(()) => DONE,

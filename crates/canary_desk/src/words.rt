@@ -1,12 +1,11 @@
 //! The words of a command line.
-ghost use Rattle.std.specs.Prelude.{◌≡◌, Some, [], map, false, IfOk, IfErr, string_bytes, option_and_then};
+ghost use Rattle.std.specs.Prelude.{◌≡◌, Some, [], map, false, IfOk, IfErr, IsSome, string_bytes, option_and_then};
 ghost use Rattle.clap.specs.Words.{app_of, found_of, kind_of, rows_of, rule_of, subcommand_rows_of};
 ghost use Rattle.canary_desk.specs.CommandLine.{desk_command, pipe_command, moment_option};
 ghost use Rattle.canary_desk.specs.CommandLine.{faults_of, program_of, program_in, number_given};
 ghost use Rattle.canary_desk.specs.CommandLine.{IsFor, HasPipe, HasMoment};
 ghost use Rattle.clap.specs.Words.{HasKind, Kinds, with_subcommand};
 
-use canary_base::error::Memory;
 use canary_base::moments::{LAST_MOMENT, Moment};
 use clap::builder::ValueParser;
 use clap::error::ErrorKind;
@@ -18,6 +17,18 @@ const AT_HELP: &str =
 
 const STEP_HELP: &str =
     "How many seconds each further request comes after the one before it, 0 to 253370764799";
+
+const STATUS_HELP: &str = "Exit status: 0 when done, 1 for a fault, 2 for a mistake in the words.";
+
+const FAULTS_HELP: &str = concat!(
+    "Exit status: 0 when the input was answered to its end or a request closed the stream, 2 for a\n",
+    "mistake in the words, and 1 for a fault, which a line on standard error names:\n",
+    "  canary: truncated    the input ended in the midst of a request\n",
+    "  canary: turns-spent  the input went on after 1,000,000,000 reads\n",
+    "  canary: read         the input failed\n",
+    "  canary: write        the output failed or was closed\n",
+    "  canary: memory       there was not memory enough to begin"
+);
 
 /// What a command line asks for.
 #[derive(Clone, Copy, Debug, PartialEq, Eq)]
@@ -39,10 +50,12 @@ pub enum WordsFault {
 }
 
 /// Reads a command line, of which the first word is the program's name.
+#[tactic(auto, using(crate::proofs::Spelled::some_program))]
 pub fn read_words(alloc: Global, words: &[String]) -> Result<Program, WordsFault>
     ensures program { IfOk result (λ p. program_of (map string_bytes words.now) ≡ Some p) }
     ensures taken { IfOk result (λ _. faults_of (map string_bytes words.now) ≡ []) }
     ensures fault { IfErr result (IsFor (faults_of (map string_bytes words.now))) }
+    ensures spelled { faults_of (map string_bytes words.now) ≡ [] → IsSome (program_of (map string_bytes words.now)) }
 {
     let Ok(command) = desk_command(alloc) else {
         return Err(WordsFault::Memory);
@@ -59,6 +72,7 @@ fn desk_command<'a>(alloc: Global) -> Result<Command<'a>, AllocError>
 {
     let desk = Command::new(alloc, "canary")
         .about("Judges canary releases: settles numbered requests, each once, and answers them")
+        .after_help(STATUS_HELP)
         .disable_help_subcommand(true)
         .subcommand_required(true);
     with_pipe(alloc, desk)
@@ -74,6 +88,7 @@ fn with_pipe<'a>(alloc: Global, desk: Command<'a>) -> Result<Command<'a>, AllocE
         .about(
             "Answers HTTP requests from standard input on standard output, with records kept in memory",
         )
+        .after_help(FAULTS_HELP)
         .arg(at)?
         .arg(step)?;
     desk.subcommand(pipe)
@@ -131,6 +146,7 @@ fn fault_of(alloc: Global, error: &Error) -> WordsFault
 #[cfg(test)]
 mod tests {
     use super::*;
+    use canary_base::error::Memory;
     use std::test::Fail;
 
     #[test]
@@ -144,7 +160,10 @@ mod tests {
         let step = Moment::new(60).ok_or("a moment")?;
         match read_words(alloc, words.as_slice()) {
             Ok(program) => assert_eq!(rt; program, Program::Pipe { at, step }),
-            Err(fault) => assert!(rt; matches!(fault, WordsFault::Memory)),
+            Err(fault) => {
+                assert!(rt; matches!(fault, WordsFault::Memory));
+                return Err(Memory.into());
+            }
         }
         Ok(())
     }
