@@ -49,6 +49,3 @@ fn answer<B: Book>(alloc: Global, book: &mut B, event: &Event) -> Answer
         ),
     }
 }
-
-#[cfg(test)]
-mod tests;

@@ -10,6 +10,8 @@ mod condition;
 #[cfg(test)]
 mod metric;
 #[cfg(test)]
+mod once;
+#[cfg(test)]
 mod plan;
 #[cfg(test)]
 mod release;

@@ -1,22 +1,22 @@
-//! The worked rows, sent to a book in memory. Each test holds as well where any one allocation is
-//! refused: what was answered 503 changed nothing, and is sent again.
+//! The register: worked rows, sent to a book in memory and to one whose store fails. Each test holds
+//! as well where any one allocation is refused: what was answered 503 changed nothing, no more than
+//! one request is answered so, and it is sent again.
 ghost use Rattle.std.specs.Prelude.{◌≡◌};
 
-use super::run;
-use crate::book::{Book, BookFault, Change, Kept};
-use crate::clock::{Clock, StepClock};
-use crate::event::{Answer, Event, Request};
-use crate::memory::MemoryBook;
-use crate::post::post;
 use canary_base::lists::Listed;
 use canary_base::moments::{LAST_MOMENT, Moment};
 use canary_base::names::{Label, Name};
 use canary_base::numbers::Number;
+use canary_once::book::{Book, BookFault, Change, Kept};
+use canary_once::clock::{Clock, StepClock};
+use canary_once::event::{Answer, Event, Request};
+use canary_once::memory::MemoryBook;
+use canary_once::post::post;
+use canary_once::run::run;
 use canary_plan::command::Command;
-use canary_plan::plan::{ServiceSpec, Step, Strategy};
-use canary_release::decide::decide;
+use canary_plan::plan::{ServiceSpec, Step};
 use canary_release::reply::Reply;
-use canary_release::service::{Service, Status};
+use canary_release::service::Service;
 use std::alloc::Global;
 use std::process::Abort;
 use std::test::Fail;
@@ -46,6 +46,13 @@ const ONE_PAUSE: [Step; 1] = [Step::Pause];
 const TOO_HEAVY: [Step; 2] = [Step::SetWeight(100), Step::SetWeight(101)];
 
 const TOO_MANY: [Step; 65] = [Step::Pause; 65];
+
+const HEALTHY: &str =
+    "{\"code\":\"ok\",\"service\":\"web\",\"status\":\"Healthy\",\"step\":4,\"weight\":100}";
+
+const UNKNOWN: &str = "{\"code\":\"unknown-service\"}";
+
+const NO_MEMORY: &str = "{\"code\":\"no-memory\"}";
 
 const STORAGE: &str = "{\"code\":\"storage\"}";
 
@@ -109,27 +116,38 @@ fn answer<B: Book>(alloc: Global, book: &mut B, row: &Row) -> Option<Answer> {
 }
 
 /// Sends a row, and once more where it was answered 503 or not at all: then nothing was settled.
-fn send<B: Book>(rt: &impl Abort, alloc: Global, book: &mut B, row: &Row) -> Result<(), Fail> {
+/// Whether it was sent twice.
+fn send<B: Book>(rt: &impl Abort, alloc: Global, book: &mut B, row: &Row) -> Result<bool, Fail> {
     let caller = Name::read(b"ops").ok_or("a name")?;
     let settled = book.settled(&caller)?;
-    let last = match answer(alloc, book, row) {
-        Some(answer) if answer.status() != 503 => answer,
+    let (last, is_resent) = match answer(alloc, book, row) {
+        Some(answer) if answer.status() != 503 => (answer, false),
         _ => {
             assert_eq!(rt; book.settled(&caller)?, settled);
-            answer(alloc, book, row).ok_or("an answer")?
+            (answer(alloc, book, row).ok_or("an answer")?, true)
         }
     };
     assert_eq!(rt; last.body(), row.body);
     assert_eq!(rt; last.status(), row.status, "{}", row.body);
-    Ok(())
+    Ok(is_resent)
 }
 
-fn healthy() -> &'static str {
-    "{\"code\":\"ok\",\"service\":\"web\",\"status\":\"Healthy\",\"step\":4,\"weight\":100}"
+/// Sends rows in order to a new book. No more than one allocation is refused, so no more than one row
+/// is sent twice.
+fn send_all(rt: &impl Abort, alloc: Global, rows: &[Row]) -> Result<MemoryBook, Fail> {
+    let mut book = MemoryBook::new(alloc);
+    let mut was_resent = false;
+    for row in rows {
+        if send(rt, alloc, &mut book, row)? {
+            assert!(rt; !was_resent, "{}", row.body);
+            was_resent = true;
+        }
+    }
+    Ok(book)
 }
 
 fn shows_healthy(reply: &Reply) -> bool {
-    reply.status == 200 && reply.body.as_str() == healthy()
+    reply.status == 200 && reply.body.as_str() == HEALTHY
 }
 
 #[test]
@@ -138,28 +156,21 @@ fn a_doubled_promotion_acts_once(rt: HostRuntime) -> Result<(), Fail> {
         "{\"code\":\"ok\",\"service\":\"web\",\"status\":\"Paused\",\"step\":1,\"weight\":20}";
     let second =
         "{\"code\":\"ok\",\"service\":\"web\",\"status\":\"Paused\",\"step\":3,\"weight\":50}";
+    let ahead = "{\"code\":\"ahead\",\"expected\":4}";
+    let done = "{\"code\":\"not-in-progress\"}";
     let rows = [
-        make_row(1, 0, Asked::Add(&TWO_PAUSES), 200, healthy()),
+        make_row(1, 0, Asked::Add(&TWO_PAUSES), 200, HEALTHY),
         make_row(2, 1, Asked::Start("v2"), 200, first),
         make_row(3, 2, Asked::Promote, 200, second),
         make_row(3, 3, Asked::Promote, 200, second),
-        make_row(
-            5,
-            4,
-            Asked::Promote,
-            409,
-            "{\"code\":\"ahead\",\"expected\":4}",
-        ),
+        make_row(5, 4, Asked::Promote, 409, ahead),
         make_row(3, 5, Asked::Start("v3"), 409, "{\"code\":\"reused\"}"),
         make_row(2, 6, Asked::Start("v2"), 200, first),
-        make_row(4, 7, Asked::Promote, 200, healthy()),
-        make_row(5, 8, Asked::Promote, 422, "{\"code\":\"not-in-progress\"}"),
-        make_row(5, 9, Asked::Promote, 422, "{\"code\":\"not-in-progress\"}"),
+        make_row(4, 7, Asked::Promote, 200, HEALTHY),
+        make_row(5, 8, Asked::Promote, 422, done),
+        make_row(5, 9, Asked::Promote, 422, done),
     ];
-    let mut book = MemoryBook::new(rt.alloc());
-    for row in &rows {
-        send(&rt, rt.alloc(), &mut book, row)?;
-    }
+    send_all(&rt, rt.alloc(), &rows)?;
     Ok(())
 }
 
@@ -169,45 +180,21 @@ fn refusals_and_moments_that_fall(rt: HostRuntime) -> Result<(), Fail> {
         "{\"code\":\"ok\",\"service\":\"web\",\"status\":\"Healthy\",\"step\":1,\"weight\":100}";
     let paused =
         "{\"code\":\"ok\",\"service\":\"web\",\"status\":\"Paused\",\"step\":0,\"weight\":0}";
+    let bad = "{\"code\":\"bad-strategy\"}";
+    let exists = "{\"code\":\"service-exists\"}";
+    let stable = "{\"code\":\"already-stable\"}";
     let rows = [
-        make_row(1, 0, Asked::Promote, 422, "{\"code\":\"unknown-service\"}"),
-        make_row(
-            2,
-            1,
-            Asked::Add(&TOO_HEAVY),
-            422,
-            "{\"code\":\"bad-strategy\"}",
-        ),
-        make_row(
-            3,
-            2,
-            Asked::Add(&TOO_MANY),
-            422,
-            "{\"code\":\"bad-strategy\"}",
-        ),
+        make_row(1, 0, Asked::Promote, 422, UNKNOWN),
+        make_row(2, 1, Asked::Add(&TOO_HEAVY), 422, bad),
+        make_row(3, 2, Asked::Add(&TOO_MANY), 422, bad),
         make_row(4, 9, Asked::Add(&ONE_PAUSE), 200, done),
-        make_row(
-            5,
-            4,
-            Asked::Add(&TOO_MANY),
-            422,
-            "{\"code\":\"service-exists\"}",
-        ),
-        make_row(
-            6,
-            3,
-            Asked::Start("v1"),
-            422,
-            "{\"code\":\"already-stable\"}",
-        ),
+        make_row(5, 4, Asked::Add(&TOO_MANY), 422, exists),
+        make_row(6, 3, Asked::Start("v1"), 422, stable),
         make_row(7, 0, Asked::Start("v2"), 200, paused),
         make_row(8, 2, Asked::Start("v3"), 422, "{\"code\":\"in-progress\"}"),
         make_row(9, 1, Asked::Promote, 200, done),
     ];
-    let mut book = MemoryBook::new(rt.alloc());
-    for row in &rows {
-        send(&rt, rt.alloc(), &mut book, row)?;
-    }
+    let mut book = send_all(&rt, rt.alloc(), &rows)?;
     let web = Name::read(b"web").ok_or("a name")?;
     let service = again!(book.service(&web)).ok_or("a service")?;
     assert_eq!(rt; service.parts().entered.get(), B + 9);
@@ -219,14 +206,49 @@ fn refusals_and_moments_that_fall(rt: HostRuntime) -> Result<(), Fail> {
 fn a_service_without_steps(rt: HostRuntime) -> Result<(), Fail> {
     let done =
         "{\"code\":\"ok\",\"service\":\"web\",\"status\":\"Healthy\",\"step\":0,\"weight\":100}";
-    let mut book = MemoryBook::new(rt.alloc());
     let rows = [
         make_row(1, 0, Asked::Add(&[]), 200, done),
         make_row(2, 1, Asked::Start("v2"), 200, done),
     ];
-    for row in &rows {
-        send(&rt, rt.alloc(), &mut book, row)?;
+    send_all(&rt, rt.alloc(), &rows)?;
+    Ok(())
+}
+
+/// The first promotions of three callers, which know of no service.
+fn promotions(alloc: Global) -> Option<Vec<Event>> {
+    let mut events = Vec::with_capacity(alloc, 3).ok()?;
+    for caller in ["ann", "bob", "eve"] {
+        let request = Request {
+            moment: Moment::new(B)?,
+            caller: Name::read(caller.as_bytes())?,
+            number: Number::new(1)?,
+            command: command(alloc, Asked::Promote)?,
+        };
+        events.push(Event::Request(request)).ok()?;
     }
+    Some(events)
+}
+
+/// How many of the answers have that body.
+fn count_told(answers: &[Answer], body: &str) -> usize {
+    let mut count = 0usize;
+    for answer in answers {
+        if answer.body() == body {
+            count = count.saturating_add(1);
+        }
+    }
+    count
+}
+
+#[test]
+fn one_failure_is_answered_once(rt: HostRuntime) -> Result<(), Fail> {
+    let alloc = rt.alloc();
+    let events = again!(promotions(alloc).ok_or("events"));
+    let mut book = MemoryBook::new(alloc);
+    let answers = again!(run(alloc, &mut book, events.as_slice()));
+    let failed = count_told(answers.as_slice(), NO_MEMORY);
+    assert!(rt; failed <= 1);
+    assert!(rt; count_told(answers.as_slice(), UNKNOWN) == 3 - failed);
     Ok(())
 }
 
@@ -291,8 +313,24 @@ impl Book for Faulty {
 }
 
 #[test]
+fn a_failed_commit_is_answered_once(rt: HostRuntime) -> Result<(), Fail> {
+    let alloc = rt.alloc();
+    let events = again!(promotions(alloc).ok_or("events"));
+    let mut book = Faulty {
+        book: MemoryBook::new(alloc),
+        fails: Some(Call::Commit),
+    };
+    let answers = again!(run(alloc, &mut book, events.as_slice()));
+    assert!(rt; count_told(answers.as_slice(), STORAGE) == 1);
+    let failed = count_told(answers.as_slice(), NO_MEMORY);
+    assert!(rt; failed <= 1);
+    assert!(rt; count_told(answers.as_slice(), UNKNOWN) == 2 - failed);
+    Ok(())
+}
+
+#[test]
 fn a_store_that_fails(rt: HostRuntime) -> Result<(), Fail> {
-    let row = make_row(1, 0, Asked::Add(&TWO_PAUSES), 200, healthy());
+    let row = make_row(1, 0, Asked::Add(&TWO_PAUSES), 200, HEALTHY);
     let mut book = Faulty {
         book: MemoryBook::new(rt.alloc()),
         fails: None,
@@ -306,7 +344,8 @@ fn a_store_that_fails(rt: HostRuntime) -> Result<(), Fail> {
     send(&rt, rt.alloc(), &mut book, &row)?;
     book.fails = Some(Call::Kept);
     refuse(&rt, rt.alloc(), &mut book, &row)?;
-    send(&rt, rt.alloc(), &mut book, &row)
+    send(&rt, rt.alloc(), &mut book, &row)?;
+    Ok(())
 }
 
 /// Sends a row to a book whose store fails.
@@ -321,51 +360,25 @@ fn refuse(rt: &impl Abort, alloc: Global, book: &mut Faulty, row: &Row) -> Resul
     Ok(())
 }
 
-/// Whether plans copy; none where memory was refused.
-fn plans_copy(alloc: Global) -> Option<bool> {
-    let asked = command(alloc, Asked::Add(&TWO_PAUSES))?;
-    let copy = asked.copy(alloc).ok()?;
-    let Command::Service(spec) = copy else {
-        return Some(false);
-    };
-    let strategy = Strategy::check(alloc, &spec.steps).ok()?.copy(alloc).ok()?;
-    let is_whole = strategy.steps() == spec.steps.as_slice();
-    let same = Command::Service(spec.copy(alloc).ok()?);
-    Some(is_whole && same.is_same(&asked))
-}
-
-/// Whether a new service is shown, and its reply copies; none where memory was refused.
-fn replies_copy(alloc: Global) -> Option<bool> {
-    let asked = command(alloc, Asked::Add(&TWO_PAUSES))?;
-    let decision = decide(alloc, None, Moment::new(B)?, &asked).ok()?;
-    let copy = decision.reply.copy(alloc).ok()?;
-    Some(shows_healthy(&copy))
-}
-
-/// Whether a service copies, and passes to the greatest moment; none where memory was refused.
-fn services_copy(alloc: Global, service: &Service) -> Option<bool> {
-    let copy = service.copy(alloc).ok()?;
-    let passed = copy.passed(alloc, Moment::new(LAST_MOMENT)?).ok()?;
-    let parts = passed.service.parts().copy(alloc).ok()?;
-    let is_done = copy.status() == Status::Healthy && copy.weight() == 100;
-    Some(is_done && parts.last.get() == LAST_MOMENT && passed.effects.lines.as_slice().is_empty())
+/// Whether an event and the answer to it copy; none where memory was refused.
+fn events_copy(alloc: Global) -> Option<bool> {
+    let row = make_row(1, 0, Asked::Promote, 422, UNKNOWN);
+    let copy = event(alloc, &row)?.copy(alloc).ok()?;
+    let told = run(alloc, &mut MemoryBook::new(alloc), &[copy])
+        .ok()?
+        .pop()?;
+    if told.status() == 503 {
+        return None;
+    }
+    let copy = told.copy(alloc).ok()?;
+    Some(copy.status() == 422 && copy.body() == UNKNOWN)
 }
 
 #[test]
-fn calls_with_ample_memory(rt: HostRuntime) -> Result<(), Fail> {
+fn calls_with_ample_memory(rt: HostRuntime) {
     let alloc = rt.alloc();
-    assert_eq!(rt; plans_copy(alloc).or(plans_copy(alloc)), Some(true));
-    assert_eq!(rt; replies_copy(alloc).or(replies_copy(alloc)), Some(true));
-    let mut book = MemoryBook::new(alloc);
-    let row = make_row(1, 0, Asked::Add(&TWO_PAUSES), 200, healthy());
-    send(&rt, alloc, &mut book, &row)?;
-    let web = Name::read(b"web").ok_or("a name")?;
-    let service = again!(book.service(&web)).ok_or("a service")?;
-    assert_eq!(rt;
-        services_copy(alloc, &service).or(services_copy(alloc, &service)),
-        Some(true)
-    );
-    Ok(())
+    let is_copied = events_copy(alloc).or(events_copy(alloc)).unwrap_or(false);
+    assert!(rt; is_copied);
 }
 
 #[test]
@@ -385,9 +398,9 @@ fn one_post(rt: HostRuntime) -> Result<(), Fail> {
         let told = post(alloc, &mut book, at, caller, first, &asked);
         if told.status() == 503 {
             let told = post(alloc, &mut book, at, caller, first, &asked);
-            assert!(rt; told.body() == healthy());
+            assert!(rt; told.body() == HEALTHY);
         } else {
-            assert!(rt; told.body() == healthy());
+            assert!(rt; told.body() == HEALTHY);
         }
     }
     assert_eq!(rt; book.settled(&caller)?, 1);
