@@ -9,11 +9,16 @@ use std::alloc::{AllocError, Global};
 use std::process::Abort;
 use std::test::Fail;
 
-/// A comparison in so many round brackets.
-fn bracketed(alloc: Global, depth: usize, text: &str) -> Result<String, AllocError> {
-    let mut whole = "(".repeat(alloc, depth)?;
+/// This front, and behind it a text in so many round brackets.
+fn bracketed(alloc: Global, front: &str, depth: usize, text: &str) -> Result<String, AllocError> {
+    let mut whole = String::from_str(alloc, front)?;
+    for _ in 0..depth {
+        whole.push('(')?;
+    }
     whole.push_str(text)?;
-    whole.push_str(")".repeat(alloc, depth)?.as_str())?;
+    for _ in 0..depth {
+        whole.push(')')?;
+    }
     Ok(whole)
 }
 
@@ -57,31 +62,57 @@ fn names_each_fault(rt: HostRuntime) {
     }
 }
 
-#[test]
-fn keeps_the_order_of_the_faults(rt: HostRuntime) -> Result<(), Fail> {
-    let alloc = rt.alloc();
-    for (text, fault) in [
-        ("result>0", ConditionFault::TooDeep),
-        ("result > 9223372036854775808", ConditionFault::NumberRange),
-        ("result >", ConditionFault::TooDeep),
-    ] {
-        let deep = bracketed(alloc, 33, text)?;
-        expect_fault(&rt, alloc, deep.as_str(), fault);
-    }
-    let mut after_closing = String::from_str(alloc, ")))")?;
-    after_closing.push_str(bracketed(alloc, 32, "result>0")?.as_str())?;
-    expect_fault(&rt, alloc, after_closing.as_str(), ConditionFault::Syntax);
-    let long = " ".repeat(alloc, 1025)?;
-    expect_fault(&rt, alloc, long.as_str(), ConditionFault::TooLong);
-    let longest = " ".repeat(alloc, 1024)?;
-    expect_fault(&rt, alloc, longest.as_str(), ConditionFault::Syntax);
+/// The fault of a text in so many brackets behind this front.
+fn expect_deep(
+    rt: &impl Abort,
+    alloc: Global,
+    front: &str,
+    depth: usize,
+    text: &str,
+    fault: ConditionFault,
+) -> Result<(), AllocError> {
+    let deep = bracketed(alloc, front, depth, text)?;
+    expect_fault(rt, alloc, deep.as_str(), fault);
     Ok(())
 }
 
-/// What a copy of the condition says of a whole number.
+/// The fault of so many spaces.
+fn expect_spaces(
+    rt: &impl Abort,
+    alloc: Global,
+    count: usize,
+    fault: ConditionFault,
+) -> Result<(), AllocError> {
+    let spaces = " ".repeat(alloc, count)?;
+    expect_fault(rt, alloc, spaces.as_str(), fault);
+    Ok(())
+}
+
+#[test]
+fn keeps_the_order_of_the_faults(rt: HostRuntime) -> Result<(), Fail> {
+    let alloc = rt.alloc();
+    for (front, depth, text, fault) in [
+        ("", 33, "result>0", ConditionFault::TooDeep),
+        (
+            "",
+            33,
+            "result > 9223372036854775808",
+            ConditionFault::NumberRange,
+        ),
+        ("", 33, "result >", ConditionFault::TooDeep),
+        (")))", 32, "result>0", ConditionFault::Syntax),
+    ] {
+        expect_deep(&rt, alloc, front, depth, text, fault)?;
+    }
+    expect_spaces(&rt, alloc, 1025, ConditionFault::TooLong)?;
+    expect_spaces(&rt, alloc, 1024, ConditionFault::Syntax)?;
+    Ok(())
+}
+
+/// What the condition says of a whole number.
 fn verdict_at(alloc: Global, text: &str, number: i64) -> Result<Verdict3, ConditionFault> {
-    let copy = Condition::parse(alloc, text)?.copy(alloc)?;
-    Ok(copy.eval(&Value::Whole(number)))
+    let condition = Condition::parse(alloc, text)?;
+    Ok(condition.eval(&Value::Whole(number)))
 }
 
 #[test]
@@ -120,7 +151,7 @@ fn groups_as_the_grammar_says(rt: HostRuntime) -> Result<(), Fail> {
             "{text} at {number}"
         );
     }
-    let deepest = bracketed(alloc, 32, "result>0")?;
+    let deepest = bracketed(alloc, "", 32, "result>0")?;
     assert_eq!(rt; verdict_at(alloc, deepest.as_str(), 1)?, Verdict3::True);
     Ok(())
 }
@@ -133,13 +164,16 @@ fn condition_of(alloc: Global, text: &str) -> Result<Option<Condition>, Conditio
     Ok(Some(Condition::parse(alloc, text)?))
 }
 
-/// The phase of a copy of this result's outcome.
+/// The phase of a result by these conditions.
+fn phase_by(success: Option<Condition>, failure: Option<Condition>, value: Value) -> Phase {
+    measure(success.as_ref(), failure.as_ref(), &Outcome::Result(value))
+}
+
 fn phase_at(alloc: Global, success: &str, failure: &str, value: &str) -> Result<Phase, Fail> {
+    let value = Value::read(value).ok_or("the text of a result")?;
     let success = condition_of(alloc, success)?;
     let failure = condition_of(alloc, failure)?;
-    let value = Value::read(value).ok_or("the text of a result")?;
-    let outcome = Outcome::Result(value).copy(alloc)?;
-    Ok(measure(success.as_ref(), failure.as_ref(), &outcome))
+    Ok(phase_by(success, failure, value))
 }
 
 #[test]
@@ -181,30 +215,66 @@ fn failure_of(alloc: Global, len: usize) -> Result<Option<FailureText>, AllocErr
     Ok(FailureText::of(Text::of("x".repeat(alloc, len)?)))
 }
 
+/// A failure with a text of three bytes.
+fn failure(alloc: Global) -> Result<Outcome, Fail> {
+    let text = failure_of(alloc, 3)?.ok_or("short enough")?;
+    Ok(Outcome::Failure(text))
+}
+
 #[test]
 fn measures_a_failure_as_an_error(rt: HostRuntime) -> Result<(), Fail> {
-    let alloc = rt.alloc();
-    let text = failure_of(alloc, 3)?.ok_or("short enough")?;
-    assert_eq!(rt; text.copy(alloc)?.as_str(), "xxx");
-    let always = Condition::parse(alloc, "0 == 0")?;
-    let outcome = Outcome::Failure(text);
-    assert_eq!(rt; measure(Some(&always), None, &outcome), Phase::Error);
-    assert_eq!(rt; measure(None, None, &outcome.copy(alloc)?), Phase::Error);
+    let outcome = failure(rt.alloc())?;
+    assert_eq!(rt; measure(None, None, &outcome), Phase::Error);
     Ok(())
+}
+
+#[test]
+fn measures_a_copy_as_the_original(rt: HostRuntime) -> Result<(), Fail> {
+    let outcome = failure(rt.alloc())?;
+    let copy = outcome.copy(rt.alloc())?;
+    assert_eq!(rt; measure(None, None, &copy), Phase::Error);
+    Ok(())
+}
+
+#[test]
+fn evaluates_a_copy_as_the_original(rt: HostRuntime) -> Result<(), Fail> {
+    let condition = Condition::parse(rt.alloc(), "result > 0")?;
+    let copy = condition.copy(rt.alloc())?;
+    assert_eq!(rt; copy.eval(&Value::Whole(1)), Verdict3::True);
+    Ok(())
+}
+
+/// Whether a failure's text may have so many bytes.
+fn is_failure_of(alloc: Global, len: usize) -> Result<bool, AllocError> {
+    Ok(failure_of(alloc, len)?.is_some())
 }
 
 #[test]
 fn keeps_failure_texts_of_1_to_200_bytes(rt: HostRuntime) -> Result<(), Fail> {
     for (len, stands) in [(0, false), (1, true), (200, true), (201, false)] {
-        let text = failure_of(rt.alloc(), len)?;
-        assert_eq!(rt; text.is_some(), stands, "{len} bytes");
+        assert_eq!(rt; is_failure_of(rt.alloc(), len)?, stands, "{len} bytes");
     }
+    Ok(())
+}
+
+/// Writes a result behind these three bytes; on want of memory they stand alone.
+fn expect_words(rt: &impl Abort, value: &Value, words: &mut String, text: &str) {
+    match value.words(words) {
+        Ok(()) => assert_eq!(rt; words.as_str().get(3..), Some(text)),
+        Err(Memory) => assert_eq!(rt; words.as_str(), "is "),
+    }
+}
+
+/// Reads a text as a result and writes that.
+fn expect_again(rt: &impl Abort, alloc: Global, text: &str) -> Result<(), Fail> {
+    let value = Value::read(text).ok_or("a text of a result")?;
+    let mut words = String::from_str(alloc, "is ")?;
+    expect_words(rt, &value, &mut words, text);
     Ok(())
 }
 
 #[test]
 fn reads_what_it_writes(rt: HostRuntime) -> Result<(), Fail> {
-    let alloc = rt.alloc();
     for text in [
         "0",
         "-5",
@@ -215,12 +285,7 @@ fn reads_what_it_writes(rt: HostRuntime) -> Result<(), Fail> {
         "[0]",
         "[1;2;3;4;5;6;7;8;9;10;11;12;13;14;15;16]",
     ] {
-        let value = Value::read(text).ok_or("a text of a result")?;
-        let mut words = String::from_str(alloc, "is ")?;
-        match value.words(&mut words) {
-            Ok(()) => assert_eq!(rt; words.as_str().get(3..), Some(text)),
-            Err(Memory) => assert_eq!(rt; words.as_str(), "is "),
-        }
+        expect_again(&rt, rt.alloc(), text)?;
     }
     Ok(())
 }

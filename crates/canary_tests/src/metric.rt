@@ -21,13 +21,13 @@ fn moment(rt: &impl Abort, seconds: u64) -> Moment {
     Moment::new(seconds).expect(rt, "a moment")
 }
 
-fn settings(rt: &impl Abort, interval: Option<u64>) -> MetricSettings {
+fn settings(rt: &impl Abort, interval: Option<Seconds>) -> MetricSettings {
     let name = Label::read(b"m").expect(rt, "a label");
     MetricSettings {
         name,
         success: None,
         failure: None,
-        interval: interval.map(|seconds| Seconds::new(seconds).expect(rt, "a duration")),
+        interval,
         initial_delay: None,
         count: None,
         failure_limit: None,
@@ -43,14 +43,14 @@ fn metric(rt: &impl Abort, settings: MetricSettings) -> Metric {
 
 /// A metric with an interval of a minute, and else its defaults.
 fn endless(rt: &impl Abort, dry_run: bool) -> Metric {
-    let mut settings = settings(rt, Some(60));
+    let mut settings = settings(rt, Seconds::new(60));
     settings.dry_run = dry_run;
     metric(rt, settings)
 }
 
 /// A metric with a count of 3 and one failure allowed.
 fn three(rt: &impl Abort) -> Metric {
-    let mut settings = settings(rt, Some(10));
+    let mut settings = settings(rt, Seconds::new(10));
     settings.count = Some(3);
     settings.failure_limit = Some(1);
     metric(rt, settings)
@@ -194,7 +194,7 @@ fn has_defaults(metric: &Metric) -> bool {
 
 #[test]
 fn conditions_of_copies(rt: HostRuntime) -> Result<(), Fail> {
-    let mut both = settings(&rt, Some(60));
+    let mut both = settings(&rt, Seconds::new(60));
     both.success = Some(Condition::parse(rt.alloc(), "result > 10")?);
     both.failure = Some(Condition::parse(rt.alloc(), "result < 5")?);
     let copy = metric(&rt, both).copy(rt.alloc())?;
@@ -208,11 +208,11 @@ fn conditions_of_copies(rt: HostRuntime) -> Result<(), Fail> {
 #[test]
 fn counts_of_metrics(rt: HostRuntime) {
     for (count, stands) in [(0, None), (1, Some(1)), (1_000_000, Some(1_000_000))] {
-        let mut settings = settings(&rt, Some(60));
+        let mut settings = settings(&rt, Seconds::new(60));
         settings.count = Some(count);
         assert_eq!(rt; metric(&rt, settings).count(), stands, "{count}");
     }
-    let mut above = settings(&rt, Some(60));
+    let mut above = settings(&rt, Seconds::new(60));
     above.inconclusive_limit = Some(1_000_001);
     assert!(rt; Metric::new(above).is_none());
 }
@@ -221,13 +221,13 @@ fn counts_of_metrics(rt: HostRuntime) {
 fn due(rt: HostRuntime) {
     let begin = moment(&rt, BEGIN);
     let one = metric(&rt, settings(&rt, None));
-    let mut late = settings(&rt, Some(60));
+    let mut late = settings(&rt, Seconds::new(60));
     late.initial_delay = Seconds::new(30);
     let late = metric(&rt, late);
     assert_eq!(rt; Tally::new().due(&late, begin), 1_767_225_630);
     assert_eq!(rt; tally(&rt, "S").due(&late, begin), 1_767_225_660);
     assert_eq!(rt; tally(&rt, "E").due(&one, begin), 1_767_225_610);
-    let rare = metric(&rt, settings(&rt, Some(u64::from(LONGEST))));
+    let rare = metric(&rt, settings(&rt, Seconds::new(u64::from(LONGEST))));
     let last = moment(&rt, LAST_MOMENT);
     let mut tally = Tally::new();
     tally.add(Phase::Successful, last);
