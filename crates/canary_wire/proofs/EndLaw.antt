@@ -1,9 +1,10 @@
--- How a stream ends is one thing too, but that one which ends in the midst of a message may also be refused.
+-- How a stream ends is one thing too, but that one which ends inside a target or behind the 64th header line may also be refused.
 use Rattle.std.proofs.Common.{◌≡◌, ℕ, ◌⊎◌, inl, inr, Bool, true, false, List, [], ◌∷◌, ◌++◌, refl, sym, ap, ◌∙◌, subst, arith}
 use Rattle.std.specs.Prelude.{◌&&◌, ◌==◌, if◌then◌else◌}
 use Rattle.std.specs.List.{list_all}
 use Rattle.std.proofs.lemmas.List.{append-nil}
-use Rattle.std.proofs.lemmas.Bool.{or_from}
+use Rattle.std.proofs.lemmas.List.Folds.{list_all-append}
+use Rattle.std.proofs.lemmas.Bool.{and_parts, or_from}
 use Rattle.std.proofs.lemmas.Bool.Decides.{eqb_tells}
 use Rattle.httparse.specs.Ascii.{space}
 use Rattle.httparse.specs.Grammar.{RequestHead, print_blank, print_version, print_section, print_end, lf, print_request, is_token_byte, IsToken, EndsInTarget}
@@ -12,21 +13,16 @@ use Rattle.canary_wire.specs.declared.framing.Framing.TheVariants.{Body, Refused
 use Rattle.canary_wire.specs.declared.refusal.Refusal.{Refusal}
 use Rattle.canary_wire.specs.declared.refusal.Refusal.TheVariants.{Malformed}
 use Rattle.canary_wire.specs.Heads.{head_framing, is_bare}
-use Rattle.canary_wire.specs.Cut.{Message, is_newline, long, beyond, never, lines, HasNoHead, IsRefused, malformed, framed, IsUnfinished, head, body, Ending, idle, cut_off, refusing, IsCut, unfinished, closed, refused, SameEnding}
-use Rattle.canary_wire.proofs.TestLemmas.{list_all-append}
+use Rattle.canary_wire.specs.Cut.{Message, is_newline, long, beyond, never, lines, HasNoHead, IsRefused, malformed, framed, IsUnfinished, head, body, Ending, idle, cut_off, refusing, Begins, IsCut, unfinished, closed, refused, IsInDoubt, SameEnding}
 use Rattle.canary_wire.proofs.CutLaw.{same_head, begin_same, stops_unfinished, stops_refused, stops_closed, not_unfinished, not_refused}
 
 -- ---- line ends alone are no part of a message
 
-and_both : (a b : Bool) → (a && b) ≡ true → (a ≡ true) × (b ≡ true)
-and_both true b h = (refl, h)
-and_both false b h = cc
-
 all_left : (p : ℕ → Bool) (xs ys : List ℕ) → list_all p (xs ++ ys) ≡ true → list_all p xs ≡ true
-all_left p xs ys h = (and_both (list_all p xs) (list_all p ys) (sym (list_all-append p xs ys) ∙ h)).0
+all_left p xs ys h = (and_parts (list_all p xs) (list_all p ys) (sym (list_all-append p xs ys) ∙ h)).0
 
 all_right : (p : ℕ → Bool) (xs ys : List ℕ) → list_all p (xs ++ ys) ≡ true → list_all p ys ≡ true
-all_right p xs ys h = (and_both (list_all p xs) (list_all p ys) (sym (list_all-append p xs ys) ∙ h)).1
+all_right p xs ys h = (and_parts (list_all p xs) (list_all p ys) (sym (list_all-append p xs ys) ∙ h)).1
 
 newline_is : (b : ℕ) → is_newline b ≡ true → (b ≡ 13) ⊎ (b ≡ 10)
 newline_is b h =
@@ -49,7 +45,7 @@ no_token b h tok =
 
 no_method : (m : List ℕ) → IsToken m → list_all is_newline m ≡ true → ⊥
 no_method [] is h = (let some = is.0 in omega arith)
-no_method (b ∷ m) is h = no_token b (and_both (is_newline b) (list_all is_newline m) h).0 (is.1 0 0 (omega arith))
+no_method (b ∷ m) is h = no_token b (and_parts (is_newline b) (list_all is_newline m) h).0 (is.1 0 0 (omega arith))
 
 -- a head is not made of line ends
 no_lines : (h : RequestHead) → IsToken h.method → list_all is_newline (print_request h) ≡ true → ⊥
@@ -82,20 +78,24 @@ more_lines bytes e all =
 abbrev open_end : Bool → Ending
 open_end b = if b then idle else cut_off
 
--- what may go on and may not ends in the midst of a message
-mixed : (b : Bool) → (b ≡ true → ⊥) → SameEnding (open_end b) (refusing Malformed false)
-mixed true other = absurd (other refl)
-mixed false other = inr (inl (refl, refl))
+-- bytes that are no line ends alone end in the midst of a message
+in_midst : (b : Bool) → (b ≡ true → ⊥) → open_end b ≡ cut_off
+in_midst true other = absurd (other refl)
+in_midst false other = refl
 
-mixed_at : (rest : List ℕ) (r : Refusal) (bare : Bool) → IsUnfinished rest → IsRefused rest r bare → SameEnding (open_end (list_all is_newline rest)) (refusing r bare)
+-- what may go on and may not
+abbrev IsMixed : List ℕ → Refusal → Bool → Type 0
+IsMixed rest r bare = IsInDoubt rest × (open_end (list_all is_newline rest) ≡ cut_off) × (refusing r bare ≡ refusing Malformed false)
+
+mixed_at : (rest : List ℕ) (r : Refusal) (bare : Bool) → IsUnfinished rest → IsRefused rest r bare → IsMixed rest r bare
 mixed_at rest r bare (head none short may) (malformed head_none (long l)) = absurd (omega arith)
 mixed_at rest r bare (head none short may) (malformed head_none (beyond b)) = absurd (none b.0 b.1 b.2)
 mixed_at rest r bare (head none short may) (malformed head_none (never n)) =
     elim may [
       | inl m ↦ absurd (n m.0 m.1 [] m.2)
-      | inr t ↦ mixed (list_all is_newline rest) (no_target rest t)
+      | inr t ↦ (inl t, in_midst (list_all is_newline rest) (no_target rest t), refl)
     ]
-mixed_at rest r bare (head none short may) (malformed head_none (lines l)) = mixed (list_all is_newline rest) (more_lines rest l)
+mixed_at rest r bare (head none short may) (malformed head_none (lines l)) = (inr l, in_midst (list_all is_newline rest) (more_lines rest l), refl)
 mixed_at rest r bare (head none short may) (framed h after w has f) = absurd (none h after (has.0.valid, has.1))
 mixed_at rest r bare (body h after n has f small short) (malformed head_none hope) = absurd (subst HasNoHead (append-nil rest) (head_none []) h after has)
 mixed_at rest r bare (body h after n has f small short) (framed k more w haz g) =
@@ -112,22 +112,20 @@ refused_same rest r s a b (framed h after w has f) (framed k more x haz g) =
     let which : r ≡ s = cc in
     λ i. refusing (which i) (is_bare (same.0 i))
 
-swap : (e f : Ending) → SameEnding e f → SameEnding f e
-swap e f (inl s) = inl (sym s)
-swap e f (inr (inl s)) = inr (inr s)
-swap e f (inr (inr s)) = inr (inl s)
-
-pub cut_ends : (bytes : List ℕ) (ms ns : List Message) (e f : Ending) → IsCut bytes ms e → IsCut bytes ns f → SameEnding e f
+pub cut_ends : (bytes : List ℕ) (ms ns : List Message) (e f : Ending) → IsCut bytes ms e → IsCut bytes ns f → SameEnding bytes ms e f
 cut_ends bytes ms ns e f (unfinished a r b u) (unfinished c q d v) =
     inl (ap (λ t. open_end (list_all is_newline t)) (begin_same bytes a c r q b d (stops_unfinished r u) (stops_unfinished q v)).1)
 cut_ends bytes ms ns e f (unfinished a r b u) (refused c q w bare d v) =
     let same = (begin_same bytes a c r q b d (stops_unfinished r u) (stops_refused q w bare v)).1 in
     let P : List ℕ → Type 0 = λ t. IsRefused t w bare in
-    mixed_at r w bare u (subst P (sym same) v)
+    let m = mixed_at r w bare u (subst P (sym same) v) in
+    inr ((r, b, m.0), inl (m.1, m.2))
 cut_ends bytes ms ns e f (refused c q w bare d v) (unfinished a r b u) =
-    let same = (begin_same bytes a c r q b d (stops_unfinished r u) (stops_refused q w bare v)).1 in
+    let same = begin_same bytes a c r q b d (stops_unfinished r u) (stops_refused q w bare v) in
     let P : List ℕ → Type 0 = λ t. IsRefused t w bare in
-    swap (open_end (list_all is_newline r)) (refusing w bare) (mixed_at r w bare u (subst P (sym same) v))
+    let Q : List Message → Type 0 = λ t. Begins bytes t r in
+    let m = mixed_at r w bare u (subst P (sym same.1) v) in
+    inr ((r, subst Q same.0 b, m.0), inr (m.1, m.2))
 cut_ends bytes ms ns e f (refused a r w bare b u) (refused c q x other d v) =
     let same = (begin_same bytes a c r q b d (stops_refused r w bare u) (stops_refused q x other v)).1 in
     let P : List ℕ → Type 0 = λ t. IsRefused t x other in

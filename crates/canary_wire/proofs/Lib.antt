@@ -1,7 +1,6 @@
 pub mod Bodies
 pub mod Items
 pub mod Members
-pub mod TestLemmas
 pub mod CutLemmas
 pub mod CutLaw
 pub mod EndLaw
@@ -11,3 +10,4 @@ pub mod ServeLemmas
 pub mod ExchangeLemmas
 pub mod RouteLemmas
 pub mod BufferLemmas
+pub mod Rows

@@ -9,15 +9,11 @@ use Rattle.std.proofs.lemmas.Option.{none-some}
 use Rattle.std.proofs.lemmas.List.{get_or-append-add}
 use Rattle.std.specs.Cmp.Lexicographic.{pointwise}
 use Rattle.std.specs.Prelude.{ltb}
-use Rattle.std.proofs.lemmas.Bool.{and_from, lt-ltb, ltb-false}
+use Rattle.std.proofs.lemmas.Bool.{and_from, and_parts, lt-ltb, ltb-false}
 use Rattle.std.proofs.Math.Seq.{drop-append_seam}
 use Rattle.canary_wire.specs.Routes.{the_rows, request_row, IsPart, IsSplit, HasNoRoute}
 use Rattle.matchit.specs.Rows.{RowsOf, param_token, catch_all_token}
 use Rattle.matchit.specs.Seek.{own, step, or_else, seek, first, param_step, has_slash, segment, cuts, longest_suffix, with_suffix}
-
-and_both : (a b : Bool) → (a && b) ≡ true → (a ≡ true) × (b ≡ true)
-and_both true b h = (refl, h)
-and_both false b h = cc
 
 abbrev is_slash : ℕ → Bool
 is_slash b = b == 47
@@ -95,8 +91,8 @@ module _ {K : Type 0} where
   pub seek-lits : (w : List ℕ) (rs : RowsOf K) (p : List ℕ) → are_lits w rs ≡ true → seek 0 rs (w ++ p) ≡ seek 0 (steps w rs) p
   seek-lits [] rs p h = refl
   seek-lits (b ∷ w) rs p h =
-      let x = and_both _ _ h in
-      let y = and_both _ _ x.1 in
+      let x = and_parts _ _ h in
+      let y = and_parts _ _ x.1 in
       seek-lit rs b (w ++ p) (none _ x.0) (none _ y.0) ∙ seek-lits w (step b rs) p y.1
 
   step-param : (b : ℕ) (t : List ℕ) (k : K) → b < 256 → step b ((param_token ∷ t, k) ∷ []) ≡ []

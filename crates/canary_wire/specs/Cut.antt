@@ -1,7 +1,7 @@
 -- How a stream is cut into messages, over the grammar of a request's head that `httparse` reads (RFC 9112).
 use Rattle.std.specs.Prelude.{◌≡◌, ℕ, ◌<◌, ◌≤◌, ◌⊎◌, Bool, true, false, ◌||◌, ◌==◌, List, [], ◌∷◌, ◌++◌, length, drop, if◌then◌else◌, flat_map, slice_range}
 use Rattle.std.specs.List.{list_all, AllByRecursion}
-use Rattle.httparse.specs.Grammar.{RequestHead, print_request, IsRequestHead, ReadsRequest, HasNoRequest, NeverHasRequest, MayBecomeRequest}
+use Rattle.httparse.specs.Grammar.{RequestHead, print_request, IsRequestHead, ReadsRequest, HasNoRequest, NeverHasRequest, EndsInTarget, MayBecomeRequest}
 use Rattle.httparse.specs.Spans.{span_bytes, RequestExceeds}
 use Rattle.canary_wire.specs.declared.refusal.Refusal.{Refusal}
 use Rattle.canary_wire.specs.declared.refusal.Refusal.TheVariants.{Malformed}
@@ -98,9 +98,16 @@ pub data IsCut (bytes : List ℕ) : List Message → Ending → Type 0 where
   refused : (ms : List Message) (rest : List ℕ) (r : Refusal) (bare : Bool) → Begins bytes ms rest → IsRefused rest r bare
       → IsCut bytes ms (refusing r bare)
 
--- two ends of one stream are the same, but one that ends in the midst of a message, inside the target of a request or behind the 64th header line, may also be refused
-abbrev pub SameEnding : Ending → Ending → Type 0
-SameEnding e f = (e ≡ f) ⊎ ((e ≡ cut_off) × (f ≡ refusing Malformed false)) ⊎ ((f ≡ cut_off) × (e ≡ refusing Malformed false))
+-- bytes that end inside the target of a request or behind the 64th header line
+abbrev pub IsInDoubt : List ℕ → Type 0
+IsInDoubt rest = EndsInTarget rest ⊎ RequestExceeds 64 rest
+
+-- two ends of one stream behind these messages are the same, but where what is left is in doubt, it may be cut off or refused
+abbrev pub SameEnding : List ℕ → List Message → Ending → Ending → Type 0
+SameEnding bytes ms e f =
+    (e ≡ f)
+    ⊎ (((rest : List ℕ) × Begins bytes ms rest × IsInDoubt rest)
+    × (((e ≡ cut_off) × (f ≡ refusing Malformed false)) ⊎ ((f ≡ cut_off) × (e ≡ refusing Malformed false))))
 
 -- ---- what the code finds first
 

@@ -6,5 +6,5 @@ ghost use Rattle.canary_wire.specs.Cut.{Message, Ending, IsCut, SameEnding};
 /// a request or behind the 64th header line, it may be cut off or refused.
 pub fn one_cut()
     ensures messages { (bytes : List ℕ) (ms ns : List Message) (e f : Ending) → IsCut bytes ms e → IsCut bytes ns f → ms ≡ ns }
-    ensures ends { (bytes : List ℕ) (ms ns : List Message) (e f : Ending) → IsCut bytes ms e → IsCut bytes ns f → SameEnding e f }
+    ensures ends { (bytes : List ℕ) (ms ns : List Message) (e f : Ending) → IsCut bytes ms e → IsCut bytes ns f → SameEnding bytes ms e f }
 {}

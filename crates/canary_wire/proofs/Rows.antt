@@ -1,0 +1,137 @@
+-- Worked rows of the wire, computed on the definitions.
+use Rattle.std.proofs.Common.{◌≡◌, ℕ, List, [], ◌∷◌, ◌++◌, Bool, true, false, refl, arith}
+use Rattle.std.specs.Prelude.{codes, Ok, Err}
+use Rattle.std.specs.Fmt.{digits}
+use Rattle.std.specs.Str.{is_utf8, chars}
+use lib.Utf8.{encode}
+use Rattle.std.proofs.lemmas.Str.{IsUtf8-from_is_utf8}
+use Rattle.std.proofs.lemmas.List.Sums.{AllPass-from_list_all}
+use Rattle.httparse.specs.Grammar.{is_token_byte, is_uri_byte, is_value_byte, trim_ows, crlf, Field, IsField, RequestHead, IsRequestHead, print_request}
+use Rattle.http1.specs.Text.{eq_ignore_case}
+use Rattle.http1.specs.Fields.{elements}
+use Rattle.serde_json.proofs.OnLiterals.{serde_json_on_literals}
+use Rattle.canary_plan.specs.declared.plan.Step.TheVariants.{SetWeight, Pause}
+use Rattle.canary_plan.specs.declared.command.Command.TheVariants.{Service, Start, Promote}
+use Rattle.canary_once.specs.declared.event.Answer.TheVariants.{Told}
+use Rattle.canary_wire.specs.declared.refusal.Refusal.TheVariants.{Malformed, Length, TooLong, Method, BadName, BadNumber}
+use Rattle.canary_wire.specs.declared.framing.Framing.TheVariants.{Body, Refused}
+use Rattle.canary_wire.specs.declared.reply.Said.TheVariants.{Refused as RefusedSo, Answered}
+use Rattle.canary_wire.specs.CommandReadings.{unsupported, unreadable, readable}
+use Rattle.canary_wire.specs.Rollouts.{step_in, is_unsupported_step, is_unsupported_rollout}
+use Rattle.canary_wire.specs.CommandForms.{service_in, start_in, promote_in, reading_of_kind, body_reading}
+use Rattle.canary_wire.specs.Heads.{framing_of, asks_to_close}
+use Rattle.canary_wire.specs.ReplyTexts.{head_text, reply_text}
+use Rattle.canary_wire.specs.Routes.{IsRequestPath, IsAddress}
+
+-- ---- bodies
+
+promotes : body_reading (codes "{\"promote\":{\"service\":\"web\"}}") ≡ readable (Promote (codes "web"))
+unfolding serde_json_on_literals is_utf8 chars reading_of_kind promote_in
+promotes = refl
+
+starts_in_other_words : body_reading (codes "{ \"start\" : {\"version\":\"v2\", \"service\":\"web\"} }") ≡ readable (Start (codes "web") (codes "v2"))
+unfolding serde_json_on_literals is_utf8 chars reading_of_kind start_in
+starts_in_other_words = refl
+
+registers : body_reading (codes "{\"service\":{\"manifest\":{\"metadata\":{\"name\":\"web\"},\"spec\":{\"strategy\":{\"canary\":{\"steps\":[{\"setWeight\":20},{\"pause\":{}},{\"setWeight\":50},{\"pause\":{}}]}}}},\"version\":\"v1\"}}")
+    ≡ readable (Service (record { name = codes "web"; version = codes "v1"; steps = SetWeight 20 ∷ Pause ∷ SetWeight 50 ∷ Pause ∷ [] }))
+unfolding serde_json_on_literals is_utf8 chars reading_of_kind service_in step_in is_unsupported_step is_unsupported_rollout
+registers = refl
+
+foreign_even_where_null : body_reading (codes "{\"promote\":{\"service\":\"web\",\"x\":null}}") ≡ unreadable
+unfolding serde_json_on_literals is_utf8 chars reading_of_kind promote_in
+foreign_even_where_null = refl
+
+unsupported_goes_first : body_reading (codes "{\"service\":{\"manifest\":{\"kind\":\"Deployment\"},\"x\":0}}") ≡ unsupported
+unfolding serde_json_on_literals is_utf8 chars reading_of_kind service_in is_unsupported_rollout
+unsupported_goes_first = refl
+
+no_json : body_reading (codes "aaaa") ≡ unreadable
+unfolding serde_json_on_literals is_utf8 chars
+no_json = refl
+
+-- ---- heads
+
+abbrev length_of : List ℕ → List ℕ × List ℕ
+length_of value = (codes "Content-Length", value)
+
+longest_body : framing_of (codes "PUT") (length_of (codes "65536") ∷ []) ≡ Body 65536
+longest_body = refl
+
+too_long_body : framing_of (codes "PUT") (length_of (codes "65537") ∷ []) ≡ Refused TooLong
+too_long_body = refl
+
+sign_before_digits : framing_of (codes "PUT") (length_of (codes "+1") ∷ []) ≡ Refused Malformed
+sign_before_digits = refl
+
+length_twice : framing_of (codes "GET") (length_of (codes "0") ∷ length_of (codes "0") ∷ []) ≡ Refused Malformed
+length_twice = refl
+
+twice_goes_before_coded : framing_of (codes "GET") ((codes "Transfer-Encoding", codes "chunked") ∷ length_of (codes "0") ∷ length_of (codes "0") ∷ []) ≡ Refused Malformed
+twice_goes_before_coded = refl
+
+coded_goes_before_too_long : framing_of (codes "GET") ((codes "transfer-encoding", codes "chunked") ∷ length_of (codes "65537") ∷ []) ≡ Refused Length
+coded_goes_before_too_long = refl
+
+put_without_length : framing_of (codes "PUT") [] ≡ Refused Length
+put_without_length = refl
+
+get_without_length : framing_of (codes "GET") [] ≡ Body 0
+get_without_length = refl
+
+close_among_others : asks_to_close ((codes "connection", codes "Keep-Alive, CLOSE") ∷ []) ≡ true
+unfolding asks_to_close elements trim_ows eq_ignore_case
+close_among_others = refl
+
+close_in_a_word : asks_to_close ((codes "Connection", codes "closed") ∷ []) ≡ false
+unfolding asks_to_close elements trim_ows eq_ignore_case
+close_in_a_word = refl
+
+-- ---- targets
+
+third : IsAddress (codes "PUT") (codes "/callers/ops/requests/3?x=/") (Ok (record { caller = codes "ops"; number = 3 }))
+unfolding is_utf8 chars encode digits
+third = (
+  codes "3",
+  (
+    record {
+      text = IsUtf8-from_is_utf8 (codes "/callers/ops/requests/3") refl;
+      split = record { whole = refl; caller_is = (omega arith, refl); number_is = (omega arith, refl) };
+    },
+    refl,
+  ),
+  refl,
+  (omega arith, omega arith, refl),
+)
+
+name_goes_before_number : IsAddress (codes "PUT") (codes "/callers/-x/requests/0") (Err BadName)
+unfolding is_utf8 chars encode
+name_goes_before_number = (
+  codes "-x",
+  codes "0",
+  (
+    record {
+      text = IsUtf8-from_is_utf8 (codes "/callers/-x/requests/0") refl;
+      split = record { whole = refl; caller_is = (omega arith, refl); number_is = (omega arith, refl) };
+    },
+    refl,
+  ),
+  λ e. cc,
+)
+
+-- ---- replies
+
+promoted_text : reply_text (Answered (Told (record { status = 200; body = codes "{\"code\":\"ok\",\"service\":\"web\",\"status\":\"Paused\",\"step\":3,\"weight\":50}" }))) false false
+    ≡ codes "HTTP/1.1 200 OK\r\nContent-Type: application/json\r\nContent-Length: 68\r\n\r\n{\"code\":\"ok\",\"service\":\"web\",\"status\":\"Paused\",\"step\":3,\"weight\":50}"
+unfolding reply_text head_text digits
+promoted_text = refl
+
+method_text_to_head : reply_text (RefusedSo Method) false true
+    ≡ codes "HTTP/1.1 405 Method Not Allowed\r\nContent-Type: application/json\r\nContent-Length: 17\r\nAllow: PUT\r\n\r\n"
+unfolding reply_text head_text digits
+method_text_to_head = refl
+
+too_long_text : reply_text (RefusedSo TooLong) true false
+    ≡ codes "HTTP/1.1 413 Content Too Large\r\nContent-Type: application/json\r\nContent-Length: 19\r\nConnection: close\r\n\r\n{\"code\":\"too-long\"}"
+unfolding reply_text head_text digits
+too_long_text = refl
