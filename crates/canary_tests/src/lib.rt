@@ -2,3 +2,10 @@
 //! and write failing in turn. What a contract says is not tested again. They stand here, in a crate of
 //! their own, so that no other crate is proved twice.
 #![tactic(auto)]
+
+#[cfg(test)]
+mod wire_command;
+#[cfg(test)]
+mod wire_faults;
+#[cfg(test)]
+mod wire_serve;
