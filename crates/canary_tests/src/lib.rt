@@ -15,3 +15,9 @@ mod once;
 mod plan;
 #[cfg(test)]
 mod release;
+#[cfg(test)]
+mod wire_command;
+#[cfg(test)]
+mod wire_faults;
+#[cfg(test)]
+mod wire_serve;

@@ -181,6 +181,3 @@ fn label_at(value: &Value, key: &str) -> Option<Label>
 {
     label_in(value.get(key)?)
 }
-
-#[cfg(test)]
-mod tests;

@@ -211,6 +211,3 @@ fn refuse<W: Write>(writer: &mut W, refusal: Refusal, head_alone: bool) -> Resul
         Err(fault) => Err(fault),
     }
 }
-
-#[cfg(test)]
-mod tests;

@@ -1,8 +1,11 @@
 //! Bodies as clients send them, each with what it reads as.
-use super::*;
 use canary_base::error::Memory;
 use canary_base::lists::Listed;
-use canary_plan::plan::Step;
+use canary_base::names::{Label, Name};
+use canary_plan::command::Command;
+use canary_plan::plan::{ServiceSpec, Step};
+use canary_wire::command::{WireFault, command_from_json};
+use std::alloc::Global;
 use std::test::Fail;
 
 const REGISTER_WEB: &str =
