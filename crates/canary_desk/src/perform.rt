@@ -1,5 +1,5 @@
 //! Running a command line.
-ghost use Rattle.std.specs.Prelude.{◌≡◌, ◌↔◌, ℕ, Some, Ok, Err, OnOk, [], map, string_bytes};
+ghost use Rattle.std.specs.Prelude.{◌≡◌, ◌↔◌, ℕ, Some, Ok, Err, OnOk, IfErr, [], map, string_bytes};
 ghost use Rattle.std.specs.IoError.{error_kind};
 ghost use Rattle.std.specs.Io.KnownBytes.{Appends};
 ghost use Rattle.canary_desk.specs.CommandLine.{faults_of, program_of};
@@ -158,9 +158,13 @@ fn done_of(served: Result<Ended, ServeFault>) -> Result<(), Fault>
 }
 
 fn show<W: Write>(text: &str, output: &mut W) -> Result<(), Fault>
-    ensures { OnOk result (Appends (W.contents output.old) (W.contents output.new) text.now) }
+    ensures ok { OnOk result (Appends (W.contents output.old) (W.contents output.new) text.now) }
+    ensures err { IfErr result (λ fault. fault ≡ Fault.Write) }
 {
-    output.write_all(text.as_bytes()).map_err(|_| Fault::Write)
+    match output.write_all(text.as_bytes()) {
+        Ok(()) => Ok(()),
+        Err(_) => Err(Fault::Write),
+    }
 }
 
 // The status, with the line of a fault on `errors`.
