@@ -4,7 +4,7 @@ use Rattle.std.specs.Prelude.{◌==◌, nat_lt, if◌then◌else◌}
 use Rattle.std.proofs.lemmas.Bool.Decides.{nat_tests}
 use Rattle.canary_release.specs.declared.reply.Reply.{Reply}
 use Rattle.canary_release.specs.Desks.{apply}
-use Rattle.canary_release.proofs.Refusing.{refusals_leave_the_desk as leaves_the_desk}
+use Rattle.canary_release.specs.Laws.{RefusalsLeaveTheDesk as LeavesTheDesk}
 use Rattle.canary_once.specs.declared.event.Request.{Request}
 use Rattle.canary_once.specs.declared.event.Event.{Event}
 use Rattle.canary_once.specs.declared.event.Event.TheVariants.{Request as RequestEvent}
@@ -58,18 +58,18 @@ pub none_is_ahead : NoneIsAhead
 none_is_ahead c before r is le = request_is c before r ∙ repeat_below (after c before) r 1000000000 is le
 
 -- a new request is answered 200, or 422 with the desk as it was
-new_409 : (c : Contents) (r : Request) (new : Bool) (other : Reply) → (if new then (apply c.desk r.moment r.command).reply else other).status ≡ 409 → (if new then settle c r else c) ≡ c
-new_409 c r true other h = elim (leaves_the_desk c.desk r.moment r.command) [ inl accepted ↦ absurd (let e : 200 ≡ 409 = sym accepted ∙ h in omega arith) | inr refused ↦ absurd (let e : 422 ≡ 409 = sym refused.0 ∙ h in omega arith) ]
-new_409 c r false other h = refl
+new_409 : LeavesTheDesk → (c : Contents) (r : Request) (new : Bool) (other : Reply) → (if new then (apply c.desk r.moment r.command).reply else other).status ≡ 409 → (if new then settle c r else c) ≡ c
+new_409 leaves c r true other h = elim (leaves c.desk r.moment r.command) [ inl accepted ↦ absurd (let e : 200 ≡ 409 = sym accepted ∙ h in omega arith) | inr refused ↦ absurd (let e : 422 ≡ 409 = sym refused.0 ∙ h in omega arith) ]
+new_409 leaves c r false other h = refl
 
-new_422 : (c : Contents) (r : Request) (new : Bool) (other : Reply) → (if new then (apply c.desk r.moment r.command).reply else other).status ≡ 422 → (if new then settle c r else c).desk ≡ c.desk
-new_422 c r true other h = elim (leaves_the_desk c.desk r.moment r.command) [ inl accepted ↦ absurd (let e : 200 ≡ 422 = sym accepted ∙ h in omega arith) | inr refused ↦ refused.1 ]
-new_422 c r false other h = refl
+new_422 : LeavesTheDesk → (c : Contents) (r : Request) (new : Bool) (other : Reply) → (if new then (apply c.desk r.moment r.command).reply else other).status ≡ 422 → (if new then settle c r else c).desk ≡ c.desk
+new_422 leaves c r true other h = elim (leaves c.desk r.moment r.command) [ inl accepted ↦ absurd (let e : 200 ≡ 422 = sym accepted ∙ h in omega arith) | inr refused ↦ refused.1 ]
+new_422 leaves c r false other h = refl
 
-pub conflicts_change_nothing : ConflictsChangeNothing
-conflicts_change_nothing c (RequestEvent r) h =
-    sym (after_first c r) ∙ new_409 c r (r.number == count_of c r.caller + 1) _ (ap (λ (x : Reply). x.status) (reply_first c r) ∙ h)
+pub conflicts_change_nothing : LeavesTheDesk → ConflictsChangeNothing
+conflicts_change_nothing leaves c (RequestEvent r) h =
+    sym (after_first c r) ∙ new_409 leaves c r (r.number == count_of c r.caller + 1) _ (ap (λ (x : Reply). x.status) (reply_first c r) ∙ h)
 
-pub refusals_leave_the_desk : RefusalsLeaveTheDesk
-refusals_leave_the_desk c (RequestEvent r) h =
-    ap (λ (k : Contents). k.desk) (sym (after_first c r)) ∙ new_422 c r (r.number == count_of c r.caller + 1) _ (ap (λ (x : Reply). x.status) (reply_first c r) ∙ h)
+pub refusals_leave_the_desk : LeavesTheDesk → RefusalsLeaveTheDesk
+refusals_leave_the_desk leaves c (RequestEvent r) h =
+    ap (λ (k : Contents). k.desk) (sym (after_first c r)) ∙ new_422 leaves c r (r.number == count_of c r.caller + 1) _ (ap (λ (x : Reply). x.status) (reply_first c r) ∙ h)

@@ -1,6 +1,8 @@
 //! Laws over the definitions alone.
 ghost use Rattle.canary_once.specs.Laws.{NewAreOfTheMachine, EachOnce, OneRequest, GoesOn, NoneIsAhead, ConflictsChangeNothing, RefusalsLeaveTheDesk, StaysSettled, AnswersSettled};
 
+use canary_release::laws;
+
 /// The new requests of a list of events are answered by one run of the small machine over the
 /// settled requests alone, and each number of a caller is settled once, in order.
 pub fn settled_requests()
@@ -31,11 +33,15 @@ pub fn last_number()
 pub fn refusals()
     ensures conflicts { ConflictsChangeNothing }
     ensures refused { RefusalsLeaveTheDesk }
-{}
+{
+    laws::refusals();
+}
 
 /// Where each kept reply has status 200 or 422, as where none is kept, it stays so, and each answer
 /// has status 200, 409 or 422: no 503 is ever kept.
 pub fn statuses()
     ensures kept { StaysSettled }
     ensures told { AnswersSettled }
-{}
+{
+    laws::refusals();
+}

@@ -2,12 +2,14 @@
 use Rattle.std.proofs.Common.{◌≡◌, ℕ, zero, suc, ◌+◌, ◌-◌, ◌<◌, ◌≤◌, ◌⊎◌, inl, inr, Bool, List, [], ◌∷◌, ◌++◌, length, refl, sym, ap, ◌∙◌, subst, arith, add-zero}
 use Rattle.std.specs.Prelude.{slice_index}
 use Rattle.std.specs.List.{AllByRecursion}
-use Rattle.std.proofs.lemmas.List.{append-nil, append_assoc, length-append, length-map, map-append, get_or_append_left, get_or-append_right}
+use Rattle.std.proofs.lemmas.List.{length-append, length-map, map-append, get_or_append_left, get_or-append_right}
+use Rattle.canary_release.specs.declared.reply.Reply.{Reply}
 use Rattle.canary_once.specs.declared.event.Event.{Event}
-use Rattle.canary_once.specs.declared.event.Event.TheVariants.{Request as RequestEvent}
 use Rattle.canary_once.specs.declared.event.Answer.{Answer}
+use Rattle.canary_once.specs.declared.event.Answer.TheVariants.{Told, Unavailable}
 use Rattle.canary_once.specs.Contents.{Contents}
-use Rattle.canary_once.proofs.Runs.{IsRun, run-push}
+use Rattle.canary_once.specs.Answers.{heard, told, answers_of, after}
+use Rattle.canary_once.specs.Laws.{GoesOn}
 use Rattle.canary_wire.specs.Exchanges.{Outcome, refused, no_memory, posted, IsSureOutcome, Exchange, IsExchange, moments_of, event_in, answer_in, events_of, given_in, Point, AreTold, Holds, IsStep, AreSteps, Exchanges, Went}
 
 -- ---- lists
@@ -105,45 +107,48 @@ went_then p q r xs ys a b = record {
 
 -- ---- the whole list
 
-same_len : (o : Outcome) (es : List Event) (gs : List Answer) → length gs ≡ length es → length (gs ++ answer_in o) ≡ length (es ++ event_in o)
-same_len (refused r) es gs e = ap length (append-nil gs) ∙ e ∙ sym (ap length (append-nil es))
-same_len no_memory es gs e = ap length (append-nil gs) ∙ e ∙ sym (ap length (append-nil es))
-same_len (posted r a) es gs e = omega (arith, e, length-append gs (a ∷ []), length-append es (RequestEvent r ∷ []))
+-- what one outcome tells and leaves is that of its event, if it is one
+one_is : (d mid : Contents) (o : Outcome) → IsStep d o mid → (told (answer_in o) ≡ answers_of d (heard (event_in o) (answer_in o))) × (mid ≡ after d (heard (event_in o) (answer_in o)))
+one_is d mid (refused r) h = (refl, h)
+one_is d mid no_memory h = (refl, h)
+one_is d mid (posted r (Told reply)) h = (ap (λ (x : Reply). x ∷ []) h.0, h.1)
+one_is d mid (posted r (Unavailable fault)) h = (refl, h)
 
--- an outcome that is no event
-still_run : (c d mid : Contents) (es : List Event) (gs : List Answer) → IsRun c es gs d → mid ≡ d → IsRun c (es ++ []) (gs ++ []) mid
-still_run c d mid es gs run e =
-    let P : Contents → Type 0 = λ t. IsRun c es gs t in
-    let Q : List Event → Type 0 = λ t. IsRun c t gs mid in
-    let R : List Answer → Type 0 = λ t. IsRun c (es ++ []) t mid in
-    subst R (sym (append-nil gs)) (subst Q (sym (append-nil es)) (subst P (sym e) run))
+told_first : (o : Outcome) (gs : List Answer) → told (answer_in o ++ gs) ≡ told (answer_in o) ++ told gs
+told_first (refused r) gs = refl
+told_first no_memory gs = refl
+told_first (posted r (Told reply)) gs = refl
+told_first (posted r (Unavailable fault)) gs = refl
 
-step_run : (c d mid : Contents) (es : List Event) (gs : List Answer) (o : Outcome) → length gs ≡ length es → IsRun c es gs d → IsStep d o mid → IsRun c (es ++ event_in o) (gs ++ answer_in o) mid
-step_run c d mid es gs (refused r) n run h = still_run c d mid es gs run h
-step_run c d mid es gs no_memory n run h = still_run c d mid es gs run h
-step_run c d mid es gs (posted r a) n run h = run-push c es gs d (RequestEvent r) a mid n run h
+heard_first : (o : Outcome) (es : List Event) (gs : List Answer) → heard (event_in o ++ es) (answer_in o ++ gs) ≡ heard (event_in o) (answer_in o) ++ heard es gs
+heard_first (refused r) es gs = refl
+heard_first no_memory es gs = refl
+heard_first (posted r (Told reply)) es gs = refl
+heard_first (posted r (Unavailable fault)) es gs = refl
 
-steps_run : (c d new : Contents) (es : List Event) (gs : List Answer) (xs : List Exchange) → length gs ≡ length es → IsRun c es gs d → AreSteps d xs new
-    → IsRun c (es ++ events_of xs) (gs ++ given_in xs) new
-steps_run c d new es gs [] n run h = still_run c d new es gs run h
-steps_run c d new es gs (x ∷ xs) n run h =
-    let one = step_run c d h.0 es gs x.outcome n run h.1 in
-    let all = steps_run c h.0 new (es ++ event_in x.outcome) (gs ++ answer_in x.outcome) xs (same_len x.outcome es gs n) one h.2 in
-    let Q : List Event → Type 0 = λ t. IsRun c t ((gs ++ answer_in x.outcome) ++ given_in xs) new in
-    let R : List Answer → Type 0 = λ t. IsRun c (es ++ (event_in x.outcome ++ events_of xs)) t new in
-    subst R (append_assoc gs (answer_in x.outcome) (given_in xs)) (subst Q (append_assoc es (event_in x.outcome) (events_of xs)) all)
-
-no_run : (c : Contents) → IsRun c [] [] c
-no_run c = record { answers = refl; contents = refl }
+steps_are : GoesOn → (d new : Contents) (xs : List Exchange) → AreSteps d xs new
+    → (told (given_in xs) ≡ answers_of d (heard (events_of xs) (given_in xs))) × (new ≡ after d (heard (events_of xs) (given_in xs)))
+steps_are goes d new [] h = (refl, h)
+steps_are goes d new (x ∷ xs) h =
+    let o = x.outcome in
+    let first = heard (event_in o) (answer_in o) in
+    let rest = heard (events_of xs) (given_in xs) in
+    let one = one_is d h.0 o h.1 in
+    let others = steps_are goes h.0 new xs h.2 in
+    let both = goes d first rest in
+    let whole = sym (heard_first o (events_of xs) (given_in xs)) in (
+      told_first o (given_in xs) ∙ (λ i. one.0 i ++ others.0 i) ∙ ap (λ (k : Contents). answers_of d first ++ answers_of k rest) one.1 ∙ sym both.0 ∙ ap (answers_of d) whole,
+      others.1 ∙ ap (λ (k : Contents). after k rest) one.1 ∙ sym both.1 ∙ ap (after d) whole,
+    )
 
 -- what was answered step by step is what the small machine answers as a whole
-pub holds_of : (p q : Point) (xs : List Exchange) → Went p q xs → Holds p q xs
-holds_of p q xs went = record {
+pub holds_of : GoesOn → (p q : Point) (xs : List Exchange) → Went p q xs → Holds p q xs
+holds_of goes p q xs went = record {
   each = went.each;
   moments = went.moments;
   intact = went.intact;
   sure = went.sure;
-  answers = λ h. (steps_run p.desk p.desk q.desk [] [] xs refl (no_run p.desk) (went.steps h)).answers;
-  contents = λ h. (steps_run p.desk p.desk q.desk [] [] xs refl (no_run p.desk) (went.steps h)).contents;
+  answers = λ h. (steps_are goes p.desk q.desk xs (went.steps h)).0;
+  contents = λ h. (steps_are goes p.desk q.desk xs (went.steps h)).1;
   kept = went.kept;
 }

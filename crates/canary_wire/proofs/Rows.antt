@@ -1,19 +1,18 @@
 -- Worked rows of the wire, computed on the definitions.
-use Rattle.std.proofs.Common.{◌≡◌, ℕ, List, [], ◌∷◌, ◌++◌, Bool, true, false, refl, arith}
+use Rattle.std.proofs.Common.{◌≡◌, ℕ, List, [], ◌∷◌, true, false, refl, arith}
 use Rattle.std.specs.Prelude.{codes, Ok, Err}
 use Rattle.std.specs.Fmt.{digits}
 use Rattle.std.specs.Str.{is_utf8, chars}
 use lib.Utf8.{encode}
 use Rattle.std.proofs.lemmas.Str.{IsUtf8-from_is_utf8}
-use Rattle.std.proofs.lemmas.List.Sums.{AllPass-from_list_all}
-use Rattle.httparse.specs.Grammar.{is_token_byte, is_uri_byte, is_value_byte, trim_ows, crlf, Field, IsField, RequestHead, IsRequestHead, print_request}
+use Rattle.httparse.specs.Grammar.{trim_ows}
 use Rattle.http1.specs.Text.{eq_ignore_case}
 use Rattle.http1.specs.Fields.{elements}
 use Rattle.serde_json.proofs.OnLiterals.{serde_json_on_literals}
 use Rattle.canary_plan.specs.declared.plan.Step.TheVariants.{SetWeight, Pause}
 use Rattle.canary_plan.specs.declared.command.Command.TheVariants.{Service, Start, Promote}
 use Rattle.canary_once.specs.declared.event.Answer.TheVariants.{Told}
-use Rattle.canary_wire.specs.declared.refusal.Refusal.TheVariants.{Malformed, Length, TooLong, Method, BadName, BadNumber}
+use Rattle.canary_wire.specs.declared.refusal.Refusal.TheVariants.{Malformed, Length, TooLong, Method, BadName}
 use Rattle.canary_wire.specs.declared.framing.Framing.TheVariants.{Body, Refused}
 use Rattle.canary_wire.specs.declared.reply.Said.TheVariants.{Refused as RefusedSo, Answered}
 use Rattle.canary_wire.specs.CommandReadings.{unsupported, unreadable, readable}
@@ -21,7 +20,7 @@ use Rattle.canary_wire.specs.Rollouts.{step_in, is_unsupported_step, is_unsuppor
 use Rattle.canary_wire.specs.CommandForms.{service_in, start_in, promote_in, reading_of_kind, body_reading}
 use Rattle.canary_wire.specs.Heads.{framing_of, asks_to_close}
 use Rattle.canary_wire.specs.ReplyTexts.{head_text, reply_text}
-use Rattle.canary_wire.specs.Routes.{IsRequestPath, IsAddress}
+use Rattle.canary_wire.specs.Routes.{IsAddress}
 
 -- ---- bodies
 

@@ -17,6 +17,7 @@ use Rattle.canary_wire.specs.declared.serve.Turn.TheVariants.{GoesOn, Ends}
 use Rattle.canary_wire.specs.Cut.{Message, message_bytes, IsMessage, IsFirst, IsRefused, IsUnfinished, Begins, Ending, idle, cut_off, closing, refusing, is_newline, IsCut, unfinished, closed, refused}
 use Rattle.canary_wire.specs.Cut.{GoesOn as KeepsOpen}
 use Rattle.canary_wire.specs.Writes.{Known, Writes}
+use Rattle.canary_once.specs.Laws.{GoesOn as EventsGoOn}
 use Rattle.canary_wire.specs.Exchanges.{Exchange, messages_of, reply_bytes, Point, Exchanges, Holds, Went}
 use Rattle.canary_wire.specs.Serving.{last_reply, end_of, IsOpen, EndsAs, Serves, ServesTo, ServesSome, ServesUntil, TurnsTo, IsCutShort, in_reply, in_refusal, IsSoFar, Answers, AnswersAll, AnswersUntil, AnswersHeld, RefusesAll}
 use Rattle.canary_wire.proofs.CutLemmas.{unfinished_empty}
@@ -164,7 +165,7 @@ so_far_none r w p held e = record {
 }
 
 -- the front that was read before, and what was read now
-module _ (r r1 r2 w w1 : Known) (p p1 : Point) (n : ℕ) (old new got : List ℕ) (so : IsSoFar r r1 w w1 p p1 n old) (e : new ≡ old ++ got) (more : Consumes r1 r2 got) where
+module _ (goes : EventsGoOn) (r r1 r2 w w1 : Known) (p p1 : Point) (n : ℕ) (old new got : List ℕ) (so : IsSoFar r r1 w w1 p p1 n old) (e : new ≡ old ++ got) (more : Consumes r1 r2 got) where
   begins_new : Begins (so.bytes ++ got) (messages_of so.exchanges) new
   begins_new = begins_as (so.bytes ++ got) (old ++ got) new (messages_of so.exchanges) (sym e) (begins_more so.bytes old got (messages_of so.exchanges) so.begins)
 
@@ -199,7 +200,7 @@ module _ (r r1 r2 w w1 : Known) (p p1 : Point) (n : ℕ) (old new got : List ℕ
           exchanges = so.exchanges ++ a.exchanges;
           read = read_new;
           cut = subst Q (sym (messages-append so.exchanges a.exchanges)) (cut_then (so.bytes ++ got) new (messages_of so.exchanges) (messages_of a.exchanges) a.end begins_new a.cut);
-          holds = holds_of p p2 (so.exchanges ++ a.exchanges) (went_then p p1 p2 so.exchanges a.exchanges so.went a.went);
+          holds = holds_of goes p p2 (so.exchanges ++ a.exchanges) (went_then p p1 p2 so.exchanges a.exchanges so.went a.went);
           written = subst P texts (appends_more w w1 w2 (flat_map reply_bytes so.exchanges) (flat_map reply_bytes a.exchanges ++ last_reply a.end) so.written a.written);
         },
       )
@@ -211,7 +212,7 @@ module _ (r r1 r2 w w1 : Known) (p p1 : Point) (n : ℕ) (old new got : List ℕ
     exchanges = so.exchanges ++ a.exchanges;
     read = read_new;
     cut = cut_short_then (so.bytes ++ got) new a.text so.exchanges a.exchanges begins_new a.cut;
-    holds = holds_of p p2 (so.exchanges ++ a.exchanges) (went_then p p1 p2 so.exchanges a.exchanges so.went a.went);
+    holds = holds_of goes p p2 (so.exchanges ++ a.exchanges) (went_then p p1 p2 so.exchanges a.exchanges so.went a.went);
     written = appends_more w w1 w2 (flat_map reply_bytes so.exchanges) a.text so.written a.written;
   }
 
@@ -224,33 +225,33 @@ is_open : (b : Bool) → IsOpen (if b then idle else cut_off)
 is_open true = tt
 is_open false = tt
 
-serves_open : (r r1 w w1 : Known) (p p1 : Point) (bytes rest : List ℕ) (xs : List Exchange) → Consumes r r1 bytes → Begins bytes (messages_of xs) rest → IsUnfinished rest → Went p p1 xs → Appends w w1 (flat_map reply_bytes xs)
+serves_open : EventsGoOn → (r r1 w w1 : Known) (p p1 : Point) (bytes rest : List ℕ) (xs : List Exchange) → Consumes r r1 bytes → Begins bytes (messages_of xs) rest → IsUnfinished rest → Went p p1 xs → Appends w w1 (flat_map reply_bytes xs)
     → Serves r r1 w w1 p p1 bytes (if list_all is_newline rest then idle else cut_off)
-serves_open r r1 w w1 p p1 bytes rest xs read begins u went wrote =
+serves_open goes r r1 w w1 p p1 bytes rest xs read begins u went wrote =
     let P : List ℕ → Type 0 = λ t. Appends w w1 t in record {
       exchanges = xs;
       read = read;
       cut = unfinished (messages_of xs) rest begins u;
-      holds = holds_of p p1 xs went;
+      holds = holds_of goes p p1 xs went;
       written = subst P (sym (ap (λ t. flat_map reply_bytes xs ++ t) (no_last (list_all is_newline rest)) ∙ append-nil (flat_map reply_bytes xs))) wrote;
     }
 
-pub so_far_open : (r r1 r2 w w1 : Known) (p p1 : Point) (n : ℕ) (old : List ℕ) → IsSoFar r r1 w w1 p p1 n old → Consumes r1 r2 [] → ServesSome r r2 w w1 p p1
-so_far_open r r1 r2 w w1 p p1 n old so more =
+pub so_far_open : EventsGoOn → (r r1 r2 w w1 : Known) (p p1 : Point) (n : ℕ) (old : List ℕ) → IsSoFar r r1 w w1 p p1 n old → Consumes r1 r2 [] → ServesSome r r2 w w1 p p1
+so_far_open goes r r1 r2 w w1 p p1 n old so more =
     let P : List ℕ → Type 0 = λ t. Consumes r r2 t in
     let read = subst P (append-nil so.bytes) (consumes_more r r1 r2 so.bytes [] so.read more) in (
       so.bytes,
       (if list_all is_newline old then idle else cut_off),
       is_open (list_all is_newline old),
-      serves_open r r2 w w1 p p1 so.bytes old so.exchanges read so.begins so.unfinished so.went so.written,
+      serves_open goes r r2 w w1 p p1 so.bytes old so.exchanges read so.begins so.unfinished so.went so.written,
     )
 
-pub so_far_spent : (r r1 w w1 : Known) (p p1 : Point) (n : ℕ) (old : List ℕ) → IsSoFar r r1 w w1 p p1 n old → 1000000000 ≤ n → ServesTo r r1 w w1 p p1 TurnsSpent
-so_far_spent r r1 w w1 p p1 n old so spent = (
+pub so_far_spent : EventsGoOn → (r r1 w w1 : Known) (p p1 : Point) (n : ℕ) (old : List ℕ) → IsSoFar r r1 w w1 p p1 n old → 1000000000 ≤ n → ServesTo r r1 w w1 p p1 TurnsSpent
+so_far_spent goes r r1 w w1 p p1 n old so spent = (
   so.bytes,
   (if list_all is_newline old then idle else cut_off),
   (is_open (list_all is_newline old), (let m = so.many in omega arith)),
-  serves_open r r1 w w1 p p1 so.bytes old so.exchanges so.read so.begins so.unfinished so.went so.written,
+  serves_open goes r r1 w w1 p p1 so.bytes old so.exchanges so.read so.begins so.unfinished so.went so.written,
 )
 
 empty : (xs : List ℕ) → length xs ≡ 0 → xs ≡ []
@@ -261,9 +262,9 @@ ends_at : (b : Bool) (bytes : List ℕ) (left : Known) → IsAtEnd left → Ends
 ends_at true bytes left h = (refl, h)
 ends_at false bytes left h = (refl, h)
 
-pub so_far_end : (r r1 r2 w w1 : Known) (p p1 : Point) (n : ℕ) (old new got : List ℕ) → IsSoFar r r1 w w1 p p1 n old → new ≡ old ++ got → Consumes r1 r2 got → length got ≡ 0 → IsAtEnd r2
+pub so_far_end : EventsGoOn → (r r1 r2 w w1 : Known) (p p1 : Point) (n : ℕ) (old new got : List ℕ) → IsSoFar r r1 w w1 p p1 n old → new ≡ old ++ got → Consumes r1 r2 got → length got ≡ 0 → IsAtEnd r2
     → ServesTo r r2 w w1 p p1 (end_of new)
-so_far_end r r1 r2 w w1 p p1 n old new got so e more none at =
+so_far_end goes r r1 r2 w w1 p p1 n old new got so e more none at =
     let nothing = empty got none in
     let P : List ℕ → Type 0 = λ t. Consumes r r2 t in
     let C : List ℕ → Type 0 = λ t. Consumes r1 r2 t in
@@ -272,7 +273,7 @@ so_far_end r r1 r2 w w1 p p1 n old new got so e more none at =
       so.bytes,
       (if list_all is_newline new then idle else cut_off),
       ends_at (list_all is_newline new) so.bytes r2 at,
-      serves_open r r2 w w1 p p1 so.bytes new so.exchanges read (begins_as so.bytes old new (messages_of so.exchanges) same so.begins) (subst IsUnfinished same so.unfinished) so.went so.written,
+      serves_open goes r r2 w w1 p p1 so.bytes new so.exchanges read (begins_as so.bytes old new (messages_of so.exchanges) same so.begins) (subst IsUnfinished same so.unfinished) so.went so.written,
     )
 
 -- ---- what holds however the serving ends

@@ -16,6 +16,7 @@ use crate::reply::{Said, WriteFault, write_reply};
 use crate::routes::{Route, routes};
 use canary_once::book::Book;
 use canary_once::clock::Clock;
+use canary_once::laws::going_on;
 use matchit::Router;
 use std::alloc::Global;
 use std::io::{Read, Write};
@@ -109,7 +110,8 @@ pub(crate) enum TurnFault {
     Write,
 }
 
-// Reads and answers in turn, from an empty buffer on.
+// Reads and answers in turn, from an empty buffer on. That what is answered turn by turn is what the
+// register answers to the whole stream is its law `going_on`.
 fn serve_turns<R: Read, W: Write, C: Clock, B: Book>(
     alloc: Global,
     router: &Router<Route>,
@@ -125,6 +127,7 @@ fn serve_turns<R: Read, W: Write, C: Clock, B: Book>(
         (point (C.tells clock.old) (B.is_intact book.old) (B.is_sure book.old) (B.contents book.old))
         (point (C.tells clock.new) (B.is_intact book.new) (B.is_sure book.new) (B.contents book.new)) result }
 {
+    going_on();
     'turns: for _turn in 0..MOST_READS {
         let Ok(count) = buffer.fill(reader) else {
             return Err(TurnFault::Read);

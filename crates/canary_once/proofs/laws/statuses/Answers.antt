@@ -2,4 +2,4 @@ use Rattle.canary_once.proofs.Statuses.{stays_settled, answers_settled}
 use Rattle.canary_once.proofs.laws.statuses.Goals as goal
 
 pub returns : goal.returns
-returns c = record { kept = stays_settled; told = answers_settled }
+returns c = record { kept = stays_settled c.refusals.ensures; told = answers_settled c.refusals.ensures }

@@ -15,7 +15,7 @@ turns-init g c = so_far_none (g.R.Read.remaining c.args.reader.now) (g.W.Write.c
 pub returns-in_default : goal.returns-in_default
 returns-in_default g c =
     let err = rw c.in_default.is at c.fill.ensures.err in
-    so_far_open (g.R.Read.remaining c.args.reader.now) (g.R.Read.remaining c.turns.reader) (g.R.Read.remaining c.fill.new.reader) (g.W.Write.contents c.args.writer.now) (g.W.Write.contents c.turns.writer)
+    so_far_open c.going_on.ensures (g.R.Read.remaining c.args.reader.now) (g.R.Read.remaining c.turns.reader) (g.R.Read.remaining c.fill.new.reader) (g.W.Write.contents c.args.writer.now) (g.W.Write.contents c.turns.writer)
     (point (g.C.Clock.tells c.args.clock.now) (g.B.Book.is_intact c.args.book.now) (g.B.Book.is_sure c.args.book.now) (g.B.Book.contents c.args.book.now))
     (point (g.C.Clock.tells c.turns.clock) (g.B.Book.is_intact c.turns.book) (g.B.Book.is_sure c.turns.book) (g.B.Book.contents c.turns.book))
     c.turns._turn (held c.turns.buffer) c.turns.invariant err.1
@@ -26,7 +26,7 @@ returns-then-count-eq0 g c =
     let P : Ended → Type 0 = λ t. ServesTo (g.R.Read.remaining c.args.reader.now) (g.R.Read.remaining c.fill.new.reader) (g.W.Write.contents c.args.writer.now) (g.W.Write.contents c.turns.writer)
     (point (g.C.Clock.tells c.args.clock.now) (g.B.Book.is_intact c.args.book.now) (g.B.Book.is_sure c.args.book.now) (g.B.Book.contents c.args.book.now))
     (point (g.C.Clock.tells c.turns.clock) (g.B.Book.is_intact c.turns.book) (g.B.Book.is_sure c.turns.book) (g.B.Book.contents c.turns.book)) t in
-    let ends = so_far_end (g.R.Read.remaining c.args.reader.now) (g.R.Read.remaining c.turns.reader) (g.R.Read.remaining c.fill.new.reader) (g.W.Write.contents c.args.writer.now) (g.W.Write.contents c.turns.writer)
+    let ends = so_far_end c.going_on.ensures (g.R.Read.remaining c.args.reader.now) (g.R.Read.remaining c.turns.reader) (g.R.Read.remaining c.fill.new.reader) (g.W.Write.contents c.args.writer.now) (g.W.Write.contents c.turns.writer)
     (point (g.C.Clock.tells c.args.clock.now) (g.B.Book.is_intact c.args.book.now) (g.B.Book.is_sure c.args.book.now) (g.B.Book.contents c.args.book.now))
     (point (g.C.Clock.tells c.turns.clock) (g.B.Book.is_intact c.turns.book) (g.B.Book.is_sure c.turns.book) (g.B.Book.contents c.turns.book))
     c.turns._turn (held c.turns.buffer) (held c.fill.new.self) more.0 c.turns.invariant more.1 more.2 (more.3 ∙ c.if-count-eq0.true) (c.fill.ensures.end (c.in-Ok.is ∙ ap Ok c.if-count-eq0.true)) in
@@ -36,7 +36,7 @@ pub returns-in-Ok-Ends : goal.returns-in-Ok-Ends
 returns-in-Ok-Ends g c =
     let more = rw c.in-Ok.is at c.fill.ensures.more in
     let a = rw c.in-Ok-Ends.field-0-is at c.in-Ok-Ends.ensures in
-    so_far_all (g.R.Read.remaining c.args.reader.now) (g.R.Read.remaining c.turns.reader) (g.R.Read.remaining c.fill.new.reader) (g.W.Write.contents c.args.writer.now) (g.W.Write.contents c.turns.writer)
+    so_far_all c.going_on.ensures (g.R.Read.remaining c.args.reader.now) (g.R.Read.remaining c.turns.reader) (g.R.Read.remaining c.fill.new.reader) (g.W.Write.contents c.args.writer.now) (g.W.Write.contents c.turns.writer)
     (point (g.C.Clock.tells c.args.clock.now) (g.B.Book.is_intact c.args.book.now) (g.B.Book.is_sure c.args.book.now) (g.B.Book.contents c.args.book.now))
     (point (g.C.Clock.tells c.turns.clock) (g.B.Book.is_intact c.turns.book) (g.B.Book.is_sure c.turns.book) (g.B.Book.contents c.turns.book))
     c.turns._turn (held c.turns.buffer) (held c.fill.new.self) more.0 c.turns.invariant more.1 more.2
@@ -47,7 +47,7 @@ returns-in-Ok-Ends g c =
 pub returns-in-Err : goal.returns-in-Err
 returns-in-Err g c =
     let more = rw c.in-Ok.is at c.fill.ensures.more in
-    so_far_until (g.R.Read.remaining c.args.reader.now) (g.R.Read.remaining c.turns.reader) (g.R.Read.remaining c.fill.new.reader) (g.W.Write.contents c.args.writer.now) (g.W.Write.contents c.turns.writer)
+    so_far_until c.going_on.ensures (g.R.Read.remaining c.args.reader.now) (g.R.Read.remaining c.turns.reader) (g.R.Read.remaining c.fill.new.reader) (g.W.Write.contents c.args.writer.now) (g.W.Write.contents c.turns.writer)
     (point (g.C.Clock.tells c.args.clock.now) (g.B.Book.is_intact c.args.book.now) (g.B.Book.is_sure c.args.book.now) (g.B.Book.contents c.args.book.now))
     (point (g.C.Clock.tells c.turns.clock) (g.B.Book.is_intact c.turns.book) (g.B.Book.is_sure c.turns.book) (g.B.Book.contents c.turns.book))
     c.turns._turn (held c.turns.buffer) (held c.fill.new.self) more.0 c.turns.invariant more.1 more.2
@@ -60,7 +60,7 @@ turns-preserved g c =
     let more = rw c.in-Ok.is at c.fill.ensures.more in
     let a = rw c.in-Ok-GoesOn.field-0-is at c.in-Ok-GoesOn.ensures in
     let some : 0 < length more.0 = (let none = c.if-count-eq0.false in let count = more.3 in omega arith) in
-    so_far_more (g.R.Read.remaining c.args.reader.now) (g.R.Read.remaining c.turns.reader) (g.R.Read.remaining c.fill.new.reader) (g.W.Write.contents c.args.writer.now) (g.W.Write.contents c.turns.writer)
+    so_far_more c.going_on.ensures (g.R.Read.remaining c.args.reader.now) (g.R.Read.remaining c.turns.reader) (g.R.Read.remaining c.fill.new.reader) (g.W.Write.contents c.args.writer.now) (g.W.Write.contents c.turns.writer)
     (point (g.C.Clock.tells c.args.clock.now) (g.B.Book.is_intact c.args.book.now) (g.B.Book.is_sure c.args.book.now) (g.B.Book.contents c.args.book.now))
     (point (g.C.Clock.tells c.turns.clock) (g.B.Book.is_intact c.turns.book) (g.B.Book.is_sure c.turns.book) (g.B.Book.contents c.turns.book))
     c.turns._turn (held c.turns.buffer) (held c.fill.new.self) more.0 c.turns.invariant more.1 more.2
@@ -70,7 +70,7 @@ turns-preserved g c =
 
 pub returns : goal.returns
 returns g c =
-    so_far_spent (g.R.Read.remaining c.args.reader.now) (g.R.Read.remaining c.turns.reader) (g.W.Write.contents c.args.writer.now) (g.W.Write.contents c.turns.writer)
+    so_far_spent c.going_on.ensures (g.R.Read.remaining c.args.reader.now) (g.R.Read.remaining c.turns.reader) (g.W.Write.contents c.args.writer.now) (g.W.Write.contents c.turns.writer)
     (point (g.C.Clock.tells c.args.clock.now) (g.B.Book.is_intact c.args.book.now) (g.B.Book.is_sure c.args.book.now) (g.B.Book.contents c.args.book.now))
     (point (g.C.Clock.tells c.turns.clock) (g.B.Book.is_intact c.turns.book) (g.B.Book.is_sure c.turns.book) (g.B.Book.contents c.turns.book))
     c.turns._turn (held c.turns.buffer) c.turns.invariant (omega arith)
