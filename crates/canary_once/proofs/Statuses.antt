@@ -42,7 +42,7 @@ settles leaves c r all q n k e =
     let x : Kept = kept_as r (apply c.desk r.moment r.command).reply in
     let P : Kept → Type 0 = λ y. IsSettledStatus y.reply.status in
     elim (from_kept c.callers r.caller q x k (n - 1) (bytes_eq q r.caller) refl (ap (λ l. slice_get l (n - 1)) (sym (got c.callers r.caller q x)) ∙ e)) [
-      inl h ↦ all q n k h
+      | inl h ↦ all q n k h
       | inr h ↦ subst P h (status_of_new leaves c.desk r.moment r.command)
     ]
 
