@@ -50,7 +50,6 @@ pub enum WordsFault {
 }
 
 /// Reads a command line, of which the first word is the program's name.
-#[tactic(auto, using(crate::proofs::Spelled::some_program))]
 pub fn read_words(alloc: Global, words: &[String]) -> Result<Program, WordsFault>
     ensures program { IfOk result (λ p. program_of (map string_bytes words.now) ≡ Some p) }
     ensures taken { IfOk result (λ _. faults_of (map string_bytes words.now) ≡ []) }

@@ -1,16 +1,16 @@
-//! Metrics, tallies and verdicts: worked values, and long lists.
+//! Metrics: copies, and a list of the greatest length. The worked values of metrics, tallies and
+//! verdicts, whose calls take no memory, are computed on their definitions.
 ghost use Rattle.std.specs.Prelude.{IsTrue};
 ghost use Rattle.canary_metric.specs.Measurements.{is_measured};
 
-use canary_base::durations::{LONGEST, Seconds};
-use canary_base::moments::{LAST_MOMENT, Moment};
+use canary_base::durations::Seconds;
+use canary_base::moments::Moment;
 use canary_base::names::Label;
 use canary_condition::condition::{Condition, Verdict3};
 use canary_condition::outcome::{Phase, Value};
 use canary_metric::measurement::Measurement;
 use canary_metric::metric::{Metric, MetricSettings, effective_count};
 use canary_metric::tally::{MOST_MEASUREMENTS, Tally, recount};
-use canary_metric::verdict::{verdict, worst};
 use std::process::Abort;
 use std::test::Fail;
 
@@ -42,10 +42,8 @@ fn metric(rt: &impl Abort, settings: MetricSettings) -> Metric {
 }
 
 /// A metric with an interval of a minute, and else its defaults.
-fn endless(rt: &impl Abort, dry_run: bool) -> Metric {
-    let mut settings = settings(rt, Seconds::new(60));
-    settings.dry_run = dry_run;
-    metric(rt, settings)
+fn endless(rt: &impl Abort) -> Metric {
+    metric(rt, settings(rt, Seconds::new(60)))
 }
 
 /// A metric with a count of 3 and one failure allowed.
@@ -67,110 +65,9 @@ fn phase_of(letter: u8) -> Phase
     }
 }
 
-/// The tally of measurements with these letters, all taken at the beginning.
-fn tally(rt: &impl Abort, letters: &str) -> Tally {
-    let begin = moment(rt, BEGIN);
-    let mut tally = Tally::new();
-    for letter in letters.as_bytes() {
-        assert!(rt; !tally.full());
-        tally.add(phase_of(*letter), begin);
-    }
-    tally
-}
-
-#[test]
-fn phases(rt: HostRuntime) {
-    let endless = endless(&rt, false);
-    for (letters, want) in [
-        ("", Phase::Pending),
-        ("EEEE", Phase::Running),
-        ("EEEEE", Phase::Error),
-        ("EEEESEEEE", Phase::Running),
-        ("F", Phase::Failed),
-        ("I", Phase::Inconclusive),
-        ("FI", Phase::Failed),
-    ] {
-        assert_eq!(rt;
-            tally(&rt, letters).phase(&endless, false),
-            want,
-            "{letters}"
-        );
-    }
-    let three = three(&rt);
-    for (letters, want) in [
-        ("SFS", Phase::Successful),
-        ("FF", Phase::Failed),
-        ("SEESEE", Phase::Running),
-    ] {
-        assert_eq!(rt; tally(&rt, letters).phase(&three, false), want, "{letters}");
-    }
-    assert_eq!(rt; tally(&rt, "").phase(&endless, true), Phase::Successful);
-}
-
-#[test]
-fn verdicts(rt: HostRuntime) {
-    let both = [endless(&rt, false), endless(&rt, false)];
-    let second_dry = [endless(&rt, false), endless(&rt, true)];
-    let first_dry = [endless(&rt, true), endless(&rt, false)];
-    let tallies = [tally(&rt, "I"), tally(&rt, "F")];
-    assert_eq!(rt; verdict(&both, &tallies, false), Phase::Failed);
-    assert_eq!(rt; verdict(&second_dry, &tallies, false), Phase::Inconclusive);
-    let tallies = [tally(&rt, "F"), tally(&rt, "S")];
-    assert_eq!(rt; verdict(&first_dry, &tallies, false), Phase::Running);
-    assert_eq!(rt; verdict(&first_dry, &tallies, true), Phase::Successful);
-    let alone = [endless(&rt, true)];
-    assert_eq!(rt;
-        verdict(&alone, &[tally(&rt, "F")], false),
-        Phase::Successful
-    );
-    assert_eq!(rt; worst(Phase::Inconclusive, Phase::Error), Phase::Error);
-}
-
-#[test]
-fn counts(rt: HostRuntime) {
-    let begin = Some(moment(&rt, BEGIN));
-    let kept = Some(tally(&rt, "EEEESEEEE"));
-    assert_eq!(rt; Tally::from_counts(1, 0, 0, 8, 4, begin), kept);
-    let kept = tally(&rt, "EEEESEEEE");
-    assert_eq!(rt; numbers(&kept), [1, 0, 0, 8, 4, 9]);
-    assert_eq!(rt; kept.last(), begin);
-    assert_eq!(rt;
-        Tally::from_counts(0, 0, 0, 0, 0, None),
-        Some(Tally::default())
-    );
-    assert_eq!(rt; Tally::from_counts(1, 0, 0, 0, 0, None), None);
-    for [counted, failed, inconclusive, errors, consecutive] in [
-        [0, 0, 0, 2, 1],
-        [0, 0, 0, 0, 0],
-        [1, 1, 1, 0, 0],
-        [1, 0, 0, 2, 3],
-        [1_000_000, 0, 0, 1, 0],
-        [u32::MAX, 0, 0, 1, 0],
-        [1, u32::MAX, 2, 0, 0],
-    ] {
-        let found = Tally::from_counts(counted, failed, inconclusive, errors, consecutive, begin);
-        assert_eq!(rt;
-            found,
-            None,
-            "{counted} {failed} {inconclusive} {errors} {consecutive}"
-        );
-    }
-}
-
-fn numbers(tally: &Tally) -> [u32; 6] {
-    [
-        tally.counted(),
-        tally.failed(),
-        tally.inconclusive(),
-        tally.errors(),
-        tally.consecutive(),
-        tally.measurements(),
-    ]
-}
-
 #[test]
 fn metrics(rt: HostRuntime) -> Result<(), Fail> {
-    let copy = endless(&rt, false).copy(rt.alloc())?;
+    let copy = endless(&rt).copy(rt.alloc())?;
     assert_eq!(rt; copy.name().as_str(), "m");
     assert!(rt; has_defaults(&copy));
     assert_eq!(rt; effective_count(&copy), None);
@@ -203,35 +100,6 @@ fn conditions_of_copies(rt: HostRuntime) -> Result<(), Fail> {
     assert_eq!(rt; success.eval(&Value::Whole(11)), Verdict3::True);
     assert_eq!(rt; failure.eval(&Value::Whole(11)), Verdict3::False);
     Ok(())
-}
-
-#[test]
-fn counts_of_metrics(rt: HostRuntime) {
-    for (count, stands) in [(0, None), (1, Some(1)), (1_000_000, Some(1_000_000))] {
-        let mut settings = settings(&rt, Seconds::new(60));
-        settings.count = Some(count);
-        assert_eq!(rt; metric(&rt, settings).count(), stands, "{count}");
-    }
-    let mut above = settings(&rt, Seconds::new(60));
-    above.inconclusive_limit = Some(1_000_001);
-    assert!(rt; Metric::new(above).is_none());
-}
-
-#[test]
-fn due(rt: HostRuntime) {
-    let begin = moment(&rt, BEGIN);
-    let one = metric(&rt, settings(&rt, None));
-    let mut late = settings(&rt, Seconds::new(60));
-    late.initial_delay = Seconds::new(30);
-    let late = metric(&rt, late);
-    assert_eq!(rt; Tally::new().due(&late, begin), 1_767_225_630);
-    assert_eq!(rt; tally(&rt, "S").due(&late, begin), 1_767_225_660);
-    assert_eq!(rt; tally(&rt, "E").due(&one, begin), 1_767_225_610);
-    let rare = metric(&rt, settings(&rt, Seconds::new(u64::from(LONGEST))));
-    let last = moment(&rt, LAST_MOMENT);
-    let mut tally = Tally::new();
-    tally.add(Phase::Successful, last);
-    assert_eq!(rt; tally.due(&rare, begin), 253_402_300_799);
 }
 
 #[test]

@@ -1,7 +1,7 @@
 use Rattle.std.proofs.Common.{◌≡◌, ◌∙◌, [], ap, map, subst, sym, refl, string_bytes}
 use Rattle.clap.specs.Words.{App, HasKind, fault_of, is_simple, is_simple_and_free, subcommand_of}
 use Rattle.canary_desk.specs.CommandLine.{faults_of, HasPipe}
-use Rattle.canary_desk.proofs.Spelled.{desk_is_simple, spelled}
+use Rattle.canary_desk.proofs.Spelled.{desk_is_simple, some_program, spelled}
 use Rattle.canary_desk.proofs.words.read_words.Goals as goal
 
 pub program_of-requires : goal.program_of-requires
@@ -18,3 +18,12 @@ returns-in-Err-clause-fault c =
     let ours = c.in-Ok.ensures in
     c.fault_of.ensures (faults_of words)
     (subst (λ (a : App). HasKind (fault_of a words) c.in-Err.error) ours (c.in-Err.ensures.kinds (ap is_simple_and_free ours ∙ desk_is_simple)))
+
+pub returns-in_default-clause-spelled : goal.returns-in_default-clause-spelled
+returns-in_default-clause-spelled c = some_program (map string_bytes c.args.words.now)
+
+pub returns-in-Ok-try_get_matches_from-clause-spelled : goal.returns-in-Ok-try_get_matches_from-clause-spelled
+returns-in-Ok-try_get_matches_from-clause-spelled c = some_program (map string_bytes c.args.words.now)
+
+pub returns-in-Err-clause-spelled : goal.returns-in-Err-clause-spelled
+returns-in-Err-clause-spelled c = some_program (map string_bytes c.args.words.now)
