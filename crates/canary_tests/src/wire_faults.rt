@@ -1,6 +1,7 @@
 //! Readers, writers and stores that fail under a stream.
 use crate::wire_serve::{
-    NO_ROUTE, NOT_FOUND, clock, in_pieces, release, reply, served, served_over, tells_of_memory,
+    NO_ROUTE, NOT_FOUND, clock, front, in_pieces, release, reply, served, served_over,
+    tells_of_memory,
 };
 use canary_base::error::Memory;
 use canary_base::names::Name;
@@ -57,7 +58,7 @@ fn tells_of_a_reader_that_fails(rt: HostRuntime) -> Result<(), Fail> {
         assert_eq!(rt; ended, Err(ServeFault::Read), "{reads}");
         assert_eq!(rt;
             written.as_slice(),
-            &told.replies.as_bytes()[..answered],
+            front(told.replies.as_bytes(), answered),
             "{reads}"
         );
     }
@@ -69,9 +70,9 @@ fn tells_of_a_reader_that_fails(rt: HostRuntime) -> Result<(), Fail> {
 fn tells_of_a_writer_that_fails(rt: HostRuntime) -> Result<(), Fail> {
     let alloc = rt.alloc();
     let told = release(alloc)?;
-    let (asked, replied) = told.ends[3];
-    let bytes = &told.stream.as_bytes()[..asked];
-    let want = &told.replies.as_bytes()[..replied];
+    let bytes = told.asked(4);
+    let want = told.replied(4);
+    assert!(rt; !want.is_empty());
     for writes in 0..want.len() / 50 + 1 {
         let mut book = MemoryBook::new(alloc);
         let mut writer = Sink {
@@ -127,7 +128,7 @@ impl Book for Broken {
 fn tells_of_a_store_that_fails(rt: HostRuntime) -> Result<(), Fail> {
     let alloc = rt.alloc();
     let told = release(alloc)?;
-    let first = &told.stream.as_bytes()[..told.ends[0].0];
+    let first = told.asked(1);
     let want = reply(
         alloc,
         "503 Service Unavailable",

@@ -95,6 +95,34 @@ pub(crate) struct Told {
     pub ends: Vec<(usize, usize)>,
 }
 
+impl Told {
+    // The first messages, so many.
+    pub(crate) fn asked(&self, messages: usize) -> &[u8] {
+        front(self.stream.as_bytes(), self.end(messages).0)
+    }
+
+    // What is written to them.
+    pub(crate) fn replied(&self, messages: usize) -> &[u8] {
+        front(self.replies.as_bytes(), self.end(messages).1)
+    }
+
+    fn end(&self, messages: usize) -> (usize, usize) {
+        match self.ends.get(messages.wrapping_sub(1)) {
+            Some(end) => *end,
+            None => (0, 0),
+        }
+    }
+}
+
+// So many bytes at the front, or all that there are.
+pub(crate) fn front(bytes: &[u8], count: usize) -> &[u8] {
+    if count <= bytes.len() {
+        &bytes[..count]
+    } else {
+        bytes
+    }
+}
+
 // The release, from its first request to its last.
 pub(crate) fn release(alloc: Global) -> Result<Told, Memory> {
     let mut stream = String::new(alloc);
@@ -208,8 +236,8 @@ fn letters(alloc: Global, count: usize) -> Result<String, Memory> {
 fn writes_each_byte_of_a_reply(rt: HostRuntime) -> Result<(), Fail> {
     let alloc = rt.alloc();
     let told = release(alloc)?;
-    let front = told.ends[1].0;
-    let (written, _) = served(alloc, &mut &told.stream.as_bytes()[..front])?;
+    let mut stream = told.asked(2);
+    let (written, _) = served(alloc, &mut stream)?;
     let want = concat!(
         "HTTP/1.1 200 OK\r\nContent-Type: application/json\r\nContent-Length: 70\r\n\r\n",
         r#"{"code":"ok","service":"web","status":"Healthy","step":4,"weight":100}"#,
@@ -234,15 +262,12 @@ fn answers_a_release_in_any_pieces(rt: HostRuntime) -> Result<(), Fail> {
             "pieces of {size}"
         );
     }
-    let (asked, replied) = told.ends[3];
-    for cut in 1..asked {
-        let (written, ended) = served(alloc, &mut in_pieces(&bytes[..asked], cut, asked))?;
+    let asked = told.asked(4);
+    assert!(rt; !asked.is_empty());
+    for cut in 1..asked.len() {
+        let (written, ended) = served(alloc, &mut in_pieces(asked, cut, asked.len()))?;
         assert_eq!(rt; ended, Ok(Ended::EndOfInput), "cut at {cut}");
-        assert_eq!(rt;
-            written.as_slice(),
-            &told.replies.as_bytes()[..replied],
-            "cut at {cut}"
-        );
+        assert_eq!(rt; written.as_slice(), told.replied(4), "cut at {cut}");
     }
     Ok(())
 }
