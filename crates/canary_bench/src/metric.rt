@@ -43,7 +43,7 @@ pub fn measure(rt: &HostRuntime, work: u32) -> Result<()> {
 /// A metric that stays Running, and a moment.
 fn measured() -> Option<(Metric, Moment)> {
     let metric = Metric::new(MetricSettings {
-        name: Label::read(b"latency")?,
+        name: Label::read("latency".as_bytes())?,
         success: None,
         failure: None,
         interval: Seconds::new(60),

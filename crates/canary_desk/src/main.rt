@@ -1,11 +1,8 @@
-//! The desk as a program: `read_words` reads a command line, `perform` runs it on a given input,
-//! output and error stream, and `main` hands it the process's own.
+//! The desk as a program: hands `perform` the words of the command line and the process's own
+//! streams.
 #![tactic(auto)]
 
-mod perform;
-mod words;
-
-use perform::{perform, refuse};
+use canary_cli::perform::{perform, refuse};
 use std::io;
 use std::process::ExitCode;
 

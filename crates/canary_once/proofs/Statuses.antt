@@ -4,7 +4,7 @@ use Rattle.std.specs.Prelude.{◌==◌, nat_lt, if◌then◌else◌, Option, unw
 use Rattle.std.specs.Ordering.{nat_cmp}
 use Rattle.std.specs.Cmp.Lexicographic.{slice_cmp}
 use Rattle.std.specs.Str.{bytes_eq}
-use Rattle.std.specs.FinMap.{FinMap, get}
+use Rattle.std.specs.FinMap.{FinMap, get, get-empty}
 use Rattle.std.proofs.lemmas.Slice.Eq.{bytes_eq-Decides}
 use Rattle.canary_plan.specs.declared.command.Command.{Command}
 use Rattle.canary_plan.specs.Commands.{same_command}
@@ -14,7 +14,7 @@ use Rattle.canary_release.specs.Laws.{RefusalsLeaveTheDesk as LeavesTheDesk}
 use Rattle.canary_once.specs.declared.book.Kept.{Kept}
 use Rattle.canary_once.specs.declared.event.Request.{Request}
 use Rattle.canary_once.specs.declared.event.Event.TheVariants.{Request as RequestEvent}
-use Rattle.canary_once.specs.Contents.{Contents, count_of, kept_at}
+use Rattle.canary_once.specs.Contents.{Contents, no_contents, count_of, kept_at}
 use Rattle.canary_once.specs.Answers.{kept_as, after, reused, ahead, repeated}
 use Rattle.canary_once.specs.Single.{settle}
 use Rattle.canary_once.specs.Laws.{IsSettledStatus, KeepsSettled, StaysSettled, AnswersSettled}
@@ -49,6 +49,15 @@ settles leaves c r all q n k e =
 one_settles : LeavesTheDesk → (c : Contents) (r : Request) (new : Bool) → KeepsSettled c → KeepsSettled (if new then settle c r else c)
 one_settles leaves c r true all = settles leaves c r all
 one_settles leaves c r false all = all
+
+nothing_at : (i : ℕ) (k : Kept) → ◌≡◌ {A = Option Kept} (slice_get [] i) (Some k) → ⊥
+nothing_at zero k e = cc e
+nothing_at (suc i) k e = cc e
+
+pub none_settled : KeepsSettled no_contents
+none_settled q n k e =
+    let none : ◌≡◌ {A = Option Kept} (slice_get [] (n - 1)) (Some k) = sym (ap (λ (o : Option (List Kept)). slice_get (unwrap_or o []) (n - 1)) (get-empty (slice_cmp nat_cmp) q)) ∙ e in
+    absurd (nothing_at (n - 1) k none)
 
 pub stays_settled : LeavesTheDesk → StaysSettled
 stays_settled leaves c [] all = all

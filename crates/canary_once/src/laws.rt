@@ -1,5 +1,6 @@
 //! Laws over the definitions alone.
-ghost use Rattle.canary_once.specs.Laws.{NewAreOfTheMachine, EachOnce, OneRequest, GoesOn, NoneIsAhead, ConflictsChangeNothing, RefusalsLeaveTheDesk, StaysSettled, AnswersSettled};
+ghost use Rattle.canary_once.specs.Laws.{NewAreOfTheMachine, EachOnce, OneRequest, GoesOn, NoneIsAhead, ConflictsChangeNothing, RefusalsLeaveTheDesk, KeepsSettled, StaysSettled, AnswersSettled};
+ghost use Rattle.canary_once.specs.Contents.{no_contents};
 
 use canary_release::laws;
 
@@ -40,6 +41,7 @@ pub fn refusals()
 /// Where each kept reply has status 200 or 422, as where none is kept, it stays so, and each answer
 /// has status 200, 409 or 422: no 503 is ever kept.
 pub fn statuses()
+    ensures none { KeepsSettled no_contents }
     ensures kept { StaysSettled }
     ensures told { AnswersSettled }
 {

@@ -1,158 +1,97 @@
 //! Conditions, measurements and the texts of results: worked values from the grammar and the table
 //! of measurements.
+use crate::rows::split;
 use canary_base::error::Memory;
 use canary_base::lists::Text;
-use canary_condition::condition::{Condition, ConditionFault, Verdict3};
+use canary_condition::condition::{Condition, ConditionFault};
 use canary_condition::measurement::measure;
 use canary_condition::outcome::{FailureText, Outcome, Phase, Value};
 use std::alloc::{AllocError, Global};
 use std::process::Abort;
 use std::test::Fail;
 
-/// This front, and behind it a text in so many round brackets.
-fn bracketed(alloc: Global, front: &str, depth: usize, text: &str) -> Result<String, AllocError> {
-    let mut whole = String::from_str(alloc, front)?;
-    for _ in 0..depth {
-        whole.push('(')?;
+/// What a text is told to be; none where memory was refused.
+fn told(alloc: Global, text: &str) -> Option<&'static str> {
+    match Condition::parse(alloc, text) {
+        Ok(_) => Some("reads"),
+        Err(ConditionFault::Syntax) => Some("syntax"),
+        Err(ConditionFault::NumberRange) => Some("number-range"),
+        Err(ConditionFault::TooDeep) => Some("too-deep"),
+        Err(ConditionFault::TooLong) => Some("too-long"),
+        Err(ConditionFault::Memory) => None,
     }
-    whole.push_str(text)?;
-    for _ in 0..depth {
-        whole.push(')')?;
-    }
-    Ok(whole)
 }
 
-/// The fault of a text; `Memory` too is passed, where an allocation failed.
-fn expect_fault(rt: &impl Abort, alloc: Global, text: &str, fault: ConditionFault) {
-    let found = Condition::parse(alloc, text).err();
-    assert!(rt;
-        found == Some(fault) || found == Some(ConditionFault::Memory),
-        "{text}"
-    );
+fn is_told(alloc: Global, text: &str, want: &str) -> bool {
+    told(alloc, text).or(told(alloc, text)) == Some(want)
 }
+
+const TEXTS: &str = "syntax 
+syntax result >
+syntax result > 0.5
+syntax result - 1 > 0
+syntax result > - 1
+syntax result === 1
+syntax result > 1 &
+syntax result2 > 1
+syntax result[-1] > 1
+syntax (result) > 1
+syntax result > 1 result > 2
+syntax (result > 1
+syntax result > 1)
+syntax result > 1 || not
+syntax result > 9223372036854775808 @
+number-range result > 9223372036854775808
+number-range result > -9223372036854775809
+number-range 9223372036854775808
+reads result > -9223372036854775808";
 
 #[test]
-fn names_each_fault(rt: HostRuntime) {
-    let alloc = rt.alloc();
-    for text in [
-        "",
-        "result >",
-        "result > 0.5",
-        "result - 1 > 0",
-        "result > - 1",
-        "result === 1",
-        "result > 1 &",
-        "result2 > 1",
-        "result[-1] > 1",
-        "(result) > 1",
-        "result > 1 result > 2",
-        "(result > 1",
-        "result > 1)",
-        "result > 1 || not",
-        "result > 9223372036854775808 @",
-    ] {
-        expect_fault(&rt, alloc, text, ConditionFault::Syntax);
+fn names_each_fault(rt: HostRuntime) -> Result<(), Fail> {
+    for row in TEXTS.lines() {
+        let (want, text) = row.split_once(' ').ok_or("a row")?;
+        assert!(rt; is_told(rt.alloc(), text, want), "{row}");
     }
-    for text in [
-        "result > 9223372036854775808",
-        "result > -9223372036854775809",
-        "9223372036854775808",
-    ] {
-        expect_fault(&rt, alloc, text, ConditionFault::NumberRange);
-    }
+    Ok(())
 }
 
-/// The fault of a text in so many brackets behind this front.
-fn expect_deep(
-    rt: &impl Abort,
+/// This front, and behind it a text in so many round brackets.
+fn bracketed(alloc: Global, front: &str, depth: usize, text: &str) -> Result<String, AllocError> {
+    let opened = "(".repeat(alloc, depth)?;
+    let closed = ")".repeat(alloc, depth)?;
+    format!(in alloc; "{front}{opened}{text}{closed}")
+}
+
+/// Whether a text in so many brackets behind this front is told to be so.
+fn is_told_deep(
     alloc: Global,
     front: &str,
     depth: usize,
     text: &str,
-    fault: ConditionFault,
-) -> Result<(), AllocError> {
+    want: &str,
+) -> Result<bool, AllocError> {
     let deep = bracketed(alloc, front, depth, text)?;
-    expect_fault(rt, alloc, deep.as_str(), fault);
-    Ok(())
-}
-
-/// The fault of so many spaces.
-fn expect_spaces(
-    rt: &impl Abort,
-    alloc: Global,
-    count: usize,
-    fault: ConditionFault,
-) -> Result<(), AllocError> {
-    let spaces = " ".repeat(alloc, count)?;
-    expect_fault(rt, alloc, spaces.as_str(), fault);
-    Ok(())
+    Ok(is_told(alloc, deep.as_str(), want))
 }
 
 #[test]
 fn keeps_the_order_of_the_faults(rt: HostRuntime) -> Result<(), Fail> {
     let alloc = rt.alloc();
-    for (front, depth, text, fault) in [
-        ("", 33, "result>0", ConditionFault::TooDeep),
-        (
+    assert!(rt; is_told_deep(alloc, "", 32, "result>0", "reads")?);
+    assert!(rt; is_told_deep(alloc, "", 33, "result>0", "too-deep")?);
+    assert!(rt;
+        is_told_deep(
+            alloc,
             "",
             33,
             "result > 9223372036854775808",
-            ConditionFault::NumberRange,
-        ),
-        ("", 33, "result >", ConditionFault::TooDeep),
-        (")))", 32, "result>0", ConditionFault::Syntax),
-    ] {
-        expect_deep(&rt, alloc, front, depth, text, fault)?;
-    }
-    expect_spaces(&rt, alloc, 1025, ConditionFault::TooLong)?;
-    expect_spaces(&rt, alloc, 1024, ConditionFault::Syntax)?;
-    Ok(())
-}
-
-/// What the condition says of a whole number.
-fn verdict_at(alloc: Global, text: &str, number: i64) -> Result<Verdict3, ConditionFault> {
-    let condition = Condition::parse(alloc, text)?;
-    Ok(condition.eval(&Value::Whole(number)))
-}
-
-#[test]
-fn groups_as_the_grammar_says(rt: HostRuntime) -> Result<(), Fail> {
-    let alloc = rt.alloc();
-    for (text, number, verdict) in [
-        ("not result == 1 and result < 5", 0, Verdict3::True),
-        ("not result == 1 and result < 5", 1, Verdict3::False),
-        ("not result == 1 and result < 5", 7, Verdict3::False),
-        ("result==1||result==2&&result==3", 1, Verdict3::True),
-        ("result==1||result==2&&result==3", 2, Verdict3::False),
-        ("result==2&&result==3||result==1", 1, Verdict3::True),
-        ("(result==1 or result==2) and result==2", 1, Verdict3::False),
-        ("!(!(result != 0))", 0, Verdict3::False),
-        ("!(!(result != 0))", 3, Verdict3::True),
-        ("not!not result>=007", 7, Verdict3::False),
-        ("result > -1", 0, Verdict3::True),
-        ("result>-1", -1, Verdict3::False),
-        ("-0 == 0", 5, Verdict3::True),
-        ("\tresult\r\n<= 5 ", 5, Verdict3::True),
-        ("result > -9223372036854775808", i64::MIN, Verdict3::False),
-        ("result >= 9223372036854775807", i64::MAX, Verdict3::True),
-        ("result[0] > 0", 1, Verdict3::Fault),
-        ("!(result[0] > 0)", 1, Verdict3::Fault),
-        ("result > 0 && result[0] > 0", 0, Verdict3::False),
-        ("result[0] > 0 && result > 0", 0, Verdict3::Fault),
-        (
-            "result > 0 || result[0] > 0 && result > 0",
-            1,
-            Verdict3::True,
-        ),
-    ] {
-        assert_eq!(rt;
-            verdict_at(alloc, text, number)?,
-            verdict,
-            "{text} at {number}"
-        );
-    }
-    let deepest = bracketed(alloc, "", 32, "result>0")?;
-    assert_eq!(rt; verdict_at(alloc, deepest.as_str(), 1)?, Verdict3::True);
+            "number-range"
+        )?
+    );
+    assert!(rt; is_told_deep(alloc, "", 33, "result >", "too-deep")?);
+    assert!(rt; is_told_deep(alloc, ")))", 32, "result>0", "syntax")?);
+    assert!(rt; is_told(alloc, " ".repeat(alloc, 1025)?.as_str(), "too-long"));
+    assert!(rt; is_told(alloc, " ".repeat(alloc, 1024)?.as_str(), "syntax"));
     Ok(())
 }
 
@@ -164,49 +103,86 @@ fn condition_of(alloc: Global, text: &str) -> Result<Option<Condition>, Conditio
     Ok(Some(Condition::parse(alloc, text)?))
 }
 
-/// The phase of a result by these conditions.
-fn phase_by(success: Option<Condition>, failure: Option<Condition>, value: Value) -> Phase {
-    measure(success.as_ref(), failure.as_ref(), &Outcome::Result(value))
-}
-
-fn phase_at(alloc: Global, success: &str, failure: &str, value: &str) -> Result<Phase, Fail> {
+/// The word of the phase of a result by these conditions.
+fn phase_of(
+    alloc: Global,
+    success: &str,
+    failure: &str,
+    value: &str,
+) -> Result<&'static str, Fail> {
     let value = Value::read(value).ok_or("the text of a result")?;
     let success = condition_of(alloc, success)?;
     let failure = condition_of(alloc, failure)?;
-    Ok(phase_by(success, failure, value))
+    let phase = measure(success.as_ref(), failure.as_ref(), &Outcome::Result(value));
+    Ok(word_of(phase))
+}
+
+fn word_of(phase: Phase) -> &'static str {
+    match phase {
+        Phase::Successful => "Successful",
+        Phase::Failed => "Failed",
+        Phase::Inconclusive => "Inconclusive",
+        Phase::Error => "Error",
+        _ => "no phase of a measurement",
+    }
+}
+
+/// A success condition, a failure condition, a result and its phase.
+const MEASURED: &str = " =>  => [7] => Successful
+result[2] > 0 =>  => [1;2] => Error
+result[1] == 2 =>  => [1;2] => Successful
+result > 0 =>  => [1;2] => Error
+result[0] > 0 || result[9] > 0 =>  => [1] => Successful
+result[9] > 0 || result[0] > 0 =>  => [1] => Error
+result[0] > 1 =>  => [1] => Failed
+ => result[0] > 1 => [1] => Successful
+ => result[0] > 0 => [1] => Failed
+ => result[1] > 0 => [1] => Error
+result > 10 => result < 5 => 7 => Inconclusive
+result > 1 => result < 9 => 5 => Failed
+result > 10 => result < 5 => 11 => Successful
+result > 10 => result < 5 => 4 => Failed
+result > 10 => result[1] < 5 => 11 => Error";
+
+/// Conditions of success, whose groups and numbers decide.
+const GROUPED: &str = "not result == 1 and result < 5 =>  => 0 => Successful
+not result == 1 and result < 5 =>  => 1 => Failed
+not result == 1 and result < 5 =>  => 7 => Failed
+result==1||result==2&&result==3 =>  => 1 => Successful
+result==1||result==2&&result==3 =>  => 2 => Failed
+result==2&&result==3||result==1 =>  => 1 => Successful
+(result==1 or result==2) and result==2 =>  => 1 => Failed
+!(!(result != 0)) =>  => 0 => Failed
+!(!(result != 0)) =>  => 3 => Successful
+not!not result>=007 =>  => 7 => Failed
+result > -1 =>  => 0 => Successful
+result>-1 =>  => -1 => Failed
+-0 == 0 =>  => 5 => Successful
+result > -9223372036854775808 =>  => -9223372036854775808 => Failed
+result >= 9223372036854775807 =>  => 9223372036854775807 => Successful
+result[0] > 0 =>  => 1 => Error
+!(result[0] > 0) =>  => 1 => Error
+result > 0 && result[0] > 0 =>  => 0 => Failed
+result[0] > 0 && result > 0 =>  => 0 => Error
+result > 0 || result[0] > 0 && result > 0 =>  => 1 => Successful";
+
+fn expect_phases(rt: &impl Abort, alloc: Global, rows: &str) -> Result<(), Fail> {
+    for row in rows.lines() {
+        let (success, others) = split(row)?;
+        let (failure, others) = split(others)?;
+        let (value, want) = split(others)?;
+        assert_eq!(rt; phase_of(alloc, success, failure, value)?, want, "{row}");
+    }
+    Ok(())
 }
 
 #[test]
 fn measures_by_the_table(rt: HostRuntime) -> Result<(), Fail> {
     let alloc = rt.alloc();
-    for (success, failure, value, phase) in [
-        ("", "", "[7]", Phase::Successful),
-        ("result[2] > 0", "", "[1;2]", Phase::Error),
-        ("result[1] == 2", "", "[1;2]", Phase::Successful),
-        ("result > 0", "", "[1;2]", Phase::Error),
-        (
-            "result[0] > 0 || result[9] > 0",
-            "",
-            "[1]",
-            Phase::Successful,
-        ),
-        ("result[9] > 0 || result[0] > 0", "", "[1]", Phase::Error),
-        ("result[0] > 1", "", "[1]", Phase::Failed),
-        ("", "result[0] > 1", "[1]", Phase::Successful),
-        ("", "result[0] > 0", "[1]", Phase::Failed),
-        ("", "result[1] > 0", "[1]", Phase::Error),
-        ("result > 10", "result < 5", "7", Phase::Inconclusive),
-        ("result > 1", "result < 9", "5", Phase::Failed),
-        ("result > 10", "result < 5", "11", Phase::Successful),
-        ("result > 10", "result < 5", "4", Phase::Failed),
-        ("result > 10", "result[1] < 5", "11", Phase::Error),
-    ] {
-        assert_eq!(rt;
-            phase_at(alloc, success, failure, value)?,
-            phase,
-            "{success} and {failure} at {value}"
-        );
-    }
+    expect_phases(&rt, alloc, MEASURED)?;
+    expect_phases(&rt, alloc, GROUPED)?;
+    let blanks = "\tresult\r\n<= 5 ";
+    assert_eq!(rt; phase_of(alloc, blanks, "", "5")?, "Successful");
     Ok(())
 }
 
@@ -215,114 +191,79 @@ fn failure_of(alloc: Global, len: usize) -> Result<Option<FailureText>, AllocErr
     Ok(FailureText::of(Text::of("x".repeat(alloc, len)?)))
 }
 
-/// A failure with a text of three bytes.
-fn failure(alloc: Global) -> Result<Outcome, Fail> {
-    let text = failure_of(alloc, 3)?.ok_or("short enough")?;
-    Ok(Outcome::Failure(text))
-}
-
-#[test]
-fn measures_a_failure_as_an_error(rt: HostRuntime) -> Result<(), Fail> {
-    let outcome = failure(rt.alloc())?;
-    assert_eq!(rt; measure(None, None, &outcome), Phase::Error);
-    Ok(())
-}
-
-#[test]
-fn measures_a_copy_as_the_original(rt: HostRuntime) -> Result<(), Fail> {
-    let outcome = failure(rt.alloc())?;
-    let copy = outcome.copy(rt.alloc())?;
-    assert_eq!(rt; measure(None, None, &copy), Phase::Error);
-    Ok(())
-}
-
-#[test]
-fn evaluates_a_copy_as_the_original(rt: HostRuntime) -> Result<(), Fail> {
-    let condition = Condition::parse(rt.alloc(), "result > 0")?;
-    let copy = condition.copy(rt.alloc())?;
-    assert_eq!(rt; copy.eval(&Value::Whole(1)), Verdict3::True);
-    Ok(())
-}
-
-/// Whether a failure's text may have so many bytes.
-fn is_failure_of(alloc: Global, len: usize) -> Result<bool, AllocError> {
-    Ok(failure_of(alloc, len)?.is_some())
-}
-
 #[test]
 fn keeps_failure_texts_of_1_to_200_bytes(rt: HostRuntime) -> Result<(), Fail> {
-    for (len, stands) in [(0, false), (1, true), (200, true), (201, false)] {
-        assert_eq!(rt; is_failure_of(rt.alloc(), len)?, stands, "{len} bytes");
-    }
+    let alloc = rt.alloc();
+    assert!(rt; failure_of(alloc, 0)?.is_none());
+    assert!(rt; failure_of(alloc, 1)?.is_some());
+    assert!(rt; failure_of(alloc, 200)?.is_some());
+    assert!(rt; failure_of(alloc, 201)?.is_none());
+    Ok(())
+}
+
+/// The phase of a failure and of its copy, by a condition and by its copy.
+fn phases_of_copies(alloc: Global) -> Result<(Phase, Phase), Fail> {
+    let condition = Condition::parse(alloc, "result > 0")?.copy(alloc)?;
+    let text = failure_of(alloc, 3)?.ok_or("short enough")?;
+    let failure = Outcome::Failure(text).copy(alloc)?;
+    let result = Outcome::Result(Value::Whole(1)).copy(alloc)?;
+    Ok((
+        measure(Some(&condition), None, &failure),
+        measure(Some(&condition), None, &result),
+    ))
+}
+
+#[test]
+fn measures_copies(rt: HostRuntime) -> Result<(), Fail> {
+    let (failure, result) = phases_of_copies(rt.alloc())?;
+    assert!(rt; failure == Phase::Error && result == Phase::Successful);
     Ok(())
 }
 
 /// Writes a result behind these three bytes; on want of memory they stand alone.
-fn expect_words(rt: &impl Abort, value: &Value, words: &mut String, text: &str) {
+fn writes(value: &Value, words: &mut String, text: &str) -> bool {
     match value.words(words) {
-        Ok(()) => assert_eq!(rt; words.as_str().get(3..), Some(text)),
-        Err(Memory) => assert_eq!(rt; words.as_str(), "is "),
+        Ok(()) => words.as_str().get(3..) == Some(text),
+        Err(Memory) => words.as_str() == "is ",
     }
 }
 
 /// Reads a text as a result and writes that.
-fn expect_again(rt: &impl Abort, alloc: Global, text: &str) -> Result<(), Fail> {
+fn is_written_again(alloc: Global, text: &str) -> Result<bool, Fail> {
     let value = Value::read(text).ok_or("a text of a result")?;
     let mut words = String::from_str(alloc, "is ")?;
-    expect_words(rt, &value, &mut words, text);
-    Ok(())
+    Ok(writes(&value, &mut words, text))
 }
+
+const RESULTS: &str =
+    "0|-5|10|9223372036854775807|-9223372036854775808|[1;-2]|[0]|[1;2;3;4;5;6;7;8;9;10;11;12;13;14;15;16]";
+
+const NO_RESULTS: &str =
+    "|-|-0|05|+5|5 |9223372036854775808|-9223372036854775809|[]|[|]|[1; 2]|[1;]|[;1]|[01]|[1,2]|[1;2;3;4;5;6;7;8;9;10;11;12;13;14;15;16;17]";
 
 #[test]
 fn reads_what_it_writes(rt: HostRuntime) -> Result<(), Fail> {
-    for text in [
-        "0",
-        "-5",
-        "10",
-        "9223372036854775807",
-        "-9223372036854775808",
-        "[1;-2]",
-        "[0]",
-        "[1;2;3;4;5;6;7;8;9;10;11;12;13;14;15;16]",
-    ] {
-        expect_again(&rt, rt.alloc(), text)?;
+    for text in RESULTS.split('|') {
+        assert!(rt; is_written_again(rt.alloc(), text)?, "{text}");
     }
-    Ok(())
-}
-
-#[test]
-fn writes_a_list(rt: HostRuntime) -> Result<(), Fail> {
-    let listed = Value::list(&[1, -2]).ok_or("a list")?;
-    let mut words = String::new(rt.alloc());
-    listed.words(&mut words)?;
-    assert_eq!(rt; words.as_str(), "[1;-2]");
-    assert!(rt; Value::list(&[]).is_none());
-    assert!(rt; Value::list(&[0; 16]).is_some());
-    assert!(rt; Value::list(&[0; 17]).is_none());
-    Ok(())
-}
-
-#[test]
-fn reads_no_other_texts(rt: HostRuntime) {
-    for text in [
-        "",
-        "-",
-        "-0",
-        "05",
-        "+5",
-        "5 ",
-        "9223372036854775808",
-        "-9223372036854775809",
-        "[]",
-        "[",
-        "]",
-        "[1; 2]",
-        "[1;]",
-        "[;1]",
-        "[01]",
-        "[1,2]",
-        "[1;2;3;4;5;6;7;8;9;10;11;12;13;14;15;16;17]",
-    ] {
+    for text in NO_RESULTS.split('|') {
         assert!(rt; Value::read(text).is_none(), "{text}");
     }
+    Ok(())
+}
+
+fn is_list_of(count: usize) -> bool {
+    let numbers = [0; 17];
+    match numbers.get(..count) {
+        Some(numbers) => Value::list(numbers).is_some(),
+        None => false,
+    }
+}
+
+#[test]
+fn lists_1_to_16_numbers(rt: HostRuntime) {
+    assert!(rt; !is_list_of(0));
+    assert!(rt; is_list_of(1));
+    assert!(rt; is_list_of(16));
+    assert!(rt; !is_list_of(17));
 }

@@ -6,6 +6,8 @@
 #[cfg(test)]
 mod base;
 #[cfg(test)]
+mod cli;
+#[cfg(test)]
 mod condition;
 #[cfg(test)]
 mod metric;
@@ -15,6 +17,8 @@ mod once;
 mod plan;
 #[cfg(test)]
 mod release;
+#[cfg(test)]
+mod rows;
 #[cfg(test)]
 mod wire_command;
 #[cfg(test)]

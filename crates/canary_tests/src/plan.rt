@@ -44,29 +44,36 @@ fn checks_strategies(rt: HostRuntime) {
     }
 }
 
-fn service(name: Name, version: Label, steps: Listed<Step>) -> ServiceSpec {
-    ServiceSpec {
+// Whether a strategy copies; none where memory was refused.
+fn strategy_copies(alloc: Global) -> Option<bool> {
+    let strategy = Strategy::check(alloc, &listed(alloc, &TWO_PAUSES)?).ok()?;
+    let copy = strategy.copy(alloc).ok()?;
+    Some(copy.steps() == TWO_PAUSES.as_slice())
+}
+
+fn added(alloc: Global) -> Option<Command> {
+    let name = Name::read("web".as_bytes())?;
+    let version = Label::read("v1".as_bytes())?;
+    let steps = listed(alloc, &TWO_PAUSES)?;
+    Some(Command::Service(ServiceSpec {
         name,
         version,
         steps,
-    }
+    }))
 }
 
-// Whether plans copy; none where memory was refused.
-fn plans_copy(alloc: Global) -> Option<bool> {
-    let steps = listed(alloc, &TWO_PAUSES)?;
-    let spec = service(Name::read(b"web")?, Label::read(b"v1")?, steps);
-    let strategy = Strategy::check(alloc, &spec.steps).ok()?.copy(alloc).ok()?;
-    let is_whole = strategy.steps() == TWO_PAUSES.as_slice();
-    let copy = Command::Service(spec.copy(alloc).ok()?);
-    let again = copy.copy(alloc).ok()?;
-    Some(is_whole && again.is_same(&copy) && copy.is_same(&Command::Service(spec)))
+// Whether a command that adds a service copies; none where memory was refused.
+fn command_copies(alloc: Global) -> Option<bool> {
+    let command = added(alloc)?;
+    let copy = command.copy(alloc).ok()?;
+    Some(copy.is_same(&command))
 }
 
 #[test]
 fn copies_plans(rt: HostRuntime) {
     let alloc = rt.alloc();
-    assert!(rt; plans_copy(alloc).or(plans_copy(alloc)) == Some(true));
+    assert!(rt; strategy_copies(alloc).or(strategy_copies(alloc)) == Some(true));
+    assert!(rt; command_copies(alloc).or(command_copies(alloc)) == Some(true));
 }
 
 #[test]

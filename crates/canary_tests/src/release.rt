@@ -1,7 +1,8 @@
-//! Releases: a worked release with the lines of its history, its refusals, and the copies of what it
-//! leaves. Each test holds as well where any one allocation is refused: then it asks again.
+//! Releases: a worked release with the lines of its history, and the copies of what it leaves. Each
+//! test holds as well where any one allocation is refused: then it asks again.
 
-use canary_base::lists::{Listed, Text};
+use crate::rows::split;
+use canary_base::lists::Listed;
 use canary_base::moments::{LAST_MOMENT, Moment};
 use canary_base::names::{Label, Name};
 use canary_plan::command::Command;
@@ -23,62 +24,14 @@ const TWO_PAUSES: [Step; 4] = [
     Step::Pause,
 ];
 
-/// What is asked of the service web.
-#[derive(Clone, Copy)]
-enum Asked {
-    Add,
-    Start(&'static str),
-    Promote,
-}
-
-/// A command, so many seconds after B, the body of its reply and the lines that it tells, each with
-/// its seconds after B.
-#[derive(Clone, Copy)]
-struct Row {
-    after: u64,
-    asked: Asked,
-    body: &'static str,
-    lines: &'static str,
-}
-
-fn make_row(after: u64, asked: Asked, body: &'static str, lines: &'static str) -> Row {
-    Row {
-        after,
-        asked,
-        body,
-        lines,
-    }
-}
-
-/// A release from its service to its end. The last request comes with an earlier moment.
-fn rows() -> [Row; 4] {
-    [
-        make_row(
-            0,
-            Asked::Add,
-            "{\"code\":\"ok\",\"service\":\"web\",\"status\":\"Healthy\",\"step\":4,\"weight\":100}",
-            "0 created v1\n",
-        ),
-        make_row(
-            1,
-            Asked::Start("v2"),
-            "{\"code\":\"ok\",\"service\":\"web\",\"status\":\"Paused\",\"step\":1,\"weight\":20}",
-            "1 start v2\n1 step 0 setWeight 20\n1 step 1 pause\n",
-        ),
-        make_row(
-            2,
-            Asked::Promote,
-            "{\"code\":\"ok\",\"service\":\"web\",\"status\":\"Paused\",\"step\":3,\"weight\":50}",
-            "2 promote\n2 step 2 setWeight 50\n2 step 3 pause\n",
-        ),
-        make_row(
-            0,
-            Asked::Promote,
-            "{\"code\":\"ok\",\"service\":\"web\",\"status\":\"Healthy\",\"step\":4,\"weight\":100}",
-            "2 promote\n2 done v2\n",
-        ),
-    ]
-}
+/// A release from its service to its end: seconds after B, what is asked of the service web, the body
+/// of the reply, and the lines that are told, each with its seconds after B. The last request comes
+/// with an earlier moment.
+const RELEASE: &str =
+    r#"0 add => {"code":"ok","service":"web","status":"Healthy","step":4,"weight":100} => 0 created v1;
+1 start => {"code":"ok","service":"web","status":"Paused","step":1,"weight":20} => 1 start v2;1 step 0 setWeight 20;1 step 1 pause;
+2 promote => {"code":"ok","service":"web","status":"Paused","step":3,"weight":50} => 2 promote;2 step 2 setWeight 50;2 step 3 pause;
+0 promote => {"code":"ok","service":"web","status":"Healthy","step":4,"weight":100} => 2 promote;2 done v2;"#;
 
 /// What a row comes to.
 #[derive(Drop)]
@@ -88,33 +41,39 @@ struct Outcome {
     lines: String,
 }
 
-fn command(alloc: Global, asked: Asked) -> Option<Command> {
-    let service = Name::read(b"web")?;
-    Some(match asked {
-        Asked::Add => Command::Service(ServiceSpec {
-            name: service,
-            version: Label::read(b"v1")?,
-            steps: Listed::of(Vec::from_slice(alloc, &TWO_PAUSES).ok()?),
-        }),
-        Asked::Start(version) => Command::Start {
-            service,
-            version: Label::read(version.as_bytes())?,
-        },
-        Asked::Promote => Command::Promote { service },
-    })
+fn added(alloc: Global, service: Name) -> Option<Command> {
+    let steps = Listed::of(Vec::from_slice(alloc, &TWO_PAUSES).ok()?);
+    let version = Label::read("v1".as_bytes())?;
+    Some(Command::Service(ServiceSpec {
+        name: service,
+        version,
+        steps,
+    }))
+}
+
+fn command(alloc: Global, asked: &str) -> Option<Command> {
+    let service = Name::read("web".as_bytes())?;
+    if asked == "add" {
+        return added(alloc, service);
+    }
+    if asked == "promote" {
+        return Some(Command::Promote { service });
+    }
+    let version = Label::read("v2".as_bytes())?;
+    Some(Command::Start { service, version })
 }
 
 fn write_line(text: &mut String, line: &Line) -> Result<(), AllocError> {
     let after = line.moment.get().saturating_sub(B);
     match line.event {
-        LineEvent::Created { version } => write!(text, "{after} created {version}\n"),
-        LineEvent::Started { version } => write!(text, "{after} start {version}\n"),
+        LineEvent::Created { version } => write!(text, "{after} created {version};"),
+        LineEvent::Started { version } => write!(text, "{after} start {version};"),
         LineEvent::WeightEntered { step, weight } => {
-            write!(text, "{after} step {step} setWeight {weight}\n")
+            write!(text, "{after} step {step} setWeight {weight};")
         }
-        LineEvent::PauseEntered { step } => write!(text, "{after} step {step} pause\n"),
-        LineEvent::Promoted => write!(text, "{after} promote\n"),
-        LineEvent::Finished { version } => write!(text, "{after} done {version}\n"),
+        LineEvent::PauseEntered { step } => write!(text, "{after} step {step} pause;"),
+        LineEvent::Promoted => write!(text, "{after} promote;"),
+        LineEvent::Finished { version } => write!(text, "{after} done {version};"),
     }
 }
 
@@ -126,20 +85,16 @@ fn lines_of(alloc: Global, effects: &Effects) -> Option<String> {
     Some(text)
 }
 
-fn decided(alloc: Global, service: Option<&Service>, after: u64, asked: Asked) -> Option<Decision> {
+fn decided(alloc: Global, service: Option<&Service>, asked: &str) -> Option<Decision> {
+    let (after, asked) = asked.split_once(' ')?;
+    let moment = Moment::new(B.checked_add(after.parse().ok()?)?)?;
     let command = command(alloc, asked)?;
-    decide(
-        alloc,
-        service,
-        Moment::new(B.checked_add(after)?)?,
-        &command,
-    )
-    .ok()
+    decide(alloc, service, moment, &command).ok()
 }
 
-/// What a row comes to; none where memory was refused, or the row was.
-fn told(alloc: Global, service: Option<&Service>, row: &Row) -> Option<Outcome> {
-    let Decision { reply, change } = decided(alloc, service, row.after, row.asked)?;
+/// What a command comes to; none where memory was refused, or the command was.
+fn told(alloc: Global, service: Option<&Service>, asked: &str) -> Option<Outcome> {
+    let Decision { reply, change } = decided(alloc, service, asked)?;
     let DeskChange::Service { service, effects } = change else {
         return None;
     };
@@ -151,95 +106,59 @@ fn told(alloc: Global, service: Option<&Service>, row: &Row) -> Option<Outcome> 
     })
 }
 
-/// What a row comes to, asked once more where memory was refused.
-fn again(alloc: Global, service: Option<&Service>, row: &Row) -> Option<Outcome> {
-    told(alloc, service, row).or(told(alloc, service, row))
+/// What a command comes to, asked once more where memory was refused.
+fn again(alloc: Global, service: Option<&Service>, asked: &str) -> Result<Outcome, Fail> {
+    let told = told(alloc, service, asked).or(told(alloc, service, asked));
+    Ok(told.ok_or("a decision")?)
 }
 
 #[test]
 fn a_release_tells_its_history(rt: HostRuntime) -> Result<(), Fail> {
     let mut service = None;
-    for row in &rows() {
-        let told = again(rt.alloc(), service.as_ref(), row).ok_or("a decision")?;
-        assert_eq!(rt; told.reply.status, 200);
-        assert_eq!(rt; told.reply.body.as_str(), row.body);
-        assert_eq!(rt; told.lines.as_str(), row.lines);
+    for row in RELEASE.lines() {
+        let (asked, told) = split(row)?;
+        let (body, lines) = split(told)?;
+        let told = again(rt.alloc(), service.as_ref(), asked)?;
+        assert_eq!(rt; told.reply.body.as_str(), body);
+        assert_eq!(rt; told.lines.as_str(), lines);
         service = Some(told.service);
     }
     Ok(())
 }
 
-/// The body of a refusal that changes nothing; none where memory was refused.
-fn refused(alloc: Global, service: Option<&Service>, asked: Asked) -> Option<Text> {
-    let Decision { reply, change } = decided(alloc, service, 9, asked)?;
-    let is_refusal = reply.status == 422;
-    match change {
-        DeskChange::Nothing if is_refusal => Some(reply.body),
-        _ => None,
-    }
+/// A service that is paused at its second step.
+fn paused(alloc: Global) -> Result<Outcome, Fail> {
+    let done = again(alloc, None, "0 add")?;
+    again(alloc, Some(&done.service), "1 start")
 }
 
-#[test]
-fn refusals_change_nothing(rt: HostRuntime) -> Result<(), Fail> {
-    let alloc = rt.alloc();
-    let [added, started, ..] = rows();
-    let done = again(alloc, None, &added).ok_or("a service")?.service;
-    let paused = again(alloc, Some(&done), &started)
-        .ok_or("a service")?
-        .service;
-    for (service, asked, body) in [
-        (None, Asked::Promote, "{\"code\":\"unknown-service\"}"),
-        (Some(&done), Asked::Add, "{\"code\":\"service-exists\"}"),
-        (
-            Some(&paused),
-            Asked::Start("v3"),
-            "{\"code\":\"in-progress\"}",
-        ),
-        (
-            Some(&done),
-            Asked::Start("v1"),
-            "{\"code\":\"already-stable\"}",
-        ),
-        (
-            Some(&done),
-            Asked::Promote,
-            "{\"code\":\"not-in-progress\"}",
-        ),
-    ] {
-        let told = refused(alloc, service, asked)
-            .or(refused(alloc, service, asked))
-            .ok_or("a refusal")?;
-        assert_eq!(rt; told.as_str(), body);
-    }
-    Ok(())
+/// Whether a reply copies; none where memory was refused.
+fn reply_copies(alloc: Global, reply: &Reply) -> Option<bool> {
+    let copy = reply.copy(alloc).ok()?;
+    Some(copy.body.as_str() == reply.body.as_str())
 }
 
-/// Whether the reply and the service copy, and the copy passes to the greatest moment and stays
-/// where it was; none where memory was refused.
-fn copies(alloc: Global, told: &Outcome) -> Option<bool> {
-    let reply = told.reply.copy(alloc).ok()?;
-    let service = told.service.copy(alloc).ok()?;
+/// Whether a service copies; none where memory was refused.
+fn service_copies(alloc: Global, service: &Service) -> Option<bool> {
+    let copy = service.copy(alloc).ok()?;
+    Some(copy.status() == Status::Paused && copy.weight() == 20)
+}
+
+/// The last moment of a service that passes to the greatest; none where memory was refused.
+fn passed(alloc: Global, service: &Service) -> Option<u64> {
     let passed = service.passed(alloc, Moment::new(LAST_MOMENT)?).ok()?;
     let parts = passed.service.parts().copy(alloc).ok()?;
-    let is_whole = reply.status == told.reply.status
-        && reply.body.as_str() == told.reply.body.as_str()
-        && service.status() == Status::Paused
-        && service.weight() == 20;
-    let is_passed = parts.step == 1
-        && parts.last.get() == LAST_MOMENT
-        && passed.effects.lines.as_slice().is_empty();
-    Some(is_whole && is_passed)
+    Some(parts.last.get())
 }
 
 #[test]
 fn a_release_copies_and_passes(rt: HostRuntime) -> Result<(), Fail> {
     let alloc = rt.alloc();
-    let [added, started, ..] = rows();
-    let done = again(alloc, None, &added).ok_or("a service")?.service;
-    let paused = again(alloc, Some(&done), &started).ok_or("a service")?;
-    assert_eq!(rt;
-        copies(alloc, &paused).or(copies(alloc, &paused)),
-        Some(true)
-    );
+    let told = paused(alloc)?;
+    let reply = &told.reply;
+    let service = &told.service;
+    assert!(rt; reply_copies(alloc, reply).or(reply_copies(alloc, reply)) == Some(true));
+    assert!(rt; service_copies(alloc, service).or(service_copies(alloc, service)) == Some(true));
+    assert!(rt; passed(alloc, service).or(passed(alloc, service)) == Some(LAST_MOMENT));
     Ok(())
 }

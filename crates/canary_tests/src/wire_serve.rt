@@ -1,4 +1,5 @@
 //! Streams as clients send them, with the bytes that answer them.
+use crate::rows::{lined, split};
 use canary_base::error::Memory;
 use canary_base::moments::Moment;
 use canary_once::clock::StepClock;
@@ -9,83 +10,22 @@ use std::io;
 use std::io::{ErrorKind, Read};
 use std::test::Fail;
 
-const REGISTER: &str =
-    r#"{"service":{"manifest":{"metadata":{"name":"web"},"spec":{"strategy":{"canary":{"steps":[{"setWeight":20},{"pause":{}},{"setWeight":50},{"pause":{}}]}}}},"version":"v1"}}"#;
-
-const PROMOTE: &str = r#"{"promote":{"service":"web"}}"#;
-
-const OK: &str = "200 OK";
-
-const REFUSED: &str = "400 Bad Request";
-
 pub(crate) const NOT_FOUND: &str = "404 Not Found";
-
-const CLOSE: &str = "Connection: close\r\n";
 
 pub(crate) const NO_ROUTE: &str = r#"{"code":"no-route"}"#;
 
-const MALFORMED: &str = r#"{"code":"malformed"}"#;
-
-const UNREADABLE: &str = r#"{"code":"unreadable"}"#;
-
 // A doubled promotion, a number ahead, another command under an old number, the start in other
 // words, and on to the end: the numbers of caller `ops` with their bodies, and what they are told.
-const RELEASE: [(u32, &str, &str, &str); 9] = [
-    (
-        1,
-        REGISTER,
-        OK,
-        r#"{"code":"ok","service":"web","status":"Healthy","step":4,"weight":100}"#,
-    ),
-    (
-        2,
-        r#"{"start":{"service":"web","version":"v2"}}"#,
-        OK,
-        r#"{"code":"ok","service":"web","status":"Paused","step":1,"weight":20}"#,
-    ),
-    (
-        3,
-        PROMOTE,
-        OK,
-        r#"{"code":"ok","service":"web","status":"Paused","step":3,"weight":50}"#,
-    ),
-    (
-        3,
-        PROMOTE,
-        OK,
-        r#"{"code":"ok","service":"web","status":"Paused","step":3,"weight":50}"#,
-    ),
-    (
-        5,
-        PROMOTE,
-        "409 Conflict",
-        r#"{"code":"ahead","expected":4}"#,
-    ),
-    (
-        3,
-        r#"{"start":{"service":"web","version":"v3"}}"#,
-        "409 Conflict",
-        r#"{"code":"reused"}"#,
-    ),
-    (
-        2,
-        r#"{ "start" : {"version":"v2", "service":"web"} }"#,
-        OK,
-        r#"{"code":"ok","service":"web","status":"Paused","step":1,"weight":20}"#,
-    ),
-    (
-        4,
-        PROMOTE,
-        OK,
-        r#"{"code":"ok","service":"web","status":"Healthy","step":4,"weight":100}"#,
-    ),
-    (
-        5,
-        PROMOTE,
-        "422 Unprocessable Content",
-        r#"{"code":"not-in-progress"}"#,
-    ),
-];
+const RELEASE: &str =
+    r#"1 => {"service":{"manifest":{"metadata":{"name":"web"},"spec":{"strategy":{"canary":{"steps":[{"setWeight":20},{"pause":{}},{"setWeight":50},{"pause":{}}]}}}},"version":"v1"}} => 200 OK => {"code":"ok","service":"web","status":"Healthy","step":4,"weight":100}
+2 => {"start":{"service":"web","version":"v2"}} => 200 OK => {"code":"ok","service":"web","status":"Paused","step":1,"weight":20}
+3 => {"promote":{"service":"web"}} => 200 OK => {"code":"ok","service":"web","status":"Paused","step":3,"weight":50}
+3 => {"promote":{"service":"web"}} => 200 OK => {"code":"ok","service":"web","status":"Paused","step":3,"weight":50}
+5 => {"promote":{"service":"web"}} => 409 Conflict => {"code":"ahead","expected":4}
+3 => {"start":{"service":"web","version":"v3"}} => 409 Conflict => {"code":"reused"}
+2 => { "start" : {"version":"v2", "service":"web"} } => 200 OK => {"code":"ok","service":"web","status":"Paused","step":1,"weight":20}
+4 => {"promote":{"service":"web"}} => 200 OK => {"code":"ok","service":"web","status":"Healthy","step":4,"weight":100}
+5 => {"promote":{"service":"web"}} => 422 Unprocessable Content => {"code":"not-in-progress"}"#;
 
 // A stream, what is written to it, and behind each of its messages how much of both there is.
 #[derive(Drop)]
@@ -96,6 +36,22 @@ pub(crate) struct Told {
 }
 
 impl Told {
+    // A row's request and the reply to it.
+    fn add(&mut self, alloc: Global, row: &str) -> Result<(), Fail> {
+        let (number, row) = split(row)?;
+        let (body, row) = split(row)?;
+        let (status, told) = split(row)?;
+        let len = body.len();
+        let request = format!(in alloc;
+            "PUT /callers/ops/requests/{number} HTTP/1.1\r\nContent-Length: {len}\r\n\r\n{body}"
+        )?;
+        let answer = reply(alloc, status, "", told)?;
+        self.stream.push_str(request.as_str())?;
+        self.replies.push_str(answer.as_str())?;
+        self.ends.push((self.stream.len(), self.replies.len()))?;
+        Ok(())
+    }
+
     // The first messages, so many.
     pub(crate) fn asked(&self, messages: usize) -> &[u8] {
         front(self.stream.as_bytes(), self.end(messages).0)
@@ -124,25 +80,16 @@ pub(crate) fn front(bytes: &[u8], count: usize) -> &[u8] {
 }
 
 // The release, from its first request to its last.
-pub(crate) fn release(alloc: Global) -> Result<Told, Memory> {
-    let mut stream = String::new(alloc);
-    let mut replies = String::new(alloc);
-    let mut ends = Vec::new(alloc);
-    for (number, body, status, told) in RELEASE {
-        let request = format!(in alloc;
-            "PUT /callers/ops/requests/{number} HTTP/1.1\r\nContent-Length: {}\r\n\r\n{body}",
-            body.len()
-        )?;
-        let answer = reply(alloc, status, "", told)?;
-        stream.push_str(request.as_str())?;
-        replies.push_str(answer.as_str())?;
-        ends.push((stream.len(), replies.len()))?;
+pub(crate) fn release(alloc: Global) -> Result<Told, Fail> {
+    let mut told = Told {
+        stream: String::new(alloc),
+        replies: String::new(alloc),
+        ends: Vec::new(alloc),
+    };
+    for row in RELEASE.lines() {
+        told.add(alloc, row)?;
     }
-    Ok(Told {
-        stream,
-        replies,
-        ends,
-    })
+    Ok(told)
 }
 
 // A reply with that status, with these fields behind its length.
@@ -223,250 +170,231 @@ pub(crate) fn tells_of_memory(written: &[u8]) -> bool {
         .any(|window| window == b"no-memory".as_slice())
 }
 
-// Text of so many letters.
-fn letters(alloc: Global, count: usize) -> Result<String, Memory> {
-    let mut text = String::new(alloc);
-    for _ in 0..count {
-        text.push('a')?;
-    }
-    Ok(text)
+// Whether the stream is answered by these bytes and ends so.
+fn is_served<R: Read>(
+    alloc: Global,
+    reader: &mut R,
+    want: &[u8],
+    end: Ended,
+) -> Result<bool, Memory> {
+    let (written, ended) = served(alloc, reader)?;
+    Ok(ended == Ok(end) && written.as_slice() == want)
 }
 
-#[test]
-fn writes_each_byte_of_a_reply(rt: HostRuntime) -> Result<(), Fail> {
-    let alloc = rt.alloc();
-    let told = release(alloc)?;
-    let mut stream = told.asked(2);
-    let (written, _) = served(alloc, &mut stream)?;
-    let want = concat!(
-        "HTTP/1.1 200 OK\r\nContent-Type: application/json\r\nContent-Length: 70\r\n\r\n",
-        r#"{"code":"ok","service":"web","status":"Healthy","step":4,"weight":100}"#,
-        "HTTP/1.1 200 OK\r\nContent-Type: application/json\r\nContent-Length: 68\r\n\r\n",
-        r#"{"code":"ok","service":"web","status":"Paused","step":1,"weight":20}"#
-    );
-    assert_eq!(rt; written.as_slice(), want.as_bytes());
-    Ok(())
+// Whether the stream is answered by these bytes where it comes in a piece of one size, and then in
+// pieces of another.
+fn is_served_in(
+    alloc: Global,
+    bytes: &[u8],
+    size: usize,
+    later: usize,
+    want: &[u8],
+) -> Result<bool, Memory> {
+    let mut pieces = in_pieces(bytes, size, later);
+    is_served(alloc, &mut pieces, want, Ended::EndOfInput)
 }
 
 #[test]
 fn answers_a_release_in_any_pieces(rt: HostRuntime) -> Result<(), Fail> {
-    let alloc = rt.alloc();
-    let told = release(alloc)?;
+    let told = release(rt.alloc())?;
     let bytes = told.stream.as_bytes();
-    for size in [1, 7, bytes.len()] {
-        let (written, ended) = served(alloc, &mut in_pieces(bytes, size, size))?;
-        assert_eq!(rt; ended, Ok(Ended::EndOfInput), "pieces of {size}");
-        assert_eq!(rt;
-            written.as_slice(),
-            told.replies.as_bytes(),
-            "pieces of {size}"
-        );
-    }
+    let want = told.replies.as_bytes();
+    assert!(rt; is_served_in(rt.alloc(), bytes, 1, 1, want)?);
+    assert!(rt; is_served_in(rt.alloc(), bytes, 7, 7, want)?);
+    assert!(rt; is_served_in(rt.alloc(), bytes, bytes.len(), 1, want)?);
+    Ok(())
+}
+
+#[test]
+fn answers_a_release_cut_at_any_place(rt: HostRuntime) -> Result<(), Fail> {
+    let told = release(rt.alloc())?;
     let asked = told.asked(4);
-    assert!(rt; !asked.is_empty());
+    let want = told.replied(4);
+    assert!(rt; !asked.is_empty() && !want.is_empty());
     for cut in 1..asked.len() {
-        let (written, ended) = served(alloc, &mut in_pieces(asked, cut, asked.len()))?;
-        assert_eq!(rt; ended, Ok(Ended::EndOfInput), "cut at {cut}");
-        assert_eq!(rt; written.as_slice(), told.replied(4), "cut at {cut}");
+        assert!(rt;
+            is_served_in(rt.alloc(), asked, cut, asked.len(), want)?,
+            "cut at {cut}"
+        );
     }
     Ok(())
 }
+
+fn wired(alloc: Global, text: &str) -> Result<String, Memory> {
+    lined(alloc, text, "\r\n")
+}
+
+// Whether a row's stream ends so and is not answered.
+fn is_not_answered(alloc: Global, row: &str, end: Ended) -> Result<bool, Memory> {
+    let stream = wired(alloc, row)?;
+    is_served(alloc, &mut stream.as_bytes(), b"", end)
+}
+
+const ENDED: &str = "
+|";
+
+const CUT: &str = "P
+PUT /callers/ops
+PUT /callers/ops/requests/1 HTTP/1.1|Content-Length: 9||{}";
 
 #[test]
 fn tells_how_streams_end(rt: HostRuntime) -> Result<(), Fail> {
-    let alloc = rt.alloc();
-    for (stream, how) in [
-        ("", Ended::EndOfInput),
-        ("\r\n", Ended::EndOfInput),
-        ("PUT /callers/ops", Ended::Truncated),
-        (
-            "PUT /callers/ops/requests/1 HTTP/1.1\r\nContent-Length: 9\r\n\r\n{}",
-            Ended::Truncated,
-        ),
-    ] {
-        let (written, ended) = served(alloc, &mut stream.as_bytes())?;
-        assert_eq!(rt; ended, Ok(how), "{stream}");
-        assert!(rt; written.is_empty(), "{stream}");
+    for row in ENDED.lines() {
+        assert!(rt;
+            is_not_answered(rt.alloc(), row, Ended::EndOfInput)?,
+            "{row}"
+        );
+    }
+    for row in CUT.lines() {
+        assert!(rt;
+            is_not_answered(rt.alloc(), row, Ended::Truncated)?,
+            "{row}"
+        );
     }
     Ok(())
 }
+
+// Whether a row's stream ends so, and is answered by its status, these fields and its body.
+fn is_answered(alloc: Global, row: &str, fields: &str, end: Ended) -> Result<bool, Fail> {
+    let (text, told) = split(row)?;
+    let (status, body) = split(told)?;
+    let stream = wired(alloc, text)?;
+    let want = reply(alloc, status, fields, body)?;
+    let found = is_served(alloc, &mut stream.as_bytes(), want.as_bytes(), end)?;
+    Ok(found)
+}
+
+const CLOSING: &str = r#"GET /nope HTTP/1.1|no colon|| => 400 Bad Request => {"code":"malformed"}
+GET /nope HTTP/1.1|Content-Length: 0|Content-Length: 0|| => 400 Bad Request => {"code":"malformed"}
+GET /nope HTTP/1.1|Content-Length: +1|| => 400 Bad Request => {"code":"malformed"}
+GET /nope HTTP/1.1|Transfer-Encoding: chunked|| => 411 Length Required => {"code":"length"}
+PUT /callers/ops/requests/1 HTTP/1.1|| => 411 Length Required => {"code":"length"}
+PUT /nope HTTP/1.1|Content-Length: 65537||GET /nope HTTP/1.1|| => 413 Content Too Large => {"code":"too-long"}
+GET /nope HTTP/1.0||GET /nope HTTP/1.1|| => 404 Not Found => {"code":"no-route"}
+GET /nope HTTP/1.1|connection: Keep-Alive, CLOSE||GET /nope HTTP/1.1|| => 404 Not Found => {"code":"no-route"}"#;
+
+const CLOSE: &str = "Connection: close\r\n";
 
 #[test]
 fn closes_a_stream(rt: HostRuntime) -> Result<(), Fail> {
-    let alloc = rt.alloc();
-    let length = ("411 Length Required", r#"{"code":"length"}"#);
-    let too_long = ("413 Content Too Large", r#"{"code":"too-long"}"#);
-    for (stream, (status, body)) in [
-        (
-            "GET /nope HTTP/1.1\r\nno colon\r\n\r\n",
-            (REFUSED, MALFORMED),
-        ),
-        (
-            "GET /nope HTTP/1.1\r\nContent-Length: 0\r\nContent-Length: 0\r\n\r\n",
-            (REFUSED, MALFORMED),
-        ),
-        (
-            "GET /nope HTTP/1.1\r\nContent-Length: +1\r\n\r\n",
-            (REFUSED, MALFORMED),
-        ),
-        (
-            "GET /nope HTTP/1.1\r\nTransfer-Encoding: chunked\r\n\r\n",
-            length,
-        ),
-        ("PUT /callers/ops/requests/1 HTTP/1.1\r\n\r\n", length),
-        (
-            "PUT /nope HTTP/1.1\r\nContent-Length: 65537\r\n\r\nGET /nope HTTP/1.1\r\n\r\n",
-            too_long,
-        ),
-        (
-            "GET /nope HTTP/1.0\r\n\r\nGET /nope HTTP/1.1\r\n\r\n",
-            (NOT_FOUND, NO_ROUTE),
-        ),
-        (
-            "GET /nope HTTP/1.1\r\nconnection: Keep-Alive, CLOSE\r\n\r\nGET /nope HTTP/1.1\r\n\r\n",
-            (NOT_FOUND, NO_ROUTE),
-        ),
-    ] {
-        let want = reply(alloc, status, CLOSE, body)?;
-        let (written, ended) = served(alloc, &mut stream.as_bytes())?;
-        assert_eq!(rt; written.as_slice(), want.as_bytes(), "{stream}");
-        assert_eq!(rt; ended, Ok(Ended::Closed), "{stream}");
+    for row in CLOSING.lines() {
+        assert!(rt;
+            is_answered(rt.alloc(), row, CLOSE, Ended::Closed)?,
+            "{row}"
+        );
     }
     Ok(())
 }
 
-#[test]
-fn finds_routes_and_methods(rt: HostRuntime) -> Result<(), Fail> {
-    let alloc = rt.alloc();
-    let method = (
-        "405 Method Not Allowed",
-        "Allow: PUT\r\n",
-        r#"{"code":"method"}"#,
-    );
-    let no_route = (NOT_FOUND, "", NO_ROUTE);
-    for (stream, (status, fields, code)) in [
-        (
-            "GET /nope HTTP/1.1\r\nContent-Length: 2\r\n\r\nhi\r\n",
-            no_route,
-        ),
-        ("GET /services/web HTTP/1.1\r\n\r\n", no_route),
-        (
-            "PUT /callers//requests/1 HTTP/1.1\r\ncontent-length: 0\r\n\r\n",
-            no_route,
-        ),
-        (
-            "PUT /callers/ops/requests/1/ HTTP/1.1\r\ncontent-length: 0\r\n\r\n",
-            no_route,
-        ),
-        ("DELETE /callers/ops/requests/1 HTTP/1.1\r\n\r\n", method),
-        ("put /callers/ops/requests/1 HTTP/1.1\r\n\r\n", method),
-    ] {
-        let want = reply(alloc, status, fields, code)?;
-        let (written, ended) = served(alloc, &mut stream.as_bytes())?;
-        assert_eq!(rt; written.as_slice(), want.as_bytes(), "{stream}");
-        assert_eq!(rt; ended, Ok(Ended::EndOfInput), "{stream}");
-    }
-    Ok(())
-}
+// What is answered, and the stream goes on.
+const REFUSED: &str =
+    r#"GET /nope HTTP/1.1|Content-Length: 2||hi| => 404 Not Found => {"code":"no-route"}
+GET /services/web HTTP/1.1|| => 404 Not Found => {"code":"no-route"}
+PUT /callers//requests/1 HTTP/1.1|content-length: 0|| => 404 Not Found => {"code":"no-route"}
+PUT /callers/ops/requests/1/ HTTP/1.1|content-length: 0|| => 404 Not Found => {"code":"no-route"}
+PUT /callers/-x/requests/0 HTTP/1.1|content-length: 0|| => 400 Bad Request => {"code":"bad-name"}
+PUT /callers/ops/requests/0 HTTP/1.1|content-length: 0|| => 400 Bad Request => {"code":"bad-number"}
+PUT /callers/ops/requests/007 HTTP/1.1|content-length: 0|| => 400 Bad Request => {"code":"bad-number"}
+PUT /callers/ops/requests/1000000001 HTTP/1.1|content-length: 0|| => 400 Bad Request => {"code":"bad-number"}
+PUT /callers/ops/requests/1000000000 HTTP/1.1|content-length: 2||{} => 400 Bad Request => {"code":"unreadable"}
+PUT /callers/ops/requests/1 HTTP/1.1|content-length: 46||{"service":{"manifest":{"kind":"Deployment"}}} => 400 Bad Request => {"code":"unsupported"}
+PUT /callers/ops/requests/2 HTTP/1.1|content-length: 29||{"promote":{"service":"web"}} => 409 Conflict => {"code":"ahead","expected":1}
+PUT /callers/ops/requests/1 HTTP/1.1|content-length: 29||{"promote":{"service":"web"}} => 422 Unprocessable Content => {"code":"unknown-service"}"#;
 
-#[test]
-fn answers_head_by_a_head_alone(rt: HostRuntime) -> Result<(), Fail> {
-    let stream = b"HEAD /callers/ops/requests/1?x HTTP/1.1\r\n\r\n";
-    let want =
-        "HTTP/1.1 405 Method Not Allowed\r\nContent-Type: application/json\r\nContent-Length: 17\r\nAllow: PUT\r\n\r\n";
-    let (written, ended) = served(rt.alloc(), &mut stream.as_slice())?;
-    assert_eq!(rt; written.as_slice(), want.as_bytes());
-    assert_eq!(rt; ended, Ok(Ended::EndOfInput));
-    Ok(())
-}
+const NO_PUT: &str =
+    r#"DELETE /callers/ops/requests/1 HTTP/1.1|| => 405 Method Not Allowed => {"code":"method"}
+put /callers/ops/requests/1 HTTP/1.1|| => 405 Method Not Allowed => {"code":"method"}"#;
 
-// Refusals after which the stream goes on, to a target that is no route.
 #[test]
 fn refuses_requests(rt: HostRuntime) -> Result<(), Fail> {
-    let alloc = rt.alloc();
-    let bad_number = r#"{"code":"bad-number"}"#;
-    let next = reply(alloc, NOT_FOUND, "", NO_ROUTE)?;
-    for (target, body, status, code) in [
-        ("-x/requests/0", "", REFUSED, r#"{"code":"bad-name"}"#),
-        ("ops/requests/0", "", REFUSED, bad_number),
-        ("ops/requests/007", "", REFUSED, bad_number),
-        ("ops/requests/1000000001", "", REFUSED, bad_number),
-        ("ops/requests/1000000000", "{}", REFUSED, UNREADABLE),
-        (
-            "ops/requests/1",
-            r#"{"service":{"manifest":{"kind":"Deployment"}}}"#,
-            REFUSED,
-            r#"{"code":"unsupported"}"#,
-        ),
-        (
-            "ops/requests/2",
-            PROMOTE,
-            "409 Conflict",
-            r#"{"code":"ahead","expected":1}"#,
-        ),
-        (
-            "ops/requests/1",
-            PROMOTE,
-            "422 Unprocessable Content",
-            r#"{"code":"unknown-service"}"#,
-        ),
-    ] {
-        let stream = format!(in alloc;
-            "PUT /callers/{target} HTTP/1.1\r\ncontent-length: {}\r\n\r\n{body}GET /nope HTTP/1.1\r\n\r\n",
-            body.len()
-        )?;
-        let mut want = reply(alloc, status, "", code)?;
-        want.push_str(next.as_str())?;
-        let (written, ended) = served(alloc, &mut stream.as_bytes())?;
-        assert_eq!(rt; written.as_slice(), want.as_bytes(), "{stream}");
-        assert_eq!(rt; ended, Ok(Ended::EndOfInput), "{stream}");
+    for row in REFUSED.lines() {
+        assert!(rt;
+            is_answered(rt.alloc(), row, "", Ended::EndOfInput)?,
+            "{row}"
+        );
+    }
+    for row in NO_PUT.lines() {
+        assert!(rt;
+            is_answered(rt.alloc(), row, "Allow: PUT\r\n", Ended::EndOfInput)?,
+            "{row}"
+        );
     }
     Ok(())
 }
 
+// Whether these are written to that stream, each with an end of line for each `|`.
+fn is_written(alloc: Global, stream: &str, want: &str) -> Result<bool, Memory> {
+    let stream = wired(alloc, stream)?;
+    let want = wired(alloc, want)?;
+    is_served(
+        alloc,
+        &mut stream.as_bytes(),
+        want.as_bytes(),
+        Ended::EndOfInput,
+    )
+}
+
+const HEAD: &str = "HEAD /callers/ops/requests/1?x HTTP/1.1||";
+
+const HEAD_REPLY: &str =
+    "HTTP/1.1 405 Method Not Allowed|Content-Type: application/json|Content-Length: 17|Allow: PUT||";
+
+const GET: &str = "GET /nope HTTP/1.1||";
+
+const GET_REPLY: &str =
+    r#"HTTP/1.1 404 Not Found|Content-Type: application/json|Content-Length: 19||{"code":"no-route"}"#;
+
+#[test]
+fn writes_each_byte_of_a_reply(rt: HostRuntime) -> Result<(), Fail> {
+    assert!(rt; is_written(rt.alloc(), HEAD, HEAD_REPLY)?);
+    assert!(rt; is_written(rt.alloc(), GET, GET_REPLY)?);
+    Ok(())
+}
+
+// A row whose request has this before the end of its first line, and behind that so many times a text.
+fn long_row(
+    alloc: Global,
+    front: &str,
+    text: &str,
+    count: usize,
+    end: &str,
+) -> Result<String, Memory> {
+    let texts = text.repeat(alloc, count)?;
+    Ok(format!(in alloc; "{front}{texts}{end}")?)
+}
+
+const NO_ROUTE_END: &str = r#"|| => 404 Not Found => {"code":"no-route"}"#;
+
+const MALFORMED_END: &str = r#"|| => 400 Bad Request => {"code":"malformed"}"#;
+
+const UNREADABLE_END: &str = r#" => 400 Bad Request => {"code":"unreadable"}"#;
+
+fn is_found_long(alloc: Global, front: &str, text: &str, count: usize) -> Result<bool, Fail> {
+    let row = long_row(alloc, front, text, count, NO_ROUTE_END)?;
+    is_answered(alloc, row.as_str(), "", Ended::EndOfInput)
+}
+
+fn is_too_long(alloc: Global, front: &str, text: &str, count: usize) -> Result<bool, Fail> {
+    let row = long_row(alloc, front, text, count, MALFORMED_END)?;
+    is_answered(alloc, row.as_str(), CLOSE, Ended::Closed)
+}
+
+fn has_long_body(alloc: Global) -> Result<bool, Fail> {
+    let front = "PUT /callers/ops/requests/1 HTTP/1.1|Content-Length: 65536||";
+    let row = long_row(alloc, front, "a", 65_536, UNREADABLE_END)?;
+    is_answered(alloc, row.as_str(), "", Ended::EndOfInput)
+}
+
+// 64 fields, a head of 16,384 bytes, and a body of 65,536.
 #[test]
 fn keeps_the_limits_of_a_message(rt: HostRuntime) -> Result<(), Fail> {
     let alloc = rt.alloc();
-    let lines = "a: b\r\n".repeat(alloc, 64)?;
-    let value = letters(alloc, 16_358)?;
-    let body = letters(alloc, 65_536)?;
-    for (stream, status, fields, code) in [
-        (
-            format!(in alloc; "GET /nope HTTP/1.1\r\n{lines}\r\n")?,
-            NOT_FOUND,
-            "",
-            NO_ROUTE,
-        ),
-        (
-            format!(in alloc; "GET /nope HTTP/1.1\r\n{lines}a: b\r\n\r\n")?,
-            REFUSED,
-            CLOSE,
-            MALFORMED,
-        ),
-        (
-            format!(in alloc; "GET /nope HTTP/1.1\r\na:{value}\r\n\r\n")?,
-            NOT_FOUND,
-            "",
-            NO_ROUTE,
-        ),
-        (
-            format!(in alloc; "GET /nope HTTP/1.1\r\na: {value}\r\n\r\n")?,
-            REFUSED,
-            CLOSE,
-            MALFORMED,
-        ),
-        (
-            format!(in alloc;
-                "PUT /callers/ops/requests/1 HTTP/1.1\r\nContent-Length: 65536\r\n\r\n{body}"
-            )?,
-            REFUSED,
-            "",
-            UNREADABLE,
-        ),
-    ] {
-        let want = reply(alloc, status, fields, code)?;
-        let (written, _) = served(alloc, &mut stream.as_bytes())?;
-        assert_eq!(rt; written.as_slice(), want.as_bytes(), "{}", stream.len());
-    }
+    let line = "GET /nope HTTP/1.1";
+    assert!(rt; is_found_long(alloc, line, "|a: b", 64)?);
+    assert!(rt; is_too_long(alloc, line, "|a: b", 65)?);
+    let field = "GET /nope HTTP/1.1|a:";
+    assert!(rt; is_found_long(alloc, field, "a", 16_358)?);
+    assert!(rt; is_too_long(alloc, field, "a", 16_359)?);
+    assert!(rt; has_long_body(alloc)?);
     Ok(())
 }

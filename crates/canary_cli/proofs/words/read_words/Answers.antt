@@ -1,8 +1,8 @@
 use Rattle.std.proofs.Common.{◌≡◌, ◌∙◌, [], ap, map, subst, sym, refl, string_bytes}
 use Rattle.clap.specs.Words.{App, HasKind, fault_of, is_simple, is_simple_and_free, subcommand_of}
-use Rattle.canary_desk.specs.CommandLine.{faults_of, HasPipe}
-use Rattle.canary_desk.proofs.Spelled.{desk_is_simple, some_program, spelled}
-use Rattle.canary_desk.proofs.words.read_words.Goals as goal
+use Rattle.canary_cli.specs.CommandLine.{faults_of, HasPipe}
+use Rattle.canary_cli.proofs.Spelled.{desk_is_simple, some_program, spelled}
+use Rattle.canary_cli.proofs.words.read_words.Goals as goal
 
 pub program_of-requires : goal.program_of-requires
 program_of-requires c =

@@ -1,9 +1,9 @@
 //! The words of a command line.
 ghost use Rattle.std.specs.Prelude.{◌≡◌, Some, [], map, false, IfOk, IfErr, IsSome, string_bytes, option_and_then};
 ghost use Rattle.clap.specs.Words.{app_of, found_of, kind_of, rows_of, rule_of, subcommand_rows_of};
-ghost use Rattle.canary_desk.specs.CommandLine.{desk_command, pipe_command, moment_option};
-ghost use Rattle.canary_desk.specs.CommandLine.{faults_of, program_of, program_in, number_given};
-ghost use Rattle.canary_desk.specs.CommandLine.{IsFor, HasPipe, HasMoment};
+ghost use Rattle.canary_cli.specs.CommandLine.{desk_command, pipe_command, moment_option};
+ghost use Rattle.canary_cli.specs.CommandLine.{faults_of, program_of, program_in, number_given};
+ghost use Rattle.canary_cli.specs.CommandLine.{IsFor, HasPipe, HasMoment};
 ghost use Rattle.clap.specs.Words.{HasKind, Kinds, with_subcommand};
 
 use canary_base::moments::{LAST_MOMENT, Moment};
@@ -139,31 +139,5 @@ fn fault_of(alloc: Global, error: &Error) -> WordsFault
         ErrorKind::OutOfMemory => WordsFault::Memory,
         ErrorKind::DisplayHelp => WordsFault::Help(text),
         _ => WordsFault::Usage(text),
-    }
-}
-
-#[cfg(test)]
-mod tests {
-    use super::*;
-    use canary_base::error::Memory;
-    use std::test::Fail;
-
-    #[test]
-    fn reads_the_moments_of_pipe(rt: HostRuntime) -> Result<(), Fail> {
-        let alloc = rt.alloc();
-        let mut words = Vec::new(alloc);
-        for word in ["canary", "pipe", "--step=60", "--at", "1767225600"] {
-            words.push(word.to_string(alloc)?)?;
-        }
-        let at = Moment::new(1_767_225_600).ok_or("a moment")?;
-        let step = Moment::new(60).ok_or("a moment")?;
-        match read_words(alloc, words.as_slice()) {
-            Ok(program) => assert_eq!(rt; program, Program::Pipe { at, step }),
-            Err(fault) => {
-                assert!(rt; matches!(fault, WordsFault::Memory));
-                return Err(Memory.into());
-            }
-        }
-        Ok(())
     }
 }

@@ -1,7 +1,7 @@
 use Rattle.std.proofs.Common.{ap, subst}
-use Rattle.canary_desk.specs.Performed.{IsServed, Standing}
-use Rattle.canary_desk.proofs.Served.{served_so, standing, standing_fresh}
-use Rattle.canary_desk.proofs.perform.pipe.Goals as goal
+use Rattle.canary_cli.specs.Performed.{IsServed, Standing}
+use Rattle.canary_cli.proofs.Served.{served_so, standing, standing_fresh}
+use Rattle.canary_cli.proofs.perform.pipe.Goals as goal
 
 pub returns : goal.returns
 returns g c =

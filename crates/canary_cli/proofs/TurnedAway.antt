@@ -3,10 +3,10 @@ use Rattle.std.proofs.Common.{◌≡◌, ℕ, [], subst}
 use Rattle.clap.specs.Words.{IsAmong, Kinds}
 use Rattle.clap.specs.declared.error.kind.ErrorKind.TheVariants.{DisplayHelp}
 use Rattle.canary_wire.specs.Writes.{Known}
-use Rattle.canary_desk.specs.declared.words.WordsFault.{WordsFault}
-use Rattle.canary_desk.specs.declared.words.WordsFault.TheVariants.{Help, Usage, Memory}
-use Rattle.canary_desk.specs.CommandLine.{IsFor}
-use Rattle.canary_desk.specs.Performed.{IsTold}
+use Rattle.canary_cli.specs.declared.words.WordsFault.{WordsFault}
+use Rattle.canary_cli.specs.declared.words.WordsFault.TheVariants.{Help, Usage, Memory}
+use Rattle.canary_cli.specs.CommandLine.{IsFor}
+use Rattle.canary_cli.specs.Performed.{IsTold}
 
 -- only for want of memory: they neither ask for help nor have a mistake
 pub only_memory : (kinds : Kinds) (fault : WordsFault) (w new_w : Known) (status : ℕ) → kinds ≡ [] → IsFor kinds fault → IsTold fault w new_w status

@@ -8,7 +8,7 @@ use Rattle.canary_wire.specs.Writes.{Known}
 use Rattle.canary_wire.specs.declared.serve.Ended.{Ended}
 use Rattle.canary_wire.specs.declared.serve.ServeFault.{ServeFault}
 use Rattle.canary_wire.specs.declared.serve.ServeFault.TheVariants.{Read, Write, Memory}
-use Rattle.canary_desk.specs.Performed.{Standing, point_of, fresh, IsServed}
+use Rattle.canary_cli.specs.Performed.{Standing, point_of, fresh, IsServed}
 
 -- a clock of steps, and a book that is a list of what was settled
 abbrev pub standing : ℕ × ℕ → List Change → Standing

@@ -2,9 +2,9 @@
 ghost use Rattle.std.specs.Prelude.{◌≡◌, ◌↔◌, ℕ, Some, Ok, Err, OnOk, IfErr, [], map, string_bytes};
 ghost use Rattle.std.specs.IoError.{error_kind};
 ghost use Rattle.std.specs.Io.KnownBytes.{Appends};
-ghost use Rattle.canary_desk.specs.CommandLine.{faults_of, program_of};
-ghost use Rattle.canary_desk.specs.Performed.{done_of, line_of, status_of};
-ghost use Rattle.canary_desk.specs.Performed.{IsPiped, IsPipedTo, IsRun, IsTold, IsTurnedAway};
+ghost use Rattle.canary_cli.specs.CommandLine.{faults_of, program_of};
+ghost use Rattle.canary_cli.specs.Performed.{done_of, line_of, status_of};
+ghost use Rattle.canary_cli.specs.Performed.{IsPiped, IsPipedTo, IsRun, IsTold, IsTurnedAway};
 
 use crate::words::{Program, WordsFault, read_words};
 use canary_base::moments::Moment;
@@ -180,6 +180,3 @@ fn finish<F: Write>(done: Result<(), Fault>, errors: &mut F) -> u8
         }
     }
 }
-
-#[cfg(test)]
-mod tests;

@@ -10,10 +10,10 @@ use Rattle.clap.specs.declared.builder.action.ArgAction.TheVariants.{Set}
 use Rattle.clap.specs.declared.builder.value_parser.ValueParser.TheVariants.{Unsigned}
 use Rattle.clap.specs.declared.error.kind.ErrorKind.{ErrorKind}
 use Rattle.clap.specs.declared.error.kind.ErrorKind.TheVariants.{DisplayHelp}
-use Rattle.canary_desk.specs.declared.words.Program.{Program}
-use Rattle.canary_desk.specs.declared.words.Program.TheVariants.{Pipe}
-use Rattle.canary_desk.specs.declared.words.WordsFault.{WordsFault}
-use Rattle.canary_desk.specs.declared.words.WordsFault.TheVariants.{Help, Usage, Memory}
+use Rattle.canary_cli.specs.declared.words.Program.{Program}
+use Rattle.canary_cli.specs.declared.words.Program.TheVariants.{Pipe}
+use Rattle.canary_cli.specs.declared.words.WordsFault.{WordsFault}
+use Rattle.canary_cli.specs.declared.words.WordsFault.TheVariants.{Help, Usage, Memory}
 
 -- ---- what the desk takes
 

@@ -11,13 +11,13 @@ use Rattle.canary_wire.specs.declared.serve.Ended.{Ended}
 use Rattle.canary_wire.specs.declared.serve.Ended.TheVariants.{EndOfInput, Closed, Truncated, TurnsSpent}
 use Rattle.canary_wire.specs.declared.serve.ServeFault.{ServeFault}
 use Rattle.canary_wire.specs.declared.serve.ServeFault.TheVariants.{Read, Write, Memory}
-use Rattle.canary_desk.specs.declared.perform.Fault.{Fault}
-use Rattle.canary_desk.specs.declared.perform.Fault.TheVariants as fault
-use Rattle.canary_desk.specs.declared.words.Program.{Program}
-use Rattle.canary_desk.specs.declared.words.Program.TheVariants.{Pipe}
-use Rattle.canary_desk.specs.declared.words.WordsFault.{WordsFault}
-use Rattle.canary_desk.specs.declared.words.WordsFault.TheVariants.{Help, Usage, Memory as NoMemory}
-use Rattle.canary_desk.specs.CommandLine.{IsFor}
+use Rattle.canary_cli.specs.declared.perform.Fault.{Fault}
+use Rattle.canary_cli.specs.declared.perform.Fault.TheVariants as fault
+use Rattle.canary_cli.specs.declared.words.Program.{Program}
+use Rattle.canary_cli.specs.declared.words.Program.TheVariants.{Pipe}
+use Rattle.canary_cli.specs.declared.words.WordsFault.{WordsFault}
+use Rattle.canary_cli.specs.declared.words.WordsFault.TheVariants.{Help, Usage, Memory as NoMemory}
+use Rattle.canary_cli.specs.CommandLine.{IsFor}
 
 -- ---- faults and statuses
 

@@ -15,8 +15,8 @@ use Rattle.clap.specs.declared.error.kind.ErrorKind.TheVariants.{MissingSubcomma
 use Rattle.clap.specs.declared.parser.matches.Found.{Found}
 use Rattle.clap.proofs.WalkLemmas.{one_text-rows}
 use Rattle.clap.proofs.ValueTestLemmas.{accepts-Accepts}
-use Rattle.canary_desk.specs.CommandLine.{desk_command, pipe_command, faults_of, number_given, pipe_of, program_in, program_of, HasMoment, HasPipe}
-use Rattle.canary_desk.proofs.Walks.{AreOptions, below_none, given_text, read-level}
+use Rattle.canary_cli.specs.CommandLine.{desk_command, pipe_command, faults_of, number_given, pipe_of, program_in, program_of, HasMoment, HasPipe}
+use Rattle.canary_cli.proofs.Walks.{AreOptions, below_none, given_text, read-level}
 
 -- the desk and its command `pipe`, as they are built
 abbrev desk : Shape

@@ -1,8 +1,8 @@
 use Rattle.std.proofs.Common.{Err, refl}
 use Rattle.canary_wire.specs.declared.serve.ServeFault.TheVariants.{Memory as NoMemory}
-use Rattle.canary_desk.specs.declared.perform.Fault.TheVariants.{Memory}
-use Rattle.canary_desk.proofs.TurnedAway.{only_memory}
-use Rattle.canary_desk.proofs.perform.perform.Goals as goal
+use Rattle.canary_cli.specs.declared.perform.Fault.TheVariants.{Memory}
+use Rattle.canary_cli.proofs.TurnedAway.{only_memory}
+use Rattle.canary_cli.proofs.perform.perform.Goals as goal
 
 pub returns-in-Err-clause-piped : goal.returns-in-Err-clause-piped
 returns-in-Err-clause-piped g c at step none is =

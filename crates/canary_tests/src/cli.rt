@@ -1,0 +1,302 @@
+//! Command lines as users type them, with their exit statuses and what is printed.
+use crate::rows::{lined, split};
+use canary_base::error::Memory;
+use canary_base::moments::Moment;
+use canary_cli::perform::{perform, refuse};
+use canary_cli::words::{Program, WordsFault, read_words};
+use std::alloc::Global;
+use std::io;
+use std::io::{ErrorKind, Read, Write};
+use std::test::Fail;
+
+const REQUEST: &str = "PUT /callers/ops/requests/1 HTTP/1.1\r\nContent-Length: 2\r\n\r\n{}";
+
+const UNREADABLE: &str = concat!(
+    "HTTP/1.1 400 Bad Request\r\nContent-Type: application/json\r\nContent-Length: 21\r\n\r\n",
+    r#"{"code":"unreadable"}"#
+);
+
+const PIPE: &str = "canary pipe --at 1767225600 --step 1";
+
+// Gives these bytes, and then fails.
+#[derive(Drop)]
+struct Failing<'a> {
+    rest: &'a [u8],
+}
+
+impl Read for Failing<'_> {
+    fn read(&mut self, buf: &mut [u8]) -> io::Result<usize> {
+        if self.rest.is_empty() {
+            return Err(ErrorKind::ConnectionReset.into());
+        }
+        let count = buf.len().min(self.rest.len());
+        let (piece, rest) = self.rest.split_at(count);
+        buf[..count].copy_from_slice(piece);
+        self.rest = rest;
+        Ok(count)
+    }
+}
+
+// Takes so many writes of one byte, and then fails.
+#[derive(Drop)]
+struct Full {
+    bytes: Vec<u8>,
+    writes: usize,
+}
+
+impl Write for Full {
+    fn write(&mut self, buf: &[u8]) -> io::Result<usize> {
+        if self.writes == 0 {
+            return Err(ErrorKind::BrokenPipe.into());
+        }
+        self.writes -= 1;
+        let count = buf.len().min(1);
+        self.bytes.extend_from_slice(&buf[..count])?;
+        Ok(count)
+    }
+
+    fn flush(&mut self) -> io::Result<()> {
+        Ok(())
+    }
+}
+
+// What a command line came to.
+#[derive(Drop)]
+struct Outcome {
+    status: u8,
+    output: Vec<u8>,
+    errors: Vec<u8>,
+}
+
+fn typed(alloc: Global, words: &str) -> Result<Vec<String>, Memory> {
+    let mut typed = Vec::new(alloc);
+    for word in words.split_ascii_whitespace() {
+        typed.push(word.to_string(alloc)?)?;
+    }
+    Ok(typed)
+}
+
+// A command line on this input.
+fn performed<R: Read>(alloc: Global, words: &str, input: &mut R) -> Result<Outcome, Memory> {
+    let words = typed(alloc, words)?;
+    let mut output = Vec::new(alloc);
+    let mut errors = Vec::new(alloc);
+    let status = perform(alloc, words.as_slice(), input, &mut output, &mut errors);
+    if errors.as_slice() == b"canary: memory\n".as_slice() {
+        return Err(Memory);
+    }
+    Ok(Outcome {
+        status,
+        output,
+        errors,
+    })
+}
+
+fn has(text: &[u8], part: &str) -> bool {
+    std::str::from_utf8(text).is_ok_and(|text| text.contains(part))
+}
+
+// Command lines, with what is said of them.
+const MISTAKES: &str = " => requires a subcommand
+canary => requires a subcommand
+canary pip => unrecognized subcommand 'pip'
+canary help => unrecognized subcommand 'help'
+canary --version => unexpected argument '--version' found
+canary pipe => not provided:|  --at <SECONDS>|  --step <SECONDS>|
+canary pipe --at 1 => not provided:|  --step <SECONDS>|
+canary pipe --step 1 => not provided:|  --at <SECONDS>|
+canary pipe --step 1 --at => a value is required for '--at <SECONDS>'
+canary pipe --at x --step 1 => invalid value 'x' for '--at <SECONDS>'
+canary pipe --at -1 --step 1 => unexpected argument '-1' found
+canary pipe --at 1 --step 253370764800 => 253370764800 is not in 0..=253370764799
+canary pipe --at 1 --at 1 --step 1 => cannot be used multiple times
+canary pipe --at 1 --step 1 x => unexpected argument 'x' found";
+
+// Whether a row's words are refused for its reason, and nothing is read or written for them.
+fn is_mistake(alloc: Global, row: &str) -> Result<bool, Fail> {
+    let (words, why) = split(row)?;
+    let why = lined(alloc, why, "\n")?;
+    let mut input = REQUEST.as_bytes();
+    let done = performed(alloc, words, &mut input)?;
+    let is_told = has(&done.errors, "error: ") && has(&done.errors, why.as_str());
+    Ok(is_told && done.status == 2 && done.output.is_empty() && input == REQUEST.as_bytes())
+}
+
+#[test]
+fn refuses_what_it_does_not_take(rt: HostRuntime) -> Result<(), Fail> {
+    for row in MISTAKES.lines() {
+        assert!(rt; is_mistake(rt.alloc(), row)?, "{row}");
+    }
+    Ok(())
+}
+
+// Command lines that ask for help, with two parts of it.
+const HELP: &str = "canary --help => Usage: canary <COMMAND>| => Exit status: 0
+/bin/canary -h => Usage: canary <COMMAND>| => Exit status: 0
+canary pipe --help => Usage: canary pipe --at <SECONDS> --step <SECONDS>| => |  canary: truncated";
+
+// Whether a row's words print help that has its parts.
+fn is_helped(alloc: Global, row: &str) -> Result<bool, Fail> {
+    let (words, parts) = split(row)?;
+    let (usage, statuses) = split(parts)?;
+    let usage = lined(alloc, usage, "\n")?;
+    let statuses = lined(alloc, statuses, "\n")?;
+    let done = performed(alloc, words, &mut REQUEST.as_bytes())?;
+    let is_told = has(&done.output, usage.as_str()) && has(&done.output, statuses.as_str());
+    Ok(is_told && done.status == 0 && done.errors.is_empty())
+}
+
+#[test]
+fn prints_its_help(rt: HostRuntime) -> Result<(), Fail> {
+    for row in HELP.lines() {
+        assert!(rt; is_helped(rt.alloc(), row)?, "{row}");
+    }
+    Ok(())
+}
+
+// Whether nothing is written for the moments of that text.
+fn is_taken(alloc: Global, seconds: &str) -> Result<bool, Fail> {
+    let words = format!(in alloc; "canary pipe --step {seconds} --at {seconds}")?;
+    let done = performed(alloc, words.as_str(), &mut "".as_bytes())?;
+    Ok(done.status == 0 && done.output.is_empty() && done.errors.is_empty())
+}
+
+#[test]
+fn takes_every_moment(rt: HostRuntime) -> Result<(), Fail> {
+    for seconds in "0 +5 1767225600 253370764799".split(' ') {
+        assert!(rt; is_taken(rt.alloc(), seconds)?, "{seconds}");
+    }
+    Ok(())
+}
+
+// Streams that are served to their end, or up to a reply that closes them.
+const SERVED: &str = "
+|
+PUT /callers/ops/requests/1 HTTP/1.1|Content-Length: 2||{}
+GET / HTTP/1.0||
+no head||";
+
+const CUT: &str = "PUT /callers/ops
+PUT /callers/ops/requests/1 HTTP/1.1|Content-Length: 3||{}";
+
+// Whether the program ends with that status and that line where a row is its input.
+fn ends_so(alloc: Global, row: &str, status: u8, line: &str) -> Result<bool, Fail> {
+    let input = lined(alloc, row, "\r\n")?;
+    let done = performed(alloc, PIPE, &mut input.as_bytes())?;
+    Ok(done.status == status && done.errors.as_slice() == line.as_bytes())
+}
+
+#[test]
+fn tells_how_a_stream_ended(rt: HostRuntime) -> Result<(), Fail> {
+    for row in SERVED.lines() {
+        assert!(rt; ends_so(rt.alloc(), row, 0, "")?, "{row}");
+    }
+    for row in CUT.lines() {
+        assert!(rt;
+            ends_so(rt.alloc(), row, 1, "canary: truncated\n")?,
+            "{row}"
+        );
+    }
+    Ok(())
+}
+
+#[test]
+fn tells_of_a_reader_that_fails(rt: HostRuntime) -> Result<(), Fail> {
+    let mut input = Failing {
+        rest: REQUEST.as_bytes(),
+    };
+    let done = performed(rt.alloc(), PIPE, &mut input)?;
+    assert!(rt; done.status == 1);
+    assert!(rt; done.output.as_slice() == UNREADABLE.as_bytes());
+    assert!(rt; done.errors.as_slice() == "canary: read\n".as_bytes());
+    Ok(())
+}
+
+// Whether words whose output takes so many bytes end for that, with so many bytes written.
+fn is_cut_off(alloc: Global, words: &str, writes: usize) -> Result<bool, Memory> {
+    let words = typed(alloc, words)?;
+    let mut output = Full {
+        bytes: Vec::new(alloc),
+        writes,
+    };
+    let mut errors = Vec::new(alloc);
+    let mut input = REQUEST.as_bytes();
+    let status = perform(
+        alloc,
+        words.as_slice(),
+        &mut input,
+        &mut output,
+        &mut errors,
+    );
+    let is_told = errors.as_slice() == "canary: write\n".as_bytes();
+    let is_refused = errors.as_slice() == "canary: memory\n".as_bytes();
+    Ok((is_told || is_refused) && status == 1 && output.bytes.len() == writes)
+}
+
+#[test]
+fn tells_of_a_writer_that_fails(rt: HostRuntime) -> Result<(), Fail> {
+    for writes in 0..8 {
+        assert!(rt; is_cut_off(rt.alloc(), PIPE, writes)?, "{writes}");
+        assert!(rt;
+            is_cut_off(rt.alloc(), "canary --help", writes)?,
+            "{writes}"
+        );
+    }
+    Ok(())
+}
+
+// The status of words that are refused, where the error stream takes three bytes.
+fn status_unheard(alloc: Global, words: &str) -> Result<u8, Memory> {
+    let words = typed(alloc, words)?;
+    let mut output = Vec::new(alloc);
+    let mut errors = Full {
+        bytes: Vec::new(alloc),
+        writes: 3,
+    };
+    let mut input = "".as_bytes();
+    Ok(perform(
+        alloc,
+        words.as_slice(),
+        &mut input,
+        &mut output,
+        &mut errors,
+    ))
+}
+
+#[test]
+fn ignores_a_fault_of_the_error_stream(rt: HostRuntime) -> Result<(), Fail> {
+    assert!(rt; status_unheard(rt.alloc(), "canary --nothing")? == 2);
+    Ok(())
+}
+
+// Whether words that cannot be had for that end with this status and a text that begins so.
+fn is_refused(alloc: Global, kind: ErrorKind, status: u8, text: &str) -> bool {
+    let mut errors = Vec::new(alloc);
+    refuse(&kind.into(), &mut errors) == status && errors.starts_with(text.as_bytes())
+}
+
+#[test]
+fn refuses_words_that_are_no_text(rt: HostRuntime) {
+    let no_text = "error: a word of the command line is not UTF-8\n\nUsage: canary <COMMAND>\n";
+    assert!(rt; is_refused(rt.alloc(), ErrorKind::InvalidData, 2, no_text));
+    assert!(rt; is_refused(rt.alloc(), ErrorKind::OutOfMemory, 1, "canary: memory\n"));
+}
+
+// The program that the words ask for; none where there is none.
+fn program(alloc: Global, words: &str) -> Result<Option<Program>, Memory> {
+    let words = typed(alloc, words)?;
+    match read_words(alloc, words.as_slice()) {
+        Ok(program) => Ok(Some(program)),
+        Err(WordsFault::Memory) => Err(Memory),
+        Err(_) => Ok(None),
+    }
+}
+
+#[test]
+fn reads_the_moments_of_pipe(rt: HostRuntime) -> Result<(), Fail> {
+    let at = Moment::new(1_767_225_600).ok_or("a moment")?;
+    let step = Moment::new(60).ok_or("a moment")?;
+    let words = "canary pipe --step=60 --at 1767225600";
+    assert!(rt; program(rt.alloc(), words)? == Some(Program::Pipe { at, step }));
+    Ok(())
+}
