@@ -26,8 +26,7 @@ fn is_told(alloc: Global, text: &str, want: &str) -> bool {
     told(alloc, text).or(told(alloc, text)) == Some(want)
 }
 
-const TEXTS: &str = "syntax 
-syntax result >
+const TEXTS: &str = "syntax result >
 syntax result > 0.5
 syntax result - 1 > 0
 syntax result > - 1
@@ -52,6 +51,7 @@ fn names_each_fault(rt: HostRuntime) -> Result<(), Fail> {
         let (want, text) = row.split_once(' ').ok_or("a row")?;
         assert!(rt; is_told(rt.alloc(), text, want), "{row}");
     }
+    assert!(rt; is_told(rt.alloc(), "", "syntax"));
     Ok(())
 }
 

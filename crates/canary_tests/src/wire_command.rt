@@ -40,8 +40,6 @@ fn expect_rows(
 // The middle part lists other members and kinds, then names and labels, and at the end what is
 // unsupported before it is unreadable, which holds in a body of one member alone.
 const BODIES: &str = r#"reads {"promote":{"service":"web"}}
-reads  {"promote":{"service":"web"} } 
-unreadable  
 unreadable {}
 unreadable null
 unreadable [{"promote":{"service":"web"}}]
@@ -74,19 +72,28 @@ fn tells_faults_of_bodies(rt: HostRuntime) -> Result<(), Fail> {
     expect_rows(&rt, rt.alloc(), BODIES, "", "")
 }
 
-const PROMOTE: &str = r#"{"promote":{"service":"web"}}"#;
+// A promotion whose service has this byte in its name.
+fn promotion_of(alloc: Global, byte: u8) -> Result<Vec<u8>, Memory> {
+    let mut bytes = Vec::from_slice(alloc, r#"{"promote":{"service":"w"#.as_bytes())?;
+    bytes.push(byte)?;
+    bytes.extend_from_slice(r#"b"}}"#.as_bytes())?;
+    Ok(bytes)
+}
 
-// No bytes, a mark before the text, and bytes that are no UTF-8.
+const PROMOTE: &str = r#"reads {"promote":{"service":"web"}}"#;
+
+const MARKED: &str = "unreadable \u{feff}";
+
+// Blanks round a body, blanks alone, a mark before the text, and bytes that are no UTF-8.
 #[test]
 fn tells_faults_of_bytes(rt: HostRuntime) -> Result<(), Fail> {
     let alloc = rt.alloc();
+    expect_rows(&rt, alloc, PROMOTE, "\t\n", " \r\n")?;
+    expect_rows(&rt, alloc, "unreadable ", " ", "")?;
+    expect_rows(&rt, alloc, MARKED, "", r#"{"promote":{"service":"web"}}"#)?;
     assert_eq!(rt; told(alloc, b"")?, "unreadable");
-    expect_rows(&rt, alloc, "unreadable \u{feff}", "", PROMOTE)?;
-    expect_rows(&rt, alloc, "reads \t", "", PROMOTE)?;
-    let mut bytes = Vec::from_slice(alloc, PROMOTE.as_bytes())?;
-    assert_eq!(rt; told(alloc, &bytes)?, "reads");
-    bytes.push(0xff)?;
-    assert_eq!(rt; told(alloc, &bytes)?, "unreadable");
+    assert_eq!(rt; told(alloc, &promotion_of(alloc, b'e')?)?, "reads");
+    assert_eq!(rt; told(alloc, &promotion_of(alloc, 0xff)?)?, "unreadable");
     Ok(())
 }
 

@@ -1,6 +1,6 @@
 //! Readers, writers and stores that fail under a stream.
 use crate::wire_serve::{
-    NO_ROUTE, NOT_FOUND, clock, front, in_pieces, release, reply, served, served_over,
+    ALL, NO_ROUTE, NOT_FOUND, Told, clock, in_pieces, release, reply, served, served_over,
     tells_of_memory,
 };
 use canary_base::error::Memory;
@@ -10,6 +10,7 @@ use canary_once::book::{Book, BookFault, Change, Kept};
 use canary_once::memory::MemoryBook;
 use canary_release::service::Service;
 use canary_wire::serve::{Ended, ServeFault, serve};
+use std::alloc::Global;
 use std::cell::Cell;
 use std::io;
 use std::io::{ErrorKind, Read, Write};
@@ -39,56 +40,65 @@ impl Write for Sink {
     }
 }
 
-// What was read whole is answered, and nothing else.
+// The messages of the release that lie whole within so many bytes, and what is written to them.
+fn whole_within(alloc: Global, bytes: usize) -> Result<Told, Fail> {
+    let mut whole = release(alloc, 0)?;
+    for messages in 1..ALL + 1 {
+        let told = release(alloc, messages)?;
+        if told.stream.len() <= bytes {
+            whole = told;
+        }
+    }
+    Ok(whole)
+}
+
+// Whether what comes in so many reads of 50 bytes is answered where it is whole, and the next read
+// is told to have failed.
+fn is_answered_until(alloc: Global, stream: &[u8], reads: usize) -> Result<bool, Fail> {
+    let mut reader = in_pieces(stream, 50, 50);
+    reader.reads = reads;
+    let (written, ended) = served(alloc, &mut reader)?;
+    let told = whole_within(alloc, reads.saturating_mul(50))?;
+    Ok(ended == Err(ServeFault::Read) && written.as_slice() == told.replies.as_bytes())
+}
+
 #[test]
 fn tells_of_a_reader_that_fails(rt: HostRuntime) -> Result<(), Fail> {
-    let alloc = rt.alloc();
-    let told = release(alloc)?;
-    let bytes = told.stream.as_bytes();
-    for reads in 0..bytes.len() / 50 + 1 {
-        let mut reader = in_pieces(bytes, 50, 50);
-        reader.reads = reads;
-        let (written, ended) = served(alloc, &mut reader)?;
-        let mut answered = 0;
-        for (asked, replied) in told.ends.iter() {
-            if *asked <= reads.saturating_mul(50) {
-                answered = *replied;
-            }
-        }
-        assert_eq!(rt; ended, Err(ServeFault::Read), "{reads}");
-        assert_eq!(rt;
-            written.as_slice(),
-            front(told.replies.as_bytes(), answered),
-            "{reads}"
-        );
+    let told = release(rt.alloc(), ALL)?;
+    let stream = told.stream.as_bytes();
+    assert!(rt; !stream.is_empty());
+    for reads in 0..stream.len() / 50 + 1 {
+        assert!(rt; is_answered_until(rt.alloc(), stream, reads)?, "{reads}");
     }
     Ok(())
 }
 
-// What went out is a front of the replies, and the stream sent again is answered as if it came once.
+// Whether a stream to a writer that takes 50 bytes a write, so many times, writes a front of the
+// replies, and the stream sent again is answered as if it came once.
+fn is_answered_again(alloc: Global, told: &Told, writes: usize) -> Result<bool, Fail> {
+    let bytes = told.stream.as_bytes();
+    let mut book = MemoryBook::new(alloc);
+    let mut writer = Sink {
+        bytes: Vec::new(alloc),
+        most: 50,
+        writes,
+    };
+    let ended = serve(alloc, &mut &bytes[..], &mut writer, &mut clock(), &mut book);
+    if ended == Err(ServeFault::Memory) || tells_of_memory(&writer.bytes) {
+        return Err(Memory.into());
+    }
+    let is_front = told.replies.as_bytes().starts_with(&writer.bytes);
+    let (again, all) = served_over(alloc, &mut &bytes[..], &mut book)?;
+    let is_whole = all == Ok(Ended::EndOfInput) && again.as_slice() == told.replies.as_bytes();
+    Ok(ended == Err(ServeFault::Write) && is_front && is_whole)
+}
+
 #[test]
 fn tells_of_a_writer_that_fails(rt: HostRuntime) -> Result<(), Fail> {
-    let alloc = rt.alloc();
-    let told = release(alloc)?;
-    let bytes = told.asked(4);
-    let want = told.replied(4);
-    assert!(rt; !want.is_empty());
-    for writes in 0..want.len() / 50 + 1 {
-        let mut book = MemoryBook::new(alloc);
-        let mut writer = Sink {
-            bytes: Vec::new(alloc),
-            most: 50,
-            writes,
-        };
-        let ended = serve(alloc, &mut &bytes[..], &mut writer, &mut clock(), &mut book);
-        if ended == Err(ServeFault::Memory) || tells_of_memory(&writer.bytes) {
-            return Err(Memory.into());
-        }
-        assert_eq!(rt; ended, Err(ServeFault::Write), "{writes}");
-        assert!(rt; want.starts_with(&writer.bytes), "{writes}");
-        let (again, ended) = served_over(alloc, &mut &bytes[..], &mut book)?;
-        assert_eq!(rt; ended, Ok(Ended::EndOfInput), "{writes}");
-        assert_eq!(rt; again.as_slice(), want, "{writes}");
+    let told = release(rt.alloc(), 4)?;
+    assert!(rt; !told.replies.is_empty());
+    for writes in 0..told.replies.len() / 50 + 1 {
+        assert!(rt; is_answered_again(rt.alloc(), &told, writes)?, "{writes}");
     }
     Ok(())
 }
@@ -127,8 +137,8 @@ impl Book for Broken {
 #[test]
 fn tells_of_a_store_that_fails(rt: HostRuntime) -> Result<(), Fail> {
     let alloc = rt.alloc();
-    let told = release(alloc)?;
-    let first = told.asked(1);
+    let told = release(alloc, 1)?;
+    let first = told.stream.as_bytes();
     let want = reply(
         alloc,
         "503 Service Unavailable",

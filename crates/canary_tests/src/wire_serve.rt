@@ -27,16 +27,15 @@ const RELEASE: &str =
 4 => {"promote":{"service":"web"}} => 200 OK => {"code":"ok","service":"web","status":"Healthy","step":4,"weight":100}
 5 => {"promote":{"service":"web"}} => 422 Unprocessable Content => {"code":"not-in-progress"}"#;
 
-// A stream, what is written to it, and behind each of its messages how much of both there is.
+// A stream, and what is written to it.
 #[derive(Drop)]
 pub(crate) struct Told {
     pub stream: String,
     pub replies: String,
-    pub ends: Vec<(usize, usize)>,
 }
 
 impl Told {
-    // A row's request and the reply to it.
+    // A row's request, and the reply to it.
     fn add(&mut self, alloc: Global, row: &str) -> Result<(), Fail> {
         let (number, row) = split(row)?;
         let (body, row) = split(row)?;
@@ -45,48 +44,23 @@ impl Told {
         let request = format!(in alloc;
             "PUT /callers/ops/requests/{number} HTTP/1.1\r\nContent-Length: {len}\r\n\r\n{body}"
         )?;
-        let answer = reply(alloc, status, "", told)?;
         self.stream.push_str(request.as_str())?;
+        let answer = reply(alloc, status, "", told)?;
         self.replies.push_str(answer.as_str())?;
-        self.ends.push((self.stream.len(), self.replies.len()))?;
         Ok(())
     }
-
-    // The first messages, so many.
-    pub(crate) fn asked(&self, messages: usize) -> &[u8] {
-        front(self.stream.as_bytes(), self.end(messages).0)
-    }
-
-    // What is written to them.
-    pub(crate) fn replied(&self, messages: usize) -> &[u8] {
-        front(self.replies.as_bytes(), self.end(messages).1)
-    }
-
-    fn end(&self, messages: usize) -> (usize, usize) {
-        match self.ends.get(messages.wrapping_sub(1)) {
-            Some(end) => *end,
-            None => (0, 0),
-        }
-    }
 }
 
-// So many bytes at the front, or all that there are.
-pub(crate) fn front(bytes: &[u8], count: usize) -> &[u8] {
-    if count <= bytes.len() {
-        &bytes[..count]
-    } else {
-        bytes
-    }
-}
+// How many messages the release has.
+pub(crate) const ALL: usize = 9;
 
-// The release, from its first request to its last.
-pub(crate) fn release(alloc: Global) -> Result<Told, Fail> {
+// The first messages of the release, so many.
+pub(crate) fn release(alloc: Global, messages: usize) -> Result<Told, Fail> {
     let mut told = Told {
         stream: String::new(alloc),
         replies: String::new(alloc),
-        ends: Vec::new(alloc),
     };
-    for row in RELEASE.lines() {
+    for row in RELEASE.lines().take(messages) {
         told.add(alloc, row)?;
     }
     Ok(told)
@@ -196,7 +170,7 @@ fn is_served_in(
 
 #[test]
 fn answers_a_release_in_any_pieces(rt: HostRuntime) -> Result<(), Fail> {
-    let told = release(rt.alloc())?;
+    let told = release(rt.alloc(), ALL)?;
     let bytes = told.stream.as_bytes();
     let want = told.replies.as_bytes();
     assert!(rt; is_served_in(rt.alloc(), bytes, 1, 1, want)?);
@@ -207,13 +181,13 @@ fn answers_a_release_in_any_pieces(rt: HostRuntime) -> Result<(), Fail> {
 
 #[test]
 fn answers_a_release_cut_at_any_place(rt: HostRuntime) -> Result<(), Fail> {
-    let told = release(rt.alloc())?;
-    let asked = told.asked(4);
-    let want = told.replied(4);
-    assert!(rt; !asked.is_empty() && !want.is_empty());
-    for cut in 1..asked.len() {
+    let told = release(rt.alloc(), 4)?;
+    let bytes = told.stream.as_bytes();
+    let want = told.replies.as_bytes();
+    assert!(rt; !bytes.is_empty() && !want.is_empty());
+    for cut in 1..bytes.len() {
         assert!(rt;
-            is_served_in(rt.alloc(), asked, cut, asked.len(), want)?,
+            is_served_in(rt.alloc(), bytes, cut, bytes.len(), want)?,
             "cut at {cut}"
         );
     }
