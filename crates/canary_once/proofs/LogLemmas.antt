@@ -13,10 +13,10 @@ use Rattle.std.proofs.lemmas.List.{take_more}
 use Rattle.canary_plan.specs.Commands.{subject_of}
 use Rattle.canary_release.specs.declared.decide.DeskChange.{DeskChange}
 use Rattle.canary_release.specs.declared.decide.DeskChange.TheVariants.{Nothing, Service as Updates}
-use Rattle.canary_release.specs.declared.service.ServiceParts.{ServiceParts}
+use Rattle.canary_release.specs.declared.service.Stand.{Stand}
 use Rattle.canary_release.specs.Services.{ModelService}
-use Rattle.canary_release.specs.Desks.{Desk}
-use Rattle.canary_release.specs.Shapes.{shape, updated, before, changed, seen}
+use Rattle.canary_release.specs.Desks.{Desk, after}
+use Rattle.canary_release.specs.Shapes.{shape, changed, seen}
 use Rattle.canary_once.specs.declared.book.Change.{Change}
 use Rattle.canary_once.specs.declared.book.Kept.{Kept}
 use Rattle.canary_once.specs.Contents.{Contents, no_contents, committed, count_of, kept_at, IsSettling}
@@ -90,7 +90,7 @@ put_seen desk name subject m o false at = ap (option_map shape) at
 seen-step : (desk : Desk) (subject : List ℕ) (change : DeskChange) (name : List ℕ) → seen (changed desk subject change) name ≡ changed_service (seen desk name) subject change name
 seen-step desk subject Nothing name = refl
 seen-step desk subject (Updates s effects) name =
-    let m : ModelService = updated (before (get desk.services subject) s) s effects in
+    let m : ModelService = after (get desk.services subject) (record { stand = s; effects = effects }) in
     put_seen desk name subject m (get desk.services name) (bytes_eq name subject) (get-insert nat_list_cmp_total desk.services subject m name ∙ ap (λ b. cond b (Some m) (get desk.services name)) (is_eq-slice_cmp name subject))
 
 -- the contents with one more change of a log
@@ -131,7 +131,7 @@ if_or : {A : Type 0} (b : Bool) (v : A) (rest : Option A) → (if b then Some v 
 if_or true v rest = refl
 if_or false v rest = refl
 
-changed_or : (found : Option ServiceParts) (subject : List ℕ) (change : DeskChange) (name : List ℕ) → changed_service found subject change name ≡ option_or (changed_service None subject change name) found
+changed_or : (found : Option Stand) (subject : List ℕ) (change : DeskChange) (name : List ℕ) → changed_service found subject change name ≡ option_or (changed_service None subject change name) found
 changed_or found subject Nothing name = refl
 changed_or found subject (Updates s effects) name = if_or (bytes_eq name subject) s found
 
@@ -153,13 +153,13 @@ kept_from_end log left x q n o p sound some within at h says is same =
     ∙ sym (ap (λ (c : Contents). kept_at c q n) (newest_committed log left x some within at))
     ∙ same
 
-pub seen_from_end : (log : List Change) (left : ℕ) (x : Change) (name : List ℕ) (o p : Option ServiceParts) → 0 < left → left ≤ length log → x ≡ get_or log (left - 1) x
+pub seen_from_end : (log : List Change) (left : ℕ) (x : Change) (name : List ℕ) (o p : Option Stand) → 0 < left → left ≤ length log → x ≡ get_or log (left - 1) x
     → o ≡ changed_service None (subject_of x.kept.command) x.desk name → o ≡ p
     → seen (committed_all no_contents (take left log)).desk name ≡ seen (committed_all no_contents log).desk name
     → option_or p (seen (committed_all no_contents (take (left - 1) log)).desk name) ≡ seen (committed_all no_contents log).desk name
 seen_from_end log left x name o p some within at says is same =
     let before = committed_all no_contents (take (left - 1) log) in
-    ap (λ (found : Option ServiceParts). option_or found (seen before.desk name)) (sym is ∙ says)
+    ap (λ (found : Option Stand). option_or found (seen before.desk name)) (sym is ∙ says)
     ∙ sym (changed_or (seen before.desk name) (subject_of x.kept.command) x.desk name)
     ∙ sym (seen-step before.desk (subject_of x.kept.command) x.desk name)
     ∙ sym (ap (λ (c : Contents). seen c.desk name) (newest_committed log left x some within at))

@@ -3,14 +3,15 @@ use Rattle.std.proofs.Common.{◌≡◌, ℕ, refl}
 use Rattle.std.specs.Prelude.{true, false, if◌then◌else◌, Option, Some, None, ◌==◌, length, slice_get}
 use Rattle.canary_plan.specs.declared.plan.Step.{Step}
 use Rattle.canary_plan.specs.declared.plan.Step.TheVariants.{SetWeight, Pause}
-use Rattle.canary_release.specs.Courses.{Course, with_service}
+use Rattle.canary_release.specs.declared.course.Course.{Course}
+use Rattle.canary_release.specs.Courses.{with_stand}
 use Rattle.canary_release.specs.Entering.{enter, finish, show_step}
 
 -- the same strategy, the same step and the same last moment
 record SameStep (c d : Course) : Type 0 where
-  strategy : d.service.strategy ≡ c.service.strategy
-  step : d.service.step ≡ c.service.step
-  last : d.service.last ≡ c.service.last
+  strategy : d.stand.strategy ≡ c.stand.strategy
+  step : d.stand.step ≡ c.stand.step
+  last : d.stand.last ≡ c.stand.last
 
 shown_keeps : (c : Course) (s : Option Step) (i at : ℕ) → SameStep c (show_step c s i at)
 shown_keeps c (Some (SetWeight percent)) i at = record { strategy = refl; step = refl; last = refl }
@@ -18,10 +19,10 @@ shown_keeps c (Some Pause) i at = record { strategy = refl; step = refl; last = 
 shown_keeps c None i at = record { strategy = refl; step = refl; last = refl }
 
 -- it stands at step i, with the same strategy and last moment
-pub enter_keeps : (c : Course) (i at : ℕ) → ((enter c i at).service.strategy ≡ c.service.strategy) × ((enter c i at).service.step ≡ i) × ((enter c i at).service.last ≡ c.service.last)
+pub enter_keeps : (c : Course) (i at : ℕ) → ((enter c i at).stand.strategy ≡ c.stand.strategy) × ((enter c i at).stand.step ≡ i) × ((enter c i at).stand.last ≡ c.stand.last)
 enter_keeps c i at =
-    let there : Course = with_service c (record c.service { step = i; entered = at }) in
-    let shown = shown_keeps there (slice_get c.service.strategy.steps i) i at in
-    elim (i == length c.service.strategy.steps)
-    as (λ b. let r : Course = (if b then finish there at else show_step there (slice_get c.service.strategy.steps i) i at) in (r.service.strategy ≡ c.service.strategy) × (r.service.step ≡ i) × (r.service.last ≡ c.service.last))
+    let there : Course = with_stand c (record c.stand { step = i; entered = at }) in
+    let shown = shown_keeps there (slice_get c.stand.strategy.steps i) i at in
+    elim (i == length c.stand.strategy.steps)
+    as (λ b. let r : Course = (if b then finish there at else show_step there (slice_get c.stand.strategy.steps i) i at) in (r.stand.strategy ≡ c.stand.strategy) × (r.stand.step ≡ i) × (r.stand.last ≡ c.stand.last))
     [ true ↦ (refl, refl, refl) | false ↦ (shown.strategy, shown.step, shown.last) ]

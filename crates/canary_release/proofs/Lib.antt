@@ -1,8 +1,6 @@
 pub mod Keeping
 pub mod Chains
-pub mod KeptChains
-pub mod Bridges
-pub mod Growing
+pub mod Loops
 pub mod Steps
 pub mod Stories
 pub mod Worlds

@@ -9,9 +9,9 @@ use Rattle.canary_plan.specs.declared.command.Command.TheVariants.{Start, Promot
 use Rattle.canary_plan.specs.declared.line.LineEvent.TheVariants.{Created, Started, WeightEntered, PauseEntered, Promoted, Finished}
 use Rattle.canary_plan.specs.declared.refusal.Refusal.TheVariants.{NotInProgress, NotPaused}
 use Rattle.canary_release.specs.declared.service.State.TheVariants.{InProgress, Done}
-use Rattle.canary_release.specs.Services.{ModelService}
+use Rattle.canary_release.specs.declared.service.Stand.{Stand}
 use Rattle.canary_release.specs.Commands.{promote_refusal}
-use Rattle.canary_release.specs.Desks.{machine, no_desk, new_service}
+use Rattle.canary_release.specs.Desks.{machine, no_desk, new_stand}
 use Rattle.canary_release.proofs.Stories.{b, ok, no, web, v1, v2, v3, add, two_pauses}
 use Rattle.canary_release.proofs.Worlds.{replies_from_nothing, service_from_nothing}
 
@@ -39,13 +39,16 @@ release_replies = replies_from_nothing to_end _ refl
 -- the service at its second pause, with its whole history
 paused_service : get (machine no_desk to_second_pause).desk.services web ≡ Some (record {
   made = record { name = web; version = v1; steps = two_pauses };
-  strategy = record { steps = two_pauses };
-  stable = v1;
-  version = v2;
-  state = InProgress;
-  step = 3;
-  entered = b + 2;
-  last = b + 2;
+  stand = record {
+    name = web;
+    strategy = record { steps = two_pauses };
+    stable = v1;
+    version = v2;
+    state = InProgress;
+    step = 3;
+    entered = b + 2;
+    last = b + 2;
+  };
   history =
       record { moment = b; event = Created v1 }
       ∷ record { moment = b + 1; event = Started v2 }
@@ -65,13 +68,16 @@ falling = (b + 9, add web (SetWeight 20 ∷ Pause ∷ [])) ∷ (b + 3, Start web
 
 falling_service : get (machine no_desk falling).desk.services web ≡ Some (record {
   made = record { name = web; version = v1; steps = SetWeight 20 ∷ Pause ∷ [] };
-  strategy = record { steps = SetWeight 20 ∷ Pause ∷ [] };
-  stable = v2;
-  version = v3;
-  state = InProgress;
-  step = 1;
-  entered = b + 12;
-  last = b + 12;
+  stand = record {
+    name = web;
+    strategy = record { steps = SetWeight 20 ∷ Pause ∷ [] };
+    stable = v2;
+    version = v3;
+    state = InProgress;
+    step = 1;
+    entered = b + 12;
+    last = b + 12;
+  };
   history =
       record { moment = b + 9; event = Created v1 }
       ∷ record { moment = b + 9; event = Started v2 }
@@ -114,13 +120,16 @@ weights_alone = (b, add web (SetWeight 5 ∷ SetWeight 100 ∷ [])) ∷ (b + 4, 
 
 weights_service : get (machine no_desk weights_alone).desk.services web ≡ Some (record {
   made = record { name = web; version = v1; steps = SetWeight 5 ∷ SetWeight 100 ∷ [] };
-  strategy = record { steps = SetWeight 5 ∷ SetWeight 100 ∷ [] };
-  stable = v2;
-  version = v2;
-  state = Done;
-  step = 2;
-  entered = b + 4;
-  last = b + 4;
+  stand = record {
+    name = web;
+    strategy = record { steps = SetWeight 5 ∷ SetWeight 100 ∷ [] };
+    stable = v2;
+    version = v2;
+    state = Done;
+    step = 2;
+    entered = b + 4;
+    last = b + 4;
+  };
   history =
       record { moment = b; event = Created v1 }
       ∷ record { moment = b + 4; event = Started v2 }
@@ -143,13 +152,16 @@ refused_late =
 
 refused_late_service : get (machine no_desk refused_late).desk.services web ≡ Some (record {
   made = record { name = web; version = v1; steps = Pause ∷ Pause ∷ [] };
-  strategy = record { steps = Pause ∷ Pause ∷ [] };
-  stable = v1;
-  version = v2;
-  state = InProgress;
-  step = 1;
-  entered = b + 10;
-  last = b + 10;
+  stand = record {
+    name = web;
+    strategy = record { steps = Pause ∷ Pause ∷ [] };
+    stable = v1;
+    version = v2;
+    state = InProgress;
+    step = 1;
+    entered = b + 10;
+    last = b + 10;
+  };
   history =
       record { moment = b; event = Created v1 }
       ∷ record { moment = b; event = Started v2 }
@@ -185,8 +197,8 @@ limits_replies = replies_from_nothing limits _ refl
 
 -- A promotion is refused where the release is done, and then where it is not at a pause.
 
-at_weight : ModelService
-at_weight = record (new_service (record { name = web; version = v1; steps = two_pauses }) b) { state = InProgress; step = 2 }
+at_weight : Stand
+at_weight = record (new_stand (record { name = web; version = v1; steps = two_pauses }) b) { state = InProgress; step = 2 }
 
 not_paused : promote_refusal at_weight ≡ Some NotPaused
 unfolding at_weight

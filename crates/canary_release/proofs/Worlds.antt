@@ -1,6 +1,6 @@
 -- The small machine with the services as a function of their names, which computes, and that it is the machine.
 use Rattle.std.proofs.Common.{◌≡◌, ℕ, List, [], ◌∷◌, refl, ap, ◌∙◌}
-use Rattle.std.specs.Prelude.{cond, Option, Some, None}
+use Rattle.std.specs.Prelude.{cond, Option, Some, None, option_map}
 use Rattle.std.specs.Ordering.{nat_cmp, eq_by_cmp}
 use Rattle.std.specs.Cmp.Lexicographic.{slice_cmp, nat_list_cmp_total}
 use Rattle.std.specs.FinMap.{get, get-insert, get-empty}
@@ -8,7 +8,7 @@ use Rattle.canary_plan.specs.declared.command.Command.{Command}
 use Rattle.canary_plan.specs.Commands.{subject_of}
 use Rattle.canary_release.specs.declared.reply.Reply.{Reply}
 use Rattle.canary_release.specs.Services.{ModelService}
-use Rattle.canary_release.specs.Desks.{Change, Ruling, ruling, Desk, no_desk, desk_after, apply, machine}
+use Rattle.canary_release.specs.Desks.{Change, Ruling, ruling, Desk, no_desk, after, desk_after, apply, machine}
 use Rattle.canary_release.specs.Desks.Change.{Nothing, Becomes}
 
 pub record World : Type 0 where
@@ -23,10 +23,10 @@ changed_at f name a x = cond (eq_by_cmp (slice_cmp nat_cmp) x name) (Some a) (f 
 
 abbrev pub with_change : World → List ℕ → Change → World
 with_change w name Nothing = w
-with_change w name (Becomes c) = let s = c.service in record w { services = changed_at w.services name s }
+with_change w name (Becomes c) = let s = after (w.services name) c in record w { services = changed_at w.services name s }
 
 abbrev pub ruling_in : World → ℕ → Command → Ruling
-ruling_in w now command = ruling (w.services (subject_of command)) now command
+ruling_in w now command = ruling (option_map (λ (m : ModelService). m.stand) (w.services (subject_of command))) now command
 
 abbrev pub world_after : World → ℕ → Command → World
 world_after w now command = with_change w (subject_of command) (ruling_in w now command).change
@@ -44,7 +44,7 @@ world_of desk = record { services = get desk.services }
 
 change_lem : (desk : Desk) (name : List ℕ) (c : Change) → world_of (desk_after desk name c) ≡ with_change (world_of desk) name c
 change_lem desk name Nothing = refl
-change_lem desk name (Becomes c) = λ i. record { services = λ q. get-insert nat_list_cmp_total desk.services name c.service q i }
+change_lem desk name (Becomes c) = λ i. record { services = λ q. get-insert nat_list_cmp_total desk.services name (after (get desk.services name) c) q i }
 
 pub world-apply : (desk : Desk) (now : ℕ) (command : Command) → world_of (apply desk now command).desk ≡ world_after (world_of desk) now command
 world-apply desk now command = change_lem desk (subject_of command) (ruling_in (world_of desk) now command).change

@@ -1,16 +1,20 @@
 -- What each command does to a service that was passed to t, and why it is refused.
-use Rattle.std.specs.Prelude.{ℕ, ◌+◌, ◌&&◌, not, Bool, true, false, List, [], ◌∷◌, Option}
+use Rattle.std.specs.Prelude.{ℕ, ◌+◌, ◌&&◌, not, Bool, true, false, List, [], ◌∷◌, Option, Some, None, Result, Ok, Err}
 use Rattle.std.specs.Str.{bytes_eq}
+use Rattle.canary_plan.specs.declared.command.Command.{Command}
+use Rattle.canary_plan.specs.declared.command.Command.TheVariants.{Service as AddService, Start, Promote}
 use Rattle.canary_plan.specs.declared.line.LineEvent.{LineEvent}
 use Rattle.canary_plan.specs.declared.line.LineEvent.TheVariants.{Started, Promoted}
 use Rattle.canary_plan.specs.declared.refusal.Refusal.{Refusal}
-use Rattle.canary_plan.specs.declared.refusal.Refusal.TheVariants.{InProgress as GoesOn, AlreadyStable, NotInProgress, NotPaused}
+use Rattle.canary_plan.specs.declared.refusal.Refusal.TheVariants.{ServiceExists, InProgress as GoesOn, AlreadyStable, NotInProgress, NotPaused}
 use Rattle.canary_plan.specs.Refusals.{first_that_holds}
 use Rattle.canary_release.specs.declared.service.State.TheVariants.{InProgress}
 use Rattle.canary_release.specs.declared.service.Status.{Status}
 use Rattle.canary_release.specs.declared.service.Status.TheVariants.{Healthy, Paused, Progressing}
-use Rattle.canary_release.specs.Services.{ModelService, is_going, is_done, status}
-use Rattle.canary_release.specs.Courses.{Course, with_service, tell}
+use Rattle.canary_release.specs.declared.service.Stand.{Stand}
+use Rattle.canary_release.specs.declared.course.Course.{Course}
+use Rattle.canary_release.specs.Services.{is_going, is_done, status}
+use Rattle.canary_release.specs.Courses.{with_stand, tell}
 use Rattle.canary_release.specs.Entering.{enter}
 
 abbrev pub is_progressing : Status → Bool
@@ -18,15 +22,15 @@ is_progressing Progressing = true
 is_progressing Healthy = false
 is_progressing Paused = false
 
-abbrev pub start_refusal : ModelService → List ℕ → Option Refusal
+abbrev pub start_refusal : Stand → List ℕ → Option Refusal
 start_refusal s version = first_that_holds ((is_going s.state, GoesOn) ∷ (is_done s.state && bytes_eq version s.stable, AlreadyStable) ∷ [])
 
-abbrev pub promote_refusal : ModelService → Option Refusal
+abbrev pub promote_refusal : Stand → Option Refusal
 promote_refusal s = first_that_holds ((not (is_going s.state), NotInProgress) ∷ (is_progressing (status s), NotPaused) ∷ [])
 
 -- an attempt with that version is in progress
 abbrev pub begun : Course → List ℕ → Course
-begun c version = with_service c (record c.service { version = version; state = InProgress })
+begun c version = with_stand c (record c.stand { version = version; state = InProgress })
 
 -- an attempt with that version, from that step
 abbrev pub begin : Course → ℕ → List ℕ → LineEvent → ℕ → Course
@@ -38,4 +42,15 @@ start c t version = begin c t version (Started version) 0
 
 -- from a pause to the next step
 abbrev pub promote : Course → ℕ → Course
-promote c t = enter (tell c t Promoted) (c.service.step + 1) t
+promote c t = enter (tell c t Promoted) (c.stand.step + 1) t
+
+-- the refusal, or else where it leads
+abbrev pub unless : Option Refusal → Course → Result Course Refusal
+unless None c = Ok c
+unless (Some refusal) c = Err refusal
+
+-- where a command leads a service that was passed to t, or why it is refused
+abbrev pub act : Command → Course → ℕ → Result Course Refusal
+act (AddService spec) c t = Err ServiceExists
+act (Start name version) c t = unless (start_refusal c.stand version) (start c t version)
+act (Promote name) c t = unless (promote_refusal c.stand) (promote c t)

@@ -1,5 +1,5 @@
 -- The desk, one command, and the small machine.
-use Rattle.std.specs.Prelude.{ℕ, Bool, if◌then◌else◌, List, [], ◌∷◌, length, Option, Some, None, is_some}
+use Rattle.std.specs.Prelude.{ℕ, ◌++◌, List, [], ◌∷◌, length, Option, Some, None, option_map, Result, Ok, Err}
 use Rattle.std.specs.Ordering.{nat_cmp}
 use Rattle.std.specs.Cmp.Lexicographic.{slice_cmp}
 use Rattle.std.specs.FinMap.{FinMap, get, insert, empty}
@@ -8,15 +8,17 @@ use Rattle.canary_plan.specs.declared.command.Command.{Command}
 use Rattle.canary_plan.specs.declared.command.Command.TheVariants.{Service as AddService, Start, Promote}
 use Rattle.canary_plan.specs.declared.line.LineEvent.TheVariants.{Created}
 use Rattle.canary_plan.specs.declared.refusal.Refusal.{Refusal}
-use Rattle.canary_plan.specs.declared.refusal.Refusal.TheVariants.{UnknownService, ServiceExists}
+use Rattle.canary_plan.specs.declared.refusal.Refusal.TheVariants.{UnknownService}
 use Rattle.canary_plan.specs.Plans.{strategy_of, strategy_refusal}
 use Rattle.canary_plan.specs.Commands.{subject_of}
 use Rattle.canary_release.specs.declared.reply.Reply.{Reply}
 use Rattle.canary_release.specs.declared.service.State.TheVariants.{Done}
+use Rattle.canary_release.specs.declared.service.Stand.{Stand}
+use Rattle.canary_release.specs.declared.course.Course.{Course}
 use Rattle.canary_release.specs.Services.{ModelService}
-use Rattle.canary_release.specs.Courses.{Course, course_of, tell}
+use Rattle.canary_release.specs.Courses.{course_of, tell}
 use Rattle.canary_release.specs.Passing.{pass, judged_at}
-use Rattle.canary_release.specs.Commands.{start_refusal, promote_refusal, start, promote}
+use Rattle.canary_release.specs.Commands.{unless, act}
 use Rattle.canary_release.specs.Replies.{shown, refused}
 
 -- what a command does to the desk
@@ -29,26 +31,21 @@ pub record Ruling : Type 0 where
   pub change : Change
   pub reply : Reply
 
-abbrev pub refuses : Refusal → Ruling
-refuses refusal = record { change = Nothing; reply = refused refusal }
+-- a refusal changes nothing; else the service becomes what the command leads to, and is shown
+abbrev pub rules : Result Course Refusal → Ruling
+rules (Ok c) = record { change = Becomes c; reply = shown c.stand }
+rules (Err refusal) = record { change = Nothing; reply = refused refusal }
 
--- the service is shown
-abbrev pub shows : Course → Ruling
-shows c = record { change = Becomes c; reply = shown c.service }
+-- passed to t, where it is not refused
+abbrev pub passed_on : Result Course Refusal → ℕ → Result Course Refusal
+passed_on (Ok c) t = Ok (pass c t)
+passed_on (Err refusal) t = Err refusal
 
--- the refusal, or else what is done
-abbrev pub unless : Option Refusal → Ruling → Ruling
-unless None done = done
-unless (Some refusal) done = refuses refusal
-
-abbrev pub refused_if : Bool → Refusal → Option Refusal → Option Refusal
-refused_if taken refusal others = if taken then Some refusal else others
-
--- a new service, which is done: its version is the stable one, and it stands after its last step
-abbrev pub new_service : ServiceSpec → ℕ → ModelService
-new_service spec now =
+-- a new service is done: its version is the stable one, and it stands after its last step
+abbrev pub new_stand : ServiceSpec → ℕ → Stand
+new_stand spec now =
     record {
-      made = spec;
+      name = spec.name;
       strategy = strategy_of spec.steps;
       stable = spec.version;
       version = spec.version;
@@ -56,32 +53,24 @@ new_service spec now =
       step = length spec.steps;
       entered = now;
       last = now;
-      history = [];
     }
 
--- Service: a service is added
-abbrev pub rule_service : Option ModelService → ServiceSpec → ℕ → Ruling
-rule_service found spec now =
-    unless (refused_if (is_some found) ServiceExists (strategy_refusal spec.steps)) (shows (tell (course_of (new_service spec now)) now (Created spec.version)))
+-- a command where no service of its name is there
+abbrev pub act_new : Command → ℕ → Result Course Refusal
+act_new (AddService spec) now = unless (strategy_refusal spec.steps) (tell (course_of (new_stand spec now)) now (Created spec.version))
+act_new (Start name version) now = Err UnknownService
+act_new (Promote name) now = Err UnknownService
 
--- Start, on a service that was passed to t; it is passed to t again
-abbrev pub rule_start : List ℕ → Course → ℕ → Ruling
-rule_start version c t = unless (start_refusal c.service version) (shows (pass (start c t version) t))
+-- a command on a service, which is passed to t before and after; t is the later of the moment and the service's last
+abbrev pub act_passed : Command → Stand → ℕ → Result Course Refusal
+act_passed command s now =
+    let t = judged_at s now in
+    passed_on (act command (pass (course_of s) now) t) t
 
--- Promote, on a service that was passed to t; it is passed to t again
-abbrev pub rule_promote : Course → ℕ → Ruling
-rule_promote c t = unless (promote_refusal c.service) (shows (pass (promote c t) t))
-
--- a rule on a service that may be there, at t, the later of the command's moment and the service's last
-abbrev pub rule_on : Option ModelService → ℕ → (Course → ℕ → Ruling) → Ruling
-rule_on None now rule = refuses UnknownService
-rule_on (Some s) now rule = rule (pass (course_of s) now) (judged_at s now)
-
--- what a command does and answers, from the service that it names
-abbrev pub ruling : Option ModelService → ℕ → Command → Ruling
-ruling found now (AddService spec) = rule_service found spec now
-ruling found now (Start name version) = rule_on found now (rule_start version)
-ruling found now (Promote name) = rule_on found now rule_promote
+-- what a command does and answers, from how the service stands that it names
+abbrev pub ruling : Option Stand → ℕ → Command → Ruling
+ruling None now command = rules (act_new command now)
+ruling (Some s) now command = rules (act_passed command s now)
 
 -- the services by name
 pub record Desk : Type 0 where
@@ -90,17 +79,36 @@ pub record Desk : Type 0 where
 abbrev pub no_desk : Desk
 no_desk = record { services = empty }
 
+-- how the service of that name stands, or none
+abbrev pub stand_at : Desk → List ℕ → Option Stand
+stand_at desk name = option_map (λ (m : ModelService). m.stand) (get desk.services name)
+
+-- the command that makes a service, from how it stands
+abbrev pub made_by : Stand → ServiceSpec
+made_by s = record { name = s.name; version = s.version; steps = s.strategy.steps }
+
+-- a service before a change: as it is, or a new one with nothing recorded
+abbrev pub before : Option ModelService → Stand → ModelService
+before (Some m) s = m
+before None s = record { made = made_by s; stand = s; history = [] }
+
+-- after a course it stands as that says, and its history has grown by the effects
+abbrev pub after : Option ModelService → Course → ModelService
+after found c =
+    let m = before found c.stand in
+    record m { stand = c.stand; history = m.history ++ c.effects.lines }
+
 -- the desk after a change of the service of that name
 abbrev pub desk_after : Desk → List ℕ → Change → Desk
 desk_after desk name Nothing = desk
-desk_after desk name (Becomes c) = record desk { services = insert desk.services name c.service }
+desk_after desk name (Becomes c) = record desk { services = insert desk.services name (after (get desk.services name) c) }
 
 pub record Applied : Type 0 where
   pub desk : Desk
   pub reply : Reply
 
 abbrev pub ruling_on : Desk → ℕ → Command → Ruling
-ruling_on desk now command = ruling (get desk.services (subject_of command)) now command
+ruling_on desk now command = ruling (stand_at desk (subject_of command)) now command
 
 -- one command at its moment
 abbrev pub apply : Desk → ℕ → Command → Applied

@@ -4,13 +4,14 @@ use Rattle.canary_plan.specs.declared.plan.Step.{Step}
 use Rattle.canary_plan.specs.declared.plan.Step.TheVariants.{SetWeight, Pause}
 use Rattle.canary_plan.specs.declared.line.LineEvent.TheVariants.{WeightEntered, PauseEntered, Finished}
 use Rattle.canary_release.specs.declared.service.State.TheVariants.{Done}
-use Rattle.canary_release.specs.Courses.{Course, with_service, tell}
+use Rattle.canary_release.specs.declared.course.Course.{Course}
+use Rattle.canary_release.specs.Courses.{with_stand, tell}
 
 -- the index after the last step: the release is done, and its version is the stable one
 abbrev pub finish : Course → ℕ → Course
 finish c at =
-    let s = c.service in
-    tell (with_service c (record s { stable = s.version; state = Done })) at (Finished s.version)
+    let s = c.stand in
+    tell (with_stand c (record s { stable = s.version; state = Done })) at (Finished s.version)
 
 -- the line of a step that is entered
 abbrev pub show_step : Course → Option Step → ℕ → ℕ → Course
@@ -21,7 +22,7 @@ show_step c None i at = c
 -- entering step i at a moment, or the end where i is the number of steps
 abbrev pub enter : Course → ℕ → ℕ → Course
 enter c i at =
-    let there = with_service c (record c.service { step = i; entered = at }) in
-    if i == length c.service.strategy.steps
+    let there = with_stand c (record c.stand { step = i; entered = at }) in
+    if i == length c.stand.strategy.steps
     then finish there at
-    else show_step there (slice_get c.service.strategy.steps i) i at
+    else show_step there (slice_get c.stand.strategy.steps i) i at

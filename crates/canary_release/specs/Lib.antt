@@ -6,7 +6,5 @@ pub mod Commands
 pub mod Replies
 pub mod Desks
 pub mod Shapes
-pub mod KeptServices
-pub mod KeptDecisions
 pub mod Laws
 pub mod Order

@@ -7,15 +7,16 @@ use Rattle.canary_release.specs.Services.{ModelService, is_done}
 use Rattle.canary_release.specs.Passing.{next_move, is_by}
 use Rattle.canary_release.specs.Desks.{Desk, machine}
 
--- a service under a name: the name is its command's, and so is its strategy, which is accepted; it stands on a step, or after the last exactly where it is done; it entered there no later than it was judged last; and no move was left undone then
+-- a service under a name: the name is its command's and its own, and its strategy is its command's, which is accepted; it stands on a step, or after the last exactly where it is done; it entered there no later than it was judged last; and no move was left undone then
 pub record IsInOrder (name : List ℕ) (s : ModelService) : Type 0 where
   pub named : s.made.name ≡ name
-  pub strategy : s.strategy ≡ strategy_of s.made.steps
+  pub shown : s.stand.name ≡ name
+  pub strategy : s.stand.strategy ≡ strategy_of s.made.steps
   pub accepted : IsTrue (is_strategy s.made.steps)
-  pub on_steps : s.step ≤ length s.strategy.steps
-  pub done : is_done s.state ≡ (s.step == length s.strategy.steps)
-  pub entered : s.entered ≤ s.last
-  pub at_rest : is_by s.last (next_move s) ≡ false
+  pub on_steps : s.stand.step ≤ length s.stand.strategy.steps
+  pub done : is_done s.stand.state ≡ (s.stand.step == length s.stand.strategy.steps)
+  pub entered : s.stand.entered ≤ s.stand.last
+  pub at_rest : is_by s.stand.last (next_move s.stand) ≡ false
 
 abbrev pub AreInOrder : Desk → Type 0
 AreInOrder desk = (name : List ℕ) (s : ModelService) → get desk.services name ≡ Some s → IsInOrder name s

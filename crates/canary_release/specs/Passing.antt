@@ -2,12 +2,14 @@
 use Rattle.std.specs.Prelude.{◌≡◌, ℕ, zero, suc, ◌+◌, ◌-◌, ◌≤◌, nat_le, Bool, true, false, IsTrue, if◌then◌else◌, length, Option, Some, None, max}
 use Rattle.canary_plan.specs.declared.plan.Step.{Step}
 use Rattle.canary_plan.specs.declared.plan.Step.TheVariants.{SetWeight, Pause}
-use Rattle.canary_release.specs.Services.{ModelService, is_going, step_of}
-use Rattle.canary_release.specs.Courses.{Course, with_service}
+use Rattle.canary_release.specs.declared.service.Stand.{Stand}
+use Rattle.canary_release.specs.declared.course.Course.{Course}
+use Rattle.canary_release.specs.Services.{is_going, step_of}
+use Rattle.canary_release.specs.Courses.{with_stand}
 use Rattle.canary_release.specs.Entering.{enter}
 
 -- only a release in progress moves
-abbrev pub is_free : ModelService → Bool
+abbrev pub is_free : Stand → Bool
 is_free s = is_going s.state
 
 -- the moment at which a step that was entered at one moves by time, or none
@@ -18,7 +20,7 @@ leaves_at None entered = None
 
 -- a move at moment e: the next step is entered when the present one leaves
 abbrev pub Moves : Course → ℕ → Course → Type 0
-Moves c e next = IsTrue (is_free c.service) × (leaves_at (step_of c.service) c.service.entered ≡ Some e) × (next ≡ enter c (c.service.step + 1) e)
+Moves c e next = IsTrue (is_free c.stand) × (leaves_at (step_of c.stand) c.stand.entered ≡ Some e) × (next ≡ enter c (c.stand.step + 1) e)
 
 -- so many moves with moments at most t lead from one to the other
 abbrev pub Chain : ℕ → ℕ → Course → Course → Type 0
@@ -30,42 +32,51 @@ abbrev pub IsLongest : ℕ → Course → ℕ → Type 0
 IsLongest t c n = (m : ℕ) (d : Course) → Chain m t c d → m ≤ n
 
 abbrev pub with_last : Course → ℕ → Course
-with_last c t = with_service c (record c.service { last = t })
+with_last c t = with_stand c (record c.stand { last = t })
 
 -- the later of the moment and the service's last
-abbrev pub judged_at : ModelService → ℕ → ℕ
+abbrev pub judged_at : Stand → ℕ → ℕ
 judged_at s t = max t s.last
 
 -- passed to t: the end of the longest chain of moves up to the later of t and the last moment
 abbrev pub Passes : Course → ℕ → Course → Type 0
 Passes c t passed =
-    let at = judged_at c.service t in
+    let at = judged_at c.stand t in
     (n : ℕ) × (end' : Course) × Chain n at c end' × IsLongest at c n × (passed ≡ with_last end' at)
 
 -- The same, computed.
 
 -- the moment of the next move, or none
-abbrev pub next_move : ModelService → Option ℕ
+abbrev pub next_move : Stand → Option ℕ
 next_move s = if is_free s then leaves_at (step_of s) s.entered else None
 
 abbrev pub is_by : ℕ → Option ℕ → Bool
 is_by t None = false
 is_by t (Some e) = nat_le e t
 
+-- a move at a moment, if it is by t
+abbrev pub move_by : ℕ → Option ℕ → Option ℕ
+move_by t None = None
+move_by t (Some e) = if nat_le e t then Some e else None
+
 abbrev pub move_at : Course → Option ℕ → Course
 move_at c None = c
-move_at c (Some e) = enter c (c.service.step + 1) e
+move_at c (Some e) = enter c (c.stand.step + 1) e
 
 -- at most so many moves with moments at most t
 abbrev pub chain_end : ℕ → ℕ → Course → Course
 chain_end zero t c = c
-chain_end (suc n) t c = elim (is_by t (next_move c.service)) [ true ↦ chain_end n t (move_at c (next_move c.service)) | false ↦ c ]
+chain_end (suc n) t c = elim (is_by t (next_move c.stand)) [ true ↦ chain_end n t (move_at c (next_move c.stand)) | false ↦ c ]
 
--- passed to t; each move raises the step, so there are no more moves than steps
+-- the end of the chain of moves up to t; each move raises the step, so there are no more moves than steps
+abbrev pub followed : Course → ℕ → Course
+followed c t = chain_end (length c.stand.strategy.steps - c.stand.step) t c
+
+-- passed to t
 abbrev pub pass : Course → ℕ → Course
 pass c t =
-    let at = judged_at c.service t in
-    with_last (chain_end (length c.service.strategy.steps - c.service.step) at c) at
+    let at = judged_at c.stand t in
+    with_last (followed c at) at
 
 -- the law that joins them: there is a longest chain, its end is the computed one, and no other passes
 abbrev pub PassesAsComputed : Type 0

@@ -5,7 +5,8 @@ use Rattle.canary_plan.specs.Refusals.{code_of}
 use Rattle.canary_release.specs.declared.service.Status.{Status}
 use Rattle.canary_release.specs.declared.service.Status.TheVariants.{Healthy, Paused, Progressing}
 use Rattle.canary_release.specs.declared.reply.Reply.{Reply}
-use Rattle.canary_release.specs.Services.{ModelService, status, weight}
+use Rattle.canary_release.specs.declared.service.Stand.{Stand}
+use Rattle.canary_release.specs.Services.{status, weight}
 
 abbrev pub status_text : Status → List ℕ
 status_text Healthy = codes "Healthy"
@@ -20,8 +21,8 @@ shown_as name status step weight =
       body = codes "{\"code\":\"ok\",\"service\":\"" ++ (name ++ (codes "\",\"status\":\"" ++ (status_text status ++ (codes "\",\"step\":" ++ (decimal step ++ (codes ",\"weight\":" ++ (decimal weight ++ codes "}")))))));
     }
 
-abbrev pub shown : ModelService → Reply
-shown s = shown_as s.made.name (status s) s.step (weight s)
+abbrev pub shown : Stand → Reply
+shown s = shown_as s.name (status s) s.step (weight s)
 
 -- {"code":CODE}
 abbrev pub code_alone : List ℕ → List ℕ

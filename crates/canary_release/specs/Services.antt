@@ -1,11 +1,11 @@
--- A service of the model, its status and its weight.
+-- A service of the model: how it stands, and its whole history. Status and weight.
 use Rattle.std.specs.Prelude.{ℕ, suc, Bool, true, false, if◌then◌else◌, List, take, slice_get, Option, Some, None, unwrap_or}
 use Rattle.std.specs.List.{filter_map, last_or}
 use Rattle.canary_plan.specs.declared.plan.Step.{Step}
 use Rattle.canary_plan.specs.declared.plan.Step.TheVariants.{SetWeight, Pause}
 use Rattle.canary_plan.specs.declared.plan.ServiceSpec.{ServiceSpec}
 use Rattle.canary_plan.specs.declared.line.Line.{Line}
-use Rattle.canary_plan.specs.StrategyViews.{StrategyView}
+use Rattle.canary_release.specs.declared.service.Stand.{Stand}
 use Rattle.canary_release.specs.declared.service.State.{State}
 use Rattle.canary_release.specs.declared.service.State.TheVariants.{InProgress, Done}
 use Rattle.canary_release.specs.declared.service.Status.{Status}
@@ -13,13 +13,7 @@ use Rattle.canary_release.specs.declared.service.Status.TheVariants.{Healthy, Pa
 
 pub record ModelService : Type 0 where
   pub made : ServiceSpec  -- the command that made it
-  pub strategy : StrategyView
-  pub stable : List ℕ
-  pub version : List ℕ
-  pub state : State
-  pub step : ℕ  -- the present step, from 0; the number of steps at the end
-  pub entered : ℕ  -- when the present step was entered
-  pub last : ℕ  -- the last moment at which it was judged
+  pub stand : Stand  -- its fields that are no lists of what happened
   pub history : List Line  -- oldest first
 
 abbrev pub is_going : State → Bool
@@ -31,7 +25,7 @@ is_done Done = true
 is_done InProgress = false
 
 -- the present step, or none after the last
-abbrev pub step_of : ModelService → Option Step
+abbrev pub step_of : Stand → Option Step
 step_of s = slice_get s.strategy.steps s.step
 
 abbrev pub is_pause : Option Step → Bool
@@ -44,7 +38,7 @@ abbrev pub status_as : State → Option Step → Status
 status_as Done step = Healthy
 status_as InProgress step = if is_pause step then Paused else Progressing
 
-abbrev pub status : ModelService → Status
+abbrev pub status : Stand → Status
 status s = status_as s.state (step_of s)
 
 -- the weight that a step sets
@@ -57,5 +51,5 @@ abbrev pub weight_as : State → ℕ → List Step → ℕ
 weight_as Done step steps = 100
 weight_as InProgress step steps = unwrap_or (last_or None (filter_map weight_set (take (suc step) steps))) 0
 
-abbrev pub weight : ModelService → ℕ
+abbrev pub weight : Stand → ℕ
 weight s = weight_as s.state s.step s.strategy.steps

@@ -1,15 +1,15 @@
 //! Decisions: what a command answers, and what it changes.
-ghost use Rattle.std.specs.Prelude.{◌≡◌, ◌+◌, ◌≤◌, length, max, Some, None, IfOk, IfErr};
+ghost use Rattle.std.specs.Prelude.{◌≡◌, ◌+◌, ◌≤◌, length, Ok, Err, Some, None, IfOk, IfErr};
 ghost use Rattle.std.specs.Option.{option_copied};
 ghost use Rattle.canary_plan.specs.Commands.{subject_of};
-ghost use Rattle.canary_release.specs.Desks.{Desk};
-ghost use Rattle.canary_release.specs.Shapes.{seen, IsStep};
-ghost use Rattle.canary_release.specs.KeptServices.{kept_unchanged, kept_tell, kept_pass};
-ghost use Rattle.canary_release.specs.KeptDecisions.{kept_start_refusal, kept_promote_refusal, kept_start, kept_promote, kept_refuses, kept_shows, decide_on, decide_start, decide_promote, decide_new, decision_of, kept_new};
+ghost use Rattle.canary_release.specs.Courses.{IsOnSteps};
+ghost use Rattle.canary_release.specs.Commands.{start_refusal, promote_refusal, start, promote, unless, act};
+ghost use Rattle.canary_release.specs.Desks.{Desk, rules, passed_on, new_stand, act_new, act_passed, ruling};
+ghost use Rattle.canary_release.specs.Shapes.{seen, decided, IsStep};
 
-use crate::draft::Draft;
+use crate::course::Course;
 use crate::reply::Reply;
-use crate::service::{Effects, Service, ServiceParts, State};
+use crate::service::{Effects, Service, Stand, State};
 use canary_base::error::Memory;
 use canary_base::moments::Moment;
 use canary_base::names::Label;
@@ -49,42 +49,39 @@ pub fn decide(
 ) -> Result<Decision, Memory>
     ensures { IfOk result (λ d. (desk : Desk) → option_copied service.entry ≡ seen desk (subject_of command.now) → IsStep desk now command.now d) }
 {
-    decide_kept(alloc, service, now, command)
+    let acted = act_on(alloc, service, now, command)?;
+    say(alloc, acted)
 }
 
-// What is decided, from the service alone.
-fn decide_kept(
+// Where the command leads, or why it is refused, from the service alone.
+fn act_on(
     alloc: Global,
     service: Option<&Service>,
     now: Moment,
     command: &Command,
-) -> Result<Decision, Memory>
-    ensures { IfOk result (λ d. d ≡ decision_of (option_copied service.entry) now command.now) }
+) -> Result<Result<Course, Refusal>, Memory>
+    ensures after { IfOk result (λ acted. rules acted ≡ ruling (option_copied service.entry) now command.now) }
+    ensures on_steps { IfOk result (λ acted. IfOk acted IsOnSteps) }
 {
-    match (command, service) {
-        (Command::Service(_), Some(_)) => refuse(alloc, Refusal::ServiceExists),
-        (Command::Service(spec), None) => add(alloc, spec, now),
-        (Command::Start { .. } | Command::Promote { .. }, None) => {
-            refuse(alloc, Refusal::UnknownService)
-        }
-        (Command::Start { version, .. }, Some(service)) => start(alloc, service, now, *version),
-        (Command::Promote { .. }, Some(service)) => promote(alloc, service, now),
+    match service {
+        Some(service) => act_passed(alloc, service, now, command),
+        None => act_new(alloc, now, command),
     }
 }
 
-// The service passed to a moment.
-fn passed(alloc: Global, service: &Service, now: Moment) -> Result<Draft, Memory>
-    ensures after { IfOk result (λ d. d ≡ kept_pass (kept_unchanged service.now) now) }
-    ensures last { IfOk result (λ d. d.parts.last ≡ max now service.now.last) }
-    ensures on_steps { IfOk result (λ d. d.parts.step ≤ length d.parts.strategy.steps) }
+// A refusal changes nothing; else the service becomes what the command leads to, and is shown.
+fn say(alloc: Global, acted: Result<Course, Refusal>) -> Result<Decision, Memory>
+    requires { IfOk acted IsOnSteps }
+    ensures { IfOk result (λ d. d ≡ decided (rules acted)) }
 {
-    let parts = service.parts().copy(alloc)?;
-    Draft::of(alloc, parts).pass(now)
+    match acted {
+        Ok(course) => show(alloc, course),
+        Err(refusal) => refuse(alloc, refusal),
+    }
 }
 
-// A refusal changes nothing.
 fn refuse(alloc: Global, refusal: Refusal) -> Result<Decision, Memory>
-    ensures { IfOk result (λ d. d ≡ kept_refuses refusal) }
+    ensures { IfOk result (λ d. d ≡ decided (rules (Err refusal))) }
 {
     Ok(Decision {
         reply: Reply::refuses(alloc, refusal)?,
@@ -92,149 +89,149 @@ fn refuse(alloc: Global, refusal: Refusal) -> Result<Decision, Memory>
     })
 }
 
-// The service becomes what the draft says, and is shown.
-fn show(alloc: Global, draft: Draft) -> Result<Decision, Memory>
-    requires { draft.parts.step ≤ length draft.parts.strategy.steps }
-    ensures { IfOk result (λ d. d ≡ kept_shows draft) }
+fn show(alloc: Global, course: Course) -> Result<Decision, Memory>
+    requires { course.stand.step ≤ length course.stand.strategy.steps }
+    ensures { IfOk result (λ d. d ≡ decided (rules (Ok course))) }
 {
-    let Draft { parts, effects } = draft;
-    let status = parts.status();
-    let weight = parts.weight();
-    let reply = Reply::shows(alloc, parts.name, status, parts.step, weight)?;
+    let Course { stand, effects } = course;
+    let reply = Reply::shows(
+        alloc,
+        stand.name,
+        stand.status(),
+        stand.step,
+        stand.weight(),
+    )?;
     Ok(Decision {
         reply,
         change: DeskChange::Service {
-            service: Service::of(parts),
+            service: Service::of(stand),
             effects,
         },
     })
 }
 
-fn start(alloc: Global, service: &Service, now: Moment, version: Label) -> Result<Decision, Memory>
-    ensures { IfOk result (λ d. d ≡ decide_on (Some service.now) now (decide_start version)) }
+// A command on a service, which is passed before and after.
+fn act_passed(
+    alloc: Global,
+    service: &Service,
+    now: Moment,
+    command: &Command,
+) -> Result<Result<Course, Refusal>, Memory>
+    ensures after { IfOk result (λ acted. acted ≡ act_passed command.now service.now now) }
+    ensures on_steps { IfOk result (λ acted. IfOk acted IsOnSteps) }
 {
-    let draft = passed(alloc, service, now)?;
-    let at = draft.last();
-    start_passed(alloc, draft, at, version)
-}
-
-fn start_passed(alloc: Global, draft: Draft, at: Moment, version: Label) -> Result<Decision, Memory>
-    ensures { IfOk result (λ d. d ≡ decide_start version draft at) }
-{
-    match start_refusal(&draft.parts, version) {
-        Some(refusal) => refuse(alloc, refusal),
-        None => show_started(alloc, draft, at, version),
+    let stand = service.stand().copy(alloc)?;
+    let course = Course::of(alloc, stand);
+    let at = course.judged_at(now);
+    let passed = course.pass(now)?;
+    match act(passed, at, command)? {
+        Ok(led) => Ok(Ok(led.pass(at)?)),
+        Err(refusal) => Ok(Err(refusal)),
     }
 }
 
-fn show_started(alloc: Global, draft: Draft, at: Moment, version: Label) -> Result<Decision, Memory>
-    ensures { IfOk result (λ d. d ≡ kept_shows (kept_pass (kept_start draft at version) at)) }
+// Where a command leads a service that was passed to a moment.
+fn act(course: Course, at: Moment, command: &Command) -> Result<Result<Course, Refusal>, Memory>
+    ensures after { IfOk result (λ acted. acted ≡ act command.now course at) }
+    ensures on_steps { IfOk result (λ acted. IfOk acted IsOnSteps) }
 {
-    let started = start_attempt(draft, at, version)?;
-    let done = started.pass(at)?;
-    show(alloc, done)
-}
-
-fn start_refusal(parts: &ServiceParts, version: Label) -> Option<Refusal>
-    ensures { result ≡ kept_start_refusal parts.now version }
-{
-    match parts.state {
-        State::InProgress => Some(Refusal::InProgress),
-        State::Done if version == parts.stable => Some(Refusal::AlreadyStable),
-        State::Done => None,
+    match command {
+        Command::Service(_) => Ok(Err(Refusal::ServiceExists)),
+        Command::Start { version, .. } => start(course, at, *version),
+        Command::Promote { .. } => promote(course, at),
     }
 }
 
 // Begins an attempt with that version at the first step.
-fn start_attempt(draft: Draft, at: Moment, version: Label) -> Result<Draft, Memory>
-    ensures after { IfOk result (λ d. d ≡ kept_start draft at version) }
-    ensures on_steps { IfOk result (λ d. d.parts.step ≤ length d.parts.strategy.steps) }
+fn start(course: Course, at: Moment, version: Label) -> Result<Result<Course, Refusal>, Memory>
+    ensures after { IfOk result (λ acted. acted ≡ unless (start_refusal course.stand version) (start course at version)) }
+    ensures on_steps { IfOk result (λ acted. IfOk acted IsOnSteps) }
 {
-    let Draft { parts, effects } = draft;
-    let mut parts = parts;
-    parts.version = version;
-    parts.state = State::InProgress;
-    let begun = Draft { parts, effects };
-    let told = begun.tell(at, LineEvent::Started { version })?;
-    told.enter(0, at)
+    if let Some(refusal) = start_refusal(&course.stand, version) {
+        return Ok(Err(refusal));
+    }
+    let told = course
+        .begun(version)
+        .tell(at, LineEvent::Started { version })?;
+    Ok(Ok(told.enter(0, at)?))
 }
 
-fn promote(alloc: Global, service: &Service, now: Moment) -> Result<Decision, Memory>
-    ensures { IfOk result (λ d. d ≡ decide_on (Some service.now) now decide_promote) }
+fn start_refusal(stand: &Stand, version: Label) -> Option<Refusal>
+    ensures { result ≡ start_refusal stand.now version }
 {
-    let draft = passed(alloc, service, now)?;
-    let at = draft.last();
-    promote_passed(alloc, draft, at)
-}
-
-fn promote_passed(alloc: Global, draft: Draft, at: Moment) -> Result<Decision, Memory>
-    ensures { IfOk result (λ d. d ≡ decide_promote draft at) }
-{
-    match promoted_step(&draft.parts) {
-        Ok(step) => show_promoted(alloc, draft, at, step),
-        Err(refusal) => refuse(alloc, refusal),
+    match stand.state {
+        State::InProgress => Some(Refusal::InProgress),
+        State::Done if version == stand.stable => Some(Refusal::AlreadyStable),
+        State::Done => None,
     }
 }
 
-fn show_promoted(alloc: Global, draft: Draft, at: Moment, step: u32) -> Result<Decision, Memory>
-    requires next { step ≡ draft.parts.step + 1 }
-    requires on_steps { step ≤ length draft.parts.strategy.steps }
-    ensures { IfOk result (λ d. d ≡ kept_shows (kept_pass (kept_promote draft at) at)) }
+// From a pause to the next step.
+fn promote(course: Course, at: Moment) -> Result<Result<Course, Refusal>, Memory>
+    ensures after { IfOk result (λ acted. acted ≡ unless (promote_refusal course.stand) (promote course at)) }
+    ensures on_steps { IfOk result (λ acted. IfOk acted IsOnSteps) }
 {
-    let promoted = promote_to(draft, at, step)?;
-    let done = promoted.pass(at)?;
-    show(alloc, done)
+    match promoted_step(&course.stand) {
+        Ok(step) => {
+            let told = course.tell(at, LineEvent::Promoted)?;
+            Ok(Ok(told.enter(step, at)?))
+        }
+        Err(refusal) => Ok(Err(refusal)),
+    }
 }
 
 // The step to which a promotion leads, or why it is refused.
-fn promoted_step(parts: &ServiceParts) -> Result<u32, Refusal>
-    ensures ok { IfOk result (λ step. (kept_promote_refusal parts.now ≡ None) × (step ≡ parts.now.step + 1) × (step ≤ length parts.now.strategy.steps)) }
-    ensures err { IfErr result (λ refusal. kept_promote_refusal parts.now ≡ Some refusal) }
+fn promoted_step(stand: &Stand) -> Result<u32, Refusal>
+    ensures ok { IfOk result (λ step. (promote_refusal stand.now ≡ None) × (step ≡ stand.now.step + 1) × (step ≤ length stand.now.strategy.steps)) }
+    ensures err { IfErr result (λ refusal. promote_refusal stand.now ≡ Some refusal) }
 {
-    if parts.state == State::Done {
+    if stand.state == State::Done {
         return Err(Refusal::NotInProgress);
     }
-    let steps = parts.strategy.steps();
-    if parts.step as usize >= steps.len() {
+    let steps = stand.strategy.steps();
+    if stand.step as usize >= steps.len() {
         return Err(Refusal::NotPaused);
     }
-    match steps[parts.step as usize] {
-        Step::Pause => Ok(parts.step + 1),
+    match steps[stand.step as usize] {
+        Step::Pause => Ok(stand.step + 1),
         Step::SetWeight(_) => Err(Refusal::NotPaused),
     }
 }
 
-fn promote_to(draft: Draft, at: Moment, step: u32) -> Result<Draft, Memory>
-    requires next { step ≡ draft.parts.step + 1 }
-    requires on_steps { step ≤ length draft.parts.strategy.steps }
-    ensures after { IfOk result (λ d. d ≡ kept_promote draft at) }
-    ensures on_steps { IfOk result (λ d. d.parts.step ≤ length d.parts.strategy.steps) }
+// A command where no service of its name is there.
+fn act_new(alloc: Global, now: Moment, command: &Command) -> Result<Result<Course, Refusal>, Memory>
+    ensures after { IfOk result (λ acted. acted ≡ act_new command.now now) }
+    ensures on_steps { IfOk result (λ acted. IfOk acted IsOnSteps) }
 {
-    let told = draft.tell(at, LineEvent::Promoted)?;
-    told.enter(step, at)
+    match command {
+        Command::Service(spec) => add(alloc, spec, now),
+        Command::Start { .. } | Command::Promote { .. } => Ok(Err(Refusal::UnknownService)),
+    }
 }
 
 // A new service, if its strategy is accepted.
-fn add(alloc: Global, spec: &ServiceSpec, now: Moment) -> Result<Decision, Memory>
-    ensures { IfOk result (λ d. d ≡ decide_new spec.now now) }
+fn add(alloc: Global, spec: &ServiceSpec, now: Moment) -> Result<Result<Course, Refusal>, Memory>
+    ensures after { IfOk result (λ acted. acted ≡ act_new (Command.Service spec.now) now) }
+    ensures on_steps { IfOk result (λ acted. IfOk acted IsOnSteps) }
 {
     match Strategy::check(alloc, &spec.steps) {
         Ok(strategy) => {
-            let parts = new_parts(spec, strategy, now);
-            create(alloc, parts, now)
+            let course = Course::of(alloc, new_stand(spec, strategy, now));
+            let version = spec.version;
+            Ok(Ok(course.tell(now, LineEvent::Created { version })?))
         }
-        Err(CheckFault::Refused(refusal)) => refuse(alloc, refusal),
+        Err(CheckFault::Refused(refusal)) => Ok(Err(refusal)),
         Err(CheckFault::Memory) => Err(Memory),
     }
 }
 
 // A new service is done: its version is the stable one.
-fn new_parts(spec: &ServiceSpec, strategy: Strategy, now: Moment) -> ServiceParts
+fn new_stand(spec: &ServiceSpec, strategy: Strategy, now: Moment) -> Stand
     requires { strategy.steps ≡ spec.now.steps }
-    ensures { result ≡ kept_new spec.now now }
+    ensures { result ≡ new_stand spec.now now }
 {
     let step = strategy.steps().len() as u32;
-    ServiceParts {
+    Stand {
         name: spec.name,
         strategy,
         stable: spec.version,
@@ -244,13 +241,4 @@ fn new_parts(spec: &ServiceSpec, strategy: Strategy, now: Moment) -> ServicePart
         entered: now,
         last: now,
     }
-}
-
-fn create(alloc: Global, parts: ServiceParts, now: Moment) -> Result<Decision, Memory>
-    requires { parts.step ≤ length parts.strategy.steps }
-    ensures { IfOk result (λ d. d ≡ kept_shows (kept_tell (kept_unchanged parts) now (LineEvent.Created parts.version))) }
-{
-    let version = parts.version;
-    let draft = Draft::of(alloc, parts).tell(now, LineEvent::Created { version })?;
-    show(alloc, draft)
 }

@@ -5,8 +5,8 @@
 //! chain of moves; and the machine keeps each service in order.
 #![tactic(auto)]
 
+mod course;
 pub mod decide;
-mod draft;
 pub mod laws;
 pub mod reply;
 pub mod service;

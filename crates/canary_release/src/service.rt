@@ -1,11 +1,11 @@
 //! Services: what the desk keeps of each, its status and its weight.
 ghost use Rattle.std.specs.Prelude.{◌≡◌, ◌+◌, ◌≤◌, ◌<◌, length, take, IfOk, IsSome, unwrap_or, None};
 ghost use Rattle.std.specs.List.{filter_map, last_or};
-ghost use Rattle.canary_release.specs.Services.{status_as, weight_as, weight_set};
+ghost use Rattle.canary_release.specs.Services.{step_of, status, weight, weight_set};
+ghost use Rattle.canary_release.specs.Passing.{next_move, move_by};
 ghost use Rattle.canary_release.specs.Replies.{status_text};
-ghost use Rattle.canary_release.specs.KeptServices.{kept_step, kept_status, kept_weight, kept_next_move, kept_next_move_by};
 
-use crate::draft::Draft;
+use crate::course::Course;
 use canary_base::error::Memory;
 use canary_base::lists::Listed;
 use canary_base::moments::Moment;
@@ -46,9 +46,9 @@ impl Status {
     }
 }
 
-/// What the desk keeps of a service.
+/// How a service stands.
 #[derive(Drop)]
-pub struct ServiceParts {
+pub struct Stand {
     pub name: Name,
     pub strategy: Strategy,
     pub stable: Label,
@@ -62,12 +62,12 @@ pub struct ServiceParts {
     pub last: Moment,
 }
 
-impl ServiceParts {
-    /// A copy of them.
-    pub fn copy(&self, alloc: Global) -> Result<ServiceParts, Memory>
+impl Stand {
+    /// A copy of it.
+    pub fn copy(&self, alloc: Global) -> Result<Stand, Memory>
         ensures { IfOk result (λ copy. copy ≡ self.now) }
     {
-        Ok(ServiceParts {
+        Ok(Stand {
             name: self.name,
             strategy: self.strategy.copy(alloc)?,
             stable: self.stable,
@@ -81,7 +81,7 @@ impl ServiceParts {
 
     /// Its status.
     pub(crate) fn status(&self) -> Status
-        ensures { result ≡ kept_status self.now }
+        ensures { result ≡ status self.now }
     {
         match self.state {
             State::Done => Status::Healthy,
@@ -94,14 +94,14 @@ impl ServiceParts {
 
     /// The present step, or none at the end.
     pub(crate) fn present_step(&self) -> Option<Step>
-        ensures { result ≡ kept_step self.now }
+        ensures { result ≡ step_of self.now }
     {
         self.strategy.steps().get(self.step as usize).copied()
     }
 
     // The moment at which the present step moves by time, if it does so by that moment.
     pub(crate) fn next_move_by(&self, until: Moment) -> Option<Moment>
-        ensures moves { result ≡ kept_next_move_by until self.now }
+        ensures moves { result ≡ move_by until (next_move self.now) }
         ensures on_step { IsSome result → self.now.step < length self.now.strategy.steps }
         ensures room { IsSome result → self.now.step < 64 }
     {
@@ -112,7 +112,7 @@ impl ServiceParts {
     }
 
     fn next_move(&self) -> Option<Moment>
-        ensures moves { result ≡ kept_next_move self.now }
+        ensures moves { result ≡ next_move self.now }
         ensures on_step { IsSome result → self.now.step < length self.now.strategy.steps }
         ensures room { IsSome result → self.now.step < 64 }
     {
@@ -128,7 +128,7 @@ impl ServiceParts {
 
     /// The weight of the new version, in percent.
     pub(crate) fn weight(&self) -> u32
-        ensures { result ≡ kept_weight self.now }
+        ensures { result ≡ weight self.now }
     {
         match self.state {
             State::Done => 100,
@@ -157,37 +157,37 @@ fn last_weight(steps: &[Step]) -> Option<u32>
 /// A service, on a step of its strategy or at its end.
 #[derive(Drop)]
 pub struct Service {
-    parts: ServiceParts,
+    stand: Stand,
 }
 
 impl Model for Service {
     ghost use Rattle.std.specs.Prelude.{◌≤◌, length};
-    ghost use Rattle.canary_release.specs.declared.service.ServiceParts.{ServiceParts};
+    ghost use Rattle.canary_release.specs.declared.service.Stand.{Stand};
 
-    ghost Value = { ServiceParts };
+    ghost Value = { Stand };
 
-    ghost view = { λ s. s.parts };
+    ghost view = { λ s. s.stand };
 
-    ghost invariant = { λ s. s.parts.step ≤ length s.parts.strategy.steps };
+    ghost invariant = { λ s. s.stand.step ≤ length s.stand.strategy.steps };
 }
 
 impl Service {
     ghost use Rattle.canary_release.specs.Shapes.{IsPassing};
 
-    /// A service of these parts, which stands on a step or at the end.
-    pub(crate) fn of(parts: ServiceParts) -> Service
-        requires { parts.step ≤ length parts.strategy.steps }
-        ensures { result ≡ parts }
+    /// A service that stands so, on a step or at the end.
+    pub(crate) fn of(stand: Stand) -> Service
+        requires { stand.step ≤ length stand.strategy.steps }
+        ensures { result ≡ stand }
     {
-        Service { parts }
+        Service { stand }
     }
 
-    /// Its parts.
-    pub fn parts(&self) -> &ServiceParts
+    /// How it stands.
+    pub fn stand(&self) -> &Stand
         ensures value { result.now ≡ self.now }
         ensures on_steps { self.now.step ≤ length self.now.strategy.steps }
     {
-        &self.parts
+        &self.stand
     }
 
     /// The service passed to a moment, or to its last one where that is later: to the end of the
@@ -199,10 +199,12 @@ impl Service {
     pub fn passed(&self, alloc: Global, now: Moment) -> Result<Passed, Memory>
         ensures { IfOk result (λ passed. IsPassing self.now now passed) }
     {
-        let draft = Draft::of(alloc, self.parts.copy(alloc)?).pass(now)?;
+        let course = Course::of(alloc, self.stand.copy(alloc)?).pass(now)?;
         Ok(Passed {
-            service: Service { parts: draft.parts },
-            effects: draft.effects,
+            service: Service {
+                stand: course.stand,
+            },
+            effects: course.effects,
         })
     }
 
@@ -210,23 +212,23 @@ impl Service {
     pub fn copy(&self, alloc: Global) -> Result<Service, Memory>
         ensures { IfOk result (λ copy. copy ≡ self.now) }
     {
-        let parts = self.parts.copy(alloc)?;
-        Ok(Service { parts })
+        let stand = self.stand.copy(alloc)?;
+        Ok(Service { stand })
     }
 
     /// Its status: Healthy where the release is done, Paused at a pause, else Progressing.
     pub fn status(&self) -> Status
-        ensures { result ≡ kept_status self.now }
+        ensures { result ≡ status self.now }
     {
-        self.parts.status()
+        self.stand.status()
     }
 
     /// The weight of the new version, in percent: 100 where the release is done, else the last
     /// weight set at or before the present step, or 0.
     pub fn weight(&self) -> u32
-        ensures { result ≡ kept_weight self.now }
+        ensures { result ≡ weight self.now }
     {
-        self.parts.weight()
+        self.stand.weight()
     }
 }
 

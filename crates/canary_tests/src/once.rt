@@ -200,8 +200,8 @@ fn a_doubled_promotion_acts_once(rt: HostRuntime) -> Result<(), Fail> {
 fn moments(book: &mut MemoryBook) -> Option<(u64, u64)> {
     let web = Name::read("web".as_bytes())?;
     let service = book.service(&web).ok()??;
-    let parts = service.parts();
-    Some((parts.last.get(), parts.entered.get()))
+    let stand = service.stand();
+    Some((stand.last.get(), stand.entered.get()))
 }
 
 #[test]
@@ -412,6 +412,7 @@ fn one_post(rt: HostRuntime) -> Result<(), Fail> {
     let alloc = rt.alloc();
     let mut book = MemoryBook::new(alloc);
     let mut clock = late_clock().ok_or("a clock")?;
+    assert!(rt; clock.now().get() == LAST_MOMENT - 1);
     for _ in 0..3 {
         let told = posts(alloc, &mut book, &mut clock).or(posts(alloc, &mut book, &mut clock));
         assert!(rt; told == Some(true));

@@ -119,6 +119,7 @@ fn a_release_tells_its_history(rt: HostRuntime) -> Result<(), Fail> {
         let (asked, told) = split(row)?;
         let (body, lines) = split(told)?;
         let told = again(rt.alloc(), service.as_ref(), asked)?;
+        assert_eq!(rt; told.reply.status, 200);
         assert_eq!(rt; told.reply.body.as_str(), body);
         assert_eq!(rt; told.lines.as_str(), lines);
         service = Some(told.service);
@@ -135,7 +136,7 @@ fn paused(alloc: Global) -> Result<Outcome, Fail> {
 /// Whether a reply copies; none where memory was refused.
 fn reply_copies(alloc: Global, reply: &Reply) -> Option<bool> {
     let copy = reply.copy(alloc).ok()?;
-    Some(copy.body.as_str() == reply.body.as_str())
+    Some(copy.status == 200 && copy.body.as_str() == reply.body.as_str())
 }
 
 /// Whether a service copies; none where memory was refused.
@@ -144,11 +145,13 @@ fn service_copies(alloc: Global, service: &Service) -> Option<bool> {
     Some(copy.status() == Status::Paused && copy.weight() == 20)
 }
 
-/// The last moment of a service that passes to the greatest; none where memory was refused.
-fn passed(alloc: Global, service: &Service) -> Option<u64> {
+/// The last moment and the step of a service that passes to the greatest moment, and how many lines
+/// are told of that; none where memory was refused.
+fn passed(alloc: Global, service: &Service) -> Option<(u64, u32, usize)> {
     let passed = service.passed(alloc, Moment::new(LAST_MOMENT)?).ok()?;
-    let parts = passed.service.parts().copy(alloc).ok()?;
-    Some(parts.last.get())
+    let told = passed.effects.lines.as_slice().len();
+    let stand = passed.service.stand().copy(alloc).ok()?;
+    Some((stand.last.get(), stand.step, told))
 }
 
 #[test]
@@ -159,6 +162,7 @@ fn a_release_copies_and_passes(rt: HostRuntime) -> Result<(), Fail> {
     let service = &told.service;
     assert!(rt; reply_copies(alloc, reply).or(reply_copies(alloc, reply)) == Some(true));
     assert!(rt; service_copies(alloc, service).or(service_copies(alloc, service)) == Some(true));
-    assert!(rt; passed(alloc, service).or(passed(alloc, service)) == Some(LAST_MOMENT));
+    let end = passed(alloc, service).or(passed(alloc, service));
+    assert!(rt; end == Some((LAST_MOMENT, 1, 0)));
     Ok(())
 }

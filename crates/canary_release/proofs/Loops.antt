@@ -1,0 +1,65 @@
+-- The chain of moves, move after move.
+use Rattle.std.proofs.Common.{◌≡◌, ℕ, zero, suc, ◌+◌, ◌-◌, ◌≤◌, ◌<◌, length, true, false, refl, sym, ap, ◌∙◌, subst, arith}
+use Rattle.std.specs.Prelude.{if◌then◌else◌, nat_le, Option, Some, None}
+use Rattle.canary_release.specs.declared.course.Course.{Course}
+use Rattle.canary_release.specs.Passing.{next_move, is_by, move_by, move_at, chain_end, followed}
+use Rattle.canary_release.specs.Entering.{enter}
+use Rattle.canary_release.proofs.Keeping.{enter_keeps}
+
+-- a move by t is the next move, which is by t
+found : (t e : ℕ) (o : Option ℕ) → move_by t o ≡ Some e → (o ≡ Some e) × (is_by t o ≡ true)
+found t e None h = cc h
+found t e (Some x) h =
+    elim (nat_le x t) as (λ b. nat_le x t ≡ b → (if b then Some x else None) ≡ Some e → (◌≡◌ {A = Option ℕ} (Some x) (Some e)) × (nat_le x t ≡ true))
+    [ true ↦ λ b g. (g, b) | false ↦ λ b g. cc g ] refl h
+
+not_by : (t : ℕ) (o : Option ℕ) → move_by t o ≡ None → is_by t o ≡ false
+not_by t None h = refl
+not_by t (Some x) h =
+    elim (nat_le x t) as (λ b. nat_le x t ≡ b → ◌≡◌ {A = Option ℕ} (if b then Some x else None) None → nat_le x t ≡ false)
+    [ true ↦ λ b g. cc g | false ↦ λ b g. b ] refl h
+
+-- no move is left
+chain_stop : (n t : ℕ) (d : Course) → move_by t (next_move d.stand) ≡ None → chain_end n t d ≡ d
+chain_stop zero t d h = refl
+chain_stop (suc n) t d h = ap (λ b. elim b [ true ↦ chain_end n t (move_at d (next_move d.stand)) | false ↦ d ]) (not_by t (next_move d.stand) h)
+
+-- one move more
+one_more : (m n t e : ℕ) (d : Course) → m ≡ suc n → move_by t (next_move d.stand) ≡ Some e → chain_end m t d ≡ chain_end n t (enter d (d.stand.step + 1) e)
+one_more m n t e d is h =
+    let f = found t e (next_move d.stand) h in
+    ap (λ k. chain_end k t d) is
+    ∙ ap (λ b. elim b [ true ↦ chain_end n t (move_at d (next_move d.stand)) | false ↦ d ]) f.1
+    ∙ ap (λ o. chain_end n t (move_at d o)) f.0
+
+chain_on : (t e : ℕ) (d : Course) → d.stand.step < length d.stand.strategy.steps → move_by t (next_move d.stand) ≡ Some e
+    → followed d t ≡ chain_end (length d.stand.strategy.steps - (d.stand.step + 1)) t (enter d (d.stand.step + 1) e)
+chain_on t e d h go = one_more (length d.stand.strategy.steps - d.stand.step) (length d.stand.strategy.steps - (d.stand.step + 1)) t e d (omega arith) go
+
+-- where the chain from one draft has come to
+pub record IsOnChain (t : ℕ) (from d : Course) : Type 0 where
+  pub on_steps : d.stand.step ≤ length d.stand.strategy.steps
+  pub same_strategy : d.stand.strategy ≡ from.stand.strategy
+  pub rest : followed d t ≡ followed from t
+
+to_next : (t e : ℕ) (from d : Course) → IsOnChain t from d → d.stand.step < length d.stand.strategy.steps → move_by t (next_move d.stand) ≡ Some e → IsOnChain t from (enter d (d.stand.step + 1) e)
+to_next t e from d h lt go =
+    let k = enter_keeps d (d.stand.step + 1) e in
+    record {
+      on_steps = rw (k.0, k.1) (omega arith);
+      same_strategy = k.0 ∙ h.same_strategy;
+      rest = rw (k.0, k.1) (sym (chain_on t e d lt go) ∙ h.rest);
+    }
+
+pub goes_on : (t e : ℕ) (from d next : Course) → IsOnChain t from d → d.stand.step < length d.stand.strategy.steps → move_by t (next_move d.stand) ≡ Some e → next ≡ enter d (d.stand.step + 1) e → IsOnChain t from next
+goes_on t e from d next h lt go is = subst (IsOnChain t from) (sym is) (to_next t e from d h lt go)
+
+pub falls : (t e : ℕ) (from d next : Course) → IsOnChain t from d → d.stand.step < length d.stand.strategy.steps → next ≡ enter d (d.stand.step + 1) e
+    → length from.stand.strategy.steps - next.stand.step < length from.stand.strategy.steps - d.stand.step
+falls t e from d next h lt is =
+    let step : next.stand.step ≡ d.stand.step + 1 = ap (λ (r : Course). r.stand.step) is ∙ (enter_keeps d (d.stand.step + 1) e).1 in
+    let same : length d.stand.strategy.steps ≡ length from.stand.strategy.steps = ap (λ s. length s.steps) h.same_strategy in
+    omega arith
+
+pub at_end : (t : ℕ) (from d : Course) → IsOnChain t from d → move_by t (next_move d.stand) ≡ None → d ≡ followed from t
+at_end t from d h stop = sym (chain_stop (length d.stand.strategy.steps - d.stand.step) t d stop) ∙ h.rest
