@@ -10,13 +10,14 @@ use Rattle.std.proofs.lemmas.Map.Text.{is_eq-slice_cmp}
 use Rattle.std.proofs.lemmas.Slice.Eq.{bytes_eq-Decides}
 use Rattle.std.proofs.lemmas.Bool.Decides.{Decides-eqb}
 use Rattle.std.proofs.lemmas.List.{take_more}
+use Rattle.canary_plan.specs.declared.command.Command.{Command}
 use Rattle.canary_plan.specs.Commands.{subject_of}
 use Rattle.canary_release.specs.declared.decide.DeskChange.{DeskChange}
 use Rattle.canary_release.specs.declared.decide.DeskChange.TheVariants.{Nothing, Service as Updates}
-use Rattle.canary_release.specs.declared.service.Stand.{Stand}
-use Rattle.canary_release.specs.Services.{ModelService}
-use Rattle.canary_release.specs.Desks.{Desk, after}
-use Rattle.canary_release.specs.Shapes.{shape, changed, seen}
+use Rattle.canary_release.specs.declared.effect.Effect.{Effect}
+use Rattle.canary_release.specs.declared.service.ServiceParts.{ServiceParts}
+use Rattle.canary_release.specs.Desks.{ModelService, Desk, ruling_on, after, apply}
+use Rattle.canary_release.specs.Shapes.{shape, said, changed, seen, kept_by, KeepsWhatIsSeen}
 use Rattle.canary_once.specs.declared.book.Change.{Change}
 use Rattle.canary_once.specs.declared.book.Kept.{Kept}
 use Rattle.canary_once.specs.Contents.{Contents, no_contents, committed, count_of, kept_at, IsSettling}
@@ -82,16 +83,26 @@ kept-step : (c : Contents) (x : Change) (q : List ℕ) (n : ℕ) → IsSettling 
 kept-step c x q n sound h = ap (λ (l : List Kept). slice_get l (n - 1)) (got c.callers x.caller q x.kept) ∙ kept_place c x q n (bytes_eq q x.caller) refl sound h
 
 -- the service of a name
-put_seen : (desk : Desk) (name subject : List ℕ) (m : ModelService) (o : Option ModelService) (b : Bool) → get (let d : Desk = record desk { services = insert desk.services subject m } in d).services name ≡ cond b (Some m) o
-    → seen (let d : Desk = record desk { services = insert desk.services subject m } in d) name ≡ (if b then Some (shape m) else option_map shape o)
-put_seen desk name subject m o true at = ap (option_map shape) at
-put_seen desk name subject m o false at = ap (option_map shape) at
+seen_else : (desk : Desk) (name subject : List ℕ) (m : ModelService) → bytes_eq name subject ≡ false → seen (let d : Desk = record desk { services = insert desk.services subject m } in d) name ≡ seen desk name
+seen_else desk name subject m apart =
+    ap (option_map shape) (get-insert nat_list_cmp_total desk.services subject m name ∙ ap (λ b. cond b (Some m) (get desk.services name)) (is_eq-slice_cmp name subject ∙ apart))
 
-seen-step : (desk : Desk) (subject : List ℕ) (change : DeskChange) (name : List ℕ) → seen (changed desk subject change) name ≡ changed_service (seen desk name) subject change name
-seen-step desk subject Nothing name = refl
-seen-step desk subject (Updates s effects) name =
-    let m : ModelService = after (get desk.services subject) (record { stand = s; effects = effects }) in
-    put_seen desk name subject m (get desk.services name) (bytes_eq name subject) (get-insert nat_list_cmp_total desk.services subject m name ∙ ap (λ b. cond b (Some m) (get desk.services name)) (is_eq-slice_cmp name subject))
+-- what is seen of a service after a step
+seen_there : KeepsWhatIsSeen → (desk : Desk) (now : ℕ) (command : Command) (s : ServiceParts) (effects : List Effect) (name : List ℕ) (b : Bool) → bytes_eq name (subject_of command) ≡ b
+    → Updates s effects ≡ said (ruling_on desk now command).change → changed desk command (Updates s effects) ≡ (apply desk now command).desk
+    → seen (changed desk command (Updates s effects)) name ≡ (if b then Some s else seen desk name)
+seen_there law desk now command s effects name true e is after_it =
+    let same : name ≡ subject_of command = (bytes_eq-Decides name (subject_of command)).0 e in
+    ap (seen (changed desk command (Updates s effects))) same
+    ∙ ap (λ (d : Desk). seen d (subject_of command)) after_it
+    ∙ law desk now command s (sym (ap kept_by is))
+seen_there law desk now command s effects name false e is after_it = seen_else desk name (subject_of command) (after (get desk.services (subject_of command)) command s.stand effects) e
+
+seen-step : KeepsWhatIsSeen → (c : Contents) (x : Change) (change : DeskChange) → x.desk ≡ change → IsSettling c x → (name : List ℕ) → seen (changed c.desk x.kept.command change) name ≡ changed_service (seen c.desk name) (subject_of x.kept.command) change name
+seen-step law c x Nothing is sound name = refl
+seen-step law c x (Updates s effects) is sound name =
+    let step = sound.step.1 in
+    seen_there law c.desk sound.step.0 x.kept.command s effects name (bytes_eq name (subject_of x.kept.command)) refl (sym is ∙ step.change) (ap (changed c.desk x.kept.command) (sym is) ∙ step.desk_after)
 
 -- the contents with one more change of a log
 so_far : (log : List Change) (i : ℕ) (x : Change) → i < length log → x ≡ get_or log i x → committed_all no_contents (take (i + 1) log) ≡ committed (committed_all no_contents (take i log)) x
@@ -131,7 +142,7 @@ if_or : {A : Type 0} (b : Bool) (v : A) (rest : Option A) → (if b then Some v 
 if_or true v rest = refl
 if_or false v rest = refl
 
-changed_or : (found : Option Stand) (subject : List ℕ) (change : DeskChange) (name : List ℕ) → changed_service found subject change name ≡ option_or (changed_service None subject change name) found
+changed_or : (found : Option ServiceParts) (subject : List ℕ) (change : DeskChange) (name : List ℕ) → changed_service found subject change name ≡ option_or (changed_service None subject change name) found
 changed_or found subject Nothing name = refl
 changed_or found subject (Updates s effects) name = if_or (bytes_eq name subject) s found
 
@@ -153,15 +164,15 @@ kept_from_end log left x q n o p sound some within at h says is same =
     ∙ sym (ap (λ (c : Contents). kept_at c q n) (newest_committed log left x some within at))
     ∙ same
 
-pub seen_from_end : (log : List Change) (left : ℕ) (x : Change) (name : List ℕ) (o p : Option Stand) → 0 < left → left ≤ length log → x ≡ get_or log (left - 1) x
+pub seen_from_end : KeepsWhatIsSeen → (log : List Change) (left : ℕ) (x : Change) (name : List ℕ) (o p : Option ServiceParts) → AreSettling no_contents log → 0 < left → left ≤ length log → x ≡ get_or log (left - 1) x
     → o ≡ changed_service None (subject_of x.kept.command) x.desk name → o ≡ p
     → seen (committed_all no_contents (take left log)).desk name ≡ seen (committed_all no_contents log).desk name
     → option_or p (seen (committed_all no_contents (take (left - 1) log)).desk name) ≡ seen (committed_all no_contents log).desk name
-seen_from_end log left x name o p some within at says is same =
+seen_from_end law log left x name o p sound some within at says is same =
     let before = committed_all no_contents (take (left - 1) log) in
-    ap (λ (found : Option Stand). option_or found (seen before.desk name)) (sym is ∙ says)
+    ap (λ (found : Option ServiceParts). option_or found (seen before.desk name)) (sym is ∙ says)
     ∙ sym (changed_or (seen before.desk name) (subject_of x.kept.command) x.desk name)
-    ∙ sym (seen-step before.desk (subject_of x.kept.command) x.desk name)
+    ∙ sym (seen-step law before x x.desk refl (sound-at no_contents log (left - 1) x sound (omega arith) at) name)
     ∙ sym (ap (λ (c : Contents). seen c.desk name) (newest_committed log left x some within at))
     ∙ same
 

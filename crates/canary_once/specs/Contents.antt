@@ -3,7 +3,6 @@ use Rattle.std.specs.Prelude.{◌≡◌, ℕ, ◌+◌, ◌-◌, Bool, true, fals
 use Rattle.std.specs.Ordering.{nat_cmp}
 use Rattle.std.specs.Cmp.Lexicographic.{slice_cmp}
 use Rattle.std.specs.FinMap.{FinMap, get, insert, empty}
-use Rattle.canary_plan.specs.Commands.{subject_of}
 use Rattle.canary_release.specs.Desks.{Desk, no_desk}
 use Rattle.canary_release.specs.Shapes.{changed, IsStep}
 use Rattle.canary_once.specs.declared.book.BookFault.{BookFault}
@@ -40,7 +39,7 @@ keep callers caller kept = insert callers caller (unwrap_or (get callers caller)
 
 -- with one settled request
 abbrev pub committed : Contents → Change → Contents
-committed c change = record { callers = keep c.callers change.caller change.kept; desk = changed c.desk (subject_of change.kept.command) change.desk }
+committed c change = record { callers = keep c.callers change.caller change.kept; desk = changed c.desk change.kept.command change.desk }
 
 -- the number is the caller's next, and reply and change are the machine's step, for the command on this desk at some moment
 pub record IsSettling (c : Contents) (change : Change) : Type 0 where

@@ -12,6 +12,7 @@ use canary_base::error::Memory;
 use canary_base::names::Name;
 use canary_base::numbers::Number;
 use canary_release::decide::DeskChange;
+use canary_release::laws;
 use canary_release::service::Service;
 use std::alloc::{AllocError, Global};
 use std::marker::Model;
@@ -138,8 +139,10 @@ fn kept_by<'a>(change: &'a Change, caller: &Name, number: u32) -> Option<&'a Kep
 
 // The service of that name, as the newest change of it left it.
 fn service_in<'a>(log: &'a [Change], name: &Name) -> Option<&'a Service>
+    requires { AreSettling no_contents log.now }
     ensures { option_copied result ≡ seen (committed_all no_contents log.now).desk name.now }
 {
+    laws::changes();
     let mut left = log.len();
     while left > 0 {
         left -= 1;

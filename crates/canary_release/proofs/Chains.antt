@@ -4,7 +4,7 @@ use Rattle.std.specs.Prelude.{if◌then◌else◌, Option, Some, None, slice_get
 use Rattle.std.proofs.lemmas.Bool.Decides.{nat_tests}
 use Rattle.canary_plan.specs.declared.plan.Step.{Step}
 use Rattle.canary_release.specs.Services.{step_of}
-use Rattle.canary_release.specs.declared.course.Course.{Course}
+use Rattle.canary_release.specs.Courses.{Course}
 use Rattle.canary_release.specs.Entering.{enter}
 use Rattle.canary_release.specs.Passing.{is_free, leaves_at, Moves, Chain, IsLongest, with_last, judged_at, next_move, is_by, move_at, chain_end, PassesAsComputed}
 use Rattle.canary_release.proofs.Keeping.{enter_keeps}

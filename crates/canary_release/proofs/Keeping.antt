@@ -3,8 +3,7 @@ use Rattle.std.proofs.Common.{◌≡◌, ℕ, refl}
 use Rattle.std.specs.Prelude.{true, false, if◌then◌else◌, Option, Some, None, ◌==◌, length, slice_get}
 use Rattle.canary_plan.specs.declared.plan.Step.{Step}
 use Rattle.canary_plan.specs.declared.plan.Step.TheVariants.{SetWeight, Pause}
-use Rattle.canary_release.specs.declared.course.Course.{Course}
-use Rattle.canary_release.specs.Courses.{with_stand}
+use Rattle.canary_release.specs.Courses.{Course, with_stand}
 use Rattle.canary_release.specs.Entering.{enter, finish, show_step}
 
 -- the same strategy, the same step and the same last moment

@@ -1,6 +1,10 @@
 pub mod Keeping
 pub mod Chains
 pub mod Loops
+pub mod Pushes
+pub mod Alike
+pub mod Watches
+pub mod Seen
 pub mod Steps
 pub mod Stories
 pub mod Worlds

@@ -1,7 +1,7 @@
 -- The chain of moves, move after move.
 use Rattle.std.proofs.Common.{◌≡◌, ℕ, zero, suc, ◌+◌, ◌-◌, ◌≤◌, ◌<◌, length, true, false, refl, sym, ap, ◌∙◌, subst, arith}
 use Rattle.std.specs.Prelude.{if◌then◌else◌, nat_le, Option, Some, None}
-use Rattle.canary_release.specs.declared.course.Course.{Course}
+use Rattle.canary_release.specs.Courses.{Course}
 use Rattle.canary_release.specs.Passing.{next_move, is_by, move_by, move_at, chain_end, followed}
 use Rattle.canary_release.specs.Entering.{enter}
 use Rattle.canary_release.proofs.Keeping.{enter_keeps}
@@ -36,7 +36,7 @@ chain_on : (t e : ℕ) (d : Course) → d.stand.step < length d.stand.strategy.s
     → followed d t ≡ chain_end (length d.stand.strategy.steps - (d.stand.step + 1)) t (enter d (d.stand.step + 1) e)
 chain_on t e d h go = one_more (length d.stand.strategy.steps - d.stand.step) (length d.stand.strategy.steps - (d.stand.step + 1)) t e d (omega arith) go
 
--- where the chain from one draft has come to
+-- where the chain from one course has come to
 pub record IsOnChain (t : ℕ) (from d : Course) : Type 0 where
   pub on_steps : d.stand.step ≤ length d.stand.strategy.steps
   pub same_strategy : d.stand.strategy ≡ from.stand.strategy

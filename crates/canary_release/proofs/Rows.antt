@@ -12,7 +12,7 @@ use Rattle.canary_release.specs.declared.service.State.TheVariants.{InProgress, 
 use Rattle.canary_release.specs.declared.service.Stand.{Stand}
 use Rattle.canary_release.specs.Commands.{promote_refusal}
 use Rattle.canary_release.specs.Desks.{machine, no_desk, new_stand}
-use Rattle.canary_release.proofs.Stories.{b, ok, no, web, v1, v2, v3, add, two_pauses}
+use Rattle.canary_release.proofs.Stories.{b, ok, no, web, v1, v2, v3, add, two_pauses, told}
 use Rattle.canary_release.proofs.Worlds.{replies_from_nothing, service_from_nothing}
 
 -- A release from pause to pause, and to its end.
@@ -49,7 +49,7 @@ paused_service : get (machine no_desk to_second_pause).desk.services web ≡ Som
     entered = b + 2;
     last = b + 2;
   };
-  history =
+  past = told (
       record { moment = b; event = Created v1 }
       ∷ record { moment = b + 1; event = Started v2 }
       ∷ record { moment = b + 1; event = WeightEntered 0 20 }
@@ -57,7 +57,8 @@ paused_service : get (machine no_desk to_second_pause).desk.services web ≡ Som
       ∷ record { moment = b + 2; event = Promoted }
       ∷ record { moment = b + 2; event = WeightEntered 2 50 }
       ∷ record { moment = b + 2; event = PauseEntered 3 }
-      ∷ [];
+      ∷ []
+  );
 })
 paused_service = service_from_nothing to_second_pause web _ refl
 
@@ -78,7 +79,7 @@ falling_service : get (machine no_desk falling).desk.services web ≡ Some (reco
     entered = b + 12;
     last = b + 12;
   };
-  history =
+  past = told (
       record { moment = b + 9; event = Created v1 }
       ∷ record { moment = b + 9; event = Started v2 }
       ∷ record { moment = b + 9; event = WeightEntered 0 20 }
@@ -88,7 +89,8 @@ falling_service : get (machine no_desk falling).desk.services web ≡ Some (reco
       ∷ record { moment = b + 12; event = Started v3 }
       ∷ record { moment = b + 12; event = WeightEntered 0 20 }
       ∷ record { moment = b + 12; event = PauseEntered 1 }
-      ∷ [];
+      ∷ []
+  );
 })
 falling_service = service_from_nothing falling web _ refl
 
@@ -130,13 +132,14 @@ weights_service : get (machine no_desk weights_alone).desk.services web ≡ Some
     entered = b + 4;
     last = b + 4;
   };
-  history =
+  past = told (
       record { moment = b; event = Created v1 }
       ∷ record { moment = b + 4; event = Started v2 }
       ∷ record { moment = b + 4; event = WeightEntered 0 5 }
       ∷ record { moment = b + 4; event = WeightEntered 1 100 }
       ∷ record { moment = b + 4; event = Finished v2 }
-      ∷ [];
+      ∷ []
+  );
 })
 weights_service = service_from_nothing weights_alone web _ refl
 
@@ -162,13 +165,14 @@ refused_late_service : get (machine no_desk refused_late).desk.services web ≡ 
     entered = b + 10;
     last = b + 10;
   };
-  history =
+  past = told (
       record { moment = b; event = Created v1 }
       ∷ record { moment = b; event = Started v2 }
       ∷ record { moment = b; event = PauseEntered 0 }
       ∷ record { moment = b + 10; event = Promoted }
       ∷ record { moment = b + 10; event = PauseEntered 1 }
-      ∷ [];
+      ∷ []
+  );
 })
 refused_late_service = service_from_nothing refused_late web _ refl
 

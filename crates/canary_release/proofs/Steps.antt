@@ -1,21 +1,58 @@
--- What is decided from what the code keeps of one service is a step of the machine.
-use Rattle.std.proofs.Common.{◌≡◌, ℕ, refl, ap, sym, subst, ◌∙◌}
-use Rattle.std.specs.Prelude.{Option}
+-- What is decided from what is kept of one service is a step of the machine.
+use Rattle.std.proofs.Common.{◌≡◌, ℕ, List, refl, ap, sym, subst, ◌∙◌}
+use Rattle.std.specs.Prelude.{Option, Some, None, option_map}
+use Rattle.std.specs.FinMap.{get}
+use Rattle.canary_plan.specs.declared.plan.ServiceSpec.{ServiceSpec}
 use Rattle.canary_plan.specs.declared.command.Command.{Command}
+use Rattle.canary_plan.specs.declared.line.LineEvent.TheVariants.{Created}
 use Rattle.canary_plan.specs.Commands.{subject_of}
+use Rattle.canary_release.specs.declared.service.ServiceParts.{ServiceParts}
 use Rattle.canary_release.specs.declared.service.Stand.{Stand}
+use Rattle.canary_release.specs.declared.service.Runs.{Runs}
+use Rattle.canary_release.specs.declared.service.Passed.{Passed}
+use Rattle.canary_release.specs.declared.effect.Effect.{Effect}
+use Rattle.canary_release.specs.declared.course.Draft.{Draft}
 use Rattle.canary_release.specs.declared.decide.Decision.{Decision}
-use Rattle.canary_release.specs.Desks.{Change, Ruling, Desk, ruling, ruling_on, desk_after}
+use Rattle.canary_release.specs.Pasts.{no_past, watched}
+use Rattle.canary_release.specs.Watching.{no_runs}
+use Rattle.canary_release.specs.Courses.{Course, Watch, course_from, tell}
+use Rattle.canary_release.specs.Desks.{ModelService, course_of, new_stand, new_service, Change, Ruling, Desk, ruling, ruling_on, desk_after}
 use Rattle.canary_release.specs.Desks.Change.{Nothing, Becomes}
-use Rattle.canary_release.specs.Shapes.{said, meant, seen, decided, IsStep}
+use Rattle.canary_release.specs.Shapes.{kept_course, whole, kept_after, shape, said, decided, changed, seen, IsStep}
+use Rattle.canary_release.specs.Laws.{WatchesAlike}
+use Rattle.canary_release.proofs.Alike.{one_watch, rules_alike}
 
 -- what the code says of a change means that change
-meant_said : (x : Change) → meant (said x) ≡ x
-meant_said Nothing = refl
-meant_said (Becomes c) = refl
+changed_said : (desk : Desk) (command : Command) (x : Change) → changed desk command (said x) ≡ desk_after desk command x
+changed_said desk command Nothing = refl
+changed_said desk command (Becomes c) = refl
+
+-- a service of the model is, to every rule, what is kept of it
+one_course : WatchesAlike → (found : Option ModelService) → option_map course_of found ≡ option_map kept_course (option_map shape found)
+one_course alike None = refl
+one_course alike (Some m) = rules_alike alike (λ (c : Course). Some c) m.stand m.past (watched m.past) refl
 
 step_is : (desk : Desk) (now : ℕ) (command : Command) → IsStep desk now command (decided (ruling_on desk now command))
-step_is desk now command = record { change = refl; desk_after = ap (desk_after desk (subject_of command)) (meant_said (ruling_on desk now command).change); reply = refl }
+step_is desk now command = record { change = refl; desk_after = changed_said desk command (ruling_on desk now command).change; reply = refl }
 
-pub told_step : (desk : Desk) (o : Option Stand) (now : ℕ) (command : Command) (r : Ruling) (d : Decision) → d ≡ decided r → r ≡ ruling o now command → o ≡ seen desk (subject_of command) → IsStep desk now command d
-told_step desk o now command r d says is known = subst (IsStep desk now command) (sym (says ∙ ap decided is ∙ ap (λ (p : Option Stand). decided (ruling p now command)) known)) (step_is desk now command)
+-- what is decided from what is kept is the machine's step
+pub told_step : WatchesAlike → (desk : Desk) (o : Option ServiceParts) (now : ℕ) (command : Command) (r : Ruling) (d : Decision) → d ≡ decided r → r ≡ ruling (option_map kept_course o) now command → o ≡ seen desk (subject_of command) → IsStep desk now command d
+told_step alike desk o now command r d says is known =
+    let found = get desk.services (subject_of command) in
+    let same : ruling (option_map kept_course o) now command ≡ ruling_on desk now command =
+    ap (λ (p : Option ServiceParts). ruling (option_map kept_course p) now command) known ∙ sym (ap (λ (c : Option Course). ruling c now command) (one_course alike found)) in
+    subst (IsStep desk now command) (sym (says ∙ ap decided (is ∙ same))) (step_is desk now command)
+
+-- a new service of the code is that of the model
+new_is : WatchesAlike → (spec : ServiceSpec) (now : ℕ) → tell (kept_course (record { stand = new_stand spec now; runs = no_runs })) now (Created spec.version) ≡ new_service spec now
+new_is alike spec now = ap (λ (w : Watch). tell (course_from (new_stand spec now) w) now (Created spec.version)) (sym (one_watch alike no_past no_runs refl))
+
+pub new_told : WatchesAlike → (spec : ServiceSpec) (now : ℕ) (s : Stand) (w : Runs) (c d : Course) → s ≡ new_stand spec now → w ≡ no_runs → c ≡ kept_course (record { stand = s; runs = w }) → d ≡ tell c now (Created spec.version) → d ≡ new_service spec now
+new_told alike spec now s w c d stands none is told =
+    told
+    ∙ ap (λ (x : Course). tell x now (Created spec.version)) (is ∙ (λ i. kept_course (record { stand = stands i; runs = none i })))
+    ∙ new_is alike spec now
+
+-- what a draft ends with is what its course ends with
+pub ends_as : (d : Draft) (c : Course) (r : ServiceParts × List Effect) → r ≡ (kept_after (whole d), (whole d).effects) → whole d ≡ c → ◌≡◌ {A = Passed} (record { service = r.0; effects = r.1 }) (record { service = kept_after c; effects = c.effects })
+ends_as d c r ends is = (λ i. record { service = (ends i).0; effects = (ends i).1 }) ∙ (λ i. record { service = kept_after (is i); effects = (is i).effects })

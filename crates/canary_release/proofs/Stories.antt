@@ -5,7 +5,9 @@ use Rattle.canary_plan.specs.declared.plan.Step.{Step}
 use Rattle.canary_plan.specs.declared.plan.Step.TheVariants.{SetWeight, Pause}
 use Rattle.canary_plan.specs.declared.command.Command.{Command}
 use Rattle.canary_plan.specs.declared.command.Command.TheVariants.{Service}
+use Rattle.canary_plan.specs.declared.line.Line.{Line}
 use Rattle.canary_release.specs.declared.reply.Reply.{Reply}
+use Rattle.canary_release.specs.Pasts.{Past, no_past}
 
 -- 2026-01-01T00:00:00Z
 abbrev pub b : ℕ
@@ -35,3 +37,7 @@ add name steps = Service (record { name = name; version = v1; steps = steps })
 
 abbrev pub two_pauses : List Step
 two_pauses = SetWeight 20 ∷ Pause ∷ SetWeight 50 ∷ Pause ∷ []
+
+-- a past with no runs: lines alone
+abbrev pub told : List Line → Past
+told lines = record no_past { history = lines }

@@ -7,8 +7,7 @@ use Rattle.std.specs.FinMap.{get, get-insert, get-empty}
 use Rattle.canary_plan.specs.declared.command.Command.{Command}
 use Rattle.canary_plan.specs.Commands.{subject_of}
 use Rattle.canary_release.specs.declared.reply.Reply.{Reply}
-use Rattle.canary_release.specs.Services.{ModelService}
-use Rattle.canary_release.specs.Desks.{Change, Ruling, ruling, Desk, no_desk, after, desk_after, apply, machine}
+use Rattle.canary_release.specs.Desks.{ModelService, course_of, Change, Ruling, ruling, Desk, no_desk, after, desk_after, apply, machine}
 use Rattle.canary_release.specs.Desks.Change.{Nothing, Becomes}
 
 pub record World : Type 0 where
@@ -21,15 +20,15 @@ nowhere = record { services = λ name. None }
 abbrev pub changed_at : {A : Type 0} → (List ℕ → Option A) → List ℕ → A → List ℕ → Option A
 changed_at f name a x = cond (eq_by_cmp (slice_cmp nat_cmp) x name) (Some a) (f x)
 
-abbrev pub with_change : World → List ℕ → Change → World
-with_change w name Nothing = w
-with_change w name (Becomes c) = let s = after (w.services name) c in record w { services = changed_at w.services name s }
+abbrev pub with_change : World → Command → Change → World
+with_change w command Nothing = w
+with_change w command (Becomes c) = let s = after (w.services (subject_of command)) command c.stand c.effects in record w { services = changed_at w.services (subject_of command) s }
 
 abbrev pub ruling_in : World → ℕ → Command → Ruling
-ruling_in w now command = ruling (option_map (λ (m : ModelService). m.stand) (w.services (subject_of command))) now command
+ruling_in w now command = ruling (option_map course_of (w.services (subject_of command))) now command
 
 abbrev pub world_after : World → ℕ → Command → World
-world_after w now command = with_change w (subject_of command) (ruling_in w now command).change
+world_after w now command = with_change w command (ruling_in w now command).change
 
 abbrev pub replies_in : World → List (ℕ × Command) → List Reply
 replies_in w [] = []
@@ -42,12 +41,14 @@ world_after_all w (x ∷ xs) = world_after_all (world_after w x.0 x.1) xs
 abbrev pub world_of : Desk → World
 world_of desk = record { services = get desk.services }
 
-change_lem : (desk : Desk) (name : List ℕ) (c : Change) → world_of (desk_after desk name c) ≡ with_change (world_of desk) name c
-change_lem desk name Nothing = refl
-change_lem desk name (Becomes c) = λ i. record { services = λ q. get-insert nat_list_cmp_total desk.services name (after (get desk.services name) c) q i }
+change_lem : (desk : Desk) (command : Command) (c : Change) → world_of (desk_after desk command c) ≡ with_change (world_of desk) command c
+change_lem desk command Nothing = refl
+change_lem desk command (Becomes c) =
+    let name = subject_of command in
+    λ i. record { services = λ q. get-insert nat_list_cmp_total desk.services name (after (get desk.services name) command c.stand c.effects) q i }
 
 pub world-apply : (desk : Desk) (now : ℕ) (command : Command) → world_of (apply desk now command).desk ≡ world_after (world_of desk) now command
-world-apply desk now command = change_lem desk (subject_of command) (ruling_in (world_of desk) now command).change
+world-apply desk now command = change_lem desk command (ruling_in (world_of desk) now command).change
 
 machine-replies : (desk : Desk) (xs : List (ℕ × Command)) → (machine desk xs).replies ≡ replies_in (world_of desk) xs
 machine-replies desk [] = refl

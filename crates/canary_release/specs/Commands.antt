@@ -6,16 +6,16 @@ use Rattle.canary_plan.specs.declared.command.Command.TheVariants.{Service as Ad
 use Rattle.canary_plan.specs.declared.line.LineEvent.{LineEvent}
 use Rattle.canary_plan.specs.declared.line.LineEvent.TheVariants.{Started, Promoted}
 use Rattle.canary_plan.specs.declared.refusal.Refusal.{Refusal}
-use Rattle.canary_plan.specs.declared.refusal.Refusal.TheVariants.{ServiceExists, InProgress as GoesOn, AlreadyStable, NotInProgress, NotPaused}
+use Rattle.canary_plan.specs.declared.refusal.Refusal.TheVariants.{ServiceExists, InProgress as ReleaseInProgress, AlreadyStable, NotInProgress, NotPaused}
 use Rattle.canary_plan.specs.Refusals.{first_that_holds}
 use Rattle.canary_release.specs.declared.service.State.TheVariants.{InProgress}
 use Rattle.canary_release.specs.declared.service.Status.{Status}
 use Rattle.canary_release.specs.declared.service.Status.TheVariants.{Healthy, Paused, Progressing}
 use Rattle.canary_release.specs.declared.service.Stand.{Stand}
-use Rattle.canary_release.specs.declared.course.Course.{Course}
 use Rattle.canary_release.specs.Services.{is_going, is_done, status}
-use Rattle.canary_release.specs.Courses.{with_stand, tell}
+use Rattle.canary_release.specs.Courses.{Course, with_stand, tell}
 use Rattle.canary_release.specs.Entering.{enter}
+use Rattle.canary_release.specs.Replies.{service_text}
 
 abbrev pub is_progressing : Status → Bool
 is_progressing Progressing = true
@@ -23,7 +23,7 @@ is_progressing Healthy = false
 is_progressing Paused = false
 
 abbrev pub start_refusal : Stand → List ℕ → Option Refusal
-start_refusal s version = first_that_holds ((is_going s.state, GoesOn) ∷ (is_done s.state && bytes_eq version s.stable, AlreadyStable) ∷ [])
+start_refusal s version = first_that_holds ((is_going s.state, ReleaseInProgress) ∷ (is_done s.state && bytes_eq version s.stable, AlreadyStable) ∷ [])
 
 abbrev pub promote_refusal : Stand → Option Refusal
 promote_refusal s = first_that_holds ((not (is_going s.state), NotInProgress) ∷ (is_progressing (status s), NotPaused) ∷ [])
@@ -44,13 +44,21 @@ start c t version = begin c t version (Started version) 0
 abbrev pub promote : Course → ℕ → Course
 promote c t = enter (tell c t Promoted) (c.stand.step + 1) t
 
+-- where a command leads, and the text that shows how the service stands then
+pub record Acted : Type 0 where
+  pub course : Course
+  pub shows : Stand → List ℕ
+
+abbrev pub leads : Course → Acted
+leads c = record { course = c; shows = service_text }
+
 -- the refusal, or else where it leads
-abbrev pub unless : Option Refusal → Course → Result Course Refusal
-unless None c = Ok c
-unless (Some refusal) c = Err refusal
+abbrev pub unless : Option Refusal → Acted → Result Acted Refusal
+unless None a = Ok a
+unless (Some refusal) a = Err refusal
 
 -- where a command leads a service that was passed to t, or why it is refused
-abbrev pub act : Command → Course → ℕ → Result Course Refusal
+abbrev pub act : Command → Course → ℕ → Result Acted Refusal
 act (AddService spec) c t = Err ServiceExists
-act (Start name version) c t = unless (start_refusal c.stand version) (start c t version)
-act (Promote name) c t = unless (promote_refusal c.stand) (promote c t)
+act (Start name version) c t = unless (start_refusal c.stand version) (leads (start c t version))
+act (Promote name) c t = unless (promote_refusal c.stand) (leads (promote c t))

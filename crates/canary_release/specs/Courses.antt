@@ -1,25 +1,35 @@
--- A service as it changes: how it stands, with the effects so far.
-use Rattle.std.specs.Prelude.{ℕ, ◌≤◌, [], ◌∷◌, ◌++◌, length}
-use Rattle.canary_plan.specs.declared.line.Line.{Line}
+-- A service as it changes: how it stands, the effects so far, and its watch.
+use Rattle.std.specs.Prelude.{ℕ, List, [], ◌∷◌, ◌++◌}
 use Rattle.canary_plan.specs.declared.line.LineEvent.{LineEvent}
-use Rattle.canary_release.specs.declared.service.Effects.{Effects}
+use Rattle.canary_release.specs.declared.effect.Effect.{Effect}
+use Rattle.canary_release.specs.declared.effect.Effect.TheVariants.{Told}
 use Rattle.canary_release.specs.declared.service.Stand.{Stand}
-use Rattle.canary_release.specs.declared.course.Course.{Course}
+use Rattle.canary_release.specs.declared.service.Runs.{Runs}
 
-abbrev pub no_effects : Effects
-no_effects = record { lines = [] }
+-- what is watched of a service's runs, after the effects of a course
+abbrev pub Watch : Type 0
+Watch = List Effect → Runs
+
+pub record Course : Type 0 where
+  pub stand : Stand
+  pub effects : List Effect  -- what happened so far, in order
+  pub watch : Watch
 
 -- a service with nothing changed
-abbrev pub course_of : Stand → Course
-course_of s = record { stand = s; effects = no_effects }
+abbrev pub course_from : Stand → Watch → Course
+course_from s w = record { stand = s; effects = []; watch = w }
 
 abbrev pub with_stand : Course → Stand → Course
 with_stand c s = record c { stand = s }
 
--- with one more line of the history
-abbrev pub tell : Course → ℕ → LineEvent → Course
-tell c at event = let line : Line = record { moment = at; event = event } in record c { effects = record c.effects { lines = c.effects.lines ++ line ∷ [] } }
+-- one thing more happens
+abbrev pub happen : Course → Effect → Course
+happen c x = record c { effects = c.effects ++ x ∷ [] }
 
--- it stands on a step, or after the last
-abbrev pub IsOnSteps : Course → Type 0
-IsOnSteps c = c.stand.step ≤ length c.stand.strategy.steps
+-- a line is added to the history
+abbrev pub tell : Course → ℕ → LineEvent → Course
+tell c at event = happen c (Told (record { moment = at; event = event }))
+
+-- its runs, as they are now
+abbrev pub runs_now : Course → Runs
+runs_now c = c.watch c.effects

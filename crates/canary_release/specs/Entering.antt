@@ -4,8 +4,7 @@ use Rattle.canary_plan.specs.declared.plan.Step.{Step}
 use Rattle.canary_plan.specs.declared.plan.Step.TheVariants.{SetWeight, Pause}
 use Rattle.canary_plan.specs.declared.line.LineEvent.TheVariants.{WeightEntered, PauseEntered, Finished}
 use Rattle.canary_release.specs.declared.service.State.TheVariants.{Done}
-use Rattle.canary_release.specs.declared.course.Course.{Course}
-use Rattle.canary_release.specs.Courses.{with_stand, tell}
+use Rattle.canary_release.specs.Courses.{Course, with_stand, tell}
 
 -- the index after the last step: the release is done, and its version is the stable one
 abbrev pub finish : Course → ℕ → Course

@@ -1,7 +1,14 @@
 -- Laws of the small machine.
-use Rattle.std.specs.Prelude.{◌≡◌, ◌⊎◌, ℕ}
+use Rattle.std.specs.Prelude.{◌≡◌, ◌⊎◌, ℕ, List}
 use Rattle.canary_plan.specs.declared.command.Command.{Command}
+use Rattle.canary_release.specs.declared.effect.Effect.{Effect}
+use Rattle.canary_release.specs.Pasts.{Past, grows_by, watched}
+use Rattle.canary_release.specs.Watching.{after_all}
 use Rattle.canary_release.specs.Desks.{Desk, apply}
+
+-- what is watched after all that happened is seen in the whole lists as in the tallies
+abbrev pub WatchesAlike : Type 0
+WatchesAlike = (p : Past) (xs : List Effect) → watched (grows_by p xs) ≡ after_all (watched p) xs
 
 -- a command is accepted with status 200, or refused with 422 and the desk as it was
 abbrev pub RefusalsLeaveTheDesk : Type 0

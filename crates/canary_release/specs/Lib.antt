@@ -1,3 +1,5 @@
+pub mod Pasts
+pub mod Watching
 pub mod Services
 pub mod Courses
 pub mod Entering

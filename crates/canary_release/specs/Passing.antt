@@ -3,9 +3,8 @@ use Rattle.std.specs.Prelude.{◌≡◌, ℕ, zero, suc, ◌+◌, ◌-◌, ◌�
 use Rattle.canary_plan.specs.declared.plan.Step.{Step}
 use Rattle.canary_plan.specs.declared.plan.Step.TheVariants.{SetWeight, Pause}
 use Rattle.canary_release.specs.declared.service.Stand.{Stand}
-use Rattle.canary_release.specs.declared.course.Course.{Course}
 use Rattle.canary_release.specs.Services.{is_going, step_of}
-use Rattle.canary_release.specs.Courses.{with_stand}
+use Rattle.canary_release.specs.Courses.{Course, with_stand}
 use Rattle.canary_release.specs.Entering.{enter}
 
 -- only a release in progress moves

@@ -14,15 +14,11 @@ status_text Paused = codes "Paused"
 status_text Progressing = codes "Progressing"
 
 -- {"code":"ok","service":NAME,"status":STATUS,"step":STEP,"weight":WEIGHT}
-abbrev pub shown_as : List ℕ → Status → ℕ → ℕ → Reply
-shown_as name status step weight =
-    record {
-      status = 200;
-      body = codes "{\"code\":\"ok\",\"service\":\"" ++ (name ++ (codes "\",\"status\":\"" ++ (status_text status ++ (codes "\",\"step\":" ++ (decimal step ++ (codes ",\"weight\":" ++ (decimal weight ++ codes "}")))))));
-    }
+abbrev pub service_text : Stand → List ℕ
+service_text s = codes "{\"code\":\"ok\",\"service\":\"" ++ (s.name ++ (codes "\",\"status\":\"" ++ (status_text (status s) ++ (codes "\",\"step\":" ++ (decimal s.step ++ (codes ",\"weight\":" ++ (decimal (weight s) ++ codes "}")))))))
 
-abbrev pub shown : Stand → Reply
-shown s = shown_as s.name (status s) s.step (weight s)
+abbrev pub accepted : List ℕ → Reply
+accepted body = record { status = 200; body = body }
 
 -- {"code":CODE}
 abbrev pub code_alone : List ℕ → List ℕ

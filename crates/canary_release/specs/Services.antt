@@ -1,20 +1,13 @@
--- A service of the model: how it stands, and its whole history. Status and weight.
-use Rattle.std.specs.Prelude.{ℕ, suc, Bool, true, false, if◌then◌else◌, List, take, slice_get, Option, Some, None, unwrap_or}
+-- A service: how it stands. Its status and its weight.
+use Rattle.std.specs.Prelude.{ℕ, suc, ◌≤◌, Bool, true, false, if◌then◌else◌, List, length, take, slice_get, Option, Some, None, unwrap_or}
 use Rattle.std.specs.List.{filter_map, last_or}
 use Rattle.canary_plan.specs.declared.plan.Step.{Step}
 use Rattle.canary_plan.specs.declared.plan.Step.TheVariants.{SetWeight, Pause}
-use Rattle.canary_plan.specs.declared.plan.ServiceSpec.{ServiceSpec}
-use Rattle.canary_plan.specs.declared.line.Line.{Line}
 use Rattle.canary_release.specs.declared.service.Stand.{Stand}
 use Rattle.canary_release.specs.declared.service.State.{State}
 use Rattle.canary_release.specs.declared.service.State.TheVariants.{InProgress, Done}
 use Rattle.canary_release.specs.declared.service.Status.{Status}
 use Rattle.canary_release.specs.declared.service.Status.TheVariants.{Healthy, Paused, Progressing}
-
-pub record ModelService : Type 0 where
-  pub made : ServiceSpec  -- the command that made it
-  pub stand : Stand  -- its fields that are no lists of what happened
-  pub history : List Line  -- oldest first
 
 abbrev pub is_going : State → Bool
 is_going InProgress = true
@@ -32,6 +25,10 @@ abbrev pub is_pause : Option Step → Bool
 is_pause (Some Pause) = true
 is_pause (Some (SetWeight percent)) = false
 is_pause None = false
+
+-- it stands on a step, or after the last
+abbrev pub IsOnSteps : Stand → Type 0
+IsOnSteps s = s.step ≤ length s.strategy.steps
 
 -- what a release shows, from its state and its step
 abbrev pub status_as : State → Option Step → Status

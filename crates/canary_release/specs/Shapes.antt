@@ -1,55 +1,82 @@
--- What the code keeps of a service of the model, and when its answers are the model's.
-use Rattle.std.specs.Prelude.{◌≡◌, ℕ, List, Option, option_map}
+-- What is kept of a service of the model, and when the code's answers are the model's.
+use Rattle.std.specs.Prelude.{◌≡◌, ℕ, List, Option, Some, None, option_map, Result, Ok, Err}
 use Rattle.std.specs.FinMap.{get}
 use Rattle.canary_plan.specs.declared.command.Command.{Command}
+use Rattle.canary_plan.specs.declared.refusal.Refusal.{Refusal}
 use Rattle.canary_plan.specs.Commands.{subject_of}
-use Rattle.canary_release.specs.declared.service.Stand.{Stand}
+use Rattle.canary_release.specs.declared.service.Runs.{Runs}
+use Rattle.canary_release.specs.declared.service.ServiceParts.{ServiceParts}
 use Rattle.canary_release.specs.declared.service.Passed.{Passed}
-use Rattle.canary_release.specs.declared.course.Course.{Course}
+use Rattle.canary_release.specs.declared.course.Draft.{Draft}
 use Rattle.canary_release.specs.declared.decide.DeskChange.{DeskChange}
 use Rattle.canary_release.specs.declared.decide.DeskChange.TheVariants.{Nothing, Service as Updates}
 use Rattle.canary_release.specs.declared.decide.Decision.{Decision}
-use Rattle.canary_release.specs.Services.{ModelService}
-use Rattle.canary_release.specs.Courses.{course_of}
+use Rattle.canary_release.specs.Pasts.{watched}
+use Rattle.canary_release.specs.Watching.{after_all}
+use Rattle.canary_release.specs.Courses.{Course, Watch, course_from, runs_now}
 use Rattle.canary_release.specs.Passing.{pass}
-use Rattle.canary_release.specs.Desks.{Change, Ruling, Desk, ruling_on, desk_after, apply}
+use Rattle.canary_release.specs.Commands.{Acted, leads}
+use Rattle.canary_release.specs.Desks.{ModelService, Change, Ruling, Desk, ruling_on, with_service, apply}
 use Rattle.canary_release.specs.Desks.Change.{Nothing as Stays, Becomes}
 
--- what the code keeps of a service: how it stands
-abbrev pub shape : ModelService → Stand
-shape m = m.stand
+-- what is watched, from what is kept
+abbrev pub kept_watch : Runs → Watch
+kept_watch kept xs = after_all kept xs
 
--- what a service has passed to, as the code says it
-abbrev pub shape_of_course : Course → Passed
-shape_of_course c = record { service = c.stand; effects = c.effects }
+-- a service as it is kept, with nothing changed
+abbrev pub kept_course : ServiceParts → Course
+kept_course s = course_from s.stand (kept_watch s.runs)
 
--- a service stands for each of the model with its shape, and what it passes to is the model's, with the effects
-abbrev pub IsPassing : Stand → ℕ → Passed → Type 0
-IsPassing s t p = p ≡ shape_of_course (pass (course_of s) t)
+-- a course of the code, as the definitions see it: what was kept gives the watch
+abbrev pub whole : Draft → Course
+whole d = record { stand = d.stand; effects = d.watched.effects; watch = kept_watch d.watched.kept }
 
--- a change of the machine, as the code says it, and back
+-- what is kept of a service of the model: how it stands, and what is watched of its past
+abbrev pub shape : ModelService → ServiceParts
+shape m = record { stand = m.stand; runs = watched m.past }
+
+-- what is kept at the end of a course
+abbrev pub kept_after : Course → ServiceParts
+kept_after c = record { stand = c.stand; runs = runs_now c }
+
+-- what a service passes to, with the effects, as the code says it
+abbrev pub IsPassing : ServiceParts → ℕ → Passed → Type 0
+IsPassing s t p = let c = pass (kept_course s) t in p ≡ record { service = kept_after c; effects = c.effects }
+
+-- a change of the machine, as the code says it
 abbrev pub said : Change → DeskChange
 said Stays = Nothing
-said (Becomes c) = Updates c.stand c.effects
+said (Becomes c) = Updates (kept_after c) c.effects
 
-abbrev pub meant : DeskChange → Change
-meant Nothing = Stays
-meant (Updates s effects) = Becomes (record { stand = s; effects = effects })
+-- where a command leads the code
+abbrev pub acted_as : Result Draft Refusal → Result Acted Refusal
+acted_as (Ok d) = Ok (leads (whole d))
+acted_as (Err refusal) = Err refusal
 
--- the desk with a change of the service of that name
-abbrev pub changed : Desk → List ℕ → DeskChange → Desk
-changed desk name change = desk_after desk name (meant change)
-
--- what the code keeps of the service of that name, or none
-abbrev pub seen : Desk → List ℕ → Option Stand
-seen desk name = option_map shape (get desk.services name)
-
--- a ruling of the machine, as the code says it
+-- a ruling, as the code says it
 abbrev pub decided : Ruling → Decision
 decided r = record { reply = r.reply; change = said r.change }
+
+-- the desk with a change that the code says
+abbrev pub changed : Desk → Command → DeskChange → Desk
+changed desk command Nothing = desk
+changed desk command (Updates s effects) = with_service desk command s.stand effects
+
+-- what is kept of the service of that name, or none
+abbrev pub seen : Desk → List ℕ → Option ServiceParts
+seen desk name = option_map shape (get desk.services name)
 
 -- the decision is the machine's step: its change is the command's, none where the command changes nothing; the desk with it is the desk after the command; and its reply is the command's
 pub record IsStep (desk : Desk) (now : ℕ) (command : Command) (d : Decision) : Type 0 where
   pub change : d.change ≡ said (ruling_on desk now command).change
-  pub desk_after : changed desk (subject_of command) d.change ≡ (apply desk now command).desk
+  pub desk_after : changed desk command d.change ≡ (apply desk now command).desk
   pub reply : d.reply ≡ (apply desk now command).reply
+
+-- what the code keeps of the service that a change brings, if it brings one
+abbrev pub kept_by : DeskChange → Option ServiceParts
+kept_by (Updates s effects) = Some s
+kept_by Nothing = None
+
+-- the law: the service that a change brings is what is kept of that service of the desk after it, tallies and all
+abbrev pub KeepsWhatIsSeen : Type 0
+KeepsWhatIsSeen = (desk : Desk) (now : ℕ) (command : Command) (s : ServiceParts) → kept_by (said (ruling_on desk now command).change) ≡ Some s → seen (apply desk now command).desk (subject_of command) ≡ Some s

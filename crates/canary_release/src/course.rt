@@ -1,11 +1,15 @@
 //! A service as it changes.
-ghost use Rattle.std.specs.Prelude.{◌≡◌, ◌+◌, ◌≤◌, ◌<◌, length, IfOk};
-ghost use Rattle.canary_release.specs.Courses.{IsOnSteps, course_of, tell};
+ghost use Rattle.std.specs.Prelude.{◌≡◌, ◌++◌, [], ◌∷◌, IfOk};
+ghost use Rattle.canary_release.specs.Services.{IsOnSteps};
+ghost use Rattle.canary_release.specs.Watching.{after_all};
+ghost use Rattle.canary_release.specs.Courses.{tell};
 ghost use Rattle.canary_release.specs.Entering.{finish, show_step, enter};
 ghost use Rattle.canary_release.specs.Commands.{begun};
 ghost use Rattle.canary_release.specs.Passing.{judged_at, followed, with_last, pass};
+ghost use Rattle.canary_release.specs.Shapes.{kept_course, whole, kept_after};
 
-use crate::service::{Effects, Stand, State};
+use crate::effect::Effect;
+use crate::service::{Runs, ServiceParts, Stand, State};
 use canary_base::error::Memory;
 use canary_base::lists::Listed;
 use canary_base::moments::Moment;
@@ -13,62 +17,139 @@ use canary_base::names::Label;
 use canary_plan::line::{Line, LineEvent};
 use canary_plan::plan::Step;
 use std::alloc::Global;
+use std::marker::Model;
 
-/// A service as it changes, with the effects so far.
+/// What was kept of a service's runs, and what happened since, in order.
 #[derive(Drop)]
-pub(crate) struct Course {
-    pub stand: Stand,
-    pub effects: Effects,
+pub struct Journal {
+    pub kept: Runs,
+    pub effects: Listed<Effect>,
 }
 
-impl Course {
-    /// A service with nothing changed.
-    pub(crate) fn of(alloc: Global, stand: Stand) -> Course
-        ensures { result ≡ course_of stand }
+/// A journal, with the runs as they are now.
+#[derive(Drop)]
+pub(crate) struct Watched {
+    journal: Journal,
+    runs: Runs,
+}
+
+impl Model for Watched {
+    ghost use Rattle.std.specs.Prelude.{◌≡◌};
+    ghost use Rattle.canary_release.specs.Watching.{after_all};
+    ghost use Rattle.canary_release.specs.declared.course.Journal.{Journal};
+    ghost use Rattle.canary_release.specs.contracts.course.Journal.{the_row};
+
+    ghost Value = { Journal };
+
+    ghost coded = { the_row.coded };
+
+    ghost view = { λ w. w.journal };
+
+    ghost invariant = { λ w. w.runs ≡ after_all w.journal.kept w.journal.effects };
+}
+
+impl Watched {
+    /// Nothing happened to these runs.
+    fn of(alloc: Global, runs: &Runs) -> Result<Watched, Memory>
+        ensures { IfOk result (λ watched. watched ≡ record { kept = runs.now; effects = [] }) }
     {
-        Course {
-            stand,
-            effects: Effects {
-                lines: Listed::of(Vec::new(alloc)),
-            },
-        }
+        let journal = Journal {
+            kept: runs.copy(alloc)?,
+            effects: Listed::of(Vec::new(alloc)),
+        };
+        let runs = runs.copy(alloc)?;
+        Ok(Watched { journal, runs })
     }
 
-    // With one more line of the history.
-    pub(crate) fn tell(self, moment: Moment, event: LineEvent) -> Result<Course, Memory>
-        ensures { IfOk result (λ d. d ≡ tell self moment event) }
+    // One thing more happens, which changes no run.
+    #[tactic(auto, using(crate::proofs::Pushes::after_all_push))]
+    fn told(self, line: Line) -> Result<Watched, Memory>
+        ensures { IfOk result (λ watched. watched ≡ record self { effects = self.effects ++ Effect.Told line ∷ [] }) }
     {
-        let mut course = self;
-        course.effects.lines.push(Line { moment, event })?;
-        Ok(course)
+        let Watched { journal, runs } = self;
+        let mut journal = journal;
+        journal.effects.push(Effect::Told(line))?;
+        Ok(Watched { journal, runs })
+    }
+
+    /// The runs as they are now, and what happened.
+    fn end(self) -> (Runs, Listed<Effect>)
+        ensures { result ≡ (after_all self.kept self.effects, self.effects) }
+    {
+        let Watched { journal, runs } = self;
+        (runs, journal.effects)
+    }
+}
+
+/// A service as it changes: how it stands, and what happened so far.
+#[derive(Drop)]
+pub(crate) struct Draft {
+    pub stand: Stand,
+    pub watched: Watched,
+}
+
+impl Draft {
+    /// A service with nothing changed.
+    pub(crate) fn of(alloc: Global, parts: &ServiceParts) -> Result<Draft, Memory>
+        ensures { IfOk result (λ draft. whole draft ≡ kept_course parts.now) }
+    {
+        Ok(Draft {
+            stand: parts.stand.copy(alloc)?,
+            watched: Watched::of(alloc, &parts.runs)?,
+        })
+    }
+
+    /// What is kept of it in the end, and what happened.
+    pub(crate) fn end(self) -> (ServiceParts, Listed<Effect>)
+        ensures { result ≡ (kept_after (whole self), (whole self).effects) }
+    {
+        let Draft { stand, watched } = self;
+        let (runs, effects) = watched.end();
+        (ServiceParts { stand, runs }, effects)
+    }
+
+    /// With one more line of the history.
+    pub(crate) fn tell(self, moment: Moment, event: LineEvent) -> Result<Draft, Memory>
+        ensures told { IfOk result (λ draft. whole draft ≡ tell (whole self) moment event) }
+        ensures stand { IfOk result (λ draft. draft.stand ≡ self.stand) }
+    {
+        let Draft { stand, watched } = self;
+        let watched = watched.told(Line { moment, event })?;
+        Ok(Draft { stand, watched })
     }
 
     /// An attempt with that version is in progress.
-    pub(crate) fn begun(self, version: Label) -> Course
-        ensures { result ≡ begun self version }
+    pub(crate) fn begun(self, version: Label) -> Draft
+        ensures { whole result ≡ begun (whole self) version }
     {
-        let Course { stand, effects } = self;
-        let mut stand = stand;
-        stand.version = version;
-        stand.state = State::InProgress;
-        Course { stand, effects }
+        let Draft { stand, watched } = self;
+        let stand = Stand {
+            version,
+            state: State::InProgress,
+            ..stand
+        };
+        Draft { stand, watched }
     }
 
     // The end: the release is done, and its version is the stable one.
-    fn finish(self, at: Moment) -> Result<Course, Memory>
-        ensures { IfOk result (λ d. d ≡ finish self at) }
+    fn finish(self, at: Moment) -> Result<Draft, Memory>
+        ensures done { IfOk result (λ draft. whole draft ≡ finish (whole self) at) }
+        ensures on_step { IfOk result (λ draft. (draft.stand.step ≡ self.stand.step) × (draft.stand.strategy ≡ self.stand.strategy)) }
     {
-        let Course { stand, effects } = self;
-        let mut stand = stand;
+        let Draft { stand, watched } = self;
         let version = stand.version;
-        stand.stable = version;
-        stand.state = State::Done;
-        Course { stand, effects }.tell(at, LineEvent::Finished { version })
+        let stand = Stand {
+            stable: version,
+            state: State::Done,
+            ..stand
+        };
+        Draft { stand, watched }.tell(at, LineEvent::Finished { version })
     }
 
     // With the line of a step that is entered.
-    fn show_step(self, entered: Option<Step>, step: u32, at: Moment) -> Result<Course, Memory>
-        ensures { IfOk result (λ d. d ≡ show_step self entered step at) }
+    fn show_step(self, entered: Option<Step>, step: u32, at: Moment) -> Result<Draft, Memory>
+        ensures shown { IfOk result (λ draft. whole draft ≡ show_step (whole self) entered step at) }
+        ensures stand { IfOk result (λ draft. draft.stand ≡ self.stand) }
     {
         match entered {
             Some(Step::SetWeight(weight)) => {
@@ -80,17 +161,19 @@ impl Course {
     }
 
     /// Enters a step, or the end where the index is the number of steps.
-    pub(crate) fn enter(self, step: u32, at: Moment) -> Result<Course, Memory>
-        ensures after { IfOk result (λ d. d ≡ enter self step at) }
-        ensures on_step { IfOk result (λ d. (d.stand.step ≡ step) × (d.stand.strategy ≡ self.stand.strategy)) }
+    pub(crate) fn enter(self, step: u32, at: Moment) -> Result<Draft, Memory>
+        ensures entered { IfOk result (λ draft. whole draft ≡ enter (whole self) step at) }
+        ensures on_step { IfOk result (λ draft. (draft.stand.step ≡ step) × (draft.stand.strategy ≡ self.stand.strategy)) }
     {
-        let Course { stand, effects } = self;
-        let mut stand = stand;
-        stand.step = step;
-        stand.entered = at;
+        let Draft { stand, watched } = self;
+        let stand = Stand {
+            step,
+            entered: at,
+            ..stand
+        };
         let entered = stand.present_step();
         let is_end = step as usize == stand.strategy.steps().len();
-        let there = Course { stand, effects };
+        let there = Draft { stand, watched };
         if is_end {
             there.finish(at)
         } else {
@@ -99,28 +182,28 @@ impl Course {
     }
 
     // Follows the moves by time up to a moment.
-    fn follow(self, until: Moment) -> Result<Course, Memory>
-        requires { IsOnSteps self }
-        ensures after { IfOk result (λ d. d ≡ followed self until) }
-        ensures on_steps { IfOk result IsOnSteps }
+    fn follow(self, until: Moment) -> Result<Draft, Memory>
+        requires { IsOnSteps self.stand }
+        ensures followed { IfOk result (λ draft. whole draft ≡ followed (whole self) until) }
+        ensures on_steps { IfOk result (λ draft. IsOnSteps draft.stand) }
     {
-        let mut course = self;
-        while let Some(moment) = course.stand.next_move_by(until) {
-            let next = course.stand.step + 1;
-            course = course.enter(next, moment)?;
+        let mut draft = self;
+        while let Some(moment) = draft.stand.next_move_by(until) {
+            let next = draft.stand.step + 1;
+            draft = draft.enter(next, moment)?;
         }
-        Ok(course)
+        Ok(draft)
     }
 
     /// Lets time pass up to a moment, or up to the last one where that is later.
-    pub(crate) fn pass(self, now: Moment) -> Result<Course, Memory>
-        requires { IsOnSteps self }
-        ensures after { IfOk result (λ d. d ≡ pass self now) }
-        ensures on_steps { IfOk result IsOnSteps }
+    pub(crate) fn pass(self, now: Moment) -> Result<Draft, Memory>
+        requires { IsOnSteps self.stand }
+        ensures passed { IfOk result (λ draft. whole draft ≡ pass (whole self) now) }
+        ensures on_steps { IfOk result (λ draft. IsOnSteps draft.stand) }
     {
         let at = self.judged_at(now);
-        let course = self.follow(at)?;
-        Ok(course.with_last(at))
+        let draft = self.follow(at)?;
+        Ok(draft.with_last(at))
     }
 
     /// The later of a moment and the last one.
@@ -131,12 +214,11 @@ impl Course {
         if last < now { now } else { last }
     }
 
-    fn with_last(self, at: Moment) -> Course
-        ensures { result ≡ with_last self at }
+    fn with_last(self, at: Moment) -> Draft
+        ensures { whole result ≡ with_last (whole self) at }
     {
-        let Course { stand, effects } = self;
-        let mut stand = stand;
-        stand.last = at;
-        Course { stand, effects }
+        let Draft { stand, watched } = self;
+        let stand = Stand { last: at, ..stand };
+        Draft { stand, watched }
     }
 }

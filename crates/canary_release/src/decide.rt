@@ -1,16 +1,19 @@
 //! Decisions: what a command answers, and what it changes.
-ghost use Rattle.std.specs.Prelude.{◌≡◌, ◌+◌, ◌≤◌, length, Ok, Err, Some, None, IfOk, IfErr};
+ghost use Rattle.std.specs.Prelude.{◌≡◌, ◌+◌, ◌≤◌, length, Ok, Err, Some, None, IfOk, IfErr, option_map};
 ghost use Rattle.std.specs.Option.{option_copied};
 ghost use Rattle.canary_plan.specs.Commands.{subject_of};
-ghost use Rattle.canary_release.specs.Courses.{IsOnSteps};
-ghost use Rattle.canary_release.specs.Commands.{start_refusal, promote_refusal, start, promote, unless, act};
-ghost use Rattle.canary_release.specs.Desks.{Desk, rules, passed_on, new_stand, act_new, act_passed, ruling};
-ghost use Rattle.canary_release.specs.Shapes.{seen, decided, IsStep};
+ghost use Rattle.canary_release.specs.Services.{IsOnSteps};
+ghost use Rattle.canary_release.specs.Commands.{start_refusal, promote_refusal, start, promote, leads, unless, act};
+ghost use Rattle.canary_release.specs.Desks.{Desk, rules, new_stand, new_service, act_new, act_passed, ruling};
+ghost use Rattle.canary_release.specs.Shapes.{seen, whole, kept_course, acted_as, decided, IsStep};
 
-use crate::course::Course;
+use crate::course::Draft;
+use crate::effect::Effect;
+use crate::laws;
 use crate::reply::Reply;
-use crate::service::{Effects, Service, Stand, State};
+use crate::service::{Runs, Service, ServiceParts, Stand, State};
 use canary_base::error::Memory;
+use canary_base::lists::Listed;
 use canary_base::moments::Moment;
 use canary_base::names::Label;
 use canary_plan::command::Command;
@@ -24,8 +27,11 @@ use std::alloc::Global;
 pub enum DeskChange {
     /// It changes nothing.
     Nothing,
-    /// The service that it names becomes this one, with these effects.
-    Service { service: Service, effects: Effects },
+    /// The service that it names becomes this one, with these effects, in order.
+    Service {
+        service: Service,
+        effects: Listed<Effect>,
+    },
 }
 
 /// What a command answers and does.
@@ -49,6 +55,7 @@ pub fn decide(
 ) -> Result<Decision, Memory>
     ensures { IfOk result (λ d. (desk : Desk) → option_copied service.entry ≡ seen desk (subject_of command.now) → IsStep desk now command.now d) }
 {
+    laws::watching();
     let acted = act_on(alloc, service, now, command)?;
     say(alloc, acted)
 }
@@ -59,9 +66,9 @@ fn act_on(
     service: Option<&Service>,
     now: Moment,
     command: &Command,
-) -> Result<Result<Course, Refusal>, Memory>
-    ensures after { IfOk result (λ acted. rules acted ≡ ruling (option_copied service.entry) now command.now) }
-    ensures on_steps { IfOk result (λ acted. IfOk acted IsOnSteps) }
+) -> Result<Result<Draft, Refusal>, Memory>
+    ensures acted { IfOk result (λ acted. rules (acted_as acted) ≡ ruling (option_map kept_course (option_copied service.entry)) now command.now) }
+    ensures on_steps { IfOk result (λ acted. IfOk acted (λ draft. IsOnSteps draft.stand)) }
 {
     match service {
         Some(service) => act_passed(alloc, service, now, command),
@@ -70,12 +77,12 @@ fn act_on(
 }
 
 // A refusal changes nothing; else the service becomes what the command leads to, and is shown.
-fn say(alloc: Global, acted: Result<Course, Refusal>) -> Result<Decision, Memory>
-    requires { IfOk acted IsOnSteps }
-    ensures { IfOk result (λ d. d ≡ decided (rules acted)) }
+fn say(alloc: Global, acted: Result<Draft, Refusal>) -> Result<Decision, Memory>
+    requires { IfOk acted (λ draft. IsOnSteps draft.stand) }
+    ensures { IfOk result (λ d. d ≡ decided (rules (acted_as acted))) }
 {
     match acted {
-        Ok(course) => show(alloc, course),
+        Ok(draft) => show(alloc, draft),
         Err(refusal) => refuse(alloc, refusal),
     }
 }
@@ -89,22 +96,16 @@ fn refuse(alloc: Global, refusal: Refusal) -> Result<Decision, Memory>
     })
 }
 
-fn show(alloc: Global, course: Course) -> Result<Decision, Memory>
-    requires { course.stand.step ≤ length course.stand.strategy.steps }
-    ensures { IfOk result (λ d. d ≡ decided (rules (Ok course))) }
+fn show(alloc: Global, draft: Draft) -> Result<Decision, Memory>
+    requires { IsOnSteps draft.stand }
+    ensures { IfOk result (λ d. d ≡ decided (rules (Ok (leads (whole draft))))) }
 {
-    let Course { stand, effects } = course;
-    let reply = Reply::shows(
-        alloc,
-        stand.name,
-        stand.status(),
-        stand.step,
-        stand.weight(),
-    )?;
+    let reply = Reply::shows(alloc, &draft.stand)?;
+    let (parts, effects) = draft.end();
     Ok(Decision {
         reply,
         change: DeskChange::Service {
-            service: Service::of(stand),
+            service: Service::of(parts),
             effects,
         },
     })
@@ -116,14 +117,13 @@ fn act_passed(
     service: &Service,
     now: Moment,
     command: &Command,
-) -> Result<Result<Course, Refusal>, Memory>
-    ensures after { IfOk result (λ acted. acted ≡ act_passed command.now service.now now) }
-    ensures on_steps { IfOk result (λ acted. IfOk acted IsOnSteps) }
+) -> Result<Result<Draft, Refusal>, Memory>
+    ensures acted { IfOk result (λ acted. acted_as acted ≡ act_passed command.now (kept_course service.now) now) }
+    ensures on_steps { IfOk result (λ acted. IfOk acted (λ draft. IsOnSteps draft.stand)) }
 {
-    let stand = service.stand().copy(alloc)?;
-    let course = Course::of(alloc, stand);
-    let at = course.judged_at(now);
-    let passed = course.pass(now)?;
+    let draft = Draft::of(alloc, service.parts())?;
+    let at = draft.judged_at(now);
+    let passed = draft.pass(now)?;
     match act(passed, at, command)? {
         Ok(led) => Ok(Ok(led.pass(at)?)),
         Err(refusal) => Ok(Err(refusal)),
@@ -131,28 +131,27 @@ fn act_passed(
 }
 
 // Where a command leads a service that was passed to a moment.
-fn act(course: Course, at: Moment, command: &Command) -> Result<Result<Course, Refusal>, Memory>
-    ensures after { IfOk result (λ acted. acted ≡ act command.now course at) }
-    ensures on_steps { IfOk result (λ acted. IfOk acted IsOnSteps) }
+fn act(draft: Draft, at: Moment, command: &Command) -> Result<Result<Draft, Refusal>, Memory>
+    ensures acted { IfOk result (λ acted. acted_as acted ≡ act command.now (whole draft) at) }
+    ensures on_steps { IfOk result (λ acted. IfOk acted (λ draft. IsOnSteps draft.stand)) }
 {
     match command {
         Command::Service(_) => Ok(Err(Refusal::ServiceExists)),
-        Command::Start { version, .. } => start(course, at, *version),
-        Command::Promote { .. } => promote(course, at),
+        Command::Start { version, .. } => start(draft, at, *version),
+        Command::Promote { .. } => promote(draft, at),
     }
 }
 
 // Begins an attempt with that version at the first step.
-fn start(course: Course, at: Moment, version: Label) -> Result<Result<Course, Refusal>, Memory>
-    ensures after { IfOk result (λ acted. acted ≡ unless (start_refusal course.stand version) (start course at version)) }
-    ensures on_steps { IfOk result (λ acted. IfOk acted IsOnSteps) }
+fn start(draft: Draft, at: Moment, version: Label) -> Result<Result<Draft, Refusal>, Memory>
+    ensures acted { IfOk result (λ acted. acted_as acted ≡ unless (start_refusal draft.stand version) (leads (start (whole draft) at version))) }
+    ensures on_steps { IfOk result (λ acted. IfOk acted (λ draft. IsOnSteps draft.stand)) }
 {
-    if let Some(refusal) = start_refusal(&course.stand, version) {
+    if let Some(refusal) = start_refusal(&draft.stand, version) {
         return Ok(Err(refusal));
     }
-    let told = course
-        .begun(version)
-        .tell(at, LineEvent::Started { version })?;
+    let begun = draft.begun(version);
+    let told = begun.tell(at, LineEvent::Started { version })?;
     Ok(Ok(told.enter(0, at)?))
 }
 
@@ -167,13 +166,13 @@ fn start_refusal(stand: &Stand, version: Label) -> Option<Refusal>
 }
 
 // From a pause to the next step.
-fn promote(course: Course, at: Moment) -> Result<Result<Course, Refusal>, Memory>
-    ensures after { IfOk result (λ acted. acted ≡ unless (promote_refusal course.stand) (promote course at)) }
-    ensures on_steps { IfOk result (λ acted. IfOk acted IsOnSteps) }
+fn promote(draft: Draft, at: Moment) -> Result<Result<Draft, Refusal>, Memory>
+    ensures acted { IfOk result (λ acted. acted_as acted ≡ unless (promote_refusal draft.stand) (leads (promote (whole draft) at))) }
+    ensures on_steps { IfOk result (λ acted. IfOk acted (λ draft. IsOnSteps draft.stand)) }
 {
-    match promoted_step(&course.stand) {
+    match promoted_step(&draft.stand) {
         Ok(step) => {
-            let told = course.tell(at, LineEvent::Promoted)?;
+            let told = draft.tell(at, LineEvent::Promoted)?;
             Ok(Ok(told.enter(step, at)?))
         }
         Err(refusal) => Ok(Err(refusal)),
@@ -199,9 +198,9 @@ fn promoted_step(stand: &Stand) -> Result<u32, Refusal>
 }
 
 // A command where no service of its name is there.
-fn act_new(alloc: Global, now: Moment, command: &Command) -> Result<Result<Course, Refusal>, Memory>
-    ensures after { IfOk result (λ acted. acted ≡ act_new command.now now) }
-    ensures on_steps { IfOk result (λ acted. IfOk acted IsOnSteps) }
+fn act_new(alloc: Global, now: Moment, command: &Command) -> Result<Result<Draft, Refusal>, Memory>
+    ensures acted { IfOk result (λ acted. acted_as acted ≡ act_new command.now now) }
+    ensures on_steps { IfOk result (λ acted. IfOk acted (λ draft. IsOnSteps draft.stand)) }
 {
     match command {
         Command::Service(spec) => add(alloc, spec, now),
@@ -210,19 +209,35 @@ fn act_new(alloc: Global, now: Moment, command: &Command) -> Result<Result<Cours
 }
 
 // A new service, if its strategy is accepted.
-fn add(alloc: Global, spec: &ServiceSpec, now: Moment) -> Result<Result<Course, Refusal>, Memory>
-    ensures after { IfOk result (λ acted. acted ≡ act_new (Command.Service spec.now) now) }
-    ensures on_steps { IfOk result (λ acted. IfOk acted IsOnSteps) }
+fn add(alloc: Global, spec: &ServiceSpec, now: Moment) -> Result<Result<Draft, Refusal>, Memory>
+    ensures acted { IfOk result (λ acted. acted_as acted ≡ act_new (Command.Service spec.now) now) }
+    ensures on_steps { IfOk result (λ acted. IfOk acted (λ draft. IsOnSteps draft.stand)) }
 {
     match Strategy::check(alloc, &spec.steps) {
-        Ok(strategy) => {
-            let course = Course::of(alloc, new_stand(spec, strategy, now));
-            let version = spec.version;
-            Ok(Ok(course.tell(now, LineEvent::Created { version })?))
-        }
+        Ok(strategy) => Ok(Ok(new_service(alloc, spec, strategy, now)?)),
         Err(CheckFault::Refused(refusal)) => Ok(Err(refusal)),
         Err(CheckFault::Memory) => Err(Memory),
     }
+}
+
+// A new service has no past but the line that tells of it.
+fn new_service(
+    alloc: Global,
+    spec: &ServiceSpec,
+    strategy: Strategy,
+    now: Moment,
+) -> Result<Draft, Memory>
+    requires { strategy.steps ≡ spec.now.steps }
+    ensures new { IfOk result (λ draft. whole draft ≡ new_service spec.now now) }
+    ensures on_steps { IfOk result (λ draft. IsOnSteps draft.stand) }
+{
+    laws::watching();
+    let parts = ServiceParts {
+        stand: new_stand(spec, strategy, now),
+        runs: Runs::new(alloc),
+    };
+    let version = spec.version;
+    Draft::of(alloc, &parts)?.tell(now, LineEvent::Created { version })
 }
 
 // A new service is done: its version is the stable one.

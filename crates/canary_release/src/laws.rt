@@ -1,8 +1,24 @@
 //! Laws over the definitions alone.
 ghost use Rattle.canary_release.specs.Passing.{PassesAsComputed};
-ghost use Rattle.canary_release.specs.Laws.{RefusalsLeaveTheDesk};
+ghost use Rattle.canary_release.specs.Laws.{WatchesAlike, RefusalsLeaveTheDesk};
 ghost use Rattle.canary_release.specs.Desks.{no_desk};
+ghost use Rattle.canary_release.specs.Shapes.{KeepsWhatIsSeen};
 ghost use Rattle.canary_release.specs.Order.{AreInOrder, StayInOrder};
+
+use canary_metric::laws;
+
+/// What is watched of a service's runs after all that happened is the same from the whole lists of
+/// what is past as from the tallies that are kept.
+pub fn watching()
+    ensures { WatchesAlike }
+{
+    laws::one_more();
+}
+
+/// The service that a change brings is what is kept of that service afterwards, tallies and all.
+pub fn changes()
+    ensures { KeepsWhatIsSeen }
+{}
 
 /// A service passes as it is computed: there is a longest chain of moves, the computed end is its
 /// end, and it has no other.

@@ -5,8 +5,9 @@
 //! chain of moves; and the machine keeps each service in order.
 #![tactic(auto)]
 
-mod course;
+pub mod course;
 pub mod decide;
+pub mod effect;
 pub mod laws;
 pub mod reply;
 pub mod service;

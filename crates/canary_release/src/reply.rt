@@ -1,11 +1,10 @@
 //! Replies to settled requests.
 ghost use Rattle.std.specs.Prelude.{◌≡◌, IfOk};
-ghost use Rattle.canary_release.specs.Replies.{shown_as, refused};
+ghost use Rattle.canary_release.specs.Replies.{service_text, accepted, refused};
 
-use crate::service::Status;
+use crate::service::Stand;
 use canary_base::error::Memory;
 use canary_base::lists::Text;
-use canary_base::names::Name;
 use canary_plan::refusal::Refusal;
 use std::alloc::Global;
 
@@ -28,17 +27,14 @@ impl Reply {
         })
     }
 
-    /// The reply that shows a service.
-    pub(crate) fn shows(
-        alloc: Global,
-        name: Name,
-        status: Status,
-        step: u32,
-        weight: u32,
-    ) -> Result<Reply, Memory>
-        ensures { IfOk result (λ reply. reply ≡ shown_as name status step weight) }
+    /// The reply that shows how a service stands.
+    pub(crate) fn shows(alloc: Global, stand: &Stand) -> Result<Reply, Memory>
+        ensures { IfOk result (λ reply. reply ≡ accepted (service_text stand.now)) }
     {
-        let status = status.text();
+        let name = stand.name;
+        let status = stand.status().text();
+        let step = stand.step;
+        let weight = stand.weight();
         let body = format!(in alloc;
             "{{\"code\":\"ok\",\"service\":\"{name}\",\"status\":\"{status}\",\"step\":{step},\"weight\":{weight}}}"
         )?;

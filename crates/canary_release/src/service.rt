@@ -1,16 +1,18 @@
 //! Services: what the desk keeps of each, its status and its weight.
 ghost use Rattle.std.specs.Prelude.{◌≡◌, ◌+◌, ◌≤◌, ◌<◌, length, take, IfOk, IsSome, unwrap_or, None};
 ghost use Rattle.std.specs.List.{filter_map, last_or};
-ghost use Rattle.canary_release.specs.Services.{step_of, status, weight, weight_set};
+ghost use Rattle.canary_release.specs.Watching.{no_runs};
+ghost use Rattle.canary_release.specs.Services.{IsOnSteps, step_of, status, weight, weight_set};
 ghost use Rattle.canary_release.specs.Passing.{next_move, move_by};
 ghost use Rattle.canary_release.specs.Replies.{status_text};
 
-use crate::course::Course;
+use crate::course::Draft;
+use crate::effect::Effect;
 use canary_base::error::Memory;
 use canary_base::lists::Listed;
 use canary_base::moments::Moment;
 use canary_base::names::{Label, Name};
-use canary_plan::line::Line;
+use canary_metric::tally::Tally;
 use canary_plan::plan::{Step, Strategy};
 use std::alloc::Global;
 use std::marker::Model;
@@ -154,40 +156,127 @@ fn last_weight(steps: &[Step]) -> Option<u32>
     last
 }
 
+/// An open run of the analysis at a step, or of the background: one tally for each of its metrics,
+/// in order.
+#[derive(Drop)]
+pub struct OpenRun {
+    /// Its number, from 1 for the service's first run.
+    pub number: u32,
+    /// Its step, or none for the background.
+    pub step: Option<u32>,
+    pub started: Moment,
+    pub tallies: Listed<Tally>,
+}
+
+impl OpenRun {
+    /// A copy of it.
+    pub fn copy(&self, alloc: Global) -> Result<OpenRun, Memory>
+        ensures { IfOk result (λ copy. copy ≡ self.now) }
+    {
+        Ok(OpenRun {
+            number: self.number,
+            step: self.step,
+            started: self.started,
+            tallies: self.tallies.copy(alloc)?,
+        })
+    }
+}
+
+/// What is kept of a service's runs: how many there are, and the open ones, by number.
+#[derive(Drop)]
+pub struct Runs {
+    pub count: u32,
+    pub open_runs: Listed<OpenRun>,
+}
+
+impl Runs {
+    /// No runs.
+    pub fn new(alloc: Global) -> Runs
+        ensures { result ≡ no_runs }
+    {
+        Runs {
+            count: 0,
+            open_runs: Listed::of(Vec::new(alloc)),
+        }
+    }
+
+    /// A copy of them.
+    pub fn copy(&self, alloc: Global) -> Result<Runs, Memory>
+        ensures { IfOk result (λ copy. copy ≡ self.now) }
+    {
+        Ok(Runs {
+            count: self.count,
+            open_runs: copy_runs(alloc, self.open_runs.as_slice())?,
+        })
+    }
+}
+
+fn copy_runs(alloc: Global, runs: &[OpenRun]) -> Result<Listed<OpenRun>, Memory>
+    ensures { IfOk result (λ copy. copy ≡ runs.now) }
+{
+    let mut copies = Listed::of(Vec::new(alloc));
+    for run in runs {
+        copies.push(run.copy(alloc)?)?;
+    }
+    Ok(copies)
+}
+
+/// What a service is made of: how it stands, and what is kept of its runs.
+#[derive(Drop)]
+pub struct ServiceParts {
+    pub stand: Stand,
+    pub runs: Runs,
+}
+
+impl ServiceParts {
+    /// A copy of them.
+    pub fn copy(&self, alloc: Global) -> Result<ServiceParts, Memory>
+        ensures { IfOk result (λ copy. copy ≡ self.now) }
+    {
+        Ok(ServiceParts {
+            stand: self.stand.copy(alloc)?,
+            runs: self.runs.copy(alloc)?,
+        })
+    }
+}
+
 /// A service, on a step of its strategy or at its end.
 #[derive(Drop)]
 pub struct Service {
-    stand: Stand,
+    parts: ServiceParts,
 }
 
 impl Model for Service {
-    ghost use Rattle.std.specs.Prelude.{◌≤◌, length};
-    ghost use Rattle.canary_release.specs.declared.service.Stand.{Stand};
+    ghost use Rattle.canary_release.specs.Services.{IsOnSteps};
+    ghost use Rattle.canary_release.specs.declared.service.ServiceParts.{ServiceParts};
+    ghost use Rattle.canary_release.specs.contracts.service.ServiceParts.{the_row};
 
-    ghost Value = { Stand };
+    ghost Value = { ServiceParts };
 
-    ghost view = { λ s. s.stand };
+    ghost coded = { the_row.coded };
 
-    ghost invariant = { λ s. s.stand.step ≤ length s.stand.strategy.steps };
+    ghost view = { λ s. s.parts };
+
+    ghost invariant = { λ s. IsOnSteps s.parts.stand };
 }
 
 impl Service {
     ghost use Rattle.canary_release.specs.Shapes.{IsPassing};
 
-    /// A service that stands so, on a step or at the end.
-    pub(crate) fn of(stand: Stand) -> Service
-        requires { stand.step ≤ length stand.strategy.steps }
-        ensures { result ≡ stand }
+    /// A service of these parts, on a step or at the end.
+    pub(crate) fn of(parts: ServiceParts) -> Service
+        requires { IsOnSteps parts.stand }
+        ensures { result ≡ parts }
     {
-        Service { stand }
+        Service { parts }
     }
 
-    /// How it stands.
-    pub fn stand(&self) -> &Stand
+    /// What it is made of.
+    pub fn parts(&self) -> &ServiceParts
         ensures value { result.now ≡ self.now }
-        ensures on_steps { self.now.step ≤ length self.now.strategy.steps }
+        ensures on_steps { IsOnSteps self.now.stand }
     {
-        &self.stand
+        &self.parts
     }
 
     /// The service passed to a moment, or to its last one where that is later: to the end of the
@@ -199,12 +288,11 @@ impl Service {
     pub fn passed(&self, alloc: Global, now: Moment) -> Result<Passed, Memory>
         ensures { IfOk result (λ passed. IsPassing self.now now passed) }
     {
-        let course = Course::of(alloc, self.stand.copy(alloc)?).pass(now)?;
+        let draft = Draft::of(alloc, &self.parts)?.pass(now)?;
+        let (parts, effects) = draft.end();
         Ok(Passed {
-            service: Service {
-                stand: course.stand,
-            },
-            effects: course.effects,
+            service: Service { parts },
+            effects,
         })
     }
 
@@ -212,36 +300,29 @@ impl Service {
     pub fn copy(&self, alloc: Global) -> Result<Service, Memory>
         ensures { IfOk result (λ copy. copy ≡ self.now) }
     {
-        let stand = self.stand.copy(alloc)?;
-        Ok(Service { stand })
+        let parts = self.parts.copy(alloc)?;
+        Ok(Service { parts })
     }
 
     /// Its status: Healthy where the release is done, Paused at a pause, else Progressing.
     pub fn status(&self) -> Status
-        ensures { result ≡ status self.now }
+        ensures { result ≡ status self.now.stand }
     {
-        self.stand.status()
+        self.parts.stand.status()
     }
 
     /// The weight of the new version, in percent: 100 where the release is done, else the last
     /// weight set at or before the present step, or 0.
     pub fn weight(&self) -> u32
-        ensures { result ≡ weight self.now }
+        ensures { result ≡ weight self.now.stand }
     {
-        self.stand.weight()
+        self.parts.stand.weight()
     }
 }
 
-/// What else happens where a service changes, in order.
-#[derive(Drop)]
-pub struct Effects {
-    /// The lines of its history.
-    pub lines: Listed<Line>,
-}
-
-/// A service that was passed to a moment, with what happened on the way.
+/// A service that was passed to a moment, with what happened on the way, in order.
 #[derive(Drop)]
 pub struct Passed {
     pub service: Service,
-    pub effects: Effects,
+    pub effects: Listed<Effect>,
 }

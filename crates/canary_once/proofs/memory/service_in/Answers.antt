@@ -5,12 +5,12 @@ use Rattle.canary_once.proofs.memory.service_in.Goals as goal
 
 pub returns-in-Some : goal.returns-in-Some
 returns-in-Some c =
-    seen_from_end c.args.log.now c.loop-left.left c.index-log-left.result c.args.name.now _ _ (omega arith) c.loop-left.invariant.within c.index-log-left.is c.in-Some.ensures refl c.loop-left.invariant.same
+    seen_from_end c.changes.ensures c.args.log.now c.loop-left.left c.index-log-left.result c.args.name.now _ _ c.requires (omega arith) c.loop-left.invariant.within c.index-log-left.is c.in-Some.ensures refl c.loop-left.invariant.same
 
 pub loop-left-preserved : goal.loop-left-preserved
 loop-left-preserved c = record {
   within = omega arith;
-  same = seen_from_end c.args.log.now c.loop-left.left c.index-log-left.result c.args.name.now _ _ (omega arith) c.loop-left.invariant.within c.index-log-left.is c.service_by.ensures (ap option_copied c.in_default.is) c.loop-left.invariant.same;
+  same = seen_from_end c.changes.ensures c.args.log.now c.loop-left.left c.index-log-left.result c.args.name.now _ _ c.requires (omega arith) c.loop-left.invariant.within c.index-log-left.is c.service_by.ensures (ap option_copied c.in_default.is) c.loop-left.invariant.same;
 }
 
 pub returns : goal.returns

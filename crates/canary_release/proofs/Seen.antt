@@ -1,0 +1,77 @@
+-- What a change brings is what is kept of the service after it.
+use Rattle.std.proofs.Common.{◌≡◌, ℕ, List, refl, ap, sym, ◌∙◌}
+use Rattle.std.specs.Prelude.{Option, Some, None, Result, Ok, Err, option_map, cond, true}
+use Rattle.std.specs.Ordering.{nat_cmp, eq_by_cmp}
+use Rattle.std.specs.Cmp.Lexicographic.{slice_cmp, nat_list_cmp_total}
+use Rattle.std.specs.Str.{bytes_eq}
+use Rattle.std.proofs.lemmas.Map.Text.{is_eq-slice_cmp}
+use Rattle.std.proofs.lemmas.Slice.Eq.{bytes_eq-Decides}
+use Rattle.std.specs.FinMap.{get, insert, get-insert}
+use Rattle.canary_plan.specs.declared.command.Command.{Command}
+use Rattle.canary_plan.specs.declared.command.Command.TheVariants.{Service, Start, Promote}
+use Rattle.canary_plan.specs.declared.refusal.Refusal.{Refusal}
+use Rattle.canary_plan.specs.Plans.{strategy_refusal}
+use Rattle.canary_plan.specs.Commands.{subject_of}
+use Rattle.canary_release.specs.declared.service.ServiceParts.{ServiceParts}
+use Rattle.canary_release.specs.Pasts.{no_past}
+use Rattle.canary_release.specs.Courses.{Course, Watch}
+use Rattle.canary_release.specs.Commands.{Acted, unless, leads}
+use Rattle.canary_release.specs.Desks.{ModelService, Desk, Change, rules, after, desk_after, course_of, act_new, act_passed, new_service, ruling, ruling_on, watch_of}
+use Rattle.canary_release.specs.Desks.Change.{Nothing, Becomes}
+use Rattle.canary_release.specs.Shapes.{shape, kept_after, said, kept_by, seen, KeepsWhatIsSeen}
+use Rattle.canary_release.proofs.Watches.{KeepsIf, acted_passed}
+
+-- a course with the watch of a service's past ends with what is kept of it afterwards
+pub kept_is_seen : (m : ModelService) (command : Command) (c : Course) → c.watch ≡ watch_of m.past → shape (after (Some m) command c.stand c.effects) ≡ kept_after c
+kept_is_seen m command c same = λ i. record { stand = c.stand; runs = sym same i c.effects }
+
+-- a change of the service as it was found brings what is kept of it afterwards
+abbrev Fits : Option ModelService → Command → Change → Type 0
+Fits found command Nothing = Unit {0}
+Fits found command (Becomes c) = shape (after found command c.stand c.effects) ≡ kept_after c
+
+abbrev HasWatch : Watch → Result Acted Refusal → Type 0
+HasWatch w (Ok a) = a.course.watch ≡ w
+HasWatch w (Err refusal) = Unit {0}
+
+fits_old : (m : ModelService) (command : Command) (r : Result Acted Refusal) → HasWatch (watch_of m.past) r → Fits (Some m) command (rules r).change
+fits_old m command (Ok a) same = kept_is_seen m command a.course same
+fits_old m command (Err refusal) same = tt
+
+fits_new : (command : Command) (r : Result Acted Refusal) → HasWatch (watch_of no_past) r → Fits None command (rules r).change
+fits_new command (Ok a) same = λ i. record { stand = a.course.stand; runs = sym same i a.course.effects }
+fits_new command (Err refusal) same = tt
+
+kept_watch_of : (c : Course) (r : Result Acted Refusal) → KeepsIf c r → HasWatch c.watch r
+kept_watch_of c (Ok a) k = k
+kept_watch_of c (Err refusal) k = tt
+
+unless_new : (r : Option Refusal) (a : Acted) → a.course.watch ≡ watch_of no_past → HasWatch (watch_of no_past) (unless r a)
+unless_new None a k = k
+unless_new (Some refusal) a k = tt
+
+new_watch : (command : Command) (now : ℕ) → HasWatch (watch_of no_past) (act_new command now)
+new_watch (Service spec) now = unless_new (strategy_refusal spec.steps) (leads (new_service spec now)) refl
+new_watch (Start name version) now = tt
+new_watch (Promote name) now = tt
+
+pub fits : (found : Option ModelService) (now : ℕ) (command : Command) → Fits found command (ruling (option_map course_of found) now command).change
+fits None now command = fits_new command (act_new command now) (new_watch command now)
+fits (Some m) now command = fits_old m command (act_passed command (course_of m) now) (kept_watch_of (course_of m) (act_passed command (course_of m) now) (acted_passed command (course_of m) now))
+
+bytes_same : (name : List ℕ) → bytes_eq name name ≡ true
+bytes_same name = (bytes_eq-Decides name name).1 refl
+
+same_name : (name : List ℕ) → eq_by_cmp (slice_cmp nat_cmp) name name ≡ true
+same_name name = is_eq-slice_cmp name name ∙ bytes_same name
+
+found_there : (desk : Desk) (command : Command) (m : ModelService) → get (insert desk.services (subject_of command) m) (subject_of command) ≡ Some m
+found_there desk command m = get-insert nat_list_cmp_total desk.services (subject_of command) m (subject_of command) ∙ ap (λ b. cond b (Some m) (get desk.services (subject_of command))) (same_name (subject_of command))
+
+seen_after : (desk : Desk) (command : Command) (x : Change) (s : ServiceParts) → Fits (get desk.services (subject_of command)) command x → kept_by (said x) ≡ Some s → seen (desk_after desk command x) (subject_of command) ≡ Some s
+seen_after desk command Nothing s fit brings = cc brings
+seen_after desk command (Becomes c) s fit brings =
+    ap (option_map shape) (found_there desk command (after (get desk.services (subject_of command)) command c.stand c.effects)) ∙ ap (λ (k : ServiceParts). Some k) fit ∙ brings
+
+pub keeps_what_is_seen : KeepsWhatIsSeen
+keeps_what_is_seen desk now command s brings = seen_after desk command (ruling_on desk now command).change s (fits (get desk.services (subject_of command)) now command) brings

@@ -1,9 +1,0 @@
-use Rattle.std.proofs.Common.{rules, sym, ◌∙◌}
-use Rattle.canary_release.proofs.Loops.{goes_on, at_end}
-use Rattle.canary_release.proofs.course.Course.follow.Goals as goal
-
-pub loop-moment-preserved : goal.loop-moment-preserved
-loop-moment-preserved c = goes_on c.args.until c.in-Some.moment _ _ _ c.loop-moment.invariant (c.in-Some.ensures.on_step (search rules)) (sym c.in-Some.ensures.moves) c.in_ok-course.ensures.after
-
-pub returns-clause-after : goal.returns-clause-after
-returns-clause-after c = at_end c.args.until c.args.self c.loop-moment.course c.loop-moment.invariant (sym c.next_move_by.ensures.moves ∙ c.in_default.is)
