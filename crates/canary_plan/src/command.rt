@@ -1,7 +1,8 @@
 //! Commands.
 ghost use Rattle.std.specs.Prelude.{◌≡◌, IfOk};
 ghost use Rattle.std.specs.Cmp.Lexicographic.{pointwise};
-ghost use Rattle.canary_plan.specs.Commands.{subject_of, same_step, same_command, same_service};
+ghost use Rattle.std.specs.Option.{option_copied};
+ghost use Rattle.canary_plan.specs.Commands.{kind_of, subject_of, version_of, service_in, same_option, same_step, same_command, same_service};
 
 use crate::plan::{ServiceSpec, Step};
 use canary_base::error::Memory;
@@ -19,7 +20,26 @@ pub enum Command {
     Promote { service: Name },
 }
 
+/// What kind of command it is.
+#[derive(Clone, Copy, Debug, PartialEq, Eq)]
+pub enum CommandKind {
+    Service,
+    Start,
+    Promote,
+}
+
 impl Command {
+    /// What kind of command it is.
+    pub fn kind(&self) -> CommandKind
+        ensures { result ≡ kind_of self.now }
+    {
+        match self {
+            Command::Service(_) => CommandKind::Service,
+            Command::Start { .. } => CommandKind::Start,
+            Command::Promote { .. } => CommandKind::Promote,
+        }
+    }
+
     /// The service that it names.
     pub fn subject(&self) -> Name
         ensures { result ≡ subject_of self.now }
@@ -30,27 +50,34 @@ impl Command {
         }
     }
 
-    /// Whether it is the same command.
+    /// The version with which it begins a release, if it is a `Start`.
+    pub fn version(&self) -> Option<Label>
+        ensures { result ≡ version_of self.now }
+    {
+        match self {
+            Command::Start { version, .. } => Some(*version),
+            _ => None,
+        }
+    }
+
+    /// The service that it registers, if it is a `Service`.
+    pub fn service(&self) -> Option<&ServiceSpec>
+        ensures { option_copied result ≡ service_in self.now }
+    {
+        match self {
+            Command::Service(spec) => Some(spec),
+            _ => None,
+        }
+    }
+
+    /// Whether it is the same command: of the same kind, with the same parts.
     pub fn is_same(&self, other: &Command) -> bool
         ensures { result ≡ same_command self.now other.now }
     {
-        match (self, other) {
-            (Command::Service(ours), Command::Service(theirs)) => is_same_service(ours, theirs),
-            (
-                Command::Start { service, version },
-                Command::Start {
-                    service: other_service,
-                    version: other_version,
-                },
-            ) => service == other_service && version == other_version,
-            (
-                Command::Promote { service },
-                Command::Promote {
-                    service: other_service,
-                },
-            ) => service == other_service,
-            _ => false,
-        }
+        self.kind() == other.kind()
+            && self.subject() == other.subject()
+            && self.version() == other.version()
+            && are_same_services(self.service(), other.service())
     }
 
     /// A copy of it.
@@ -65,6 +92,17 @@ impl Command {
             },
             Command::Promote { service } => Command::Promote { service: *service },
         })
+    }
+}
+
+fn are_same_services(ours: Option<&ServiceSpec>, theirs: Option<&ServiceSpec>) -> bool
+    ensures { result
+        ≡ same_option same_service (option_copied ours.entry) (option_copied theirs.entry) }
+{
+    match (ours, theirs) {
+        (None, None) => true,
+        (Some(ours), Some(theirs)) => is_same_service(ours, theirs),
+        _ => false,
     }
 }
 

@@ -1,16 +1,25 @@
 -- Worked rows of the small machine, over its maps.
-use Rattle.std.proofs.Common.{◌≡◌, ℕ, ◌+◌, List, [], ◌∷◌, ◌++◌, refl}
-use Rattle.std.specs.Prelude.{codes, Some, replicate}
+use Rattle.std.proofs.Common.{◌≡◌, ℕ, ◌+◌, List, [], ◌∷◌, ◌++◌, true, refl}
+use Rattle.std.specs.Prelude.{codes, pos, Some, None, replicate}
 use Rattle.std.specs.Fmt.{digits}
 use Rattle.std.specs.FinMap.{get}
+use Rattle.canary_condition.specs.declared.outcome.Value.TheVariants.{Whole}
+use Rattle.canary_condition.specs.declared.outcome.Outcome.TheVariants.{Result}
+use Rattle.canary_condition.specs.declared.outcome.Phase.TheVariants.{Successful}
+use Rattle.canary_metric.specs.Counts.{counts, with_one_more}
 use Rattle.canary_plan.specs.declared.plan.Step.TheVariants.{SetWeight, Pause}
 use Rattle.canary_plan.specs.declared.command.Command.{Command}
 use Rattle.canary_plan.specs.declared.command.Command.TheVariants.{Start, Promote}
 use Rattle.canary_plan.specs.declared.line.LineEvent.TheVariants.{Created, Started, WeightEntered, PauseEntered, Promoted, Finished}
-use Rattle.canary_plan.specs.declared.refusal.Refusal.TheVariants.{NotInProgress, NotPaused}
+use Rattle.canary_plan.specs.declared.refusal.Refusal.TheVariants.{AlreadyStable, NotInProgress, NotPaused}
 use Rattle.canary_release.specs.declared.service.State.TheVariants.{InProgress, Done}
 use Rattle.canary_release.specs.declared.service.Stand.{Stand}
-use Rattle.canary_release.specs.Commands.{promote_refusal}
+use Rattle.canary_release.specs.declared.effect.Opening.{Opening}
+use Rattle.canary_release.specs.declared.effect.Recorded.{Recorded}
+use Rattle.canary_release.specs.declared.effect.Effect.TheVariants.{Opened, Measured, Closed}
+use Rattle.canary_release.specs.Pasts.{no_past, grows_by, watched}
+use Rattle.canary_release.specs.Services.{weight}
+use Rattle.canary_release.specs.Commands.{start_refusal, promote_refusal}
 use Rattle.canary_release.specs.Desks.{machine, no_desk, new_stand}
 use Rattle.canary_release.proofs.Stories.{b, ok, no, web, v1, v2, v3, add, two_pauses, told}
 use Rattle.canary_release.proofs.Worlds.{replies_from_nothing, service_from_nothing}
@@ -58,7 +67,7 @@ paused_service : get (machine no_desk to_second_pause).desk.services web ≡ Som
       ∷ record { moment = b + 2; event = WeightEntered 2 50 }
       ∷ record { moment = b + 2; event = PauseEntered 3 }
       ∷ []
-  );
+      );
 })
 paused_service = service_from_nothing to_second_pause web _ refl
 
@@ -90,7 +99,7 @@ falling_service : get (machine no_desk falling).desk.services web ≡ Some (reco
       ∷ record { moment = b + 12; event = WeightEntered 0 20 }
       ∷ record { moment = b + 12; event = PauseEntered 1 }
       ∷ []
-  );
+      );
 })
 falling_service = service_from_nothing falling web _ refl
 
@@ -139,7 +148,7 @@ weights_service : get (machine no_desk weights_alone).desk.services web ≡ Some
       ∷ record { moment = b + 4; event = WeightEntered 1 100 }
       ∷ record { moment = b + 4; event = Finished v2 }
       ∷ []
-  );
+      );
 })
 weights_service = service_from_nothing weights_alone web _ refl
 
@@ -172,7 +181,7 @@ refused_late_service : get (machine no_desk refused_late).desk.services web ≡ 
       ∷ record { moment = b + 10; event = Promoted }
       ∷ record { moment = b + 10; event = PauseEntered 1 }
       ∷ []
-  );
+      );
 })
 refused_late_service = service_from_nothing refused_late web _ refl
 
@@ -199,6 +208,61 @@ limits_replies : (machine no_desk limits).replies ≡
 unfolding digits
 limits_replies = replies_from_nothing limits _ refl
 
+-- A new service entered its last step, and was judged last, at the moment of its command.
+
+abbrev late : List (ℕ × Command)
+late = (b + 7, add web two_pauses) ∷ []
+
+new_service_of : get (machine no_desk late).desk.services web ≡ Some (record {
+  made = record { name = web; version = v1; steps = two_pauses };
+  stand = record {
+    name = web;
+    strategy = record { steps = two_pauses };
+    stable = v1;
+    version = v1;
+    state = Done;
+    step = 4;
+    entered = b + 7;
+    last = b + 7;
+  };
+  past = told (record { moment = b + 7; event = Created v1 } ∷ []);
+})
+new_service_of = service_from_nothing late web _ refl
+
+-- Two weights in a row are passed at once, and the later one counts.
+
+abbrev two_weights : List (ℕ × Command)
+two_weights = (b, add web (SetWeight 5 ∷ SetWeight 40 ∷ Pause ∷ [])) ∷ (b + 3, Start web v2) ∷ []
+
+two_weights_replies : (machine no_desk two_weights).replies ≡
+    ok (codes "{\"code\":\"ok\",\"service\":\"web\",\"status\":\"Healthy\",\"step\":3,\"weight\":100}")
+    ∷ ok (codes "{\"code\":\"ok\",\"service\":\"web\",\"status\":\"Paused\",\"step\":2,\"weight\":40}")
+    ∷ []
+unfolding digits
+two_weights_replies = replies_from_nothing two_weights _ refl
+
+-- The weight is that of step 0 at step 0, and none is set before it.
+
+of_two_pauses : Stand
+of_two_pauses = new_stand (record { name = web; version = v1; steps = two_pauses }) b
+
+weight_at_first_step : weight (record of_two_pauses { state = InProgress; step = 0 }) ≡ 20
+unfolding of_two_pauses
+weight_at_first_step = refl
+
+weight_before_any : weight (record (new_stand (record { name = web; version = v1; steps = Pause ∷ SetWeight 20 ∷ [] }) b) { state = InProgress; step = 0 }) ≡ 0
+weight_before_any = refl
+
+-- A start is refused with the stable version, and not with the version that the service shows.
+
+start_with_stable : start_refusal (record of_two_pauses { version = v2 }) v1 ≡ Some AlreadyStable
+unfolding of_two_pauses
+start_with_stable = refl
+
+start_with_shown : start_refusal (record of_two_pauses { version = v2 }) v2 ≡ None
+unfolding of_two_pauses
+start_with_shown = refl
+
 -- A promotion is refused where the release is done, and then where it is not at a pause.
 
 at_weight : Stand
@@ -211,3 +275,20 @@ not_paused = refl
 not_in_progress : promote_refusal (record at_weight { state = Done }) ≡ Some NotInProgress
 unfolding at_weight
 not_in_progress = refl
+
+-- What is watched of a past: a run is opened, measured and closed.
+
+abbrev run_of_two : Opening
+run_of_two = record { run = 1; step = Some 1; started = b; metrics = 2 }
+
+abbrev good : Recorded
+good = record { run = 1; metric = 1; ordinal = 1; taken = b + 5; outcome = Result (Whole (pos 7)); phase = Successful }
+
+one_open : watched (grows_by no_past (Opened run_of_two ∷ Measured good ∷ [])) ≡ record {
+  count = 1;
+  open_runs = record { number = 1; step = Some 1; started = b; tallies = counts [] ∷ with_one_more (counts []) Successful (b + 5) ∷ [] } ∷ [];
+}
+one_open = refl
+
+none_open : watched (grows_by no_past (Opened run_of_two ∷ Closed (record { run = 1; at = b + 9; outside = true; verdict = Successful }) ∷ [])) ≡ record { count = 1; open_runs = [] }
+none_open = refl
