@@ -1,0 +1,8 @@
+//! Laws of the definitions, each the contract of a function that does nothing.
+ghost use Rattle.canary_metric.specs.Counts.{CountsOneMore};
+
+/// The counts of a list with one more measurement are those of the list with that one more counted,
+/// however long the list is.
+pub fn one_more()
+    ensures { CountsOneMore }
+{}
