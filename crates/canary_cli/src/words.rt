@@ -1,5 +1,6 @@
 //! The words of a command line.
-ghost use Rattle.std.specs.Prelude.{◌≡◌, Some, [], map, false, IfOk, IfErr, IsSome, string_bytes, option_and_then};
+ghost use Rattle.std.specs.Prelude.{◌≡◌, Some, [], map, false, IfOk, IfErr, IsSome, string_bytes};
+ghost use Rattle.std.specs.Prelude.{option_and_then};
 ghost use Rattle.clap.specs.Words.{app_of, found_of, kind_of, rows_of, rule_of, subcommand_rows_of};
 ghost use Rattle.canary_cli.specs.CommandLine.{desk_command, pipe_command, moment_option};
 ghost use Rattle.canary_cli.specs.CommandLine.{faults_of, program_of, program_in, number_given};
