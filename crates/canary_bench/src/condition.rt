@@ -6,10 +6,10 @@ use canary_condition::outcome::Value;
 use std::alloc::Global;
 use std::time::{Duration, Instant};
 
-/// A comparison of 16 bytes that is false at 0.
+// A comparison of 16 bytes that is false at 0.
 const COMPARISON: &str = "result > 1000000";
 
-/// A condition of this many bytes, whose every comparison is evaluated at 0.
+// A condition of this many bytes, whose every comparison is evaluated at 0.
 fn condition_text(alloc: Global, len: usize) -> Result<String> {
     let mut text = String::from_str(alloc, COMPARISON)?;
     for _ in 0..len / 18 {
@@ -37,13 +37,13 @@ fn per_second(rounds: u32, nanos: u64) -> u64 {
     u64::from(rounds).saturating_mul(1_000_000_000) / nanos.max(1)
 }
 
-/// Tenths of a nanosecond for each byte.
+// Tenths of a nanosecond for each byte.
 fn tenths_per_byte(rounds: u32, len: usize, nanos: u64) -> u64 {
     let bytes = u64::from(rounds).saturating_mul(len as u64);
     nanos.saturating_mul(10) / bytes.max(1)
 }
 
-/// The nanoseconds that reading the text so many times takes.
+// The nanoseconds that reading the text so many times takes.
 fn time_parsing(rt: &HostRuntime, rounds: u32, text: &str) -> Result<u64> {
     let start = Instant::now(rt)?;
     for _ in 0..rounds {
@@ -53,7 +53,7 @@ fn time_parsing(rt: &HostRuntime, rounds: u32, text: &str) -> Result<u64> {
     Ok(nanos_of(start.elapsed(rt)?))
 }
 
-/// The nanoseconds that evaluating the condition so many times takes.
+// The nanoseconds that evaluating the condition so many times takes.
 fn time_evaluation(rt: &HostRuntime, rounds: u32, text: &str) -> Result<u64> {
     let Ok(condition) = Condition::parse(rt.alloc(), text) else {
         return Ok(0);
@@ -69,7 +69,7 @@ fn time_evaluation(rt: &HostRuntime, rounds: u32, text: &str) -> Result<u64> {
     Ok(nanos_of(start.elapsed(rt)?))
 }
 
-/// Tenths as a number with one decimal.
+// Tenths as a number with one decimal.
 fn with_decimal(alloc: Global, tenths: u64) -> Result<String> {
     let whole = tenths / 10;
     let tenth = tenths % 10;

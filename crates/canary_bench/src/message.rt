@@ -10,12 +10,12 @@ use std::time::Instant;
 
 const HEAD: &[u8; 60] = b"PUT /callers/ops/requests/1 HTTP/1.1\r\nContent-Length: 29\r\n\r\n";
 
-/// Where the request number stands in the head.
+// Where the request number stands in the head.
 const NUMBER_AT: usize = 26;
 
 const BODY: &[u8; 29] = b"{\"promote\":{\"service\":\"web\"}}";
 
-/// How long a head is that is read.
+// How long a head is that is read.
 fn read_head(bytes: &[u8]) -> usize {
     let mut headers = [EMPTY_HEADER_SPAN; 64];
     match parse_request(bytes, &mut headers) {
@@ -24,7 +24,7 @@ fn read_head(bytes: &[u8]) -> usize {
     }
 }
 
-/// How many members a body has that is read.
+// How many members a body has that is read.
 fn read_body(alloc: Global, bytes: &[u8]) -> usize {
     match Value::from_slice(alloc, bytes) {
         Ok(value) => value.as_object().map_or(0, |members| members.len()),

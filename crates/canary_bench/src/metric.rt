@@ -12,7 +12,7 @@ use canary_metric::metric::{Metric, MetricSettings};
 use canary_metric::tally::Tally;
 use std::time::{Duration, Instant};
 
-/// The tallies among which the phases are asked in turn.
+// The tallies among which the phases are asked in turn.
 const TALLIES: usize = 4;
 
 /// Makes about so many additions and asks so many phases at each size, and prints a table.
@@ -40,7 +40,7 @@ pub fn measure(rt: &HostRuntime, work: u32) -> Result<()> {
     Ok(())
 }
 
-/// A metric that stays Running, and a moment.
+// A metric that stays Running, and a moment.
 fn measured() -> Option<(Metric, Moment)> {
     let metric = Metric::new(MetricSettings {
         name: Label::read("latency".as_bytes())?,
@@ -57,7 +57,7 @@ fn measured() -> Option<(Metric, Moment)> {
     Some((metric, Moment::new(1_767_225_600)?))
 }
 
-/// Fills tallies with so many measurements each, again and again; gives the last.
+// Fills tallies with so many measurements each, again and again; gives the last.
 fn filled_often(size: u32, fillings: u32, begin: Moment) -> [Tally; TALLIES] {
     let mut tallies = [Tally::new(); TALLIES];
     for round in 0..fillings {
@@ -97,7 +97,7 @@ fn count_running(tallies: &[Tally; TALLIES], work: u32, metric: &Metric) -> u32 
     running
 }
 
-/// So many calls in that time, as calls a second.
+// So many calls in that time, as calls a second.
 fn rate(calls: u64, time: Duration) -> u64 {
     let micros = u64::try_from(time.as_micros()).unwrap_or(u64::MAX);
     calls.saturating_mul(1_000_000) / micros.max(1)

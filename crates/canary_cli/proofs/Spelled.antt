@@ -13,10 +13,12 @@ use Rattle.clap.specs.declared.builder.value_parser.ValueParser.TheVariants.{Uns
 use Rattle.clap.specs.declared.error.kind.ErrorKind.{ErrorKind}
 use Rattle.clap.specs.declared.error.kind.ErrorKind.TheVariants.{MissingSubcommand}
 use Rattle.clap.specs.declared.parser.matches.Found.{Found}
+use Rattle.std.specs.Str.{bytes_eq}
+use Rattle.std.proofs.lemmas.Slice.Eq.{bytes_eq-Decides}
 use Rattle.clap.proofs.WalkLemmas.{one_text-rows}
 use Rattle.clap.proofs.ValueTestLemmas.{accepts-Accepts}
 use Rattle.canary_cli.specs.CommandLine.{desk_command, pipe_command, faults_of, number_given, pipe_of, program_in, program_of, HasMoment, HasPipe}
-use Rattle.canary_cli.proofs.Walks.{AreOptions, below_none, given_text, read-level}
+use Rattle.canary_cli.proofs.Walks.{AreOptions, IsNoHelp, below_none, given_text, read-level, stop-no_help}
 
 -- the desk and its command `pipe`, as they are built
 abbrev desk : Shape
@@ -52,23 +54,38 @@ pipe_rows words none =
 never : {P : Type 0} (k : ErrorKind) → k ∷ [] ≡ [] → P
 never k none = cc
 
-named : (found : Bool) (words : List Text) (rows : List Row) → check_fault desk rows (is_some (option_map (λ s. rows_at s words) (cond found (Some pipe) None))) ≡ []
-    → option_map_or (λ s. level_fault s [] nothing_held words false []) (cond found (Some pipe) None) [] ≡ []
-    → HasPipe (option_map (λ s. rows_at s words) (cond found (Some pipe) None))
-named false words rows checks none = cc
-named true words rows checks none =
+-- the command `help`, as it is built
+abbrev help : Shape
+help = unwrap_or (slice_get (built desk_command).subs 1) pipe_command.top
+
+no_help : (name : Text) → bytes_eq name (codes "help") ≡ false → answers_to name (codes "help", []) ≡ false
+no_help name other = go (bytes_eq (codes "help") name) (bytes_eq-Decides (codes "help") name).0
+  where
+    go : (b : Bool) → (b ≡ true → codes "help" ≡ name) → (b || false) ≡ false
+    go true same =
+        let is_help : bytes_eq (codes "help") (codes "help") ≡ false = subst (λ (n : Text). bytes_eq n (codes "help") ≡ false) (sym (same refl)) other in
+        cc
+    go false same = refl
+
+named : (found helped : Bool) (words : List Text) (rows : List Row) → helped ≡ false
+    → check_fault desk rows (is_some (option_map (λ s. rows_at s words) (cond found (Some pipe) (cond helped (Some help) None)))) ≡ []
+    → option_map_or (λ s. level_fault s [] nothing_held words false []) (cond found (Some pipe) (cond helped (Some help) None)) [] ≡ []
+    → HasPipe (option_map (λ s. rows_at s words) (cond found (Some pipe) (cond helped (Some help) None)))
+named false true words rows other checks none = cc
+named false false words rows other checks none = cc
+named true helped words rows other checks none =
     let given = pipe_rows words none in
     (rows_after pipe.rules [] words, refl, given.0, given.1)
 
-met : (o : Option (Text × List Text)) (words : List Text)
+met : (o : Option (Text × List Text)) (words : List Text) → IsNoHelp o
     → level_fault desk (names_of (built desk_command)) nothing_held words (is_some (entered (built desk_command) o)) (entered_fault (built desk_command) o) ≡ []
     → HasPipe (entered (built desk_command) o)
-met None words none =
+met None words other none =
     let checks = (below_none desk (names_of (built desk_command)) words false [] none).1 in
     never MissingSubcommand checks
-met (Some p) words none =
+met (Some p) words other none =
     let top = below_none desk (names_of (built desk_command)) words _ _ none in
-    named (answers_to p.0 (codes "pipe", [])) p.1 (rows_after desk.rules (names_of (built desk_command)) words) top.1 top.0
+    named (answers_to p.0 (codes "pipe", [])) (answers_to p.0 (codes "help", [])) p.1 (rows_after desk.rules (names_of (built desk_command)) words) (no_help p.0 other) top.1 top.0
 
 -- the number that is read of a text that passed the parser of a moment
 number_read : (E : Type 0) (G : List ℕ → Result ℕ E → Type 0) (text : Text) (r : Option ℕ) → ReadsOne G text r
@@ -95,7 +112,9 @@ moment_made n (Some m) made small = ap (λ k. Some k) made.1
 
 -- where clap finds no fault, the words have met `pipe`, with a moment for each of its options
 pub spelled : (words : List Text) → faults_of words ≡ [] → HasPipe (subcommand_of desk_command words)
-spelled words none = met (stop_after desk.rules (names_of (built desk_command)) (argument_words desk_command words)) (argument_words desk_command words) none
+spelled words none =
+    let stop = stop_after desk.rules (names_of (built desk_command)) (argument_words desk_command words) in
+    met stop (argument_words desk_command words) (stop-no_help desk (names_of (built desk_command)) (argument_words desk_command words) _ _ refl none) none
 
 number_is : (name : Text) (rows : List Row) (h : HasMoment name rows) → number_given name rows ≡ Some (digits_value 10 (without_leading_plus h.0))
 number_is name rows h = ap (option_map (λ text. digits_value 10 (without_leading_plus text))) h.1

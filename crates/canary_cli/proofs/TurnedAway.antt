@@ -1,16 +1,16 @@
 -- Why words in which clap finds nothing have no program.
-use Rattle.std.proofs.Common.{◌≡◌, ℕ, [], subst}
+use Rattle.std.proofs.Common.{◌≡◌, ℕ, [], subst, inl, inr}
 use Rattle.clap.specs.Words.{IsAmong, Kinds}
-use Rattle.clap.specs.declared.error.kind.ErrorKind.TheVariants.{DisplayHelp}
+use Rattle.clap.specs.declared.error.kind.ErrorKind.TheVariants.{DisplayHelp, DisplayVersion}
 use Rattle.canary_wire.specs.Writes.{Known}
 use Rattle.canary_cli.specs.declared.words.WordsFault.{WordsFault}
 use Rattle.canary_cli.specs.declared.words.WordsFault.TheVariants.{Help, Usage, Memory}
 use Rattle.canary_cli.specs.CommandLine.{IsFor}
 use Rattle.canary_cli.specs.Performed.{IsTold}
 
--- only for want of memory: they neither ask for help nor have a mistake
+-- only since memory ran out: they neither ask for help or for the version nor have a mistake
 pub only_memory : (kinds : Kinds) (fault : WordsFault) (w new_w : Known) (status : ℕ) → kinds ≡ [] → IsFor kinds fault → IsTold fault w new_w status
     → (status ≡ 1) × (new_w ≡ w)
-only_memory kinds (Help text) w new_w status none is told = absurd (subst (IsAmong DisplayHelp) none is)
+only_memory kinds (Help text) w new_w status none is told = absurd (elim is as (λ _. ⊥) [ inl help ↦ subst (IsAmong DisplayHelp) none help | inr version ↦ subst (IsAmong DisplayVersion) none version ])
 only_memory kinds (Usage text) w new_w status none is told = absurd (subst (IsAmong is.0) none is.1)
 only_memory kinds Memory w new_w status none is told = told

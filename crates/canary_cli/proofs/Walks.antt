@@ -1,6 +1,6 @@
 -- What clap's walk over words holds where it meets no fault: each row has a first value that passed the parser of its option.
--- This is for options that take one value each and have no default, and for flags that ask for help.
-use Rattle.std.proofs.Common.{◌≡◌, ◌∙◌, ◌⊎◌, ◌++◌, ◌&&◌, ℕ, zero, suc, Bool, true, false, cond, List, [], ◌∷◌, length, drop, fold, Option, Some, None, is_some, refl, sym, ap, subst, inl, inr}
+-- This is for options that take one value each and have no default, and for flags that ask for help. And where a walk that meets no fault stops at a subcommand, that is not `help`.
+use Rattle.std.proofs.Common.{◌≡◌, ◌∙◌, ◌⊎◌, ◌++◌, ◌&&◌, ℕ, zero, suc, Bool, true, false, not, codes, cond, List, [], ◌∷◌, length, drop, fold, Option, Some, None, is_some, refl, sym, ap, subst, inl, inr}
 use Rattle.std.specs.Prelude.{find, slice_get, encode_utf8, unwrap_or, option_map, option_and_then, if◌then◌else◌}
 use Rattle.std.specs.Option.{option_map_or}
 use Rattle.std.specs.Str.{bytes_eq, chars}
@@ -8,14 +8,14 @@ use Rattle.std.proofs.lemmas.Slice.Eq.{bytes_eq-Decides}
 use Rattle.clap.specs.Lexer.{long_of, short_of}
 use Rattle.clap.specs.Facts.{explicit_source, parser_of_value, unwrap_or_range}
 use Rattle.clap.specs.Values.{read_as, refused_kind}
-use Rattle.clap.specs.Walk.{Held, Names, Outcome, Row, Rule, Step, Text, Waiting, Walk, action_of, after_flag, after_step, arg_by_id, arg_by_index, arg_by_long, arg_by_short, at_row, attached_value, bundle, bundle_met, bundle_step, default_rows, done, flag_met, has_row, idle, is_pending, long_met, long_or_other, more_values, most_values, next, nothing_held, one_of, option, option_met, option_word, plain, plain_word, positional, reacted, reading_by, refused, row_text, rows_after, settled, settled_rows, short_met, short_or_plain, subcommand, subcommand_met, subcommand_or_other, takes_several, takes_values, to_positional, trailing, used, used_as, used_by_id, value, values_or_missing, waits, walk, walk_from, walked, walked_from, with_default, without, word_met}
+use Rattle.clap.specs.Walk.{Held, Names, Outcome, Row, Rule, Step, Text, Waiting, Walk, action_of, after_flag, after_step, arg_by_id, arg_by_index, arg_by_long, arg_by_short, at_row, attached_value, bundle, bundle_met, bundle_step, default_rows, done, flag_met, has_row, idle, is_pending, long_met, long_or_other, more_values, most_values, next, nothing_held, one_of, option, option_met, option_word, plain, plain_word, positional, reacted, reading_by, refused, row_text, rows_after, settled, settled_rows, short_met, short_or_plain, stop_after, subcommand, subcommand_met, subcommand_or_other, takes_several, takes_values, to_positional, trailing, used, used_as, used_by_id, value, values_or_missing, waits, walk, walk_from, walked, walked_from, with_default, without, word_met}
 use Rattle.clap.specs.Simple.{Shape}
 use Rattle.clap.specs.Takes.{is_given, value_passes}
 use Rattle.clap.specs.Kinds.{Kinds, or_else, range_kinds, request_kinds, value_kinds}
 use Rattle.clap.specs.Faults.{action_fault, bundle_fault, bundle_step_fault, check_fault, defaults_fault, flag_word_fault, flags_fault, level_fault, long_fault, option_fault, other_fault, positional_fault, react_fault, set_fault, settle_fault, short_fault, step_fault, stray_fault, turn_fault, use_fault, values_fault, walk_fault, word_fault}
 use Rattle.clap.specs.declared.builder.action.ArgAction.{ArgAction}
 use Rattle.clap.specs.declared.builder.action.ArgAction.TheVariants.{Set, Help}
-use Rattle.clap.specs.declared.error.kind.ErrorKind.TheVariants.{TooManyValues}
+use Rattle.clap.specs.declared.error.kind.ErrorKind.TheVariants.{TooManyValues, DisplayHelp, InvalidSubcommand}
 use Rattle.clap.specs.declared.parser.matches.ValueSource.TheVariants.{CommandLine}
 
 -- ---- options and rows
@@ -315,6 +315,95 @@ read-walk s names w [] all none read = read
 read-walk s names w (word ∷ words) all none read =
     read-walk s names (walked s.rules names w word) words all (right_none _ _ none) (read-turn s names w word all (left_none _ _ none) read)
 
+-- ---- no walk that meets no fault stops at `help`
+
+abbrev pub IsNoHelp : Option (Text × List Text) → Type 0
+IsNoHelp None = Unit {0}
+IsNoHelp (Some p) = bytes_eq p.0 (codes "help") ≡ false
+
+abbrev EntersNone : Step → Type 0
+EntersNone (subcommand name) = ⊥
+EntersNone step = Unit {0}
+
+no_help-name : (s : Shape) (name word : Text) (h : Held) → s.disable_help_subcommand ≡ false → other_fault s (Some name) word h ≡ [] → bytes_eq name (codes "help") ≡ false
+no_help-name s name word h on none =
+    go (bytes_eq name (codes "help")) (subst (λ b. (if bytes_eq name (codes "help") && not b then DisplayHelp ∷ InvalidSubcommand ∷ [] else []) ≡ []) on none)
+  where
+    go : (b : Bool) → (if b && true then DisplayHelp ∷ InvalidSubcommand ∷ [] else []) ≡ [] → b ≡ false
+    go true none = cc
+    go false none = refl
+
+enters_none-plain_word : (c : List Rule) (waiting : Waiting) (word : Text) (h : Held) → EntersNone (plain_word c waiting word h).1
+enters_none-plain_word c idle word h = tt
+enters_none-plain_word c (option id) word h = tt
+enters_none-plain_word c positional word h = tt
+
+enters_none-after_flag : (c : List Rule) (waiting : Waiting) (word : Text) (h : Held) (o : Outcome) → EntersNone (after_flag c waiting word h o).1
+enters_none-after_flag c waiting word h done = tt
+enters_none-after_flag c waiting word h (waits id) = tt
+enters_none-after_flag c waiting word h plain = enters_none-plain_word c waiting word h
+enters_none-after_flag c waiting word h refused = enters_none-plain_word c waiting word h
+
+enters_none-short : (c : List Rule) (waiting : Waiting) (word : Text) (o : Option Text) (h : Held) → EntersNone (short_or_plain c waiting word o h).1
+enters_none-short c waiting word None h = enters_none-plain_word c waiting word h
+enters_none-short c waiting word (Some flags) h = enters_none-after_flag c waiting word (bundle c flags h).0 (bundle c flags h).1
+
+enters_none-flag_word : (c : List Rule) (waiting : Waiting) (word : Text) (o : Option (Text × Option Text)) (h : Held) → EntersNone (long_or_other c waiting word o h).1
+enters_none-flag_word c waiting word None h = enters_none-short c waiting word (short_of word) h
+enters_none-flag_word c waiting word (Some p) h =
+    enters_none-after_flag c waiting word (long_met c (arg_by_long c p.0) p.1 h).0 (long_met c (arg_by_long c p.0) p.1 h).1
+
+enters_none-other : (c : List Rule) (waiting : Waiting) (position : ℕ) (word : Text) (h : Held) → EntersNone (subcommand_or_other c None waiting position word h).1
+enters_none-other c waiting position word h = go (bytes_eq word (45 ∷ 45 ∷ []))
+  where
+    go : (b : Bool) → EntersNone (if b then (h, trailing position) else long_or_other c waiting word (long_of word) h).1
+    go true = tt
+    go false = enters_none-flag_word c waiting word (long_of word) h
+
+no_help-step : (c : List Rule) (word : Text) (w : Walk) (h : Held) (step : Step) → EntersNone step → IsNoHelp w.stopped → IsNoHelp (after_step c word w h step).stopped
+no_help-step c word w h (next waiting) enters before = before
+no_help-step c word w h (trailing position) enters before = before
+no_help-step c word w h (subcommand name) enters before = absurd enters
+no_help-step c word w h value enters before = go (arg_by_index c w.position)
+  where
+    go : (o : Option Rule) → IsNoHelp (to_positional c o word w h).stopped
+    go None = before
+    go (Some a) = tt
+
+no_help-word : (s : Shape) (names : Names) (is_trailing : Bool) (word : Text) (w : Walk) → s.disable_help_subcommand ≡ false → word_fault s names is_trailing w.waiting word w.held ≡ []
+    → IsNoHelp w.stopped
+    → IsNoHelp (after_step s.rules word w (word_met s.rules names is_trailing w.waiting w.position word w.held).0 (word_met s.rules names is_trailing w.waiting w.position word w.held).1).stopped
+no_help-word s names true word w on none before = no_help-step s.rules word w w.held value tt before
+no_help-word s names false word w on none before = go (subcommand_met names w.waiting word) none
+  where
+    go : (o : Option Text) → other_fault s o word w.held ≡ []
+        → IsNoHelp (after_step s.rules word w (subcommand_or_other s.rules o w.waiting w.position word w.held).0 (subcommand_or_other s.rules o w.waiting w.position word w.held).1).stopped
+    go None none =
+        no_help-step s.rules word w (subcommand_or_other s.rules None w.waiting w.position word w.held).0 (subcommand_or_other s.rules None w.waiting w.position word w.held).1
+        (enters_none-other s.rules w.waiting w.position word w.held)
+        before
+    go (Some name) none = no_help-name s name word w.held on none
+
+no_help-turn : (s : Shape) (names : Names) (w : Walk) (word : Text) → s.disable_help_subcommand ≡ false → turn_fault s names w word ≡ [] → IsNoHelp w.stopped
+    → IsNoHelp (walked s.rules names w word).stopped
+unfolding walked
+no_help-turn s names w word on none before = go w.stopped none before
+  where
+    go : (o : Option (Text × List Text))
+        → (if is_some o then [] else or_else (word_fault s names w.is_trailing w.waiting word w.held)
+        (step_fault s w.position (word_met s.rules names w.is_trailing w.waiting w.position word w.held).0
+        (word_met s.rules names w.is_trailing w.waiting w.position word w.held).1)) ≡ []
+        → IsNoHelp o → IsNoHelp (walked_from s.rules names o w word).stopped
+    go (Some p) none so = so
+    go None none so = no_help-word s names w.is_trailing word w on (left_none _ _ none) before
+
+no_help-walk : (s : Shape) (names : Names) (w : Walk) (words : List Text) → s.disable_help_subcommand ≡ false → walk_fault s names w words ≡ [] → IsNoHelp w.stopped
+    → IsNoHelp (fold (walked s.rules names) w words).stopped
+unfolding walk_fault
+no_help-walk s names w [] on none before = before
+no_help-walk s names w (word ∷ words) on none before =
+    no_help-walk s names (walked s.rules names w word) words on (right_none _ _ none) (no_help-turn s names w word on (left_none _ _ none) before)
+
 read-defaults : (c xs : List Rule) (rows : List Row) → AreOptions c xs → AreRead c rows → AreRead c (fold with_default rows xs)
 read-defaults c [] rows all read = read
 read-defaults c (a ∷ xs) rows all read = read-defaults c xs (with_default rows a) all.1 (go (has_row a.id rows))
@@ -366,6 +455,13 @@ pub below_none : (s : Shape) (names : Names) (words : List Text) (has_subcommand
 below_none s names words has_subcommand below none =
     let parts = level_parts s names words has_subcommand below none in
     (parts.below, parts.check)
+
+-- a level that has the subcommand `help`, and meets no fault, does not stop at it
+pub stop-no_help : (s : Shape) (names : Names) (words : List Text) (has_subcommand : Bool) (below : Kinds) → s.disable_help_subcommand ≡ false
+    → level_fault s names nothing_held words has_subcommand below ≡ []
+    → IsNoHelp (stop_after s.rules names words)
+stop-no_help s names words has_subcommand below on none =
+    no_help-walk s names (walk_from nothing_held) words on (level_parts s names words has_subcommand below none).walk tt
 
 -- an option that was given has a text that passed its parser
 pub given_text : (c : List Rule) (id : Text) (a : Rule) (rows : List Row) → arg_by_id c id ≡ Some a → AreRead c rows → is_given id rows ≡ true

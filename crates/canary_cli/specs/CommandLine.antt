@@ -1,5 +1,5 @@
 -- The command lines that the desk takes, by clap's definition of a simple command.
-use Rattle.std.specs.Prelude.{◌≡◌, ◌≢◌, ℕ, true, List, Option, Some, None, codes, option_map}
+use Rattle.std.specs.Prelude.{◌≡◌, ◌≢◌, ◌⊎◌, ℕ, true, List, Option, Some, None, codes, option_map}
 use Rattle.std.specs.Prelude.{option_and_then, if◌then◌else◌}
 use Rattle.std.specs.Str.{bytes_eq}
 use Rattle.std.specs.Str.Parse.{digits_value, without_leading_plus}
@@ -9,7 +9,7 @@ use Rattle.clap.specs.Simple.{on_top}
 use Rattle.clap.specs.declared.builder.action.ArgAction.TheVariants.{Set}
 use Rattle.clap.specs.declared.builder.value_parser.ValueParser.TheVariants.{Unsigned}
 use Rattle.clap.specs.declared.error.kind.ErrorKind.{ErrorKind}
-use Rattle.clap.specs.declared.error.kind.ErrorKind.TheVariants.{DisplayHelp}
+use Rattle.clap.specs.declared.error.kind.ErrorKind.TheVariants.{DisplayHelp, DisplayVersion}
 use Rattle.canary_cli.specs.declared.words.Program.{Program}
 use Rattle.canary_cli.specs.declared.words.Program.TheVariants.{Pipe}
 use Rattle.canary_cli.specs.declared.words.WordsFault.{WordsFault}
@@ -32,15 +32,16 @@ abbrev pub pipe_command : App
 pipe_command = with_rule (with_rule (new_app (codes "pipe")) (moment_option (codes "at")))
     (moment_option (codes "step"))
 
--- one of the commands, and no subcommand `help`
+-- one of the commands, behind no name of the program; `--version` is taken too
 abbrev pub desk_command : App
 desk_command = with_subcommand (on_top (λ s. record s {
-  disable_help_subcommand = true;
+  no_binary_name = true;
+  has_version = true;
   subcommand_required = true;
 }) (new_app (codes "canary"))) pipe_command.top
 
--- what clap finds in the words, of which the first is the program's name: the kind of the first
--- mistake, or of a request for help, and nothing where the desk takes them
+-- what clap finds in the words behind the program's name: the kind of the first mistake, or of a
+-- request for help or for the version, and nothing where the desk takes them
 abbrev pub faults_of : List Text → Kinds
 faults_of = fault_of desk_command
 
@@ -66,11 +67,13 @@ program_of words = option_and_then program_in (subcommand_of desk_command words)
 
 -- ---- faults
 
+-- for help, or for the version
 abbrev pub AsksForHelp : Kinds → Type 0
-AsksForHelp kinds = IsAmong DisplayHelp kinds
+AsksForHelp kinds = IsAmong DisplayHelp kinds ⊎ IsAmong DisplayVersion kinds
 
 abbrev pub HasMistake : Kinds → Type 0
-HasMistake kinds = (k : ErrorKind) × IsAmong k kinds × (k ≢ DisplayHelp)
+HasMistake kinds =
+    (k : ErrorKind) × IsAmong k kinds × (k ≢ DisplayHelp) × (k ≢ DisplayVersion)
 
 -- help is answered only where it is asked for, and usage only where the words have a mistake
 abbrev pub IsFor : Kinds → WordsFault → Type 0

@@ -12,6 +12,8 @@ use canary_once::clock::StepClock;
 use canary_once::memory::MemoryBook;
 use canary_wire::serve::{Ended, ServeFault, serve};
 use std::alloc::Global;
+use std::error::Error;
+use std::fmt;
 use std::io::{self, ErrorKind, Read, Write};
 
 /// The exit status where what was asked was done.
@@ -43,6 +45,20 @@ pub enum Fault {
     TurnsSpent,
 }
 
+impl fmt::Display for Fault {
+    fn fmt<W: fmt::Write>(&self, f: &mut fmt::Formatter<W>) -> fmt::Result {
+        f.write_str(match self {
+            Fault::Memory => "out of memory",
+            Fault::Read => "the input failed",
+            Fault::Write => "the output failed or was closed",
+            Fault::Truncated => "the input ended in the midst of a message",
+            Fault::TurnsSpent => "the input went on after 1,000,000,000 reads",
+        })
+    }
+}
+
+impl Error for Fault {}
+
 impl Fault {
     // The line that names it on the error stream.
     fn line(self) -> &'static str
@@ -58,11 +74,11 @@ impl Fault {
     }
 }
 
-/// Runs a command line, of which the first word is the program's name, on this input, output and
-/// error stream, and answers the exit status.
+/// Runs a command line, the words behind the program's name, on this input, output and error
+/// stream, and answers the exit status.
 ///
-/// 0: what was asked was done, or help was asked for, whose text is written to `output`. 1: a
-/// fault, which one line `canary: WORD` on `errors` names (`memory`, `read`, `write`, `truncated`,
+/// 0: what was asked was done, or help or the version was asked for, whose text is written to
+/// `output`. 1: a fault, which one line `canary: WORD` on `errors` names (`memory`, `read`, `write`, `truncated`,
 /// `turns-spent`). 2: the command line is none that the desk takes, and `errors` has the text that
 /// says why. A fault of `errors` itself is ignored.
 pub fn perform<R: Read, W: Write, F: Write>(
@@ -74,9 +90,11 @@ pub fn perform<R: Read, W: Write, F: Write>(
 ) -> u8
     ensures piped { (at step : ℕ) → faults_of (map string_bytes words.now) ≡ []
         → program_of (map string_bytes words.now) ≡ Some (Program.Pipe at step)
-        → IsPipedTo (R.remaining input.old) (R.remaining input.new) (W.contents output.old) (W.contents output.new) at step result }
+        → IsPipedTo (R.remaining input.old) (R.remaining input.new)
+        (W.contents output.old) (W.contents output.new) at step result }
     ensures turned_away { (faults_of (map string_bytes words.now) ≡ [] → ⊥)
-        → IsTurnedAway (faults_of (map string_bytes words.now)) (W.contents output.old) (W.contents output.new) result }
+        → IsTurnedAway (faults_of (map string_bytes words.now))
+        (W.contents output.old) (W.contents output.new) result }
     ensures unread { (faults_of (map string_bytes words.now) ≡ [] → ⊥) → input.new ≡ input.old }
     ensures quiet { result ≡ DONE → errors.new ≡ errors.old }
 {
@@ -102,7 +120,7 @@ fn turn_away<W: Write, F: Write>(fault: &WordsFault, output: &mut W, errors: &mu
 }
 
 /// The exit status where the words of the command line could not be had: 2 where one of them is
-/// not UTF-8, else 1 for want of memory. `errors` has the text that says so.
+/// not UTF-8, else 1 since memory ran out. `errors` has the text that says so.
 pub fn refuse<F: Write>(error: &io::Error, errors: &mut F) -> u8
     ensures usage { (result ≡ USAGE) ↔ (error_kind error.now ≡ ErrorKind.InvalidData) }
     ensures fault { (error_kind error.now ≡ ErrorKind.InvalidData → ⊥) → result ≡ FAULT }
@@ -120,7 +138,8 @@ fn run<R: Read, W: Write>(
     input: &mut R,
     output: &mut W,
 ) -> Result<(), Fault>
-    ensures { IsRun (R.remaining input.old) (R.remaining input.new) (W.contents output.old) (W.contents output.new) program result }
+    ensures { IsRun (R.remaining input.old) (R.remaining input.new)
+        (W.contents output.old) (W.contents output.new) program result }
 {
     match program {
         Program::Pipe { at, step } => pipe(alloc, at, step, input, output),
@@ -136,7 +155,8 @@ fn pipe<R: Read, W: Write>(
     input: &mut R,
     output: &mut W,
 ) -> Result<(), Fault>
-    ensures { IsPiped (R.remaining input.old) (R.remaining input.new) (W.contents output.old) (W.contents output.new) at step result }
+    ensures { IsPiped (R.remaining input.old) (R.remaining input.new)
+        (W.contents output.old) (W.contents output.new) at step result }
 {
     let mut clock = StepClock::new(at, step);
     let mut book = MemoryBook::new(alloc);

@@ -3,12 +3,12 @@
 #![tactic(auto)]
 
 use canary_cli::perform::{perform, refuse};
-use std::io;
+use canary_cli::process::words_of;
 use std::process::ExitCode;
 
 fn main(rt: HostRuntime) -> ExitCode {
     let mut errors = rt.stderr();
-    let status = match given_words(&rt) {
+    let status = match words_of(&rt, rt.alloc()) {
         Ok(words) => perform(
             rt.alloc(),
             words.as_slice(),
@@ -19,10 +19,4 @@ fn main(rt: HostRuntime) -> ExitCode {
         Err(error) => refuse(&error, &mut errors),
     };
     ExitCode::from(status)
-}
-
-// The words of the command line, of which the first is the program's name.
-fn given_words<R: std::rt::Env + AllocGlobal>(rt: &R) -> io::Result<Vec<String>> {
-    let words = std::env::args(rt)?.collect(rt.alloc())?;
-    Ok(words)
 }

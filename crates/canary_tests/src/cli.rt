@@ -3,8 +3,10 @@ use crate::rows::{lined, split};
 use canary_base::error::Memory;
 use canary_base::moments::Moment;
 use canary_cli::perform::{perform, refuse};
+use canary_cli::process::words_of;
 use canary_cli::words::{Program, WordsFault, read_words};
 use std::alloc::Global;
+use std::env::{Env, FillError};
 use std::io;
 use std::io::{ErrorKind, Read, Write};
 use std::test::Fail;
@@ -16,7 +18,7 @@ const UNREADABLE: &str = concat!(
     r#"{"code":"unreadable"}"#
 );
 
-const PIPE: &str = "canary pipe --at 1767225600 --step 1";
+const PIPE: &str = "pipe --at 1767225600 --step 1";
 
 // Gives these bytes, and then fails.
 #[derive(Drop)]
@@ -68,17 +70,17 @@ struct Outcome {
     errors: Vec<u8>,
 }
 
-fn typed(alloc: Global, words: &str) -> Result<Vec<String>, Memory> {
-    let mut typed = Vec::new(alloc);
-    for word in words.split_ascii_whitespace() {
-        typed.push(word.to_string(alloc)?)?;
+fn words_in(alloc: Global, text: &str) -> Result<Vec<String>, Memory> {
+    let mut words = Vec::new(alloc);
+    for word in text.split_ascii_whitespace() {
+        words.push(word.to_string(alloc)?)?;
     }
-    Ok(typed)
+    Ok(words)
 }
 
 // A command line on this input.
-fn performed<R: Read>(alloc: Global, words: &str, input: &mut R) -> Result<Outcome, Memory> {
-    let words = typed(alloc, words)?;
+fn outcome_of<R: Read>(alloc: Global, words: &str, input: &mut R) -> Result<Outcome, Memory> {
+    let words = words_in(alloc, words)?;
     let mut output = Vec::new(alloc);
     let mut errors = Vec::new(alloc);
     let status = perform(alloc, words.as_slice(), input, &mut output, &mut errors);
@@ -98,26 +100,27 @@ fn has(text: &[u8], part: &str) -> bool {
 
 // Command lines, with what is said of them.
 const MISTAKES: &str = " => requires a subcommand
-canary => requires a subcommand
-canary pip => unrecognized subcommand 'pip'
-canary help => unrecognized subcommand 'help'
-canary --version => unexpected argument '--version' found
-canary pipe => not provided:|  --at <SECONDS>|  --step <SECONDS>|
-canary pipe --at 1 => not provided:|  --step <SECONDS>|
-canary pipe --step 1 => not provided:|  --at <SECONDS>|
-canary pipe --step 1 --at => a value is required for '--at <SECONDS>'
-canary pipe --at x --step 1 => invalid value 'x' for '--at <SECONDS>'
-canary pipe --at -1 --step 1 => unexpected argument '-1' found
-canary pipe --at 1 --step 253370764800 => 253370764800 is not in 0..=253370764799
-canary pipe --at 1 --at 1 --step 1 => cannot be used multiple times
-canary pipe --at 1 --step 1 x => unexpected argument 'x' found";
+ => |Usage: canary <COMMAND>|
+pip => unrecognized subcommand 'pip'
+help pip => unrecognized subcommand 'pip'
+pipe --version => unexpected argument '--version' found
+pipe => not provided:|  --at <SECONDS>|  --step <SECONDS>|
+pipe --at 1 => not provided:|  --step <SECONDS>|
+pipe --step 1 => not provided:|  --at <SECONDS>|
+pipe --step 1 --at => a value is required for '--at <SECONDS>'
+pipe --at x --step 1 => invalid value 'x' for '--at <SECONDS>'
+pipe --at -5 --step 1 => unexpected argument '-5' found||Usage: canary pipe --at
+pipe --at -5 --step 1 => SECONDS: a whole number from 0 to 253370764799
+pipe --at 1 --step 253370764800 => 253370764800 is not in 0..=253370764799
+pipe --at 1 --at 1 --step 1 => cannot be used multiple times
+pipe --at 1 --step 1 x => unexpected argument 'x' found";
 
 // Whether a row's words are refused for its reason, and nothing is read or written for them.
 fn is_mistake(alloc: Global, row: &str) -> Result<bool, Fail> {
     let (words, why) = split(row)?;
     let why = lined(alloc, why, "\n")?;
     let mut input = REQUEST.as_bytes();
-    let done = performed(alloc, words, &mut input)?;
+    let done = outcome_of(alloc, words, &mut input)?;
     let is_told = has(&done.errors, "error: ") && has(&done.errors, why.as_str());
     Ok(is_told && done.status == 2 && done.output.is_empty() && input == REQUEST.as_bytes())
 }
@@ -130,10 +133,14 @@ fn refuses_what_it_does_not_take(rt: HostRuntime) -> Result<(), Fail> {
     Ok(())
 }
 
-// Command lines that ask for help, with two parts of it.
-const HELP: &str = "canary --help => Usage: canary <COMMAND>| => Exit status: 0
-/bin/canary -h => Usage: canary <COMMAND>| => Exit status: 0
-canary pipe --help => Usage: canary pipe --at <SECONDS> --step <SECONDS>| => |  canary: truncated";
+// Command lines that ask for help or for the version, with two parts of it.
+const HELP: &str = "--help => Usage: canary <COMMAND>| => Exit status: 0
+-h => Usage: canary <COMMAND>| => Exit status: 0
+help => Usage: canary <COMMAND>| => Exit status: 0
+pipe --help => Usage: canary pipe --at <SECONDS> --step <SECONDS>| => |  canary: truncated
+help pipe => Usage: canary pipe --at <SECONDS> --step <SECONDS>| => |  canary: truncated
+--version => canary  => 0.1.0|
+-V => canary  => 0.1.0|";
 
 // Whether a row's words print help that has its parts.
 fn is_helped(alloc: Global, row: &str) -> Result<bool, Fail> {
@@ -141,7 +148,7 @@ fn is_helped(alloc: Global, row: &str) -> Result<bool, Fail> {
     let (usage, statuses) = split(parts)?;
     let usage = lined(alloc, usage, "\n")?;
     let statuses = lined(alloc, statuses, "\n")?;
-    let done = performed(alloc, words, &mut REQUEST.as_bytes())?;
+    let done = outcome_of(alloc, words, &mut REQUEST.as_bytes())?;
     let is_told = has(&done.output, usage.as_str()) && has(&done.output, statuses.as_str());
     Ok(is_told && done.status == 0 && done.errors.is_empty())
 }
@@ -156,8 +163,8 @@ fn prints_its_help(rt: HostRuntime) -> Result<(), Fail> {
 
 // Whether nothing is written for the moments of that text.
 fn is_taken(alloc: Global, seconds: &str) -> Result<bool, Fail> {
-    let words = format!(in alloc; "canary pipe --step {seconds} --at {seconds}")?;
-    let done = performed(alloc, words.as_str(), &mut "".as_bytes())?;
+    let words = format!(in alloc; "pipe --step {seconds} --at {seconds}")?;
+    let done = outcome_of(alloc, words.as_str(), &mut "".as_bytes())?;
     Ok(done.status == 0 && done.output.is_empty() && done.errors.is_empty())
 }
 
@@ -182,7 +189,7 @@ PUT /callers/ops/requests/1 HTTP/1.1|Content-Length: 3||{}";
 // Whether the program ends with that status and that line where a row is its input.
 fn ends_so(alloc: Global, row: &str, status: u8, line: &str) -> Result<bool, Fail> {
     let input = lined(alloc, row, "\r\n")?;
-    let done = performed(alloc, PIPE, &mut input.as_bytes())?;
+    let done = outcome_of(alloc, PIPE, &mut input.as_bytes())?;
     Ok(done.status == status && done.errors.as_slice() == line.as_bytes())
 }
 
@@ -205,7 +212,7 @@ fn tells_of_a_reader_that_fails(rt: HostRuntime) -> Result<(), Fail> {
     let mut input = Failing {
         rest: REQUEST.as_bytes(),
     };
-    let done = performed(rt.alloc(), PIPE, &mut input)?;
+    let done = outcome_of(rt.alloc(), PIPE, &mut input)?;
     assert!(rt; done.status == 1);
     assert!(rt; done.output.as_slice() == UNREADABLE.as_bytes());
     assert!(rt; done.errors.as_slice() == "canary: read\n".as_bytes());
@@ -214,7 +221,7 @@ fn tells_of_a_reader_that_fails(rt: HostRuntime) -> Result<(), Fail> {
 
 // Whether words whose output takes so many bytes end for that, with so many bytes written.
 fn is_cut_off(alloc: Global, words: &str, writes: usize) -> Result<bool, Memory> {
-    let words = typed(alloc, words)?;
+    let words = words_in(alloc, words)?;
     let mut output = Full {
         bytes: Vec::new(alloc),
         writes,
@@ -237,17 +244,14 @@ fn is_cut_off(alloc: Global, words: &str, writes: usize) -> Result<bool, Memory>
 fn tells_of_a_writer_that_fails(rt: HostRuntime) -> Result<(), Fail> {
     for writes in 0..8 {
         assert!(rt; is_cut_off(rt.alloc(), PIPE, writes)?, "{writes}");
-        assert!(rt;
-            is_cut_off(rt.alloc(), "canary --help", writes)?,
-            "{writes}"
-        );
+        assert!(rt; is_cut_off(rt.alloc(), "--help", writes)?, "{writes}");
     }
     Ok(())
 }
 
 // The status of words that are refused, where the error stream takes three bytes.
 fn status_unheard(alloc: Global, words: &str) -> Result<u8, Memory> {
-    let words = typed(alloc, words)?;
+    let words = words_in(alloc, words)?;
     let mut output = Vec::new(alloc);
     let mut errors = Full {
         bytes: Vec::new(alloc),
@@ -267,8 +271,8 @@ fn status_unheard(alloc: Global, words: &str) -> Result<u8, Memory> {
 #[test]
 fn ignores_a_fault_of_the_error_stream(rt: HostRuntime) -> Result<(), Fail> {
     let alloc = rt.alloc();
-    let status = status_unheard(alloc, "canary --nothing")?;
-    assert!(rt; status == 2 || status_unheard(alloc, "canary --nothing")? == 2);
+    let status = status_unheard(alloc, "--nothing")?;
+    assert!(rt; status == 2 || status_unheard(alloc, "--nothing")? == 2);
     Ok(())
 }
 
@@ -280,9 +284,60 @@ fn is_refused(alloc: Global, kind: ErrorKind, status: u8, text: &str) -> bool {
 
 const NO_TEXT: &str = "error: a word of the command line is not UTF-8\n\nUsage: canary <COMMAND>\n";
 
+// A process with these words, of which the first is its name.
+#[derive(Drop)]
+struct Called {
+    words: [&'static [u8]; 3],
+}
+
+impl Env for Called {
+    fn arg(&self, i: usize, buf: &mut [u8]) -> Result<usize, FillError> {
+        let Some(word) = self.words.get(i) else {
+            return Err(FillError::NotPresent);
+        };
+        let Some(room) = buf.get_mut(..word.len()) else {
+            return Err(FillError::TooLong);
+        };
+        room.copy_from_slice(word);
+        Ok(word.len())
+    }
+
+    fn var(&self, _name: &str, _buf: &mut [u8]) -> Result<usize, FillError> {
+        Err(FillError::NotPresent)
+    }
+
+    fn var_at(&self, _i: usize, _buf: &mut [u8]) -> Result<usize, FillError> {
+        Err(FillError::NotPresent)
+    }
+}
+
+// Whether the words of a process that was called so are these.
+fn has_words(alloc: Global, called: &Called, want: &str) -> Result<bool, Fail> {
+    let words = words_of(called, alloc)?;
+    Ok(words.as_slice().join(alloc, " ")?.as_str() == want)
+}
+
+#[test]
+fn passes_over_the_name_of_the_program(rt: HostRuntime) -> Result<(), Fail> {
+    let called = Called {
+        words: [b"/tmp/caf\xe9/canary", b"pipe", b"--help"],
+    };
+    assert!(rt; has_words(rt.alloc(), &called, "pipe --help")?);
+    Ok(())
+}
+
+#[test]
+fn refuses_a_word_that_is_no_text(rt: HostRuntime) {
+    let called = Called {
+        words: [b"canary", b"pipe", b"caf\xe9"],
+    };
+    let kind = words_of(&called, rt.alloc()).map_err(|error| error.kind());
+    assert!(rt; matches!(kind, Err(ErrorKind::InvalidData | ErrorKind::OutOfMemory)));
+}
+
 // Asked again where memory for the text was refused.
 #[test]
-fn refuses_words_that_are_no_text(rt: HostRuntime) {
+fn tells_why_words_are_refused(rt: HostRuntime) {
     let alloc = rt.alloc();
     let (kind, line) = (ErrorKind::OutOfMemory, "canary: memory\n");
     assert!(rt; is_refused(alloc, kind, 1, line) || is_refused(alloc, kind, 1, line));
@@ -292,7 +347,7 @@ fn refuses_words_that_are_no_text(rt: HostRuntime) {
 
 // The program that the words ask for; none where there is none.
 fn program(alloc: Global, words: &str) -> Result<Option<Program>, Memory> {
-    let words = typed(alloc, words)?;
+    let words = words_in(alloc, words)?;
     match read_words(alloc, words.as_slice()) {
         Ok(program) => Ok(Some(program)),
         Err(WordsFault::Memory) => Err(Memory),
@@ -304,7 +359,7 @@ fn program(alloc: Global, words: &str) -> Result<Option<Program>, Memory> {
 fn reads_the_moments_of_pipe(rt: HostRuntime) -> Result<(), Fail> {
     let at = Moment::new(1_767_225_600).ok_or("a moment")?;
     let step = Moment::new(60).ok_or("a moment")?;
-    let words = "canary pipe --step=60 --at 1767225600";
+    let words = "pipe --step=60 --at 1767225600";
     assert!(rt; program(rt.alloc(), words)? == Some(Program::Pipe { at, step }));
     Ok(())
 }

@@ -1,17 +1,16 @@
 //! Conditions, measurements and the texts of results: worked values from the grammar and the table
 //! of measurements.
 use crate::rows::split;
-use canary_base::error::Memory;
 use canary_base::lists::Text;
-use canary_condition::condition::{Condition, ConditionFault};
+use canary_condition::condition::{Condition, ConditionFault, Verdict3};
 use canary_condition::measurement::measure;
 use canary_condition::outcome::{FailureText, Outcome, Phase, Value};
 use std::alloc::{AllocError, Global};
 use std::process::Abort;
 use std::test::Fail;
 
-/// What a text is told to be; none where memory was refused.
-fn told(alloc: Global, text: &str) -> Option<&'static str> {
+// What a text is said to be; none where memory was refused.
+fn reading(alloc: Global, text: &str) -> Option<&'static str> {
     match Condition::parse(alloc, text) {
         Ok(_) => Some("reads"),
         Err(ConditionFault::Syntax) => Some("syntax"),
@@ -22,19 +21,14 @@ fn told(alloc: Global, text: &str) -> Option<&'static str> {
     }
 }
 
-fn is_told(alloc: Global, text: &str, want: &str) -> bool {
-    told(alloc, text).or(told(alloc, text)) == Some(want)
+fn reads_as(alloc: Global, text: &str, want: &str) -> bool {
+    reading(alloc, text).or(reading(alloc, text)) == Some(want)
 }
 
 const TEXTS: &str = "syntax result >
-syntax result > 0.5
-syntax result - 1 > 0
-syntax result > - 1
 syntax result === 1
 syntax result > 1 &
 syntax result2 > 1
-syntax result[-1] > 1
-syntax (result) > 1
 syntax result > 1 result > 2
 syntax (result > 1
 syntax result > 1)
@@ -45,42 +39,128 @@ number-range result > -9223372036854775809
 number-range 9223372036854775808
 reads result > -9223372036854775808";
 
+// Forms of Argo Rollouts' conditions that are not read, each with what may be written instead.
+const DEPARTURES: &str = r#"result >= 0.95 => result >= 95
+result == "up" => result == 1
+result == 'up' => result == 1
+result == true => result == 1
+result => result == 1
+result == nil => result == 0
+result ?? 0 < 5 => result < 5
+default(result, 0) < 5 => result < 5
+len(result) == 2 => result == 2
+asInt(result) < 5 => result < 5
+asFloat(result[0]) < 5 => result[0] < 5
+isNaN(result) => result == 1
+isInf(result) => result == 1
+(result) > 5 => result > 5
+(result[0]) > (5) => result[0] > 5
+result[-1] > 5 => result[1] > 5
+result[0:2] == 5 => result[0] == 5 && result[1] == 5
+result[0][1] > 5 => result[1] > 5
+result.value > 5 => result > 5
+result["value"] > 5 => result[0] > 5
+result + 1 > 5 => result > 4
+result - 1 > 5 => result > 6
+result * 2 > 5 => result > 2
+result / 2 > 5 => result > 10
+result % 2 == 0 => result == 0
+result ** 2 > 5 => result > 2 || result < -2
+result > - 5 => result > -5
+-result > 5 => result < -5
+result > +5 => result > 5
+result > 1_000 => result > 1000
+result > 0x1F => result > 31
+result > 1e3 => result > 1000
+1 < result < 5 => 1 < result && result < 5
+result in [1, 2] => result == 1 || result == 2
+result not in [1, 2] => not (result == 1 or result == 2)
+result in 1..5 => result >= 1 && result <= 5
+result == [1, 2] => result[0] == 1 && result[1] == 2
+result > 5 ? true : false => result > 5
+all(result, {# > 5}) => result[0] > 5 && result[1] > 5
+any(result, # > 5) => result[0] > 5 || result[1] > 5
+max(result) > 5 => result[0] > 5 || result[1] > 5
+result matches "up" => result == 1
+result contains "up" => result == 1
+result startsWith "up" => result == 1
+result | len() == 2 => result == 2
+let x = result; x > 5 => result > 5
+result > 5 // high => result > 5
+result > 5 /* high */ => result > 5
+result > {{args.limit}} => result > 5"#;
+
 #[test]
 fn names_each_fault(rt: HostRuntime) -> Result<(), Fail> {
     for row in TEXTS.lines() {
         let (want, text) = row.split_once(' ').ok_or("a row")?;
-        assert!(rt; is_told(rt.alloc(), text, want), "{row}");
+        assert!(rt; reads_as(rt.alloc(), text, want), "{row}");
     }
-    assert!(rt; is_told(rt.alloc(), "", "syntax"));
+    assert!(rt; reads_as(rt.alloc(), "", "syntax"));
     Ok(())
 }
 
-/// This front, and behind it a text in so many round brackets.
-fn bracketed(alloc: Global, front: &str, depth: usize, text: &str) -> Result<String, AllocError> {
+#[test]
+fn departs_from_argo(rt: HostRuntime) -> Result<(), Fail> {
+    for row in DEPARTURES.lines() {
+        let (form, instead) = split(row)?;
+        assert!(rt; reads_as(rt.alloc(), form, "syntax"), "{row}");
+        assert!(rt; reads_as(rt.alloc(), instead, "reads"), "{row}");
+    }
+    Ok(())
+}
+
+// How often a text stands before the end of a condition, what the condition says of 1, that text,
+// and the end. The second and the third have 1,024 bytes, the most of a condition.
+const LONG: &str = "300 true ! result>0
+1021 false ! 0<1
+101 true result>0|| result >= 0000";
+
+// Whether a copy of a row's condition says what the row has.
+fn says_when_long(alloc: Global, row: &str) -> Result<bool, Fail> {
+    let (count, row) = row.split_once(' ').ok_or("a count")?;
+    let (want, row) = row.split_once(' ').ok_or("what it says")?;
+    let (text, end) = row.split_once(' ').ok_or("a text and an end")?;
+    let front = text.repeat(alloc, count.parse::<usize>()?)?;
+    let text = format!(in alloc; "{front}{end}")?;
+    let condition = Condition::parse(alloc, text.as_str())?.copy(alloc)?;
+    Ok((condition.eval(&Value::Whole(1)) == Verdict3::True) == (want == "true"))
+}
+
+#[test]
+fn reads_and_copies_long_conditions(rt: HostRuntime) -> Result<(), Fail> {
+    for row in LONG.lines() {
+        assert!(rt; says_when_long(rt.alloc(), row)?, "{row}");
+    }
+    Ok(())
+}
+
+// This front, and behind it a text in so many round brackets.
+fn in_brackets(alloc: Global, front: &str, depth: usize, text: &str) -> Result<String, AllocError> {
     let opened = "(".repeat(alloc, depth)?;
     let closed = ")".repeat(alloc, depth)?;
     format!(in alloc; "{front}{opened}{text}{closed}")
 }
 
-/// Whether a text in so many brackets behind this front is told to be so.
-fn is_told_deep(
+// Whether a text in so many brackets behind this front is said to be so.
+fn reads_deep(
     alloc: Global,
     front: &str,
     depth: usize,
     text: &str,
     want: &str,
 ) -> Result<bool, AllocError> {
-    let deep = bracketed(alloc, front, depth, text)?;
-    Ok(is_told(alloc, deep.as_str(), want))
+    let deep = in_brackets(alloc, front, depth, text)?;
+    Ok(reads_as(alloc, deep.as_str(), want))
 }
 
 #[test]
 fn keeps_the_order_of_the_faults(rt: HostRuntime) -> Result<(), Fail> {
     let alloc = rt.alloc();
-    assert!(rt; is_told_deep(alloc, "", 32, "result>0", "reads")?);
-    assert!(rt; is_told_deep(alloc, "", 33, "result>0", "too-deep")?);
+    assert!(rt; reads_deep(alloc, "", 32, "result>0", "reads")?);
+    assert!(rt; reads_deep(alloc, "", 33, "result>0", "too-deep")?);
     assert!(rt;
-        is_told_deep(
+        reads_deep(
             alloc,
             "",
             33,
@@ -88,14 +168,14 @@ fn keeps_the_order_of_the_faults(rt: HostRuntime) -> Result<(), Fail> {
             "number-range"
         )?
     );
-    assert!(rt; is_told_deep(alloc, "", 33, "result >", "too-deep")?);
-    assert!(rt; is_told_deep(alloc, ")))", 32, "result>0", "syntax")?);
-    assert!(rt; is_told(alloc, " ".repeat(alloc, 1025)?.as_str(), "too-long"));
-    assert!(rt; is_told(alloc, " ".repeat(alloc, 1024)?.as_str(), "syntax"));
+    assert!(rt; reads_deep(alloc, "", 33, "result >", "too-deep")?);
+    assert!(rt; reads_deep(alloc, ")))", 32, "result>0", "syntax")?);
+    assert!(rt; reads_as(alloc, " ".repeat(alloc, 1025)?.as_str(), "too-long"));
+    assert!(rt; reads_as(alloc, " ".repeat(alloc, 1024)?.as_str(), "syntax"));
     Ok(())
 }
 
-/// The condition of a text, or none for an empty one.
+// The condition of a text, or none for an empty one.
 fn condition_of(alloc: Global, text: &str) -> Result<Option<Condition>, ConditionFault> {
     if text.is_empty() {
         return Ok(None);
@@ -103,7 +183,7 @@ fn condition_of(alloc: Global, text: &str) -> Result<Option<Condition>, Conditio
     Ok(Some(Condition::parse(alloc, text)?))
 }
 
-/// The word of the phase of a result by these conditions.
+// The word of the phase of a result by these conditions.
 fn phase_of(
     alloc: Global,
     success: &str,
@@ -127,7 +207,7 @@ fn word_of(phase: Phase) -> &'static str {
     }
 }
 
-/// A success condition, a failure condition, a result and its phase.
+// A success condition, a failure condition, a result and its phase.
 const MEASURED: &str = " =>  => [7] => Successful
 result[2] > 0 =>  => [1;2] => Error
 result[1] == 2 =>  => [1;2] => Successful
@@ -144,8 +224,11 @@ result > 10 => result < 5 => 11 => Successful
 result > 10 => result < 5 => 4 => Failed
 result > 10 => result[1] < 5 => 11 => Error";
 
-/// Conditions of success, whose groups and numbers decide.
-const GROUPED: &str = "not result == 1 and result < 5 =>  => 0 => Successful
+// Conditions of success, whose groups and numbers decide.
+const GROUPED: &str = "!result > 5 =>  => 3 => Successful
+!result > 5 =>  => 7 => Failed
+not result == 5 =>  => 3 => Successful
+not result == 1 and result < 5 =>  => 0 => Successful
 not result == 1 and result < 5 =>  => 1 => Failed
 not result == 1 and result < 5 =>  => 7 => Failed
 result==1||result==2&&result==3 =>  => 1 => Successful
@@ -186,22 +269,12 @@ fn measures_by_the_table(rt: HostRuntime) -> Result<(), Fail> {
     Ok(())
 }
 
-/// A failure's text of so many bytes.
+// A failure's text of so many bytes.
 fn failure_of(alloc: Global, len: usize) -> Result<Option<FailureText>, AllocError> {
     Ok(FailureText::of(Text::of("x".repeat(alloc, len)?)))
 }
 
-#[test]
-fn keeps_failure_texts_of_1_to_200_bytes(rt: HostRuntime) -> Result<(), Fail> {
-    let alloc = rt.alloc();
-    assert!(rt; failure_of(alloc, 0)?.is_none());
-    assert!(rt; failure_of(alloc, 1)?.is_some());
-    assert!(rt; failure_of(alloc, 200)?.is_some());
-    assert!(rt; failure_of(alloc, 201)?.is_none());
-    Ok(())
-}
-
-/// The phase of a failure and of its copy, by a condition and by its copy.
+// The phase of a failure and of its copy, by a condition and by its copy.
 fn phases_of_copies(alloc: Global) -> Result<(Phase, Phase), Fail> {
     let condition = Condition::parse(alloc, "result > 0")?.copy(alloc)?;
     let text = failure_of(alloc, 3)?.ok_or("short enough")?;
@@ -220,50 +293,27 @@ fn measures_copies(rt: HostRuntime) -> Result<(), Fail> {
     Ok(())
 }
 
-/// Writes a result behind these three bytes; on want of memory they stand alone.
-fn writes(value: &Value, words: &mut String, text: &str) -> bool {
-    match value.words(words) {
-        Ok(()) => words.as_str().get(3..) == Some(text),
-        Err(Memory) => words.as_str() == "is ",
-    }
-}
-
-/// Reads a text as a result and writes that.
+// Whether a text is written again as it stands where it is read as a result, behind other words.
 fn is_written_again(alloc: Global, text: &str) -> Result<bool, Fail> {
     let value = Value::read(text).ok_or("a text of a result")?;
     let mut words = String::from_str(alloc, "is ")?;
-    Ok(writes(&value, &mut words, text))
+    value.words(&mut words)?;
+    Ok(words.as_str().strip_prefix("is ") == Some(text))
 }
 
-const RESULTS: &str =
-    "0|-5|10|9223372036854775807|-9223372036854775808|[1;-2]|[0]|[1;2;3;4;5;6;7;8;9;10;11;12;13;14;15;16]";
-
-const NO_RESULTS: &str =
-    "|-|-0|05|+5|5 |9223372036854775808|-9223372036854775809|[]|[|]|[1; 2]|[1;]|[;1]|[01]|[1,2]|[1;2;3;4;5;6;7;8;9;10;11;12;13;14;15;16;17]";
+const RESULTS: &str = concat!(
+    "0|-5|10|9223372036854775807|-9223372036854775808|[1;-2]|[0]|",
+    "[1;2;3;4;5;6;7;8;9;10;11;12;13;14;15;16]|",
+    "[-9223372036854775808;-9223372036854775808;-9223372036854775808;-9223372036854775808;",
+    "-9223372036854775808;-9223372036854775808;-9223372036854775808;-9223372036854775808;",
+    "-9223372036854775808;-9223372036854775808;-9223372036854775808;-9223372036854775808;",
+    "-9223372036854775808;-9223372036854775808;-9223372036854775808;-9223372036854775808]"
+);
 
 #[test]
 fn reads_what_it_writes(rt: HostRuntime) -> Result<(), Fail> {
     for text in RESULTS.split('|') {
         assert!(rt; is_written_again(rt.alloc(), text)?, "{text}");
     }
-    for text in NO_RESULTS.split('|') {
-        assert!(rt; Value::read(text).is_none(), "{text}");
-    }
     Ok(())
-}
-
-fn is_list_of(count: usize) -> bool {
-    let numbers = [0; 17];
-    match numbers.get(..count) {
-        Some(numbers) => Value::list(numbers).is_some(),
-        None => false,
-    }
-}
-
-#[test]
-fn lists_1_to_16_numbers(rt: HostRuntime) {
-    assert!(rt; !is_list_of(0));
-    assert!(rt; is_list_of(1));
-    assert!(rt; is_list_of(16));
-    assert!(rt; !is_list_of(17));
 }

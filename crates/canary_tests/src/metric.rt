@@ -1,4 +1,4 @@
-//! Metrics: a copy, and a list of the greatest length. The worked values of metrics, tallies and
+//! Metrics: copies, and a list of the greatest length. The worked values of metrics, tallies and
 //! verdicts, whose calls take no memory, are computed on their definitions.
 ghost use Rattle.std.specs.Prelude.{IsTrue};
 ghost use Rattle.canary_metric.specs.Measurements.{is_measured};
@@ -13,12 +13,12 @@ use canary_metric::metric::{Metric, MetricSettings};
 use canary_metric::tally::{MOST_MEASUREMENTS, Tally, recount};
 use std::test::Fail;
 
-/// 2026-01-01T00:00:00Z.
+// 2026-01-01T00:00:00Z.
 const BEGIN: u64 = 1_767_225_600;
 
-/// A metric with an interval of a minute and these conditions.
-fn metric(success: Condition, failure: Condition) -> Option<Metric> {
-    Metric::new(MetricSettings {
+// The settings of a metric with an interval of a minute and these conditions.
+fn settings(success: Condition, failure: Condition) -> Option<MetricSettings> {
+    Some(MetricSettings {
         name: Label::read("m".as_bytes())?,
         success: Some(success),
         failure: Some(failure),
@@ -32,7 +32,7 @@ fn metric(success: Condition, failure: Condition) -> Option<Metric> {
     })
 }
 
-/// What a condition of a metric says of 11; a metric without it has a fault.
+// What a condition of a metric says of 11; a metric without it has a fault.
 fn says(condition: Option<&Condition>) -> Verdict3 {
     match condition {
         Some(condition) => condition.eval(&Value::Whole(11)),
@@ -45,7 +45,8 @@ fn conditions_of_copies(rt: HostRuntime) -> Result<(), Fail> {
     let alloc = rt.alloc();
     let success = Condition::parse(alloc, "result > 10")?;
     let failure = Condition::parse(alloc, "result < 5")?;
-    let copy = metric(success, failure).ok_or("a metric")?.copy(alloc)?;
+    let settings = settings(success, failure).ok_or("settings")?.copy(alloc)?;
+    let copy = Metric::new(settings).ok_or("a metric")?.copy(alloc)?;
     assert!(rt; copy.name().as_str() == "m");
     assert!(rt; copy.interval() == Seconds::new(60));
     assert!(rt; says(copy.success()) == Verdict3::True);

@@ -1,0 +1,55 @@
+# What the scripts of this repository share: `source` it with `root` set to the repository's folder.
+
+# Says on standard error what a script has to say, and ends it.
+fail() {
+    echo "$(basename "$0"): $1" >&2
+    exit 1
+}
+
+need_rt() {
+    command -v rt > /dev/null || fail "rt, the command of the Rattle kit, is not on the PATH"
+}
+
+# Runs a command, and ends it where this script is told to end, so that nothing is left running.
+# Standard input has to be a redirection of the call.
+run_guarded() {
+    "$@" <&0 &
+    guarded=$!
+    trap 'end_guarded 143' TERM
+    trap 'end_guarded 130' INT
+    trap 'end_guarded 129' HUP
+    local status=0
+    wait "$guarded" || status=$?
+    trap - TERM INT HUP
+    return "$status"
+}
+
+end_guarded() {
+    trap '' TERM INT HUP
+    kill "$guarded" 2> /dev/null || true
+    wait "$guarded" || true
+    exit "$1"
+}
+
+program=$root/crates/canary_desk/out/canary_desk
+
+# The crates that the program is built of; crates.txt has the lowest first.
+crates_of_program() {
+    tac "$root/crates.txt" | awk -F '[: ]+' '
+        BEGIN { needed["canary_desk"] = 1 }
+        $1 in needed { print $1; for (i = 2; i <= NF; i++) needed[$i] = 1 }'
+}
+
+# The program is there, and nothing that it is built of is newer.
+is_current() {
+    [ -x "$program" ] || return 1
+    local sources=("$root/crates.txt") crate folder
+    for crate in $(crates_of_program); do
+        for folder in "$root/crates/$crate"/{src,specs,proofs}; do
+            if [ -d "$folder" ]; then
+                sources+=("$folder")
+            fi
+        done
+    done
+    [ -z "$(find "${sources[@]}" -newer "$program" -print -quit)" ]
+}
