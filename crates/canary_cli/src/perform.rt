@@ -78,9 +78,9 @@ impl Fault {
 /// stream, and answers the exit status.
 ///
 /// 0: what was asked was done, or help or the version was asked for, whose text is written to
-/// `output`. 1: a fault, which one line `canary: WORD` on `errors` names (`memory`, `read`, `write`, `truncated`,
-/// `turns-spent`). 2: the command line is none that the desk takes, and `errors` has the text that
-/// says why. A fault of `errors` itself is ignored.
+/// `output`. 1: a fault, which one line `canary: WORD` on `errors` names (`memory`, `read`,
+/// `write`, `truncated`, `turns-spent`). 2: the command line is none that the desk takes, and
+/// `errors` has the text that says why. A fault of `errors` itself is ignored.
 pub fn perform<R: Read, W: Write, F: Write>(
     alloc: Global,
     words: &[String],

@@ -96,7 +96,7 @@ fn with_pipe<'a>(alloc: Global, desk: Command<'a>) -> Result<Command<'a>, AllocE
     let step = moment_option(alloc, "step", STEP_HELP);
     let pipe = Command::new(alloc, "pipe")
         .about(
-            "Answers HTTP requests from standard input on standard output, with records kept in memory",
+            "Answers HTTP requests from standard input on standard output, with records in memory",
         )
         .override_usage(PIPE_USAGE)
         .after_help(FAULTS_HELP)

@@ -80,10 +80,18 @@ result == [1, 2] => result[0] == 1 && result[1] == 2
 result > 5 ? true : false => result > 5
 all(result, {# > 5}) => result[0] > 5 && result[1] > 5
 any(result, # > 5) => result[0] > 5 || result[1] > 5
+none(result, {# > 5}) => result[0] <= 5 && result[1] <= 5
+one(result, {# > 5}) => result[0] > 5 && result[1] <= 5 || result[0] <= 5 && result[1] > 5
+filter(result, {# > 5}) == [] => result[0] <= 5 && result[1] <= 5
+map(result, {# * 2})[0] > 5 => result[0] > 2
+count(result, {# > 5}) == 2 => result[0] > 5 && result[1] > 5
 max(result) > 5 => result[0] > 5 || result[1] > 5
+min(result) > 5 => result[0] > 5 && result[1] > 5
+sum(result) > 5 => result > 5
 result matches "up" => result == 1
 result contains "up" => result == 1
 result startsWith "up" => result == 1
+result endsWith "up" => result == 1
 result | len() == 2 => result == 2
 let x = result; x > 5 => result > 5
 result > 5 // high => result > 5
