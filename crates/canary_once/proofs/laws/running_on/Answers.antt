@@ -1,5 +1,5 @@
-use Rattle.canary_once.proofs.Lawful.{goes_on}
-use Rattle.canary_once.proofs.laws.going_on.Goals as goal
+use Rattle.canary_once.proofs.Lawful.{runs_on}
+use Rattle.canary_once.proofs.laws.running_on.Goals as goal
 
 pub returns : goal.returns
-returns c = goes_on
+returns c = runs_on
