@@ -17,7 +17,7 @@ use Rattle.canary_wire.specs.declared.refusal.Refusal.TheVariants.{Malformed}
 use Rattle.canary_wire.specs.declared.framing.Framing.{Framing}
 use Rattle.canary_wire.specs.declared.framing.Framing.TheVariants.{Body, Refused}
 use Rattle.canary_wire.specs.Heads.{Header, framing_of, head_framing, headers_of, asks_to_close, closes, is_bare}
-use Rattle.canary_wire.specs.Cut.{Message, message_bytes, IsMessage, IsFirst, HasHead, NeverHasHead, long, beyond, never, lines, IsRefused, malformed, framed, IsUnfinished, head, body}
+use Rattle.canary_wire.specs.Cut.{Message, IsFirst, HasHead, NeverHasHead, long, beyond, never, lines, IsRefused, malformed, framed, IsUnfinished, head, body}
 
 -- no room for the fields of any head
 pub no_head_of_overflow : (bytes : List ℕ) → RequestOverflows 64 bytes → NeverHasHead bytes
@@ -141,14 +141,6 @@ first_message bytes headers r within of room near n shut bare e fits shuts bares
       },
     )
 
--- what is unfinished leaves room in a buffer of a whole head and a whole body
-pub unfinished_short : (bytes : List ℕ) → IsUnfinished bytes → length bytes < 81920
-unfinished_short bytes (head none short may) = omega arith
-unfinished_short bytes (body h after n has e small short) =
-    let l = ap (λ t. length t) has.1 in
-    let near = has.0.short in
-    omega (arith, l, length-append (print_request h) after)
-
 -- ---- nothing
 
 -- a head has a byte at least
@@ -197,7 +189,3 @@ may_become = (
 -- nothing is unfinished
 pub unfinished_empty : IsUnfinished []
 unfinished_empty = head (λ h after has. (let some = head_some h has.0 in let e = ap (λ t. length t) has.1 in omega (arith, e, length-append (print_request h) after))) (omega arith) (inl may_become)
-
--- a message has a byte at least
-pub message_some : (m : Message) → IsMessage m → 0 < length (message_bytes m)
-message_some m is = let some = head_some m.head is.head.valid in omega (arith, length-append (print_request m.head) m.body)

@@ -8,18 +8,15 @@ use Rattle.std.proofs.lemmas.Grind.{flat_map-append}
 use Rattle.canary_wire.specs.declared.refusal.Refusal.{Refusal}
 use Rattle.canary_wire.specs.declared.cut.Parts.{Parts}
 use Rattle.canary_wire.specs.declared.reply.WriteFault.{WriteFault}
-use Rattle.canary_wire.specs.declared.serve.Ended.{Ended}
 use Rattle.canary_wire.specs.declared.serve.Ended.TheVariants.{EndOfInput, Closed, Truncated, TurnsSpent}
-use Rattle.canary_wire.specs.declared.serve.TurnFault.{TurnFault}
-use Rattle.canary_wire.specs.declared.serve.TurnFault.TheVariants.{Read, Write}
 use Rattle.canary_wire.specs.declared.serve.Turn.{Turn}
 use Rattle.canary_wire.specs.declared.serve.Turn.TheVariants.{GoesOn, Ends}
 use Rattle.canary_wire.specs.Cut.{Message, message_bytes, IsMessage, IsFirst, IsRefused, IsUnfinished, Begins, Ending, idle, cut_off, closing, refusing, is_newline, IsCut, unfinished, closed, refused}
 use Rattle.canary_wire.specs.Cut.{GoesOn as KeepsOpen}
 use Rattle.canary_wire.specs.Writes.{Known, Writes}
 use Rattle.canary_once.specs.Laws.{GoesOn as EventsGoOn}
-use Rattle.canary_wire.specs.Exchanges.{Exchange, messages_of, reply_bytes, Point, Exchanges, Holds, Went}
-use Rattle.canary_wire.specs.Serving.{last_reply, end_of, IsOpen, EndsAs, Serves, ServesTo, ServesSome, ServesUntil, TurnsTo, IsCutShort, in_reply, in_refusal, IsSoFar, Answers, AnswersAll, AnswersUntil, AnswersHeld, RefusesAll}
+use Rattle.canary_wire.specs.Exchanges.{Exchange, messages_of, reply_bytes, Point, Exchanges, Went}
+use Rattle.canary_wire.specs.Serving.{last_reply, end_of, IsOpen, EndsAs, Serves, ServesTo, ServesSome, ServesUntil, IsCutShort, in_reply, in_refusal, IsSoFar, Answers, AnswersAll, AnswersUntil, AnswersHeld, RefusesAll}
 use Rattle.canary_wire.proofs.CutLemmas.{unfinished_empty}
 use Rattle.canary_wire.proofs.WriteLemmas.{appends_none, appends_more, consumes_none, consumes_more, writes_all}
 use Rattle.canary_wire.proofs.ExchangeLemmas.{all-append, went_none, went_one, went_then, holds_of}
@@ -277,8 +274,3 @@ so_far_end goes r r1 r2 w w1 p p1 n old new got so e more none at =
     )
 
 -- ---- what holds however the serving ends
-
-pub turns_hold : (r r1 w w1 : Known) (p p1 : Point) (result : Result Ended TurnFault) → TurnsTo r r1 w w1 p p1 result → (xs : List Exchange) × Holds p p1 xs
-turns_hold r r1 w w1 p p1 (Ok ended) t = (t.3.exchanges, t.3.holds)
-turns_hold r r1 w w1 p p1 (Err Read) t = (t.3.exchanges, t.3.holds)
-turns_hold r r1 w w1 p p1 (Err Write) t = (t.exchanges, t.holds)

@@ -26,6 +26,7 @@ pub(crate) struct Buffer {
 
 impl Buffer {
     ghost use Rattle.canary_wire.specs.Buffers.{held};
+    ghost use Rattle.canary_wire.specs.Cut.{IsUnfinished};
 
     /// An empty buffer, with all the room that it will ever need.
     ///
@@ -57,19 +58,31 @@ impl Buffer {
         self.start += count;
     }
 
-    /// Reads more bytes behind those that it holds, and says how many: none only at the end of the
-    /// input.
-    ///
-    /// # Errors
-    /// Where the reader fails, also where it is interrupted; nothing was read.
+    // Reads more bytes behind those that it holds, and says how many: none only at the end of the
+    // input. It holds nothing then that can be answered: what is whole is answered before more is
+    // waited for. Where the reader fails, also where it is interrupted, nothing was read.
     pub(crate) fn fill<R: Read>(&mut self, reader: &mut R) -> Result<usize, ReadFault>
-        requires { length (held self.old) < 81920 }
+        requires { IsUnfinished (held self.old) }
         ensures more { IfOk result (λ n. (got : List ℕ) × (held self.new ≡ held self.old ++ got)
             × Consumes (R.remaining reader.old) (R.remaining reader.new) got × (length got ≡ n)) }
         ensures end { result ≡ Ok 0 → IsAtEnd (R.remaining reader.new) }
-        ensures err { OnErr result ((held self.new ≡ held self.old) × Consumes (R.remaining reader.old) (R.remaining reader.new) []) }
+        ensures err { OnErr result ((held self.new ≡ held self.old)
+            × Consumes (R.remaining reader.old) (R.remaining reader.new) []) }
     {
         self.compact();
+        self.read_behind(reader)
+    }
+
+    // The same where there is room behind the bytes that it holds.
+    fn read_behind<R: Read>(&mut self, reader: &mut R) -> Result<usize, ReadFault>
+        requires unfinished { IsUnfinished (held self.old) }
+        requires room { self.old.end < 81920 }
+        ensures more { IfOk result (λ n. (got : List ℕ) × (held self.new ≡ held self.old ++ got)
+            × Consumes (R.remaining reader.old) (R.remaining reader.new) got × (length got ≡ n)) }
+        ensures end { result ≡ Ok 0 → IsAtEnd (R.remaining reader.new) }
+        ensures err { OnErr result ((held self.new ≡ held self.old)
+            × Consumes (R.remaining reader.old) (R.remaining reader.new) []) }
+    {
         match read_at(reader, &mut self.bytes, self.end) {
             Ok(n) => {
                 self.end += n;
@@ -98,10 +111,12 @@ impl Buffer {
 fn read_at<R: Read>(reader: &mut R, bytes: &mut [u8], at: usize) -> Result<usize, ReadFault>
     requires { at < length bytes.old }
     ensures within { IfOk result (λ n. at + n ≤ length bytes.old) }
-    ensures more { IfOk result (λ n. (got : List ℕ) × (rest : List ℕ) × (bytes.new ≡ take at bytes.old ++ (got ++ rest))
+    ensures more { IfOk result (λ n. (got : List ℕ) × (rest : List ℕ)
+        × (bytes.new ≡ take at bytes.old ++ (got ++ rest))
         × Consumes (R.remaining reader.old) (R.remaining reader.new) got × (length got ≡ n)) }
     ensures end { result ≡ Ok 0 → IsAtEnd (R.remaining reader.new) }
-    ensures err { OnErr result ((rest : List ℕ) × (bytes.new ≡ take at bytes.old ++ rest) × Consumes (R.remaining reader.old) (R.remaining reader.new) []) }
+    ensures err { OnErr result ((rest : List ℕ) × (bytes.new ≡ take at bytes.old ++ rest)
+        × Consumes (R.remaining reader.old) (R.remaining reader.new) []) }
 {
     match reader.read(&mut bytes[at..]) {
         Ok(n) => Ok(n),
