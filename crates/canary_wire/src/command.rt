@@ -22,15 +22,19 @@ use canary_plan::command::Command;
 use canary_plan::plan::ServiceSpec;
 use serde_json::Value;
 use std::alloc::{AllocFailed, Global};
+use thiserror::Error;
 
 /// Why no command was read.
-#[derive(Clone, Copy, Debug, PartialEq, Eq)]
+#[derive(Clone, Copy, Debug, PartialEq, Eq, Error)]
 pub enum WireFault {
     /// The bytes are no JSON in UTF-8, or no command in JSON.
+    #[error("the body is no command")]
     Unreadable,
     /// The body asks for what the desk does not do.
+    #[error("the body asks for what the desk does not do")]
     Unsupported,
     /// An allocation was refused.
+    #[error("out of memory")]
     Memory,
 }
 

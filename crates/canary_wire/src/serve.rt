@@ -20,6 +20,7 @@ use canary_once::laws::going_on;
 use matchit::Router;
 use std::alloc::Global;
 use std::io::{Read, Write};
+use thiserror::Error;
 
 /// The most reads of one stream.
 const MOST_READS: u32 = 1_000_000_000;
@@ -38,13 +39,16 @@ pub enum Ended {
 }
 
 /// Why a stream was not served to its end.
-#[derive(Clone, Copy, Debug, PartialEq, Eq)]
+#[derive(Clone, Copy, Debug, PartialEq, Eq, Error)]
 pub enum ServeFault {
     /// The reader failed.
+    #[error("the input could not be read")]
     Read,
     /// The writer failed, or took no byte.
+    #[error("the output could not be written")]
     Write,
     /// An allocation was refused.
+    #[error("out of memory")]
     Memory,
 }
 
