@@ -25,7 +25,7 @@ pub(crate) struct Buffer {
 }
 
 impl Buffer {
-    ghost use Rattle.canary_wire.specs.Buffers.{held};
+    ghost use Rattle.canary_wire.specs.Buffers.{bytes_held};
     ghost use Rattle.canary_wire.specs.Cut.{IsUnfinished};
 
     /// An empty buffer, with all the room that it will ever need.
@@ -33,7 +33,7 @@ impl Buffer {
     /// # Errors
     /// `Memory` where an allocation was refused.
     pub(crate) fn new(alloc: Global) -> Result<Buffer, Memory>
-        ensures { IfOk result (λ buffer. held buffer ≡ []) }
+        ensures { IfOk result (λ buffer. bytes_held buffer ≡ []) }
     {
         let bytes = vec![in alloc; 0u8; ROOM]?;
         Ok(Buffer {
@@ -44,16 +44,16 @@ impl Buffer {
     }
 
     /// The bytes that it holds.
-    pub(crate) fn held(&self) -> &[u8]
-        ensures { result.now ≡ held self.now }
+    pub(crate) fn as_slice(&self) -> &[u8]
+        ensures { result.now ≡ bytes_held self.now }
     {
         &self.bytes[self.start..self.end]
     }
 
     /// Lets the first bytes go.
     pub(crate) fn take(&mut self, count: usize)
-        requires { count ≤ length (held self.old) }
-        ensures { held self.new ≡ drop count (held self.old) }
+        requires { count ≤ length (bytes_held self.old) }
+        ensures { bytes_held self.new ≡ drop count (bytes_held self.old) }
     {
         self.start += count;
     }
@@ -62,11 +62,11 @@ impl Buffer {
     // input. It holds nothing then that can be answered: what is whole is answered before more is
     // waited for. Where the reader fails, also where it is interrupted, nothing was read.
     pub(crate) fn fill<R: Read>(&mut self, reader: &mut R) -> Result<usize, ReadFault>
-        requires { IsUnfinished (held self.old) }
-        ensures more { IfOk result (λ n. (got : List ℕ) × (held self.new ≡ held self.old ++ got)
+        requires { IsUnfinished (bytes_held self.old) }
+        ensures more { IfOk result (λ n. (got : List ℕ) × (bytes_held self.new ≡ bytes_held self.old ++ got)
             × Consumes (R.remaining reader.old) (R.remaining reader.new) got × (length got ≡ n)) }
         ensures end { result ≡ Ok 0 → IsAtEnd (R.remaining reader.new) }
-        ensures err { OnErr result ((held self.new ≡ held self.old)
+        ensures err { OnErr result ((bytes_held self.new ≡ bytes_held self.old)
             × Consumes (R.remaining reader.old) (R.remaining reader.new) []) }
     {
         self.compact();
@@ -75,12 +75,12 @@ impl Buffer {
 
     // The same where there is room behind the bytes that it holds.
     fn read_behind<R: Read>(&mut self, reader: &mut R) -> Result<usize, ReadFault>
-        requires unfinished { IsUnfinished (held self.old) }
+        requires unfinished { IsUnfinished (bytes_held self.old) }
         requires room { self.old.end < 81920 }
-        ensures more { IfOk result (λ n. (got : List ℕ) × (held self.new ≡ held self.old ++ got)
+        ensures more { IfOk result (λ n. (got : List ℕ) × (bytes_held self.new ≡ bytes_held self.old ++ got)
             × Consumes (R.remaining reader.old) (R.remaining reader.new) got × (length got ≡ n)) }
         ensures end { result ≡ Ok 0 → IsAtEnd (R.remaining reader.new) }
-        ensures err { OnErr result ((held self.new ≡ held self.old)
+        ensures err { OnErr result ((bytes_held self.new ≡ bytes_held self.old)
             × Consumes (R.remaining reader.old) (R.remaining reader.new) []) }
     {
         match read_at(reader, &mut self.bytes, self.end) {
@@ -94,8 +94,8 @@ impl Buffer {
 
     // Makes room behind the bytes that it holds.
     fn compact(&mut self)
-        requires { length (held self.old) < 81920 }
-        ensures kept { held self.new ≡ held self.old }
+        requires { length (bytes_held self.old) < 81920 }
+        ensures kept { bytes_held self.new ≡ bytes_held self.old }
         ensures room { self.new.end < 81920 }
     {
         if self.end < ROOM {

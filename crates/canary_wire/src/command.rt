@@ -15,7 +15,7 @@ ghost use Rattle.canary_wire.specs.ManifestForms.{has, name_in, label_in};
 ghost use Rattle.canary_wire.specs.Rollouts.{is_unsupported_rollout};
 ghost use Rattle.canary_wire.specs.CommandForms.{at, is_object_of, only_member, service_in, start_in, promote_in, service_reading, reading_of_kind, command_reading, body_reading};
 
-use crate::form::{given, label_in, name_in};
+use crate::form::{label_in, member_of, name_in};
 use crate::rollout::{is_unsupported_rollout, rollout_name, rollout_steps};
 use canary_base::names::{Label, Name};
 use canary_plan::command::Command;
@@ -130,7 +130,7 @@ fn service_command(alloc: Global, value: &Value) -> Result<Command, WireFault>
 fn is_unsupported_service(value: &Value) -> bool
     ensures { result ≡ has (codes "manifest") is_unsupported_rollout (view value.now) }
 {
-    given(value, "manifest").is_some_and(is_unsupported_rollout)
+    member_of(value, "manifest").is_some_and(is_unsupported_rollout)
 }
 
 #[tactic(auto, unfolding(crate::specs::CommandForms::service_in))]

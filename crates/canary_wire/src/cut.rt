@@ -4,7 +4,7 @@ ghost use Rattle.httparse.specs.Spans.{IsRequestWithin, IsRequestOf};
 ghost use Rattle.canary_wire.specs.Cut.{Cuts};
 
 use crate::framing::{Framing, closes, frame, is_bare};
-use crate::refusal::Refusal;
+use crate::rejection::Rejection;
 use httparse::Status;
 use httparse::spans::{EMPTY_HEADER_SPAN, HeaderSpan, RequestSpans, Span, parse_request};
 
@@ -29,12 +29,12 @@ pub(crate) struct Parts {
     pub head_alone: bool,
 }
 
-/// What stands first: a message, a refusal that ends the stream, with whether its reply is its head
+/// What stands first: a message, a rejection that ends the stream, with whether its reply is its head
 /// alone, or less than either.
 #[derive(Clone, Copy, Debug)]
 pub(crate) enum Next {
     Message(Parts),
-    Refused(Refusal, bool),
+    Rejected(Rejection, bool),
     Unfinished,
 }
 
@@ -44,37 +44,38 @@ pub(crate) fn first(bytes: &[u8]) -> Next
 {
     let mut headers = [EMPTY_HEADER_SPAN; MOST_LINES];
     match parse_request(bytes, &mut headers) {
-        Ok(Status::Complete(head)) => whole(bytes, &headers, head),
+        Ok(Status::Complete(head)) => first_with_head(bytes, &headers, head),
         Ok(Status::Partial) if bytes.len() < MOST_HEAD => Next::Unfinished,
-        Ok(Status::Partial) => Next::Refused(Refusal::Malformed, false),
-        Err(_) => Next::Refused(Refusal::Malformed, false),
+        Ok(Status::Partial) => Next::Rejected(Rejection::Malformed, false),
+        Err(_) => Next::Rejected(Rejection::Malformed, false),
     }
 }
 
-// What stands first where a head does.
-fn whole(bytes: &[u8], headers: &[HeaderSpan], head: RequestSpans) -> Next
+// What stands first where a whole head does.
+fn first_with_head(bytes: &[u8], headers: &[HeaderSpan], head: RequestSpans) -> Next
     requires within { IsRequestWithin bytes.now headers.now head }
     requires of { IsRequestOf bytes.now headers.now head }
     requires lines { length headers.now ≤ 64 }
     ensures { Cuts bytes.now result }
 {
     if head.len > MOST_HEAD {
-        return Next::Refused(Refusal::Malformed, false);
+        return Next::Rejected(Rejection::Malformed, false);
     }
     let method = head.method.of(bytes);
     let fields = &headers[..head.headers];
     let head_alone = is_bare(method);
     match frame(bytes, method, fields) {
-        Framing::Refused(refusal) => Next::Refused(refusal, head_alone),
+        Framing::Rejected(rejection) => Next::Rejected(rejection, head_alone),
         Framing::Body(n) => {
-            if bytes.len() - head.len < n {
+            let end = head.len + n;
+            if bytes.len() < end {
                 return Next::Unfinished;
             }
             Next::Message(Parts {
                 method: head.method,
                 target: head.path,
                 len: head.len,
-                end: head.len + n,
+                end,
                 is_last: closes(bytes, head.version, fields),
                 head_alone,
             })

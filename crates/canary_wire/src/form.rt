@@ -3,14 +3,14 @@
 //! A null member is as if absent, and a member that is not asked for is passed over.
 ghost use Rattle.std.specs.Prelude.{◌≡◌, option_map};
 ghost use Rattle.serde_json.specs.View.{view};
-ghost use Rattle.canary_wire.specs.ManifestForms.{given, name_in, label_in, whole_up_to, is_true, is_other_text, is_no_empty_list};
+ghost use Rattle.canary_wire.specs.ManifestForms.{member_of, name_in, label_in, whole_up_to, is_true, is_other_text, is_no_empty_list};
 
 use canary_base::names::{Label, Name};
 use serde_json::Value;
 
 /// The member of that key, where it is there and not null.
-pub(crate) fn given<'a>(value: &'a Value, key: &str) -> Option<&'a Value>
-    ensures { option_map (λ member. view member.now) result ≡ given key.now (view value.now) }
+pub(crate) fn member_of<'a>(value: &'a Value, key: &str) -> Option<&'a Value>
+    ensures { option_map (λ member. view member.now) result ≡ member_of key.now (view value.now) }
 {
     match value.get(key) {
         Some(member) if !member.is_null() => Some(member),

@@ -7,18 +7,18 @@ ghost use Rattle.httparse.specs.Spans.{IsWithin, IsHeaderWithin, header_bytes, s
 ghost use Rattle.canary_wire.specs.Heads.{is_digits, values_named, has_any, framing_one, framing, framing_of, IsSmall, asks_to_close};
 ghost use Rattle.canary_wire.specs.Named.{Shows, IsShown};
 
-use crate::refusal::Refusal;
+use crate::rejection::Rejection;
 use http1::fields::KnownFields;
 use httparse::spans::{HeaderSpan, Span};
 
 /// The most bytes of a body.
 pub(crate) const MOST_BODY: usize = 65_536;
 
-/// How long a body is, or why its head is refused.
+/// How long a body is, or why its head is rejected.
 #[derive(Clone, Copy, Debug, PartialEq, Eq)]
 pub(crate) enum Framing {
     Body(usize),
-    Refused(Refusal),
+    Rejected(Rejection),
 }
 
 /// The values of the fields of one name: none, one, or more.
@@ -29,7 +29,7 @@ pub(crate) enum Named {
     Many,
 }
 
-/// How long the body is, or why the head is refused.
+/// How long the body is, or why the head is rejected.
 pub(crate) fn frame(buf: &[u8], method: &[u8], headers: &[HeaderSpan]) -> Framing
     requires { All (IsHeaderWithin (length buf.now)) headers.now }
     ensures is { result ≡ framing_of method.now (map (header_bytes buf.now) headers.now) }
@@ -115,10 +115,10 @@ impl Named {
         ensures small { IsSmall result }
     {
         match self {
-            Named::Zero if coded || needs => Framing::Refused(Refusal::Length),
+            Named::Zero if coded || needs => Framing::Rejected(Rejection::Length),
             Named::Zero => Framing::Body(0),
             Named::One(span) => frame_one(span.of(buf), coded),
-            Named::Many => Framing::Refused(Refusal::Malformed),
+            Named::Many => Framing::Rejected(Rejection::Malformed),
         }
     }
 }
@@ -129,12 +129,12 @@ fn frame_one(value: &[u8], coded: bool) -> Framing
     ensures small { IsSmall result }
 {
     let Some(n) = parse_length(value) else {
-        return Framing::Refused(Refusal::Malformed);
+        return Framing::Rejected(Rejection::Malformed);
     };
     if coded {
-        Framing::Refused(Refusal::Length)
+        Framing::Rejected(Rejection::Length)
     } else if n > MOST_BODY {
-        Framing::Refused(Refusal::TooLong)
+        Framing::Rejected(Rejection::TooLong)
     } else {
         Framing::Body(n)
     }

@@ -3,7 +3,7 @@ ghost use Rattle.std.specs.Prelude.{◌≡◌, ◌≢◌, ◌↔◌, ◌==◌, L
 ghost use Rattle.std.specs.List.{before_first, position};
 ghost use Rattle.canary_wire.specs.Routes.{the_rows, IsPart, IsSplit, IsRequestPath, HasNoRoute, IsAddress};
 
-use crate::refusal::Refusal;
+use crate::rejection::Rejection;
 use canary_base::names::Name;
 use canary_base::numbers::Number;
 use matchit::{InsertError, Router};
@@ -46,22 +46,22 @@ pub(crate) fn address_of(
     router: &Router<Route>,
     method: &[u8],
     target: &[u8],
-) -> Result<Address, Refusal>
+) -> Result<Address, Rejection>
     requires { router.now ≡ the_rows }
     ensures { IsAddress method.now target.now result }
 {
     let Some((caller, number)) = request_parts(router, before(target, b'?')) else {
-        return Err(Refusal::NoRoute);
+        return Err(Rejection::NoRoute);
     };
     if method != b"PUT".as_slice() {
-        return Err(Refusal::Method);
+        return Err(Rejection::Method);
     }
     let Some(caller) = Name::read(caller) else {
-        return Err(Refusal::BadName);
+        return Err(Rejection::BadName);
     };
     match Number::read(number) {
         Some(number) => Ok(Address { caller, number }),
-        None => Err(Refusal::BadNumber),
+        None => Err(Rejection::BadNumber),
     }
 }
 

@@ -2,17 +2,17 @@
 ghost use Rattle.std.specs.Prelude.{◌≡◌, [], ◌++◌, IfOk, Err};
 ghost use Rattle.std.specs.List.{list_all};
 ghost use Rattle.canary_once.specs.Contents.{KeepsEntries};
-ghost use Rattle.canary_wire.specs.Cut.{is_newline, refusing};
+ghost use Rattle.canary_wire.specs.Cut.{is_newline, rejecting};
 ghost use Rattle.canary_wire.specs.Exchanges.{point};
 ghost use Rattle.canary_wire.specs.Routes.{the_rows};
-ghost use Rattle.canary_wire.specs.Buffers.{held};
-ghost use Rattle.canary_wire.specs.Serving.{last_reply, end_of, ServesTo, ServesSome, ServesUntil, TurnsTo, AnswersHeld, RefusesAll};
+ghost use Rattle.canary_wire.specs.Buffers.{bytes_held};
+ghost use Rattle.canary_wire.specs.Serving.{last_reply, end_of, ServesTo, ServesSome, ServesUntil, TurnsTo, AnswersHeld, RejectsAll};
 
 use crate::answer::answer;
 use crate::buffer::Buffer;
 use crate::cut::{Next, first};
-use crate::refusal::Refusal;
-use crate::reply::{Said, WriteFault, write_reply};
+use crate::rejection::Rejection;
+use crate::reply::{Response, WriteFault, write_reply};
 use crate::routes::{Route, routes};
 use canary_once::book::Book;
 use canary_once::clock::Clock;
@@ -30,7 +30,7 @@ const MOST_READS: u32 = 1_000_000_000;
 pub enum Ended {
     /// The input ended, and nothing but line ends stood behind the last message.
     EndOfInput,
-    /// The last message asked for that, or was refused in a way that ends the stream.
+    /// The last message asked for that, or was rejected in a way that ends the stream.
     Closed,
     /// The input ended in the midst of a message.
     Truncated,
@@ -55,7 +55,7 @@ pub enum ServeFault {
 /// Whether a stream goes on.
 #[derive(Clone, Copy, Debug, PartialEq, Eq)]
 pub(crate) enum Turn {
-    GoesOn,
+    Continues,
     Ends,
 }
 
@@ -63,7 +63,7 @@ pub(crate) enum Turn {
 ///
 /// The bytes that are read are cut into messages. For each the clock is asked once, the register is
 /// asked where the message is a request, and its reply is written. The stream ends at the end of
-/// the input, after a message of HTTP/1.0 or with `Connection: close`, at a message that is refused
+/// the input, after a message of HTTP/1.0 or with `Connection: close`, at a message that is rejected
 /// as `malformed`, `length` or `too-long`, or after 1,000,000,000 reads. Where memory is wanted
 /// later than before the first read, the reply is 503.
 ///
@@ -125,7 +125,7 @@ fn serve_turns<R: Read, W: Write, C: Clock, B: Book>(
     clock: &mut C,
     book: &mut B,
 ) -> Result<Ended, TurnFault>
-    requires empty { held buffer.old ≡ [] }
+    requires empty { bytes_held buffer.old ≡ [] }
     requires routes { router.now ≡ the_rows }
     ensures { TurnsTo (R.remaining reader.old) (R.remaining reader.new) (W.contents writer.old) (W.contents writer.new)
         (point (C.tells clock.old) (B.is_intact book.old) (B.is_sure book.old) (B.contents book.old))
@@ -137,10 +137,10 @@ fn serve_turns<R: Read, W: Write, C: Clock, B: Book>(
             return Err(TurnFault::Read);
         };
         if count == 0 {
-            return Ok(end_of(buffer.held()));
+            return Ok(end_of(buffer.as_slice()));
         }
         match answer_held(alloc, router, buffer, writer, clock, book) {
-            Ok(Turn::GoesOn) => {}
+            Ok(Turn::Continues) => {}
             Ok(Turn::Ends) => return Ok(Ended::Closed),
             Err(_) => return Err(TurnFault::Write),
         }
@@ -179,15 +179,15 @@ fn answer_held<W: Write, C: Clock, B: Book>(
     ensures { AnswersHeld (W.contents writer.old) (W.contents writer.new)
         (point (C.tells clock.old) (B.is_intact book.old) (B.is_sure book.old) (B.contents book.old))
         (point (C.tells clock.new) (B.is_intact book.new) (B.is_sure book.new) (B.contents book.new))
-        (held buffer.old) (held buffer.new) result }
+        (bytes_held buffer.old) (bytes_held buffer.new) result }
 {
     'messages: loop {
-        match first(buffer.held()) {
+        match first(buffer.as_slice()) {
             Next::Message(parts) => {
                 if let Err(fault) = answer(
                     alloc,
                     router,
-                    buffer.held(),
+                    buffer.as_slice(),
                     parts,
                     writer,
                     clock,
@@ -200,20 +200,24 @@ fn answer_held<W: Write, C: Clock, B: Book>(
                 }
                 buffer.take(parts.end);
             }
-            Next::Refused(refusal, head_alone) => {
-                return refuse(writer, refusal, head_alone);
+            Next::Rejected(rejection, head_alone) => {
+                return reject(writer, rejection, head_alone);
             }
-            Next::Unfinished => return Ok(Turn::GoesOn),
+            Next::Unfinished => return Ok(Turn::Continues),
         }
     }
 }
 
-// Writes the reply of a refusal that ends the stream.
-fn refuse<W: Write>(writer: &mut W, refusal: Refusal, head_alone: bool) -> Result<Turn, WriteFault>
-    ensures { RefusesAll (W.contents writer.old) (W.contents writer.new) (last_reply (refusing refusal head_alone)) result }
+// Writes the reply of a rejection that ends the stream.
+fn reject<W: Write>(
+    writer: &mut W,
+    rejection: Rejection,
+    head_alone: bool,
+) -> Result<Turn, WriteFault>
+    ensures { RejectsAll (W.contents writer.old) (W.contents writer.new) (last_reply (rejecting rejection head_alone)) result }
 {
-    let said = Said::Refused(refusal);
-    match write_reply(writer, &said, true, head_alone) {
+    let response = Response::Rejected(rejection);
+    match write_reply(writer, &response, true, head_alone) {
         Ok(()) => Ok(Turn::Ends),
         Err(fault) => Err(fault),
     }
