@@ -1,7 +1,8 @@
 //! Answering one message.
 ghost use Rattle.std.specs.Prelude.{◌≡◌, ℕ, List, Ok};
 ghost use Rattle.canary_wire.specs.Cut.{Message, IsFirst};
-ghost use Rattle.canary_wire.specs.Exchanges.{Handling, Exchange, response_of, IsHandling, reply_bytes, point, Books, Exchanges};
+ghost use Rattle.canary_wire.specs.Exchanges.{Handling, Exchange, Exchanges, Books};
+ghost use Rattle.canary_wire.specs.Exchanges.{response_of, IsHandling, reply_bytes, point};
 ghost use Rattle.canary_wire.specs.Routes.{the_rows, IsAddress};
 ghost use Rattle.canary_wire.specs.Writes.{Writes};
 
@@ -18,8 +19,8 @@ use matchit::Router;
 use std::alloc::Global;
 use std::io::Write;
 
-/// Answers the message that stands first in these bytes: the clock is asked once, the register is
-/// asked where the message is a request, and then the reply is written.
+// Answers the message that stands first in these bytes: the clock is asked once, the register is
+// asked where the message is a request, and then the reply is written.
 pub(crate) fn answer<W: Write, C: Clock, B: Book>(
     alloc: Global,
     router: &Router<Route>,
@@ -32,8 +33,11 @@ pub(crate) fn answer<W: Write, C: Clock, B: Book>(
     requires message { (m : Message) × IsFirst bytes.now parts m }
     requires routes { router.now ≡ the_rows }
     ensures { (m : Message) → IsFirst bytes.now parts m → (x : Exchange) × (x.message ≡ m)
-        × Exchanges (point (C.tells clock.old) (B.is_intact book.old) (B.is_sure book.old) (B.contents book.old))
-        (point (C.tells clock.new) (B.is_intact book.new) (B.is_sure book.new) (B.contents book.new)) x
+        × Exchanges
+        (point (C.tells clock.old) (B.is_intact book.old)
+        (B.is_sure book.old) (B.contents book.old))
+        (point (C.tells clock.new) (B.is_intact book.new)
+        (B.is_sure book.new) (B.contents book.new)) x
         × Writes (W.contents writer.old) (W.contents writer.new) (reply_bytes x) result }
 {
     let moment = clock.now();
@@ -55,8 +59,10 @@ fn handle<B: Book>(
     book: &mut B,
 ) -> Response
     requires { router.now ≡ the_rows }
-    ensures { (o : Handling) × (result ≡ response_of o) × IsHandling method.now target.now body.now moment o
-        × Books (B.is_intact book.old) (B.is_intact book.new) (B.is_sure book.old) (B.is_sure book.new) (B.contents book.old) (B.contents book.new) o }
+    ensures { (h : Handling) × (result ≡ response_of h)
+        × IsHandling method.now target.now body.now moment h
+        × Books (B.is_intact book.old) (B.is_intact book.new) (B.is_sure book.old)
+        (B.is_sure book.new) (B.contents book.old) (B.contents book.new) h }
 {
     match address_of(router, method, target) {
         Ok(address) => handle_request(alloc, address, body, moment, book),
@@ -72,8 +78,10 @@ fn handle_request<B: Book>(
     moment: Moment,
     book: &mut B,
 ) -> Response
-    ensures { (method target : List ℕ) → IsAddress method target (Ok address) → (o : Handling) × (result ≡ response_of o) × IsHandling method target body.now moment o
-        × Books (B.is_intact book.old) (B.is_intact book.new) (B.is_sure book.old) (B.is_sure book.new) (B.contents book.old) (B.contents book.new) o }
+    ensures { (method target : List ℕ) → IsAddress method target (Ok address) → (h : Handling)
+        × (result ≡ response_of h) × IsHandling method target body.now moment h
+        × Books (B.is_intact book.old) (B.is_intact book.new) (B.is_sure book.old)
+        (B.is_sure book.new) (B.contents book.old) (B.contents book.new) h }
 {
     match command_from_json(alloc, body) {
         Ok(command) => {

@@ -1,19 +1,20 @@
 //! The bytes of a stream that were read and not yet answered.
-ghost use Rattle.std.specs.Prelude.{◌≡◌, ℕ, List, ◌+◌, ◌<◌, ◌≤◌, ◌++◌, [], length, take, drop, vec_len, IfOk, OnErr, Ok};
+ghost use Rattle.std.specs.Prelude.{◌≡◌, ℕ, ◌+◌, ◌<◌, ◌≤◌, Ok, IfOk, OnErr};
+ghost use Rattle.std.specs.Prelude.{List, [], ◌++◌, length, take, drop, vec_len};
 ghost use Rattle.std.specs.Io.KnownBytes.{Consumes, IsAtEnd};
 
 use canary_base::error::Memory;
 use std::alloc::Global;
 use std::io::Read;
 
-/// The room: a head of 16,384 bytes and a body of 65,536.
+// The room: a head of 16,384 bytes and a body of 65,536.
 const ROOM: usize = 81_920;
 
-/// The reader failed.
+// The reader failed.
 #[derive(Clone, Copy, Debug, PartialEq, Eq)]
 pub(crate) struct ReadFault;
 
-/// The bytes that were read and not yet taken.
+// The bytes that were read and not yet taken.
 #[derive(Drop)]
 pub(crate) struct Buffer {
     bytes: Vec<u8>,
@@ -28,10 +29,7 @@ impl Buffer {
     ghost use Rattle.canary_wire.specs.Buffers.{bytes_held};
     ghost use Rattle.canary_wire.specs.Cut.{IsUnfinished};
 
-    /// An empty buffer, with all the room that it will ever need.
-    ///
-    /// # Errors
-    /// `Memory` where an allocation was refused.
+    // An empty buffer, with all the room that it will ever need.
     pub(crate) fn new(alloc: Global) -> Result<Buffer, Memory>
         ensures { IfOk result (λ buffer. bytes_held buffer ≡ []) }
     {
@@ -43,14 +41,14 @@ impl Buffer {
         })
     }
 
-    /// The bytes that it holds.
+    // The bytes that it holds.
     pub(crate) fn as_slice(&self) -> &[u8]
         ensures { result.now ≡ bytes_held self.now }
     {
         &self.bytes[self.start..self.end]
     }
 
-    /// Lets the first bytes go.
+    // Lets the first bytes go.
     pub(crate) fn take(&mut self, count: usize)
         requires { count ≤ length (bytes_held self.old) }
         ensures { bytes_held self.new ≡ drop count (bytes_held self.old) }
@@ -63,7 +61,8 @@ impl Buffer {
     // waited for. Where the reader fails, also where it is interrupted, nothing was read.
     pub(crate) fn fill<R: Read>(&mut self, reader: &mut R) -> Result<usize, ReadFault>
         requires { IsUnfinished (bytes_held self.old) }
-        ensures more { IfOk result (λ n. (got : List ℕ) × (bytes_held self.new ≡ bytes_held self.old ++ got)
+        ensures more { IfOk result (λ n. (got : List ℕ)
+            × (bytes_held self.new ≡ bytes_held self.old ++ got)
             × Consumes (R.remaining reader.old) (R.remaining reader.new) got × (length got ≡ n)) }
         ensures end { result ≡ Ok 0 → IsAtEnd (R.remaining reader.new) }
         ensures err { OnErr result ((bytes_held self.new ≡ bytes_held self.old)
@@ -77,7 +76,8 @@ impl Buffer {
     fn read_behind<R: Read>(&mut self, reader: &mut R) -> Result<usize, ReadFault>
         requires unfinished { IsUnfinished (bytes_held self.old) }
         requires room { self.old.end < 81920 }
-        ensures more { IfOk result (λ n. (got : List ℕ) × (bytes_held self.new ≡ bytes_held self.old ++ got)
+        ensures more { IfOk result (λ n. (got : List ℕ)
+            × (bytes_held self.new ≡ bytes_held self.old ++ got)
             × Consumes (R.remaining reader.old) (R.remaining reader.new) got × (length got ≡ n)) }
         ensures end { result ≡ Ok 0 → IsAtEnd (R.remaining reader.new) }
         ensures err { OnErr result ((bytes_held self.new ≡ bytes_held self.old)

@@ -13,7 +13,8 @@ ghost use Rattle.serde_json.specs.Find.{as_object};
 ghost use Rattle.canary_wire.specs.CommandReadings.{IsRead, IsReading};
 ghost use Rattle.canary_wire.specs.ManifestForms.{has, name_in, label_in};
 ghost use Rattle.canary_wire.specs.Rollouts.{is_unsupported_rollout};
-ghost use Rattle.canary_wire.specs.CommandForms.{at, is_object_of, only_member, service_in, start_in, promote_in, service_reading, reading_of_kind, command_reading, body_reading};
+ghost use Rattle.canary_wire.specs.CommandForms.{at, is_object_of, only_member, service_in, start_in, promote_in};
+ghost use Rattle.canary_wire.specs.CommandForms.{service_reading, reading_of_kind, command_reading, body_reading};
 
 use crate::form::{label_in, member_of, name_in};
 use crate::rollout::{is_unsupported_rollout, rollout_name, rollout_steps};
@@ -97,7 +98,8 @@ fn command_of_kind(alloc: Global, kind: &str, value: &Value) -> Result<Command, 
 // The key and the value of the only member of an object.
 #[tactic(auto, using(crate::proofs::Members::only_of_one, crate::proofs::Members::none_of_more))]
 fn only_member(value: &Value) -> Option<(&str, &Value)>
-    ensures { option_map (λ m. (m.0.now, view m.1.now)) result ≡ option_and_then only_member (as_object (view value.now)) }
+    ensures { option_map (λ m. (m.0.now, view m.1.now)) result
+        ≡ option_and_then only_member (as_object (view value.now)) }
 {
     let members = value.as_object()?;
     if members.len() != 1 {

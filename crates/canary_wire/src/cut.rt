@@ -8,29 +8,29 @@ use crate::rejection::Rejection;
 use httparse::Status;
 use httparse::spans::{EMPTY_HEADER_SPAN, HeaderSpan, RequestSpans, Span, parse_request};
 
-/// The most bytes of a head.
+// The most bytes of a head.
 pub(crate) const MOST_HEAD: usize = 16_384;
 
-/// The most header lines.
+// The most header lines.
 const MOST_LINES: usize = 64;
 
-/// Where the parts of a message are, and what its head asks of the reply.
+// Where the parts of a message are, and what its head asks of the reply.
 #[derive(Clone, Copy, Debug)]
 pub(crate) struct Parts {
     pub method: Span,
     pub target: Span,
-    /// The length of the head.
+    // The length of the head.
     pub len: usize,
-    /// The length of the message.
+    // The length of the message.
     pub end: usize,
-    /// Whether the stream ends after the reply.
+    // Whether the stream ends after the reply.
     pub is_last: bool,
-    /// Whether the reply is its head alone.
+    // Whether the reply is its head alone.
     pub head_alone: bool,
 }
 
-/// What stands first: a message, a rejection that ends the stream, with whether its reply is its head
-/// alone, or less than either.
+// What stands first: a message, a rejection that ends the stream, with whether its reply is its
+// head alone, or less than either.
 #[derive(Clone, Copy, Debug)]
 pub(crate) enum Next {
     Message(Parts),
@@ -38,7 +38,7 @@ pub(crate) enum Next {
     Unfinished,
 }
 
-/// What stands first.
+// What stands first.
 pub(crate) fn first(bytes: &[u8]) -> Next
     ensures { Cuts bytes.now result }
 {

@@ -1,29 +1,29 @@
-//! Rejections of the wire, before the register is asked.
+//! Why a message is turned away before the register is asked.
 ghost use Rattle.std.specs.Prelude.{◌≡◌};
 ghost use Rattle.canary_wire.specs.ReplyTexts.{rejection_status, rejection_body};
 
 use http::StatusCode;
 
-/// Why a message is rejected before the register is asked.
+// Why a message is rejected before the register is asked.
 #[derive(Clone, Copy, Debug, PartialEq, Eq)]
 pub(crate) enum Rejection {
-    /// No head of a request, or a `Content-Length` twice or that is no number.
+    // No head of a request, or a `Content-Length` twice or that is no number.
     Malformed,
-    /// A body whose length is not told by a `Content-Length` alone.
+    // A body whose length is not told by a `Content-Length` alone.
     Length,
-    /// A body that is longer than the limit.
+    // A body that is longer than the limit.
     TooLong,
-    /// A target that is no route.
+    // A target that is no route.
     NoRoute,
-    /// A method that the route does not have.
+    // A method that the route does not have.
     Method,
-    /// A caller that is no name.
+    // A caller that is no name.
     BadName,
-    /// A number that is no request number.
+    // A number that is no request number.
     BadNumber,
-    /// A command that asks for what the desk does not do.
+    // A command that asks for what the desk does not do.
     Unsupported,
-    /// A body that is no command.
+    // A body that is no command.
     Unreadable,
 }
 
@@ -41,7 +41,7 @@ impl Rejection {
         }
     }
 
-    /// Its body of JSON.
+    // Its body of JSON.
     pub(crate) fn body(self) -> &'static str
         ensures { result.now ≡ rejection_body self }
     {

@@ -1,6 +1,7 @@
 //! Replies (RFC 9112), and writing them.
 ghost use Rattle.std.specs.Prelude.{◌≡◌, ◌++◌, ◌≤◌, length};
-ghost use Rattle.canary_wire.specs.ReplyTexts.{response_status, response_body, allows, status_code, reason_of, line_if, head_text, reply_text};
+ghost use Rattle.canary_wire.specs.ReplyTexts.{response_status, response_body, allows, status_code};
+ghost use Rattle.canary_wire.specs.ReplyTexts.{reason_of, line_if, head_text, reply_text};
 ghost use Rattle.canary_wire.specs.Writes.{Writes};
 
 use crate::rejection::Rejection;
@@ -9,7 +10,7 @@ use canary_once::event::Answer;
 use http::StatusCode;
 use std::io::Write;
 
-/// Room for the head of any reply, and behind it for most bodies.
+// Room for the head of any reply, and behind it for most bodies.
 const ROOM: usize = 512;
 
 // What the reply to a message says.
@@ -49,13 +50,13 @@ impl Response {
     }
 }
 
-/// The writer failed, or took no byte.
+// The writer failed, or took no byte.
 #[derive(Clone, Copy, Debug, PartialEq, Eq)]
 pub(crate) struct WriteFault;
 
-/// Writes the reply that says this: its head alone where that is asked, and with `Connection:
-/// close` where the stream ends after it. It takes no memory. What went out before a fault is a front of
-/// the reply.
+// Writes the reply that says this: its head alone where that is asked, and with `Connection: close`
+// where the stream ends after it. It takes no memory. What went out before a fault is a front of
+// the reply.
 #[tactic(auto, unfolding(crate::specs::ReplyTexts::reply_text))]
 pub(crate) fn write_reply<W: Write>(
     writer: &mut W,
@@ -63,7 +64,8 @@ pub(crate) fn write_reply<W: Write>(
     is_last: bool,
     head_alone: bool,
 ) -> Result<(), WriteFault>
-    ensures { Writes (W.contents writer.old) (W.contents writer.new) (reply_text response.now is_last head_alone) result }
+    ensures { Writes (W.contents writer.old) (W.contents writer.new)
+        (reply_text response.now is_last head_alone) result }
 {
     let body = response.body();
     let head = reply_head(response.status(), body.len(), response.allows(), is_last);
@@ -131,7 +133,8 @@ fn write_both<W: Write>(
     mut head: ArrayString<ROOM>,
     body: &str,
 ) -> Result<(), WriteFault>
-    ensures { Writes (W.contents writer.old) (W.contents writer.new) (head.bytes ++ body.now) result }
+    ensures { Writes (W.contents writer.old) (W.contents writer.new)
+        (head.bytes ++ body.now) result }
 {
     if body.len() <= head.remaining_capacity() {
         head.push_str(body);

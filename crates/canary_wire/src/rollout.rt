@@ -3,7 +3,10 @@ ghost use Rattle.std.specs.Prelude.{◌≡◌, codes};
 ghost use Rattle.serde_json.specs.View.{view, items_view, members_view};
 ghost use Rattle.canary_wire.specs.CommandReadings.{IsRead};
 ghost use Rattle.canary_wire.specs.ManifestForms.{each, list_of, has, is_true, any_item, some_item};
-ghost use Rattle.canary_wire.specs.Rollouts.{rollout_name, pause_in, step_in, canary_steps, rollout_steps, is_unsupported_analysis, is_step_key, any_other, has_other_member, is_unsupported_step, is_unsupported_canary, is_unsupported_strategy, is_unsupported_spec, is_unsupported_rollout};
+ghost use Rattle.canary_wire.specs.Rollouts.{rollout_name, pause_in, step_in, canary_steps, rollout_steps};
+ghost use Rattle.canary_wire.specs.Rollouts.{is_unsupported_analysis, is_step_key, any_other, has_other_member};
+ghost use Rattle.canary_wire.specs.Rollouts.{is_unsupported_step, is_unsupported_canary, is_unsupported_strategy};
+ghost use Rattle.canary_wire.specs.Rollouts.{is_unsupported_spec, is_unsupported_rollout};
 
 use crate::command::WireFault;
 use crate::form::{is_no_empty_list, is_other_text, is_true, member_of, name_in, whole_up_to};
@@ -13,17 +16,17 @@ use canary_plan::plan::Step;
 use serde_json::{Map, Value};
 use std::alloc::Global;
 
-/// The greatest weight that is read. What a strategy takes is less, and checked later.
+// The greatest weight that is read. What a strategy takes is less, and checked later.
 const GREATEST_WEIGHT_READ: u32 = 1_000_000;
 
-/// The name in a manifest.
+// The name in a manifest.
 pub(crate) fn rollout_name(manifest: &Value) -> Option<Name>
     ensures { result ≡ rollout_name (view manifest.now) }
 {
     name_in(member_of(member_of(manifest, "metadata")?, "name")?)
 }
 
-/// The steps in a manifest.
+// The steps in a manifest.
 pub(crate) fn rollout_steps(alloc: Global, manifest: &Value) -> Result<Listed<Step>, WireFault>
     ensures { IsRead (rollout_steps (view manifest.now)) result }
 {
@@ -94,9 +97,9 @@ fn pause_in(pause: &Value) -> Option<Step>
     }
 }
 
-/// Whether a manifest asks for what the desk does not do: another kind of manifest, a paused
-/// rollout, blue-green, a step of another kind, or in an analysis a dry run, measurement retention
-/// or a template of the cluster.
+// Whether a manifest asks for what the desk does not do: another kind of manifest, a paused
+// rollout, blue-green, a step of another kind, or in an analysis a dry run, measurement retention
+// or a template of the cluster.
 #[tactic(auto, unfolding(crate::specs::Rollouts::is_unsupported_rollout))]
 pub(crate) fn is_unsupported_rollout(manifest: &Value) -> bool
     ensures { result ≡ is_unsupported_rollout (view manifest.now) }
