@@ -14,6 +14,18 @@ use Rattle.std.proofs.Math.Seq.{drop-append_seam}
 use Rattle.canary_wire.specs.Routes.{the_rows, request_row, IsPart, IsSplit, HasNoRoute}
 use Rattle.matchit.specs.Rows.{RowsOf, param_token, catch_all_token}
 use Rattle.matchit.specs.Seek.{own, step, or_else, seek, first, param_step, has_slash, segment, cuts, longest_suffix, with_suffix}
+use Rattle.matchit.specs.Router.{Refused}
+use Rattle.matchit.specs.declared.error.InsertError.{InsertError}
+use Rattle.matchit.specs.declared.error.InsertError.TheVariants.{Conflict, InvalidParam, InvalidParamSegment, InvalidCatchAll, OutOfMemory}
+use Rattle.canary_wire.specs.declared.routes.Route.{Route}
+
+-- a router without routes takes one, or there is no memory for it
+pub takes_first : (p : List ℕ) (e : InsertError) → Refused {T = Route} p [] e → e ≡ OutOfMemory
+takes_first p (Conflict with) (n, some, text) = absurd (none-some n some)
+takes_first p OutOfMemory is = refl
+takes_first p InvalidParamSegment is = absurd is
+takes_first p InvalidParam is = absurd is
+takes_first p InvalidCatchAll is = absurd is
 
 abbrev is_slash : ℕ → Bool
 is_slash b = b == 47

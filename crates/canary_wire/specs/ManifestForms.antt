@@ -50,8 +50,8 @@ abbrev pub up_to : ℕ → ℕ → Option ℕ
 up_to greatest number = if nat_le number greatest then Some number else None
 
 -- a number without point and exponent, from 0 up to this
-abbrev pub whole_up_to : ℕ → Data → Option ℕ
-whole_up_to greatest value = option_and_then (up_to greatest) (option_and_then as_u64 (as_number value))
+abbrev pub number_up_to : ℕ → Data → Option ℕ
+number_up_to greatest value = option_and_then (up_to greatest) (option_and_then as_u64 (as_number value))
 
 abbrev pub each : {A : Type 0} → (Data → Option A) → Items → Option (List A)
 each form no_items = Some []

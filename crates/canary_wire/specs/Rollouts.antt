@@ -5,7 +5,7 @@ use Rattle.canary_plan.specs.declared.plan.Step.{Step}
 use Rattle.canary_plan.specs.declared.plan.Step.TheVariants.{SetWeight, Pause}
 use Rattle.serde_json.specs.Data.{Data, Members, no_members, member}
 use Rattle.serde_json.specs.Find.{as_object}
-use Rattle.canary_wire.specs.ManifestForms.{unless_null, member_of, in_member, in_member_or, has, name_in, whole_up_to, list_of, is_true, is_other_text, is_no_empty_list, some_item}
+use Rattle.canary_wire.specs.ManifestForms.{unless_null, member_of, in_member, in_member_or, has, name_in, number_up_to, list_of, is_true, is_other_text, is_no_empty_list, some_item}
 
 -- ---- what a manifest says
 
@@ -18,7 +18,7 @@ pause_in pause = if is_some (as_object pause) && is_none (member_of (codes "dura
 
 -- exactly one of the three is there; an analysis is not read yet
 abbrev pub only_step : Option Data → Option Data → Option Data → Option Step
-only_step (Some weight) None None = option_map SetWeight (whole_up_to 1000000 weight)
+only_step (Some weight) None None = option_map SetWeight (number_up_to 1000000 weight)
 only_step None (Some pause) None = pause_in pause
 only_step weight pause analysis = None
 

@@ -66,8 +66,8 @@ abbrev pub ServesSome : Known → Known → Known → Known → Point → Point 
 ServesSome r new_r w new_w old new =
     (bytes : List ℕ) × (end : Ending) × IsOpen end × Serves r new_r w new_w old new bytes end
 
--- a text of which a front went out, and not the whole
-pub record IsFrontOf (text front : List ℕ) : Type 0 where
+-- the first bytes of a text, and not all of them
+pub record IsProperPrefix (text front : List ℕ) : Type 0 where
   pub back : List ℕ
   pub parts : text ≡ front ++ back
   pub short : 0 < length back
@@ -75,11 +75,11 @@ pub record IsFrontOf (text front : List ℕ) : Type 0 where
 -- these exchanges were held, and in the midst of the last one's reply, or of the rejection's behind it, the writer failed
 pub data IsCutShort (bytes text : List ℕ) : List Exchange → Type 0 where
   in_reply : (xs : List Exchange) (last : Exchange) (rest front : List ℕ) → Begins bytes (messages_of xs) (message_bytes last.message ++ rest) → IsMessage last.message
-      → IsFrontOf (reply_bytes last) front → text ≡ flat_map reply_bytes xs ++ front → IsCutShort bytes text (xs ++ last ∷ [])
+      → IsProperPrefix (reply_bytes last) front → text ≡ flat_map reply_bytes xs ++ front → IsCutShort bytes text (xs ++ last ∷ [])
   in_rejection : (xs : List Exchange) (rest front : List ℕ) (r : Rejection) (bare : Bool) → Begins bytes (messages_of xs) rest → IsRejected rest r bare
-      → IsFrontOf (last_reply (rejecting r bare)) front → text ≡ flat_map reply_bytes xs ++ front → IsCutShort bytes text xs
+      → IsProperPrefix (last_reply (rejecting r bare)) front → text ≡ flat_map reply_bytes xs ++ front → IsCutShort bytes text xs
 
--- the writer failed: what went out is a front of the replies, and the last message is the one whose reply did not go out whole
+-- the writer failed: what went out are the first bytes of the replies, and the last message is the one whose reply did not go out whole
 pub record ServesUntil (r new_r w new_w : Known) (old new : Point) : Type 0 where
   pub bytes : List ℕ
   pub text : List ℕ
@@ -141,4 +141,4 @@ AnswersHeld w new_w old new held rest (Err fault) = AnswersUntil w new_w old new
 abbrev pub RejectsAll : Known → Known → List ℕ → Result Turn WriteFault → Type 0
 RejectsAll w new_w text (Ok Continues) = ⊥
 RejectsAll w new_w text (Ok Ends) = Appends w new_w text
-RejectsAll w new_w text (Err fault) = (front : List ℕ) × IsFrontOf text front × Appends w new_w front
+RejectsAll w new_w text (Err fault) = (front : List ℕ) × IsProperPrefix text front × Appends w new_w front

@@ -13,8 +13,9 @@ ghost use Rattle.serde_json.specs.Find.{as_object};
 ghost use Rattle.canary_wire.specs.CommandReadings.{IsRead, IsReading};
 ghost use Rattle.canary_wire.specs.ManifestForms.{has, name_in, label_in};
 ghost use Rattle.canary_wire.specs.Rollouts.{is_unsupported_rollout};
-ghost use Rattle.canary_wire.specs.CommandForms.{at, is_object_of, only_member, service_in, start_in, promote_in};
-ghost use Rattle.canary_wire.specs.CommandForms.{service_reading, reading_of_kind, command_reading, body_reading};
+ghost use Rattle.canary_wire.specs.CommandForms.{at, is_object_of, only_member, service_in};
+ghost use Rattle.canary_wire.specs.CommandForms.{start_in, promote_in, service_reading};
+ghost use Rattle.canary_wire.specs.CommandForms.{reading_of_kind, command_reading, body_reading};
 
 use crate::form::{label_in, member_of, name_in};
 use crate::rollout::{is_unsupported_rollout, rollout_name, rollout_steps};

@@ -3,7 +3,7 @@
 //! A null member is as if absent, and a member that is not asked for is passed over.
 ghost use Rattle.std.specs.Prelude.{◌≡◌, option_map};
 ghost use Rattle.serde_json.specs.View.{view};
-ghost use Rattle.canary_wire.specs.ManifestForms.{member_of, name_in, label_in, whole_up_to};
+ghost use Rattle.canary_wire.specs.ManifestForms.{member_of, name_in, label_in, number_up_to};
 ghost use Rattle.canary_wire.specs.ManifestForms.{is_true, is_other_text, is_no_empty_list};
 
 use canary_base::names::{Label, Name};
@@ -34,8 +34,8 @@ pub(crate) fn label_in(value: &Value) -> Option<Label>
 }
 
 // The whole number that it is, up to that.
-pub(crate) fn whole_up_to(value: &Value, greatest: u32) -> Option<u32>
-    ensures { result ≡ whole_up_to greatest (view value.now) }
+pub(crate) fn number_up_to(value: &Value, greatest: u32) -> Option<u32>
+    ensures { result ≡ number_up_to greatest (view value.now) }
 {
     match value.as_u64() {
         Some(number) if number <= greatest as u64 => Some(number as u32),

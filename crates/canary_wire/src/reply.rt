@@ -55,8 +55,8 @@ impl Response {
 pub(crate) struct WriteFault;
 
 // Writes the reply that says this: its head alone where that is asked, and with `Connection: close`
-// where the stream ends after it. It takes no memory. What went out before a fault is a front of
-// the reply.
+// where the stream ends after it. It takes no memory. What went out before a fault are the first
+// bytes of the reply.
 #[tactic(auto, unfolding(crate::specs::ReplyTexts::reply_text))]
 pub(crate) fn write_reply<W: Write>(
     writer: &mut W,

@@ -3,13 +3,14 @@ ghost use Rattle.std.specs.Prelude.{◌≡◌, codes};
 ghost use Rattle.serde_json.specs.View.{view, items_view, members_view};
 ghost use Rattle.canary_wire.specs.CommandReadings.{IsRead};
 ghost use Rattle.canary_wire.specs.ManifestForms.{each, list_of, has, is_true, any_item, some_item};
-ghost use Rattle.canary_wire.specs.Rollouts.{rollout_name, pause_in, step_in, canary_steps, rollout_steps};
-ghost use Rattle.canary_wire.specs.Rollouts.{is_unsupported_analysis, is_step_key, any_other, has_other_member};
-ghost use Rattle.canary_wire.specs.Rollouts.{is_unsupported_step, is_unsupported_canary, is_unsupported_strategy};
+ghost use Rattle.canary_wire.specs.Rollouts.{rollout_name, pause_in, step_in, canary_steps};
+ghost use Rattle.canary_wire.specs.Rollouts.{rollout_steps, is_unsupported_analysis, is_step_key};
+ghost use Rattle.canary_wire.specs.Rollouts.{any_other, has_other_member, is_unsupported_step};
+ghost use Rattle.canary_wire.specs.Rollouts.{is_unsupported_canary, is_unsupported_strategy};
 ghost use Rattle.canary_wire.specs.Rollouts.{is_unsupported_spec, is_unsupported_rollout};
 
 use crate::command::WireFault;
-use crate::form::{is_no_empty_list, is_other_text, is_true, member_of, name_in, whole_up_to};
+use crate::form::{is_no_empty_list, is_other_text, is_true, member_of, name_in, number_up_to};
 use canary_base::lists::Listed;
 use canary_base::names::Name;
 use canary_plan::plan::Step;
@@ -57,7 +58,7 @@ fn steps_of(alloc: Global, steps: &Value) -> Result<Listed<Step>, WireFault>
     }
 }
 
-#[tactic(auto, using(crate::proofs::Items::each_start, crate::proofs::Items::each_step, crate::proofs::Items::each_fail, crate::proofs::Items::each_end))]
+#[tactic(auto, using(crate::proofs::Items::read_in_turn))]
 fn steps_in(alloc: Global, list: &Vec<Value>) -> Result<Listed<Step>, WireFault>
     ensures { IsRead (each step_in (items_view list.now.items)) result }
 {
@@ -78,7 +79,7 @@ fn step_in(step: &Value) -> Option<Step>
         member_of(step, "pause"),
         member_of(step, "analysis"),
     ) {
-        (Some(weight), None, None) => Some(Step::SetWeight(whole_up_to(
+        (Some(weight), None, None) => Some(Step::SetWeight(number_up_to(
             weight,
             GREATEST_WEIGHT_READ,
         )?)),
@@ -138,7 +139,7 @@ fn has_unsupported_step(steps: &Value) -> bool
     }
 }
 
-#[tactic(auto, using(crate::proofs::Items::any_step, crate::proofs::Items::any_here, crate::proofs::Items::any_end))]
+#[tactic(auto, using(crate::proofs::Items::tested_in_turn))]
 fn is_any_step_unsupported(list: &Vec<Value>) -> bool
     ensures { result ≡ any_item is_unsupported_step (items_view list.now.items) }
 {
@@ -200,7 +201,7 @@ fn has_cluster_template(templates: &Value) -> bool
     }
 }
 
-#[tactic(auto, using(crate::proofs::Items::any_step, crate::proofs::Items::any_here, crate::proofs::Items::any_end))]
+#[tactic(auto, using(crate::proofs::Items::tested_in_turn))]
 fn is_any_of_the_cluster(list: &Vec<Value>) -> bool
     ensures { result ≡ any_item (has (codes "clusterScope") is_true) (items_view list.now.items) }
 {

@@ -1,5 +1,5 @@
 //! Routes: what a target leads to.
-ghost use Rattle.std.specs.Prelude.{◌≡◌, ◌≢◌, ◌↔◌, ◌==◌, List, ℕ, ◌++◌, IsTrue, IfOk, MatchOption};
+ghost use Rattle.std.specs.Prelude.{◌≡◌, ◌≢◌, ◌↔◌, ◌==◌, List, ℕ, ◌++◌, IsTrue, IfOk, IsOkUnless, MatchOption};
 ghost use Rattle.std.specs.List.{before_first, position};
 ghost use Rattle.canary_wire.specs.Routes.{the_rows, IsAddress};
 ghost use Rattle.canary_wire.specs.Routes.{IsPart, IsSplit, IsRequestPath, HasNoRoute};
@@ -27,7 +27,8 @@ pub(crate) struct Address {
 
 // The router of the routes.
 pub(crate) fn routes(alloc: Global) -> Result<Router<Route>, InsertError>
-    ensures { IfOk result (λ router. router ≡ the_rows) }
+    ensures ok { IfOk result (λ router. router ≡ the_rows) }
+    ensures err { IsOkUnless result InsertError.OutOfMemory }
 {
     let mut router = Router::new(alloc);
     router.insert("/callers/{caller}/requests/{number}", Route::Request)?;
@@ -36,8 +37,8 @@ pub(crate) fn routes(alloc: Global) -> Result<Router<Route>, InsertError>
 
 // Whose request this method and this target are, and under which number, or the first of these that
 // holds: `NoRoute` where the target, up to its first question mark, is no route or not UTF-8,
-// `Method` where the method is not PUT, `BadName` and `BadNumber` where the parts are no name and no
-// request number.
+// `Method` where the method is not PUT, `BadName` and `BadNumber` where the parts are no name and
+// no request number.
 pub(crate) fn address_of(
     router: &Router<Route>,
     method: &[u8],
