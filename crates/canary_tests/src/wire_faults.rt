@@ -1,4 +1,4 @@
-//! Readers, writers and stores that fail under a stream.
+//! Readers, writers and stores that fail under a stream, and what is said of that.
 use crate::wire_serve::{
     ALL, GET, NO_ROUTE, NOT_FOUND, Script, Served, clock, in_pieces, release, replies_over,
     replies_to, reply, unless_out_of_memory, wire_text,
@@ -9,9 +9,11 @@ use canary_base::numbers::Number;
 use canary_once::book::{Book, BookFault, Change, Kept};
 use canary_once::memory::MemoryBook;
 use canary_release::service::Service;
+use canary_wire::command::WireFault;
 use canary_wire::serve::{Ended, ServeFault, serve};
 use std::alloc::Global;
 use std::cell::Cell;
+use std::fmt::Display;
 use std::io;
 use std::io::{ErrorKind, Read, Write};
 use std::test::Fail;
@@ -165,13 +167,7 @@ fn tells_of_a_store_that_fails(rt: HostRuntime) -> Result<(), Fail> {
     let code = r#"{"code":"storage"}"#;
     let want = reply(alloc, "503 Service Unavailable", "", code)?;
     let mut written = Vec::new(alloc);
-    let ended = serve(
-        alloc,
-        &mut stream,
-        &mut written,
-        &mut clock(),
-        &mut Broken,
-    );
+    let ended = serve(alloc, &mut stream, &mut written, &mut clock(), &mut Broken);
     let (written, ended) = unless_out_of_memory(written, ended)?;
     assert_eq!(rt; ended, Ok(Ended::EndOfInput));
     assert_eq!(rt; written.as_slice(), want.as_bytes());
@@ -247,8 +243,25 @@ fn serve_politely(alloc: Global, reply: usize) -> Result<(Ended, usize, bool), F
 fn replies_before_the_next_read(rt: HostRuntime) -> Result<(), Fail> {
     let reply = reply(rt.alloc(), NOT_FOUND, "", NO_ROUTE)?.len();
     let (ended, written, was_early) = serve_politely(rt.alloc(), reply)?;
-    assert_eq!(rt; ended, Ok(Ended::EndOfInput));
+    assert_eq!(rt; ended, Ended::EndOfInput);
     assert!(rt; !was_early);
     assert_eq!(rt; written, reply.saturating_mul(3));
+    Ok(())
+}
+
+fn says<F: Display>(alloc: Global, fault: &F, words: &str) -> Result<bool, Memory> {
+    Ok(format!(in alloc; "{fault}")?.as_str() == words)
+}
+
+#[test]
+fn says_what_went_wrong(rt: HostRuntime) -> Result<(), Fail> {
+    let alloc = rt.alloc();
+    assert!(rt; says(alloc, &WireFault::Unreadable, "the body is no command")?);
+    let unsupported = "the body asks for what the desk does not do";
+    assert!(rt; says(alloc, &WireFault::Unsupported, unsupported)?);
+    assert!(rt; says(alloc, &WireFault::Memory, "out of memory")?);
+    assert!(rt; says(alloc, &ServeFault::Read, "the input could not be read")?);
+    assert!(rt; says(alloc, &ServeFault::Write, "the output could not be written")?);
+    assert!(rt; says(alloc, &ServeFault::Memory, "out of memory")?);
     Ok(())
 }
