@@ -1,7 +1,7 @@
 -- How a message is handled, restated.
 use Rattle.std.proofs.Common.{◌≡◌, ℕ, Bool, List, refl, ap, ◌∙◌, subst}
 use Rattle.std.specs.Prelude.{Result}
-use Rattle.canary_once.specs.Contents.{Contents}
+use Rattle.canary_once.specs.Books.{BookState}
 use Rattle.canary_wire.specs.declared.rejection.Rejection.{Rejection}
 use Rattle.canary_wire.specs.declared.reply.Response.{Response}
 use Rattle.canary_wire.specs.declared.reply.WriteFault.{WriteFault}
@@ -10,8 +10,8 @@ use Rattle.canary_wire.specs.Writes.{Known, Writes}
 use Rattle.canary_wire.specs.Exchanges.{Handling, rejected, IsHandling, Books}
 
 -- the book was not asked
-pub books_rejected : (intact : Type 0) (sure : Bool) (c : Contents) (r : Rejection) → Books intact intact sure sure c c (rejected r)
-books_rejected intact sure c r = record { intact = λ h. h; sure = (refl, tt); handled = λ h. refl; kept = λ h caller number kept e. e }
+pub books_rejected : (b : BookState) (r : Rejection) → Books b b (rejected r)
+books_rejected b r = record { intact = λ h. h; sure = (refl, tt); handled = λ h. refl; receipts = λ h caller number receipt e. e }
 
 pub handling_as : (method method' target target' body body' : List ℕ) (moment : ℕ) (o : Handling) → method ≡ method' → target ≡ target' → body ≡ body'
     → IsHandling method target body moment o → IsHandling method' target' body' moment o

@@ -6,10 +6,10 @@ use Rattle.std.proofs.lemmas.List.{length-append, length-map, map-append, get_or
 use Rattle.canary_release.specs.declared.reply.Reply.{Reply}
 use Rattle.canary_once.specs.declared.event.Event.{Event}
 use Rattle.canary_once.specs.declared.event.Answer.{Answer}
-use Rattle.canary_once.specs.declared.event.Answer.TheVariants.{Told, Unavailable}
+use Rattle.canary_once.specs.declared.event.Answer.TheVariants.{Replied, Unavailable}
 use Rattle.canary_once.specs.Contents.{Contents}
-use Rattle.canary_once.specs.Answers.{heard, told, answers_of, after}
-use Rattle.canary_once.specs.Laws.{GoesOn}
+use Rattle.canary_once.specs.Answers.{heard, replies_in, answers_of, after}
+use Rattle.canary_once.specs.Laws.{RunsOn}
 use Rattle.canary_wire.specs.Exchanges.{Handling, rejected, no_memory, posted, IsSureHandling, Exchange, IsExchange, moments_of, event_in, answer_in, events_of, answers_in, Point, AreFirst, Holds, IsHandled, AreHandled, Exchanges, Went}
 
 -- ---- lists
@@ -74,7 +74,7 @@ went_none p = record {
   intact = λ h. h;
   sure = (refl, tt);
   handled = λ h. refl;
-  kept = λ h caller number kept e. e;
+  receipts = λ h caller number receipt e. e;
 }
 
 -- one message was answered
@@ -84,8 +84,8 @@ went_one p q x e = record {
   moments = λ says h. (let m = e.moment says h in (λ k inside. first_one says x.moment m.0 k inside, m.1));
   intact = e.books.intact;
   sure = (e.books.sure.0, (e.books.sure.1, tt));
-  handled = λ h. (q.contents, e.books.handled h, refl);
-  kept = e.books.kept;
+  handled = λ h. (q.book.contents, e.books.handled h, refl);
+  receipts = e.books.receipts;
 }
 
 pub went_then : (p q r : Point) (xs ys : List Exchange) → Went p q xs → Went q r ys → Went p r (xs ++ ys)
@@ -100,34 +100,34 @@ went_then p q r xs ys a b = record {
         subst r.clock (later_is says (length xs) (length ys) (length (xs ++ ys)) (len_is xs ys)) n.1,
       );
   intact = λ h. a.intact (b.intact h);
-  sure = (b.sure.0 ∙ a.sure.0, all-append (λ x. IsSureHandling p.sure x.handling) xs ys a.sure.1 (sure_as q.sure p.sure ys a.sure.0 b.sure.1));
-  handled = λ h. handled-append p.contents q.contents r.contents xs ys (a.handled (b.intact h)) (b.handled h);
-  kept = λ h caller number kept e. b.kept h caller number kept (a.kept (b.intact h) caller number kept e);
+  sure = (b.sure.0 ∙ a.sure.0, all-append (λ x. IsSureHandling p.book.is_sure x.handling) xs ys a.sure.1 (sure_as q.book.is_sure p.book.is_sure ys a.sure.0 b.sure.1));
+  handled = λ h. handled-append p.book.contents q.book.contents r.book.contents xs ys (a.handled (b.intact h)) (b.handled h);
+  receipts = λ h caller number receipt e. b.receipts h caller number receipt (a.receipts (b.intact h) caller number receipt e);
 }
 
 -- ---- the whole list
 
 -- what one message is told and leaves is that of its event, if it is one
-one_is : (d mid : Contents) (o : Handling) → IsHandled d o mid → (told (answer_in o) ≡ answers_of d (heard (event_in o) (answer_in o))) × (mid ≡ after d (heard (event_in o) (answer_in o)))
+one_is : (d mid : Contents) (o : Handling) → IsHandled d o mid → (replies_in (answer_in o) ≡ answers_of d (heard (event_in o) (answer_in o))) × (mid ≡ after d (heard (event_in o) (answer_in o)))
 one_is d mid (rejected r) h = (refl, h)
 one_is d mid no_memory h = (refl, h)
-one_is d mid (posted r (Told reply)) h = (ap (λ (x : Reply). x ∷ []) h.0, h.1)
+one_is d mid (posted r (Replied reply)) h = (ap (λ (x : Reply). x ∷ []) h.0, h.1)
 one_is d mid (posted r (Unavailable fault)) h = (refl, h)
 
-told_first : (o : Handling) (gs : List Answer) → told (answer_in o ++ gs) ≡ told (answer_in o) ++ told gs
-told_first (rejected r) gs = refl
-told_first no_memory gs = refl
-told_first (posted r (Told reply)) gs = refl
-told_first (posted r (Unavailable fault)) gs = refl
+replies_first : (o : Handling) (gs : List Answer) → replies_in (answer_in o ++ gs) ≡ replies_in (answer_in o) ++ replies_in gs
+replies_first (rejected r) gs = refl
+replies_first no_memory gs = refl
+replies_first (posted r (Replied reply)) gs = refl
+replies_first (posted r (Unavailable fault)) gs = refl
 
 heard_first : (o : Handling) (es : List Event) (gs : List Answer) → heard (event_in o ++ es) (answer_in o ++ gs) ≡ heard (event_in o) (answer_in o) ++ heard es gs
 heard_first (rejected r) es gs = refl
 heard_first no_memory es gs = refl
-heard_first (posted r (Told reply)) es gs = refl
+heard_first (posted r (Replied reply)) es gs = refl
 heard_first (posted r (Unavailable fault)) es gs = refl
 
-handled_are : GoesOn → (d new : Contents) (xs : List Exchange) → AreHandled d xs new
-    → (told (answers_in xs) ≡ answers_of d (heard (events_of xs) (answers_in xs))) × (new ≡ after d (heard (events_of xs) (answers_in xs)))
+handled_are : RunsOn → (d new : Contents) (xs : List Exchange) → AreHandled d xs new
+    → (replies_in (answers_in xs) ≡ answers_of d (heard (events_of xs) (answers_in xs))) × (new ≡ after d (heard (events_of xs) (answers_in xs)))
 handled_are goes d new [] h = (refl, h)
 handled_are goes d new (x ∷ xs) h =
     let o = x.handling in
@@ -137,18 +137,18 @@ handled_are goes d new (x ∷ xs) h =
     let others = handled_are goes h.0 new xs h.2 in
     let both = goes d first rest in
     let whole = sym (heard_first o (events_of xs) (answers_in xs)) in (
-      told_first o (answers_in xs) ∙ (λ i. one.0 i ++ others.0 i) ∙ ap (λ (k : Contents). answers_of d first ++ answers_of k rest) one.1 ∙ sym both.0 ∙ ap (answers_of d) whole,
+      replies_first o (answers_in xs) ∙ (λ i. one.0 i ++ others.0 i) ∙ ap (λ (k : Contents). answers_of d first ++ answers_of k rest) one.1 ∙ sym both.0 ∙ ap (answers_of d) whole,
       others.1 ∙ ap (λ (k : Contents). after k rest) one.1 ∙ sym both.1 ∙ ap (after d) whole,
     )
 
 -- what was answered step by step is what the small machine answers as a whole
-pub holds_of : GoesOn → (p q : Point) (xs : List Exchange) → Went p q xs → Holds p q xs
+pub holds_of : RunsOn → (p q : Point) (xs : List Exchange) → Went p q xs → Holds p q xs
 holds_of goes p q xs went = record {
   each = went.each;
   moments = went.moments;
   intact = went.intact;
   sure = went.sure;
-  answers = λ h. (handled_are goes p.contents q.contents xs (went.handled h)).0;
-  contents = λ h. (handled_are goes p.contents q.contents xs (went.handled h)).1;
-  kept = went.kept;
+  answers = λ h. (handled_are goes p.book.contents q.book.contents xs (went.handled h)).0;
+  contents = λ h. (handled_are goes p.book.contents q.book.contents xs (went.handled h)).1;
+  receipts = went.receipts;
 }

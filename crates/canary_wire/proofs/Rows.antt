@@ -11,7 +11,8 @@ use Rattle.http1.specs.Fields.{elements}
 use Rattle.serde_json.proofs.OnLiterals.{serde_json_on_literals}
 use Rattle.canary_plan.specs.declared.plan.Step.TheVariants.{SetWeight, Pause}
 use Rattle.canary_plan.specs.declared.command.Command.TheVariants.{Service, Start, Promote}
-use Rattle.canary_once.specs.declared.event.Answer.TheVariants.{Told}
+use Rattle.canary_release.specs.declared.reply.ReplyStatus.TheVariants.{Accepted}
+use Rattle.canary_once.specs.declared.event.Answer.TheVariants.{Replied}
 use Rattle.canary_wire.specs.declared.rejection.Rejection.TheVariants.{Malformed, Length, TooLong, Method, BadName}
 use Rattle.canary_wire.specs.declared.framing.Framing.TheVariants.{Body, Rejected}
 use Rattle.canary_wire.specs.declared.reply.Response.TheVariants as response
@@ -120,7 +121,7 @@ name_goes_before_number = (
 
 -- ---- replies
 
-promoted_text : reply_text (response.Answered (Told (record { status = 200; body = codes "{\"code\":\"ok\",\"service\":\"web\",\"status\":\"Paused\",\"step\":3,\"weight\":50}" }))) false false
+promoted_text : reply_text (response.Answered (Replied (record { status = Accepted; body = codes "{\"code\":\"ok\",\"service\":\"web\",\"status\":\"Paused\",\"step\":3,\"weight\":50}" }))) false false
     ≡ codes "HTTP/1.1 200 OK\r\nContent-Type: application/json\r\nContent-Length: 68\r\n\r\n{\"code\":\"ok\",\"service\":\"web\",\"status\":\"Paused\",\"step\":3,\"weight\":50}"
 unfolding reply_text head_text digits
 promoted_text = refl

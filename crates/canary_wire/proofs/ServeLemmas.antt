@@ -14,7 +14,7 @@ use Rattle.canary_wire.specs.declared.serve.Turn.TheVariants.{Continues, Ends}
 use Rattle.canary_wire.specs.Cut.{Message, message_bytes, IsMessage, IsFirst, IsRejected, IsUnfinished, Begins, Ending, idle, cut_off, closing, rejecting, is_newline, IsCut, unfinished, closed, rejected}
 use Rattle.canary_wire.specs.Cut.{KeepsOpen}
 use Rattle.canary_wire.specs.Writes.{Known, Writes}
-use Rattle.canary_once.specs.Laws.{GoesOn}
+use Rattle.canary_once.specs.Laws.{RunsOn}
 use Rattle.canary_wire.specs.Exchanges.{Exchange, messages_of, reply_bytes, Point, Exchanges, Went}
 use Rattle.canary_wire.specs.Serving.{last_reply, end_of, IsOpen, EndsAs, Serves, ServesTo, ServesSome, ServesUntil, IsCutShort, in_reply, in_rejection, IsSoFar, Answers, AnswersAll, AnswersUntil, AnswersHeld, RejectsAll}
 use Rattle.canary_wire.proofs.CutLemmas.{unfinished_empty}
@@ -162,7 +162,7 @@ so_far_none r w p held e = record {
 }
 
 -- the front that was read before, and what was read now
-module _ (goes : GoesOn) (r r1 r2 w w1 : Known) (p p1 : Point) (n : ℕ) (old new got : List ℕ) (so : IsSoFar r r1 w w1 p p1 n old) (e : new ≡ old ++ got) (more : Consumes r1 r2 got) where
+module _ (goes : RunsOn) (r r1 r2 w w1 : Known) (p p1 : Point) (n : ℕ) (old new got : List ℕ) (so : IsSoFar r r1 w w1 p p1 n old) (e : new ≡ old ++ got) (more : Consumes r1 r2 got) where
   begins_new : Begins (so.bytes ++ got) (messages_of so.exchanges) new
   begins_new = begins_as (so.bytes ++ got) (old ++ got) new (messages_of so.exchanges) (sym e) (begins_more so.bytes old got (messages_of so.exchanges) so.begins)
 
@@ -222,7 +222,7 @@ is_open : (b : Bool) → IsOpen (if b then idle else cut_off)
 is_open true = tt
 is_open false = tt
 
-serves_open : GoesOn → (r r1 w w1 : Known) (p p1 : Point) (bytes rest : List ℕ) (xs : List Exchange) → Consumes r r1 bytes → Begins bytes (messages_of xs) rest → IsUnfinished rest → Went p p1 xs → Appends w w1 (flat_map reply_bytes xs)
+serves_open : RunsOn → (r r1 w w1 : Known) (p p1 : Point) (bytes rest : List ℕ) (xs : List Exchange) → Consumes r r1 bytes → Begins bytes (messages_of xs) rest → IsUnfinished rest → Went p p1 xs → Appends w w1 (flat_map reply_bytes xs)
     → Serves r r1 w w1 p p1 bytes (if list_all is_newline rest then idle else cut_off)
 serves_open goes r r1 w w1 p p1 bytes rest xs read begins u went wrote =
     let P : List ℕ → Type 0 = λ t. Appends w w1 t in record {
@@ -233,7 +233,7 @@ serves_open goes r r1 w w1 p p1 bytes rest xs read begins u went wrote =
       written = subst P (sym (ap (λ t. flat_map reply_bytes xs ++ t) (no_last (list_all is_newline rest)) ∙ append-nil (flat_map reply_bytes xs))) wrote;
     }
 
-pub so_far_open : GoesOn → (r r1 r2 w w1 : Known) (p p1 : Point) (n : ℕ) (old : List ℕ) → IsSoFar r r1 w w1 p p1 n old → Consumes r1 r2 [] → ServesSome r r2 w w1 p p1
+pub so_far_open : RunsOn → (r r1 r2 w w1 : Known) (p p1 : Point) (n : ℕ) (old : List ℕ) → IsSoFar r r1 w w1 p p1 n old → Consumes r1 r2 [] → ServesSome r r2 w w1 p p1
 so_far_open goes r r1 r2 w w1 p p1 n old so more =
     let P : List ℕ → Type 0 = λ t. Consumes r r2 t in
     let read = subst P (append-nil so.bytes) (consumes_more r r1 r2 so.bytes [] so.read more) in (
@@ -243,7 +243,7 @@ so_far_open goes r r1 r2 w w1 p p1 n old so more =
       serves_open goes r r2 w w1 p p1 so.bytes old so.exchanges read so.begins so.unfinished so.went so.written,
     )
 
-pub so_far_spent : GoesOn → (r r1 w w1 : Known) (p p1 : Point) (n : ℕ) (old : List ℕ) → IsSoFar r r1 w w1 p p1 n old → 1000000000 ≤ n → ServesTo r r1 w w1 p p1 TurnsSpent
+pub so_far_spent : RunsOn → (r r1 w w1 : Known) (p p1 : Point) (n : ℕ) (old : List ℕ) → IsSoFar r r1 w w1 p p1 n old → 1000000000 ≤ n → ServesTo r r1 w w1 p p1 TurnsSpent
 so_far_spent goes r r1 w w1 p p1 n old so spent = (
   so.bytes,
   (if list_all is_newline old then idle else cut_off),
@@ -259,7 +259,7 @@ ends_at : (b : Bool) (bytes : List ℕ) (left : Known) → IsAtEnd left → Ends
 ends_at true bytes left h = (refl, h)
 ends_at false bytes left h = (refl, h)
 
-pub so_far_end : GoesOn → (r r1 r2 w w1 : Known) (p p1 : Point) (n : ℕ) (old new got : List ℕ) → IsSoFar r r1 w w1 p p1 n old → new ≡ old ++ got → Consumes r1 r2 got → length got ≡ 0 → IsAtEnd r2
+pub so_far_end : RunsOn → (r r1 r2 w w1 : Known) (p p1 : Point) (n : ℕ) (old new got : List ℕ) → IsSoFar r r1 w w1 p p1 n old → new ≡ old ++ got → Consumes r1 r2 got → length got ≡ 0 → IsAtEnd r2
     → ServesTo r r2 w w1 p p1 (end_of new)
 so_far_end goes r r1 r2 w w1 p p1 n old new got so e more none at =
     let nothing = empty got none in

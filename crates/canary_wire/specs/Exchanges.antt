@@ -6,8 +6,9 @@ use Rattle.canary_once.specs.declared.event.Request.{Request}
 use Rattle.canary_once.specs.declared.event.Event.{Event}
 use Rattle.canary_once.specs.declared.event.Event.TheVariants as event
 use Rattle.canary_once.specs.declared.event.Answer.{Answer}
-use Rattle.canary_once.specs.Contents.{Contents, KeepsEntries}
-use Rattle.canary_once.specs.Answers.{told, heard, answers_of, after}
+use Rattle.canary_once.specs.Contents.{Contents, KeepsReceipts}
+use Rattle.canary_once.specs.Books.{BookState}
+use Rattle.canary_once.specs.Answers.{replies_in, heard, answers_of, after}
 use Rattle.canary_once.specs.Single.{request_of, IsAnswer, IsFaultOf}
 use Rattle.canary_wire.specs.declared.rejection.Rejection.{Rejection}
 use Rattle.canary_wire.specs.declared.rejection.Rejection.TheVariants.{Unsupported, Unreadable}
@@ -93,15 +94,13 @@ answers_in xs = flat_map (λ x. answer_in x.handling) xs
 
 -- ---- where the desk stands
 
--- the moments that its clock will tell, and its book: whether its store is honest, whether it is sure, and its contents
+-- the moments that its clock will tell, and how its book stands
 pub record Point : Type 1 where
   pub clock : (ℕ → ℕ) → Type 0
-  pub intact : Type 0
-  pub sure : Bool
-  pub contents : Contents
+  pub book : BookState
 
-abbrev pub point : ((ℕ → ℕ) → Type 0) → Type 0 → Bool → Contents → Point
-point clock intact sure contents = record { clock = clock; intact = intact; sure = sure; contents = contents }
+abbrev pub point : ((ℕ → ℕ) → Type 0) → BookState → Point
+point clock book = record { clock = clock; book = book }
 
 -- of all moments these are the first
 abbrev pub AreFirst : (ℕ → ℕ) → List ℕ → Type 0
@@ -111,11 +110,11 @@ AreFirst moment_at moments = (k : ℕ) → k < length moments → slice_index mo
 pub record Holds (old new : Point) (xs : List Exchange) : Type 0 where
   pub each : AllByRecursion IsExchange xs
   pub moments : (moment_at : ℕ → ℕ) → old.clock moment_at → AreFirst moment_at (moments_of xs) × new.clock (λ k. moment_at (k + length xs))
-  pub intact : new.intact → old.intact
-  pub sure : (new.sure ≡ old.sure) × AllByRecursion (λ x. IsSureHandling old.sure x.handling) xs
-  pub answers : new.intact → told (answers_in xs) ≡ answers_of old.contents (heard (events_of xs) (answers_in xs))
-  pub contents : new.intact → new.contents ≡ after old.contents (heard (events_of xs) (answers_in xs))
-  pub kept : new.intact → KeepsEntries old.contents new.contents
+  pub intact : new.book.is_intact → old.book.is_intact
+  pub sure : (new.book.is_sure ≡ old.book.is_sure) × AllByRecursion (λ x. IsSureHandling old.book.is_sure x.handling) xs
+  pub answers : new.book.is_intact → replies_in (answers_in xs) ≡ answers_of old.book.contents (heard (events_of xs) (answers_in xs))
+  pub contents : new.book.is_intact → new.book.contents ≡ after old.book.contents (heard (events_of xs) (answers_in xs))
+  pub receipts : new.book.is_intact → KeepsReceipts old.book.contents new.book.contents
 
 -- ---- step by step
 
@@ -131,23 +130,23 @@ AreHandled c [] new = new ≡ c
 AreHandled c (x ∷ xs) new = (mid : Contents) × IsHandled c x.handling mid × AreHandled mid xs new
 
 -- what the book did as one message was handled
-pub record Books (old_intact new_intact : Type 0) (old_sure new_sure : Bool) (old new : Contents) (h : Handling) : Type 0 where
-  pub intact : new_intact → old_intact
-  pub sure : (new_sure ≡ old_sure) × IsSureHandling old_sure h
-  pub handled : new_intact → IsHandled old h new
-  pub kept : new_intact → KeepsEntries old new
+pub record Books (old new : BookState) (h : Handling) : Type 0 where
+  pub intact : new.is_intact → old.is_intact
+  pub sure : (new.is_sure ≡ old.is_sure) × IsSureHandling old.is_sure h
+  pub handled : new.is_intact → IsHandled old.contents h new.contents
+  pub receipts : new.is_intact → KeepsReceipts old.contents new.contents
 
 -- one message is answered
 pub record Exchanges (old new : Point) (x : Exchange) : Type 0 where
   pub is : IsExchange x
   pub moment : (moment_at : ℕ → ℕ) → old.clock moment_at → (x.moment ≡ moment_at 0) × new.clock (λ k. moment_at (k + 1))
-  pub books : Books old.intact new.intact old.sure new.sure old.contents new.contents x.handling
+  pub books : Books old.book new.book x.handling
 
 -- messages are answered, one after another
 pub record Went (old new : Point) (xs : List Exchange) : Type 0 where
   pub each : AllByRecursion IsExchange xs
   pub moments : (moment_at : ℕ → ℕ) → old.clock moment_at → AreFirst moment_at (moments_of xs) × new.clock (λ k. moment_at (k + length xs))
-  pub intact : new.intact → old.intact
-  pub sure : (new.sure ≡ old.sure) × AllByRecursion (λ x. IsSureHandling old.sure x.handling) xs
-  pub handled : new.intact → AreHandled old.contents xs new.contents
-  pub kept : new.intact → KeepsEntries old.contents new.contents
+  pub intact : new.book.is_intact → old.book.is_intact
+  pub sure : (new.book.is_sure ≡ old.book.is_sure) × AllByRecursion (λ x. IsSureHandling old.book.is_sure x.handling) xs
+  pub handled : new.book.is_intact → AreHandled old.book.contents xs new.book.contents
+  pub receipts : new.book.is_intact → KeepsReceipts old.book.contents new.book.contents

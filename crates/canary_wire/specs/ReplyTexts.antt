@@ -2,7 +2,7 @@
 use Rattle.std.specs.Prelude.{ℕ, Bool, true, false, ◌&&◌, ◌==◌, nat_le, List, [], ◌++◌, length, codes, decimal, if◌then◌else◌}
 use Rattle.http.specs.StatusCode.{code_digits}
 use Rattle.canary_release.specs.Replies.{code_alone}
-use Rattle.canary_once.specs.AnswerTexts.{status_of, body_of}
+use Rattle.canary_once.specs.AnswerTexts.{answer_status, answer_body}
 use Rattle.canary_wire.specs.declared.rejection.Rejection.{Rejection}
 use Rattle.canary_wire.specs.declared.rejection.Rejection.TheVariants.{Malformed, Length, TooLong, NoRoute, Method, BadName, BadNumber, Unsupported, Unreadable}
 use Rattle.canary_wire.specs.declared.reply.Response.{Response}
@@ -45,12 +45,12 @@ status_code n = if nat_le 100 n && nat_le n 999 then n else 500
 abbrev pub response_status : Response → ℕ
 response_status (Rejected r) = rejection_status r
 response_status NoMemory = 503
-response_status (Answered a) = status_code (status_of a)
+response_status (Answered a) = status_code (answer_status a)
 
 abbrev pub response_body : Response → List ℕ
 response_body (Rejected r) = rejection_body r
 response_body NoMemory = codes "{\"code\":\"no-memory\"}"
-response_body (Answered a) = body_of a
+response_body (Answered a) = answer_body a
 
 -- the reply names the methods of the route
 abbrev pub allows : Response → Bool

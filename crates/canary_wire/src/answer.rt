@@ -34,10 +34,8 @@ pub(crate) fn answer<W: Write, C: Clock, B: Book>(
     requires routes { router.now ≡ the_rows }
     ensures { (m : Message) → IsFirst bytes.now parts m → (x : Exchange) × (x.message ≡ m)
         × Exchanges
-        (point (C.tells clock.old) (B.is_intact book.old)
-        (B.is_sure book.old) (B.contents book.old))
-        (point (C.tells clock.new) (B.is_intact book.new)
-        (B.is_sure book.new) (B.contents book.new)) x
+        (point (C.tells clock.old) (B.state book.old))
+        (point (C.tells clock.new) (B.state book.new)) x
         × Writes (W.contents writer.old) (W.contents writer.new) (reply_bytes x) result }
 {
     let moment = clock.now();
@@ -61,8 +59,7 @@ fn handle<B: Book>(
     requires { router.now ≡ the_rows }
     ensures { (h : Handling) × (result ≡ response_of h)
         × IsHandling method.now target.now body.now moment h
-        × Books (B.is_intact book.old) (B.is_intact book.new) (B.is_sure book.old)
-        (B.is_sure book.new) (B.contents book.old) (B.contents book.new) h }
+        × Books (B.state book.old) (B.state book.new) h }
 {
     match address_of(router, method, target) {
         Ok(address) => handle_request(alloc, address, body, moment, book),
@@ -80,8 +77,7 @@ fn handle_request<B: Book>(
 ) -> Response
     ensures { (method target : List ℕ) → IsAddress method target (Ok address) → (h : Handling)
         × (result ≡ response_of h) × IsHandling method target body.now moment h
-        × Books (B.is_intact book.old) (B.is_intact book.new) (B.is_sure book.old)
-        (B.is_sure book.new) (B.contents book.old) (B.contents book.new) h }
+        × Books (B.state book.old) (B.state book.new) h }
 {
     match command_from_json(alloc, body) {
         Ok(command) => {

@@ -1,7 +1,7 @@
 //! Serving a stream.
 ghost use Rattle.std.specs.Prelude.{◌≡◌, [], ◌++◌, IfOk, Err};
 ghost use Rattle.std.specs.List.{list_all};
-ghost use Rattle.canary_once.specs.Contents.{KeepsEntries};
+ghost use Rattle.canary_once.specs.Contents.{KeepsReceipts};
 ghost use Rattle.canary_wire.specs.Cut.{is_newline, rejecting};
 ghost use Rattle.canary_wire.specs.Exchanges.{point};
 ghost use Rattle.canary_wire.specs.Routes.{the_rows};
@@ -17,7 +17,7 @@ use crate::reply::{Response, WriteFault, write_reply};
 use crate::routes::{Route, routes};
 use canary_once::book::Book;
 use canary_once::clock::Clock;
-use canary_once::laws::going_on;
+use canary_once::laws::running_on;
 use matchit::Router;
 use std::alloc::Global;
 use std::io::{Read, Write};
@@ -83,27 +83,22 @@ pub fn serve<R: Read, W: Write, C: Clock, B: Book>(
 ) -> Result<Ended, ServeFault>
     ensures ok { IfOk result (λ ended. ServesTo (R.remaining reader.old) (R.remaining reader.new)
         (W.contents writer.old) (W.contents writer.new)
-        (point (C.tells clock.old) (B.is_intact book.old)
-        (B.is_sure book.old) (B.contents book.old))
-        (point (C.tells clock.new) (B.is_intact book.new)
-        (B.is_sure book.new) (B.contents book.new)) ended) }
+        (point (C.tells clock.old) (B.state book.old))
+        (point (C.tells clock.new) (B.state book.new)) ended) }
     ensures read { result ≡ Err ServeFault.Read → ServesSome (R.remaining reader.old)
         (R.remaining reader.new) (W.contents writer.old) (W.contents writer.new)
-        (point (C.tells clock.old) (B.is_intact book.old)
-        (B.is_sure book.old) (B.contents book.old))
-        (point (C.tells clock.new) (B.is_intact book.new)
-        (B.is_sure book.new) (B.contents book.new)) }
+        (point (C.tells clock.old) (B.state book.old))
+        (point (C.tells clock.new) (B.state book.new)) }
     ensures write { result ≡ Err ServeFault.Write → ServesUntil (R.remaining reader.old)
         (R.remaining reader.new) (W.contents writer.old) (W.contents writer.new)
-        (point (C.tells clock.old) (B.is_intact book.old)
-        (B.is_sure book.old) (B.contents book.old))
-        (point (C.tells clock.new) (B.is_intact book.new)
-        (B.is_sure book.new) (B.contents book.new)) }
+        (point (C.tells clock.old) (B.state book.old))
+        (point (C.tells clock.new) (B.state book.new)) }
     ensures memory { result ≡ Err ServeFault.Memory → (reader.new ≡ reader.old)
         × (writer.new ≡ writer.old) × (clock.new ≡ clock.old) × (book.new ≡ book.old) }
-    ensures intact { B.is_intact book.new → B.is_intact book.old }
-    ensures sure { B.is_sure book.new ≡ B.is_sure book.old }
-    ensures kept { B.is_intact book.new → KeepsEntries (B.contents book.old) (B.contents book.new) }
+    ensures intact { (B.state book.new).is_intact → (B.state book.old).is_intact }
+    ensures sure { (B.state book.new).is_sure ≡ (B.state book.old).is_sure }
+    ensures receipts { (B.state book.new).is_intact
+        → KeepsReceipts (B.state book.old).contents (B.state book.new).contents }
 {
     let Ok(mut buffer) = Buffer::new(alloc) else {
         return Err(ServeFault::Memory);
@@ -126,7 +121,7 @@ pub(crate) enum TurnFault {
 }
 
 // Reads and answers in turn, from an empty buffer on. That what is answered turn by turn is what
-// the register answers to the whole stream is its law `going_on`.
+// the register answers to the whole stream is its law `running_on`.
 fn serve_turns<R: Read, W: Write, C: Clock, B: Book>(
     alloc: Global,
     router: &Router<Route>,
@@ -140,12 +135,10 @@ fn serve_turns<R: Read, W: Write, C: Clock, B: Book>(
     requires routes { router.now ≡ the_rows }
     ensures { TurnsTo (R.remaining reader.old) (R.remaining reader.new)
         (W.contents writer.old) (W.contents writer.new)
-        (point (C.tells clock.old) (B.is_intact book.old)
-        (B.is_sure book.old) (B.contents book.old))
-        (point (C.tells clock.new) (B.is_intact book.new)
-        (B.is_sure book.new) (B.contents book.new)) result }
+        (point (C.tells clock.old) (B.state book.old))
+        (point (C.tells clock.new) (B.state book.new)) result }
 {
-    going_on();
+    running_on();
     'turns: for _turn in 0..MOST_READS {
         let Ok(count) = buffer.fill(reader) else {
             return Err(TurnFault::Read);
@@ -191,10 +184,8 @@ fn answer_held<W: Write, C: Clock, B: Book>(
 ) -> Result<Turn, WriteFault>
     requires routes { router.now ≡ the_rows }
     ensures { AnswersHeld (W.contents writer.old) (W.contents writer.new)
-        (point (C.tells clock.old) (B.is_intact book.old)
-        (B.is_sure book.old) (B.contents book.old))
-        (point (C.tells clock.new) (B.is_intact book.new)
-        (B.is_sure book.new) (B.contents book.new))
+        (point (C.tells clock.old) (B.state book.old))
+        (point (C.tells clock.new) (B.state book.new))
         (bytes_held buffer.old) (bytes_held buffer.new) result }
 {
     'messages: loop {

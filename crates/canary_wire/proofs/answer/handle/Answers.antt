@@ -8,5 +8,5 @@ returns-in-Err g c = (
   rejected c.in-Err.rejection,
   refl,
   inl c.in-Err.ensures,
-  books_rejected (g.B.Book.is_intact c.args.book.now) (g.B.Book.is_sure c.args.book.now) (g.B.Book.contents c.args.book.now) c.in-Err.rejection,
+  books_rejected (g.B.Book.state c.args.book.now) c.in-Err.rejection,
 )

@@ -10,7 +10,7 @@ returns-in-Ok g c = λ method target a. (
   posted (request_of c.args.moment c.args.address.caller c.args.address.number c.in-Ok.command) c.post-answer.result,
   search rules,
   (c.args.address, c.in-Ok.command, a, c.in-Ok.ensures, refl),
-  record { intact = c.post-answer.ensures.intact; sure = c.post-answer.ensures.sure; handled = c.post-answer.ensures.step; kept = c.post-answer.ensures.kept },
+  (let p = c.post-answer.ensures in record { intact = p.intact; sure = (p.sure, p.fault); handled = p.step; receipts = p.receipts }),
 )
 
 pub returns-in-Err-Unsupported : goal.returns-in-Err-Unsupported
@@ -18,7 +18,7 @@ returns-in-Err-Unsupported g c = λ method target a. (
   rejected Unsupported,
   refl,
   inr (c.args.address, a, rw c.in-Err-Unsupported.field-0-is at c.in-Err-Unsupported.ensures),
-  books_rejected (g.B.Book.is_intact c.args.book.now) (g.B.Book.is_sure c.args.book.now) (g.B.Book.contents c.args.book.now) Unsupported,
+  books_rejected (g.B.Book.state c.args.book.now) Unsupported,
 )
 
 pub returns-in-Err-Unreadable : goal.returns-in-Err-Unreadable
@@ -26,5 +26,5 @@ returns-in-Err-Unreadable g c = λ method target a. (
   rejected Unreadable,
   refl,
   inr (c.args.address, a, rw c.in-Err-Unreadable.field-0-is at c.in-Err-Unreadable.ensures),
-  books_rejected (g.B.Book.is_intact c.args.book.now) (g.B.Book.is_sure c.args.book.now) (g.B.Book.contents c.args.book.now) Unreadable,
+  books_rejected (g.B.Book.state c.args.book.now) Unreadable,
 )
