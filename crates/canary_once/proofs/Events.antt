@@ -10,14 +10,14 @@ use Rattle.std.proofs.lemmas.Slice.Eq.{bytes_eq-Decides}
 use Rattle.canary_plan.specs.declared.command.Command.{Command}
 use Rattle.canary_release.specs.declared.reply.Reply.{Reply}
 use Rattle.canary_release.specs.Desks.{Desk, apply, machine}
-use Rattle.canary_once.specs.declared.book.Kept.{Kept}
+use Rattle.canary_once.specs.declared.book.Receipt.{Receipt}
 use Rattle.canary_once.specs.declared.event.Request.{Request}
 use Rattle.canary_once.specs.declared.event.Event.{Event}
-use Rattle.canary_once.specs.declared.event.Event.TheVariants.{Request as RequestEvent}
+use Rattle.canary_once.specs.declared.event.Event.TheVariants as event
 use Rattle.canary_once.specs.declared.event.Answer.{Answer}
-use Rattle.canary_once.specs.declared.event.Answer.TheVariants.{Told, Unavailable}
-use Rattle.canary_once.specs.Contents.{Contents, count_of, kept_at, keep, KeepsEntries}
-use Rattle.canary_once.specs.Answers.{requests_of, is_of, next_number, is_new, news_after, news_of, bare, settled, kept_as, keep_all, after, answer, answer_request, repeated, ahead}
+use Rattle.canary_once.specs.declared.event.Answer.TheVariants.{Replied, Unavailable}
+use Rattle.canary_once.specs.Contents.{Contents, count_of, receipt_at, with_receipt, KeepsReceipts}
+use Rattle.canary_once.specs.Answers.{requests_of, is_of, next_number, is_new, news_after, news_of, bare, settled_requests, receipt_of, with_receipts, after, answer, answer_request, repeat_reply, ahead_reply}
 use Rattle.canary_once.specs.Single.{settle, reply_to, after_one, IsAnswer}
 
 -- a machine goes on where it stopped
@@ -25,9 +25,9 @@ pub machine-push : (desk : Desk) (xs : List (ℕ × Command)) (x : ℕ × Comman
 machine-push desk [] x = (refl, refl)
 machine-push desk (y ∷ ys) x = let rest = machine-push (apply desk y.0 y.1).desk ys x in (rest.0, ap (λ (rs : List Reply). (apply desk y.0 y.1).reply ∷ rs) rest.1)
 
-pub requests-push : (es : List Event) (r : Request) → requests_of (es ++ RequestEvent r ∷ []) ≡ requests_of es ++ r ∷ []
+pub requests-push : (es : List Event) (r : Request) → requests_of (es ++ event.Request r ∷ []) ≡ requests_of es ++ r ∷ []
 requests-push [] r = refl
-requests-push (RequestEvent x ∷ es) r = ap (λ (rs : List Request). x ∷ rs) (requests-push es r)
+requests-push (event.Request x ∷ es) r = ap (λ (rs : List Request). x ∷ rs) (requests-push es r)
 
 -- one more request, new or not
 pub news-push : (c : Contents) (news : List Request) (rs : List Request) (r : Request) → news_after c news (rs ++ r ∷ []) ≡ (if is_new c (news_after c news rs) r then news_after c news rs ++ r ∷ [] else news_after c news rs)
@@ -43,54 +43,54 @@ replies-long : (desk : Desk) (es : List Request) → length (machine desk (map b
 replies-long desk [] = refl
 replies-long desk (e ∷ es) = ap suc (replies-long (apply desk e.moment e.command).desk es)
 
-keep_all-push : (callers : FinMap (slice_cmp nat_cmp) (List Kept)) (es : List Request) (rs : List Reply) (e : Request) (r : Reply) → length rs ≡ length es → keep_all callers (es ++ e ∷ []) (rs ++ r ∷ []) ≡ keep (keep_all callers es rs) e.caller (kept_as e r)
-keep_all-push callers [] [] e r n = refl
-keep_all-push callers [] (x ∷ rs) e r n = absurd (omega arith)
-keep_all-push callers (y ∷ es) [] e r n = absurd (omega arith)
-keep_all-push callers (y ∷ es) (x ∷ rs) e r n = keep_all-push (keep callers y.caller (kept_as y x)) es rs e r (omega arith)
+with_receipts-push : (callers : FinMap (slice_cmp nat_cmp) (List Receipt)) (es : List Request) (rs : List Reply) (e : Request) (r : Reply) → length rs ≡ length es → with_receipts callers (es ++ e ∷ []) (rs ++ r ∷ []) ≡ with_receipt (with_receipts callers es rs) e.caller (receipt_of e r)
+with_receipts-push callers [] [] e r n = refl
+with_receipts-push callers [] (x ∷ rs) e r n = absurd (omega arith)
+with_receipts-push callers (y ∷ es) [] e r n = absurd (omega arith)
+with_receipts-push callers (y ∷ es) (x ∷ rs) e r n = with_receipts-push (with_receipt callers y.caller (receipt_of y x)) es rs e r (omega arith)
 
-abbrev pub list_at : FinMap (slice_cmp nat_cmp) (List Kept) → List ℕ → List Kept
+abbrev pub list_at : FinMap (slice_cmp nat_cmp) (List Receipt) → List ℕ → List Receipt
 list_at callers caller = unwrap_or (get callers caller) []
 
--- an entry more for one caller
-pub got : (callers : FinMap (slice_cmp nat_cmp) (List Kept)) (k q : List ℕ) (x : Kept) → list_at (keep callers k x) q ≡ unwrap_or (cond (bytes_eq q k) (Some (list_at callers k ++ x ∷ [])) (get callers q)) []
-got callers k q x = ap (λ (o : Option (List Kept)). unwrap_or o []) (get-insert nat_list_cmp_total callers k (list_at callers k ++ x ∷ []) q) ∙ ap (λ b. unwrap_or (cond b (Some (list_at callers k ++ x ∷ [])) (get callers q)) []) (is_eq-slice_cmp q k)
+-- one more receipt for one caller
+pub got : (callers : FinMap (slice_cmp nat_cmp) (List Receipt)) (k q : List ℕ) (x : Receipt) → list_at (with_receipt callers k x) q ≡ unwrap_or (cond (bytes_eq q k) (Some (list_at callers k ++ x ∷ [])) (get callers q)) []
+got callers k q x = ap (λ (o : Option (List Receipt)). unwrap_or o []) (get-insert nat_list_cmp_total callers k (list_at callers k ++ x ∷ []) q) ∙ ap (λ b. unwrap_or (cond b (Some (list_at callers k ++ x ∷ [])) (get callers q)) []) (is_eq-slice_cmp q k)
 
-pub one_kept : (callers : FinMap (slice_cmp nat_cmp) (List Kept)) (k q : List ℕ) (x : Kept) (b : Bool) → bytes_eq q k ≡ b → length (unwrap_or (cond b (Some (list_at callers k ++ x ∷ [])) (get callers q)) []) ≡ length (list_at callers q) + cond b 1 0
-one_kept callers k q x true e =
+pub one_longer : (callers : FinMap (slice_cmp nat_cmp) (List Receipt)) (k q : List ℕ) (x : Receipt) (b : Bool) → bytes_eq q k ≡ b → length (unwrap_or (cond b (Some (list_at callers k ++ x ∷ [])) (get callers q)) []) ≡ length (list_at callers q) + cond b 1 0
+one_longer callers k q x true e =
     let same : q ≡ k = (bytes_eq-Decides q k).0 e in
     simp length-append (ap (λ (n : List ℕ). length (list_at callers n) + 1) (sym same))
-one_kept callers k q x false e = sym (add-zero _)
+one_longer callers k q x false e = sym (add-zero _)
 
 counted : (b : Bool) (e : Request) (es : List Request) → length (cond b (e ∷ es) es) ≡ cond b 1 0 + length es
 counted true e es = omega arith
 counted false e es = omega arith
 
 -- the settled requests of a caller are those before, and the new ones
-count-after : (callers : FinMap (slice_cmp nat_cmp) (List Kept)) (es : List Request) (rs : List Reply) (caller : List ℕ) → length rs ≡ length es → length (list_at (keep_all callers es rs) caller) ≡ length (list_at callers caller) + length (filter (is_of caller) es)
+count-after : (callers : FinMap (slice_cmp nat_cmp) (List Receipt)) (es : List Request) (rs : List Reply) (caller : List ℕ) → length rs ≡ length es → length (list_at (with_receipts callers es rs) caller) ≡ length (list_at callers caller) + length (filter (is_of caller) es)
 count-after callers [] rs caller n = sym (add-zero _)
 count-after callers (e ∷ es) [] caller n = absurd (omega arith)
 count-after callers (e ∷ es) (r ∷ rs) caller n =
-    let ih = count-after (keep callers e.caller (kept_as e r)) es rs caller (omega arith) in
-    let one = ap length (got callers e.caller caller (kept_as e r)) ∙ one_kept callers e.caller caller (kept_as e r) (bytes_eq caller e.caller) refl in
+    let ih = count-after (with_receipt callers e.caller (receipt_of e r)) es rs caller (omega arith) in
+    let one = ap length (got callers e.caller caller (receipt_of e r)) ∙ one_longer callers e.caller caller (receipt_of e r) (bytes_eq caller e.caller) refl in
     let here = counted (bytes_eq caller e.caller) e (filter (is_of caller) es) in
     omega (arith, ih, one, here)
 
 -- the number that a caller's next new request has
 pub next_is : (c : Contents) (es : List Event) (caller : List ℕ) → next_number c (news_of c es) caller ≡ count_of (after c es) caller + 1
-next_is c es caller = ap (λ n. n + 1) (sym (count-after c.callers (news_of c es) (machine c.desk (settled c es)).replies caller (replies-long c.desk (news_of c es))))
+next_is c es caller = ap (λ n. n + 1) (sym (count-after c.callers (news_of c es) (machine c.desk (settled_requests c es)).replies caller (replies-long c.desk (news_of c es))))
 
 -- the answer after some events is that to one request
 pub request_is : (c : Contents) (before : List Event) (r : Request) → answer_request c before r ≡ reply_to (after c before) r
 request_is c before r =
-    ap (λ next. if r.number == next then (apply (machine c.desk (settled c before)).desk r.moment r.command).reply else (if nat_lt r.number next then repeated (kept_at (after c before) r.caller r.number) r.command else ahead next))
+    ap (λ next. if r.number == next then (apply (machine c.desk (settled_requests c before)).desk r.moment r.command).reply else (if nat_lt r.number next then repeat_reply (receipt_at (after c before) r.caller r.number) r.command else ahead_reply next))
     (next_is c before r.caller)
 
 -- contents after a new request
 settled_more : (c : Contents) (before : List Event) (e : Request) (b : Bool)
     → (let news = (if b then news_of c before ++ e ∷ [] else news_of c before) in
     let run = machine c.desk (map bare news) in
-    let new : Contents = record { callers = keep_all c.callers news run.replies; desk = run.desk } in
+    let new : Contents = record { callers = with_receipts c.callers news run.replies; desk = run.desk } in
     new ≡ (if b then settle (after c before) e else after c before))
 settled_more c before e true =
     let news = news_of c before in
@@ -98,61 +98,61 @@ settled_more c before e true =
     let m = machine-push c.desk (map bare news) (bare e) in
     let r = (apply run.desk e.moment e.command).reply in
     rw (map-push news e, m.0, m.1)
-    (ap (λ (callers : FinMap (slice_cmp nat_cmp) (List Kept)). record { callers = callers; desk = (apply run.desk e.moment e.command).desk }) (keep_all-push c.callers news run.replies e r (replies-long c.desk news)))
+    (ap (λ (callers : FinMap (slice_cmp nat_cmp) (List Receipt)). record { callers = callers; desk = (apply run.desk e.moment e.command).desk }) (with_receipts-push c.callers news run.replies e r (replies-long c.desk news)))
 settled_more c before e false = refl
 
 -- the contents after some events and a request are those after one request
-pub after_is : (c : Contents) (before : List Event) (r : Request) → after c (before ++ RequestEvent r ∷ []) ≡ after_one (after c before) r
+pub after_is : (c : Contents) (before : List Event) (r : Request) → after c (before ++ event.Request r ∷ []) ≡ after_one (after c before) r
 after_is c before r =
-    ap (λ (news : List Request). (let run = machine c.desk (map bare news) in record { callers = keep_all c.callers news run.replies; desk = run.desk }))
+    ap (λ (news : List Request). (let run = machine c.desk (map bare news) in record { callers = with_receipts c.callers news run.replies; desk = run.desk }))
     (ap (news_after c []) (requests-push before r) ∙ news-push c [] (requests_of before) r)
     ∙ settled_more c before r (is_new c (news_of c before) r)
     ∙ ap (λ next. if r.number == next then settle (after c before) r else after c before) (next_is c before r.caller)
 
 -- one event goes on where the others stopped
 pub answer_on : (c : Contents) (before : List Event) (e : Event) → answer (after c before) [] e ≡ answer c before e
-answer_on c before (RequestEvent r) = request_is (after c before) [] r ∙ sym (request_is c before r)
+answer_on c before (event.Request r) = request_is (after c before) [] r ∙ sym (request_is c before r)
 
 pub after_on : (c : Contents) (before : List Event) (e : Event) → after (after c before) (e ∷ []) ≡ after c (before ++ e ∷ [])
-after_on c before (RequestEvent r) = after_is (after c before) [] r ∙ sym (after_is c before r)
+after_on c before (event.Request r) = after_is (after c before) [] r ∙ sym (after_is c before r)
 
 -- one request alone
-pub reply_first : (c : Contents) (r : Request) → reply_to c r ≡ answer c [] (RequestEvent r)
+pub reply_first : (c : Contents) (r : Request) → reply_to c r ≡ answer c [] (event.Request r)
 reply_first c r = sym (request_is c [] r)
 
-pub after_first : (c : Contents) (r : Request) → after_one c r ≡ after c (RequestEvent r ∷ [])
+pub after_first : (c : Contents) (r : Request) → after_one c r ≡ after c (event.Request r ∷ [])
 after_first c r = sym (after_is c [] r)
 
--- An entry that was kept is kept as it was.
+-- A receipt stays as it was.
 
-kept_before : (kept : List Kept) (x k : Kept) (i : ℕ) → slice_get kept i ≡ Some k → slice_get (kept ++ x ∷ []) i ≡ Some k
-kept_before [] x k i e = cc e
-kept_before (y ∷ kept) x k zero e = e
-kept_before (y ∷ kept) x k (suc i) e = kept_before kept x k i e
+receipt_before : (receipts : List Receipt) (x k : Receipt) (i : ℕ) → slice_get receipts i ≡ Some k → slice_get (receipts ++ x ∷ []) i ≡ Some k
+receipt_before [] x k i e = cc e
+receipt_before (y ∷ receipts) x k zero e = e
+receipt_before (y ∷ receipts) x k (suc i) e = receipt_before receipts x k i e
 
-kept_on : (callers : FinMap (slice_cmp nat_cmp) (List Kept)) (caller q : List ℕ) (x k : Kept) (i : ℕ) (b : Bool) → bytes_eq q caller ≡ b → slice_get (list_at callers q) i ≡ Some k
+receipt_on : (callers : FinMap (slice_cmp nat_cmp) (List Receipt)) (caller q : List ℕ) (x k : Receipt) (i : ℕ) (b : Bool) → bytes_eq q caller ≡ b → slice_get (list_at callers q) i ≡ Some k
     → slice_get (unwrap_or (cond b (Some (list_at callers caller ++ x ∷ [])) (get callers q)) []) i ≡ Some k
-kept_on callers caller q x k i true same e = kept_before (list_at callers caller) x k i (ap (λ n. slice_get (list_at callers n) i) (sym ((bytes_eq-Decides q caller).0 same)) ∙ e)
-kept_on callers caller q x k i false same e = e
+receipt_on callers caller q x k i true same e = receipt_before (list_at callers caller) x k i (ap (λ n. slice_get (list_at callers n) i) (sym ((bytes_eq-Decides q caller).0 same)) ∙ e)
+receipt_on callers caller q x k i false same e = e
 
-pub keep_keeps : (c : Contents) (desk : Desk) (caller : List ℕ) (x : Kept) → KeepsEntries c (record { callers = keep c.callers caller x; desk = desk })
+pub keep_keeps : (c : Contents) (desk : Desk) (caller : List ℕ) (x : Receipt) → KeepsReceipts c (record { callers = with_receipt c.callers caller x; desk = desk })
 keep_keeps c desk caller x q n k e =
-    ap (λ l. slice_get l (n - 1)) (got c.callers caller q x) ∙ kept_on c.callers caller q x k (n - 1) (bytes_eq q caller) refl e
+    ap (λ l. slice_get l (n - 1)) (got c.callers caller q x) ∙ receipt_on c.callers caller q x k (n - 1) (bytes_eq q caller) refl e
 
-pub same_keeps : (old new : Contents) → new ≡ old → KeepsEntries old new
-same_keeps old new same q n k e = ap (λ c. kept_at c q n) same ∙ e
+pub same_keeps : (old new : Contents) → new ≡ old → KeepsReceipts old new
+same_keeps old new same q n k e = ap (λ c. receipt_at c q n) same ∙ e
 
-settle_keeps : (c : Contents) (r : Request) (b : Bool) → KeepsEntries c (if b then settle c r else c)
-settle_keeps c r true = keep_keeps c (apply c.desk r.moment r.command).desk r.caller (kept_as r (apply c.desk r.moment r.command).reply)
+settle_keeps : (c : Contents) (r : Request) (b : Bool) → KeepsReceipts c (if b then settle c r else c)
+settle_keeps c r true = keep_keeps c (apply c.desk r.moment r.command).desk r.caller (receipt_of r (apply c.desk r.moment r.command).reply)
 settle_keeps c r false = same_keeps c c refl
 
-pub one_keeps : (c : Contents) (r : Request) → KeepsEntries c (after_one c r)
+pub one_keeps : (c : Contents) (r : Request) → KeepsReceipts c (after_one c r)
 one_keeps c r = settle_keeps c r (r.number == count_of c r.caller + 1)
 
-pub moved_keeps : (c new : Contents) (r : Request) → new ≡ after_one c r → KeepsEntries c new
-moved_keeps c new r h = subst (KeepsEntries c) (sym h) (one_keeps c r)
+pub moved_keeps : (c new : Contents) (r : Request) → new ≡ after_one c r → KeepsReceipts c new
+moved_keeps c new r h = subst (KeepsReceipts c) (sym h) (one_keeps c r)
 
--- an answer keeps each entry
-pub answer_keeps : (c new : Contents) (e : Event) (a : Answer) → IsAnswer c e a new → KeepsEntries c new
-answer_keeps c new (RequestEvent r) (Told reply) h = subst (KeepsEntries c) (after_first c r ∙ sym h.1) (one_keeps c r)
+-- an answer keeps each receipt
+pub answer_keeps : (c new : Contents) (e : Event) (a : Answer) → IsAnswer c e a new → KeepsReceipts c new
+answer_keeps c new (event.Request r) (Replied reply) h = subst (KeepsReceipts c) (after_first c r ∙ sym h.1) (one_keeps c r)
 answer_keeps c new e (Unavailable fault) h = same_keeps c new h

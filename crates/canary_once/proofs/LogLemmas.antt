@@ -13,74 +13,74 @@ use Rattle.std.proofs.lemmas.List.{take_more}
 use Rattle.canary_plan.specs.declared.command.Command.{Command}
 use Rattle.canary_plan.specs.Commands.{subject_of}
 use Rattle.canary_release.specs.declared.decide.DeskChange.{DeskChange}
-use Rattle.canary_release.specs.declared.decide.DeskChange.TheVariants.{Nothing, Service as Updates}
+use Rattle.canary_release.specs.declared.decide.DeskChange.TheVariants as change
 use Rattle.canary_release.specs.declared.effect.Effect.{Effect}
 use Rattle.canary_release.specs.declared.service.ServiceParts.{ServiceParts}
 use Rattle.canary_release.specs.Desks.{ModelService, Desk, ruling_on, after, apply}
 use Rattle.canary_release.specs.Shapes.{shape, said, changed, seen, kept_by, KeepsWhatIsSeen}
-use Rattle.canary_once.specs.declared.book.Change.{Change}
-use Rattle.canary_once.specs.declared.book.Kept.{Kept}
-use Rattle.canary_once.specs.Contents.{Contents, no_contents, committed, count_of, kept_at, IsSettling}
-use Rattle.canary_once.specs.Logs.{committed_all, AreSettling, changed_service}
-use Rattle.canary_once.proofs.Events.{list_at, got, one_kept}
+use Rattle.canary_once.specs.declared.book.Settlement.{Settlement}
+use Rattle.canary_once.specs.declared.book.Receipt.{Receipt}
+use Rattle.canary_once.specs.Contents.{Contents, no_contents, with_settlement, count_of, receipt_at, IsSettling}
+use Rattle.canary_once.specs.Logs.{with_settlements, AreSettling, seen_after}
+use Rattle.canary_once.proofs.Events.{list_at, got, one_longer}
 
-pub committed-push : (c : Contents) (log : List Change) (x : Change) → committed_all c (log ++ x ∷ []) ≡ committed (committed_all c log) x
-committed-push c [] x = refl
-committed-push c (y ∷ log) x = committed-push (committed c y) log x
+pub with_settlements-push : (c : Contents) (log : List Settlement) (x : Settlement) → with_settlements c (log ++ x ∷ []) ≡ with_settlement (with_settlements c log) x
+with_settlements-push c [] x = refl
+with_settlements-push c (y ∷ log) x = with_settlements-push (with_settlement c y) log x
 
-pub sound-push : (c : Contents) (log : List Change) (x : Change) → AreSettling c log → IsSettling (committed_all c log) x → AreSettling c (log ++ x ∷ [])
+pub sound-push : (c : Contents) (log : List Settlement) (x : Settlement) → AreSettling c log → IsSettling (with_settlements c log) x → AreSettling c (log ++ x ∷ [])
 sound-push c [] x all one = (one, tt)
-sound-push c (y ∷ log) x all one = (all.0, sound-push (committed c y) log x all.1 one)
+sound-push c (y ∷ log) x all one = (all.0, sound-push (with_settlement c y) log x all.1 one)
 
-pub sound-at : (c : Contents) (log : List Change) (i : ℕ) (x : Change) → AreSettling c log → i < length log → x ≡ get_or log i x → IsSettling (committed_all c (take i log)) x
+pub sound-at : (c : Contents) (log : List Settlement) (i : ℕ) (x : Settlement) → AreSettling c log → i < length log → x ≡ get_or log i x → IsSettling (with_settlements c (take i log)) x
 sound-at c [] i x all lt at = absurd (omega arith)
 sound-at c (y ∷ log) zero x all lt at = subst (IsSettling c) (sym at) all.0
-sound-at c (y ∷ log) (suc i) x all lt at = sound-at (committed c y) log i x all.1 (omega arith) at
+sound-at c (y ∷ log) (suc i) x all lt at = sound-at (with_settlement c y) log i x all.1 (omega arith) at
 
 -- nothing at first
 pub none_settled : (q : List ℕ) → count_of no_contents q ≡ 0
-none_settled q = ap (λ (o : Option (List Kept)). length (unwrap_or o [])) (get-empty (slice_cmp nat_cmp) q)
+none_settled q = ap (λ (o : Option (List Receipt)). length (unwrap_or o [])) (get-empty (slice_cmp nat_cmp) q)
 
-pub none_kept : (q : List ℕ) (n : ℕ) → kept_at no_contents q n ≡ None
-none_kept q n = ap (λ (o : Option (List Kept)). slice_get (unwrap_or o []) (n - 1)) (get-empty (slice_cmp nat_cmp) q)
+pub no_receipt : (q : List ℕ) (n : ℕ) → receipt_at no_contents q n ≡ None
+no_receipt q n = ap (λ (o : Option (List Receipt)). slice_get (unwrap_or o []) (n - 1)) (get-empty (slice_cmp nat_cmp) q)
 
 pub none_seen : (q : List ℕ) → None ≡ seen no_contents.desk q
 none_seen q = ap (option_map shape) (sym (get-empty (slice_cmp nat_cmp) q))
 
 -- the last number of a caller
-last_number : (c : Contents) (x : Change) (q : List ℕ) (b : Bool) → bytes_eq q x.caller ≡ b → IsSettling c x → count_of c q + cond b 1 0 ≡ (if b then x.number else count_of c q)
+last_number : (c : Contents) (x : Settlement) (q : List ℕ) (b : Bool) → bytes_eq q x.caller ≡ b → IsSettling c x → count_of c q + cond b 1 0 ≡ (if b then x.number else count_of c q)
 last_number c x q true e sound = let same : q ≡ x.caller = (bytes_eq-Decides q x.caller).0 e in ap (λ (n : List ℕ). count_of c n + 1) same ∙ sym sound.number
 last_number c x q false e sound = add-zero _
 
-count-step : (c : Contents) (x : Change) (q : List ℕ) → IsSettling c x → count_of (committed c x) q ≡ (if bytes_eq q x.caller then x.number else count_of c q)
-count-step c x q sound = ap length (got c.callers x.caller q x.kept) ∙ one_kept c.callers x.caller q x.kept (bytes_eq q x.caller) refl ∙ last_number c x q (bytes_eq q x.caller) refl sound
+count-step : (c : Contents) (x : Settlement) (q : List ℕ) → IsSettling c x → count_of (with_settlement c x) q ≡ (if bytes_eq q x.caller then x.number else count_of c q)
+count-step c x q sound = ap length (got c.callers x.caller q x.receipt) ∙ one_longer c.callers x.caller q x.receipt (bytes_eq q x.caller) refl ∙ last_number c x q (bytes_eq q x.caller) refl sound
 
--- what is kept
-at_last : (kept : List Kept) (k : Kept) → slice_get (kept ++ k ∷ []) (length kept) ≡ Some k
+-- the receipt under a number
+at_last : (receipts : List Receipt) (k : Receipt) → slice_get (receipts ++ k ∷ []) (length receipts) ≡ Some k
 at_last [] k = refl
-at_last (x ∷ kept) k = at_last kept k
+at_last (x ∷ receipts) k = at_last receipts k
 
-at_other : (kept : List Kept) (k : Kept) (i : ℕ) → (i ≡ length kept → ⊥) → slice_get (kept ++ k ∷ []) i ≡ slice_get kept i
+at_other : (receipts : List Receipt) (k : Receipt) (i : ℕ) → (i ≡ length receipts → ⊥) → slice_get (receipts ++ k ∷ []) i ≡ slice_get receipts i
 at_other [] k zero apart = absurd (apart refl)
 at_other [] k (suc i) apart = refl
-at_other (x ∷ kept) k zero apart = refl
-at_other (x ∷ kept) k (suc i) apart = at_other kept k i (λ e. apart (ap suc e))
+at_other (x ∷ receipts) k zero apart = refl
+at_other (x ∷ receipts) k (suc i) apart = at_other receipts k i (λ e. apart (ap suc e))
 
-place : (kept : List Kept) (k : Kept) (number n : ℕ) (b : Bool) → (number == n) ≡ b → number ≡ length kept + 1 → 1 ≤ n → slice_get (kept ++ k ∷ []) (n - 1) ≡ (if b then Some k else slice_get kept (n - 1))
-place kept k number n true e last h =
+place : (receipts : List Receipt) (k : Receipt) (number n : ℕ) (b : Bool) → (number == n) ≡ b → number ≡ length receipts + 1 → 1 ≤ n → slice_get (receipts ++ k ∷ []) (n - 1) ≡ (if b then Some k else slice_get receipts (n - 1))
+place receipts k number n true e last h =
     let same : number ≡ n = (Decides-eqb number n).0 e in
-    let i : n - 1 ≡ length kept = omega arith in
-    ap (slice_get (kept ++ k ∷ [])) i ∙ at_last kept k
-place kept k number n false e last h = at_other kept k (n - 1) (λ i. let same : number ≡ n = omega arith in true≢false (sym ((Decides-eqb number n).1 same) ∙ e))
+    let i : n - 1 ≡ length receipts = omega arith in
+    ap (slice_get (receipts ++ k ∷ [])) i ∙ at_last receipts k
+place receipts k number n false e last h = at_other receipts k (n - 1) (λ i. let same : number ≡ n = omega arith in true≢false (sym ((Decides-eqb number n).1 same) ∙ e))
 
-kept_place : (c : Contents) (x : Change) (q : List ℕ) (n : ℕ) (b : Bool) → bytes_eq q x.caller ≡ b → IsSettling c x → 1 ≤ n → slice_get (unwrap_or (cond b (Some (list_at c.callers x.caller ++ x.kept ∷ [])) (get c.callers q)) []) (n - 1) ≡ (if b && (x.number == n) then Some x.kept else kept_at c q n)
-kept_place c x q n true e sound h =
+receipt_place : (c : Contents) (x : Settlement) (q : List ℕ) (n : ℕ) (b : Bool) → bytes_eq q x.caller ≡ b → IsSettling c x → 1 ≤ n → slice_get (unwrap_or (cond b (Some (list_at c.callers x.caller ++ x.receipt ∷ [])) (get c.callers q)) []) (n - 1) ≡ (if b && (x.number == n) then Some x.receipt else receipt_at c q n)
+receipt_place c x q n true e sound h =
     let same : q ≡ x.caller = (bytes_eq-Decides q x.caller).0 e in
-    place (list_at c.callers x.caller) x.kept x.number n (x.number == n) refl sound.number h ∙ ap (λ (p : List ℕ). if x.number == n then Some x.kept else kept_at c p n) (sym same)
-kept_place c x q n false e sound h = refl
+    place (list_at c.callers x.caller) x.receipt x.number n (x.number == n) refl sound.number h ∙ ap (λ (p : List ℕ). if x.number == n then Some x.receipt else receipt_at c p n) (sym same)
+receipt_place c x q n false e sound h = refl
 
-kept-step : (c : Contents) (x : Change) (q : List ℕ) (n : ℕ) → IsSettling c x → 1 ≤ n → kept_at (committed c x) q n ≡ (if bytes_eq q x.caller && (x.number == n) then Some x.kept else kept_at c q n)
-kept-step c x q n sound h = ap (λ (l : List Kept). slice_get l (n - 1)) (got c.callers x.caller q x.kept) ∙ kept_place c x q n (bytes_eq q x.caller) refl sound h
+receipt-step : (c : Contents) (x : Settlement) (q : List ℕ) (n : ℕ) → IsSettling c x → 1 ≤ n → receipt_at (with_settlement c x) q n ≡ (if bytes_eq q x.caller && (x.number == n) then Some x.receipt else receipt_at c q n)
+receipt-step c x q n sound h = ap (λ (l : List Receipt). slice_get l (n - 1)) (got c.callers x.caller q x.receipt) ∙ receipt_place c x q n (bytes_eq q x.caller) refl sound h
 
 -- the service of a name
 seen_else : (desk : Desk) (name subject : List ℕ) (m : ModelService) → bytes_eq name subject ≡ false → seen (let d : Desk = record desk { services = insert desk.services subject m } in d) name ≡ seen desk name
@@ -89,99 +89,99 @@ seen_else desk name subject m apart =
 
 -- what is seen of a service after a step
 seen_there : KeepsWhatIsSeen → (desk : Desk) (now : ℕ) (command : Command) (s : ServiceParts) (effects : List Effect) (name : List ℕ) (b : Bool) → bytes_eq name (subject_of command) ≡ b
-    → Updates s effects ≡ said (ruling_on desk now command).change → changed desk command (Updates s effects) ≡ (apply desk now command).desk
-    → seen (changed desk command (Updates s effects)) name ≡ (if b then Some s else seen desk name)
+    → change.Service s effects ≡ said (ruling_on desk now command).change → changed desk command (change.Service s effects) ≡ (apply desk now command).desk
+    → seen (changed desk command (change.Service s effects)) name ≡ (if b then Some s else seen desk name)
 seen_there law desk now command s effects name true e is after_it =
     let same : name ≡ subject_of command = (bytes_eq-Decides name (subject_of command)).0 e in
-    ap (seen (changed desk command (Updates s effects))) same
+    ap (seen (changed desk command (change.Service s effects))) same
     ∙ ap (λ (d : Desk). seen d (subject_of command)) after_it
     ∙ law desk now command s (sym (ap kept_by is))
 seen_there law desk now command s effects name false e is after_it = seen_else desk name (subject_of command) (after (get desk.services (subject_of command)) command s.stand effects) e
 
-seen-step : KeepsWhatIsSeen → (c : Contents) (x : Change) (change : DeskChange) → x.desk ≡ change → IsSettling c x → (name : List ℕ) → seen (changed c.desk x.kept.command change) name ≡ changed_service (seen c.desk name) (subject_of x.kept.command) change name
-seen-step law c x Nothing is sound name = refl
-seen-step law c x (Updates s effects) is sound name =
+seen-step : KeepsWhatIsSeen → (c : Contents) (x : Settlement) (d : DeskChange) → x.change ≡ d → IsSettling c x → (name : List ℕ) → seen (changed c.desk x.receipt.command d) name ≡ seen_after (seen c.desk name) (subject_of x.receipt.command) d name
+seen-step law c x change.Nothing is sound name = refl
+seen-step law c x (change.Service s effects) is sound name =
     let step = sound.step.1 in
-    seen_there law c.desk sound.step.0 x.kept.command s effects name (bytes_eq name (subject_of x.kept.command)) refl (sym is ∙ step.change) (ap (changed c.desk x.kept.command) (sym is) ∙ step.desk_after)
+    seen_there law c.desk sound.step.0 x.receipt.command s effects name (bytes_eq name (subject_of x.receipt.command)) refl (sym is ∙ step.change) (ap (changed c.desk x.receipt.command) (sym is) ∙ step.desk_after)
 
--- the contents with one more change of a log
-so_far : (log : List Change) (i : ℕ) (x : Change) → i < length log → x ≡ get_or log i x → committed_all no_contents (take (i + 1) log) ≡ committed (committed_all no_contents (take i log)) x
-so_far log i x lt at = ap (committed_all no_contents) (take_more log i x lt ∙ ap (λ (y : Change). take i log ++ y ∷ []) (sym at)) ∙ committed-push no_contents (take i log) x
+-- the contents with one more settlement of a log
+so_far : (log : List Settlement) (i : ℕ) (x : Settlement) → i < length log → x ≡ get_or log i x → with_settlements no_contents (take (i + 1) log) ≡ with_settlement (with_settlements no_contents (take i log)) x
+so_far log i x lt at = ap (with_settlements no_contents) (take_more log i x lt ∙ ap (λ (y : Settlement). take i log ++ y ∷ []) (sym at)) ∙ with_settlements-push no_contents (take i log) x
 
-pub count_more : (log : List Change) (i : ℕ) (x : Change) (q : List ℕ) (last next : ℕ) → AreSettling no_contents log → i < length log → x ≡ get_or log i x → last ≡ count_of (committed_all no_contents (take i log)) q → next ≡ (if bytes_eq q x.caller then x.number else last) → next ≡ count_of (committed_all no_contents (take (i + 1) log)) q
+pub count_more : (log : List Settlement) (i : ℕ) (x : Settlement) (q : List ℕ) (last next : ℕ) → AreSettling no_contents log → i < length log → x ≡ get_or log i x → last ≡ count_of (with_settlements no_contents (take i log)) q → next ≡ (if bytes_eq q x.caller then x.number else last) → next ≡ count_of (with_settlements no_contents (take (i + 1) log)) q
 count_more log i x q last next sound lt at is so =
     so ∙ ap (λ n. if bytes_eq q x.caller then x.number else n) is ∙ sym (ap (λ (c : Contents). count_of c q) (so_far log i x lt at) ∙ count-step _ x q (sound-at no_contents log i x sound lt at))
 
 -- The steps of the loops that go over a log from its end.
 
-pub last_number_at : (log : List Change) (i : ℕ) (x : Change) (q : List ℕ) (b : Bool) → bytes_eq q x.caller ≡ b → AreSettling no_contents log → i < length log → x ≡ get_or log i x → (if b then x.number else count_of (committed_all no_contents (take i log)) q) ≡ count_of (committed_all no_contents (take (i + 1) log)) q
+pub last_number_at : (log : List Settlement) (i : ℕ) (x : Settlement) (q : List ℕ) (b : Bool) → bytes_eq q x.caller ≡ b → AreSettling no_contents log → i < length log → x ≡ get_or log i x → (if b then x.number else count_of (with_settlements no_contents (take i log)) q) ≡ count_of (with_settlements no_contents (take (i + 1) log)) q
 last_number_at log i x q b e sound lt at =
-    ap (λ c. if c then x.number else count_of (committed_all no_contents (take i log)) q) (sym e)
-    ∙ count_more log i x q (count_of (committed_all no_contents (take i log)) q) (if bytes_eq q x.caller then x.number else count_of (committed_all no_contents (take i log)) q) sound lt at refl refl
+    ap (λ c. if c then x.number else count_of (with_settlements no_contents (take i log)) q) (sym e)
+    ∙ count_more log i x q (count_of (with_settlements no_contents (take i log)) q) (if bytes_eq q x.caller then x.number else count_of (with_settlements no_contents (take i log)) q) sound lt at refl refl
 
--- the newest change of the caller has its last number
-pub found_last : (log : List Change) (left : ℕ) (x : Change) (q : List ℕ) → AreSettling no_contents log → 0 < left → left ≤ length log → x ≡ get_or log (left - 1) x → bytes_eq q x.caller ≡ true → count_of (committed_all no_contents (take left log)) q ≡ count_of (committed_all no_contents log) q → x.number ≡ count_of (committed_all no_contents log) q
+-- the newest settlement of the caller has its last number
+pub found_last : (log : List Settlement) (left : ℕ) (x : Settlement) (q : List ℕ) → AreSettling no_contents log → 0 < left → left ≤ length log → x ≡ get_or log (left - 1) x → bytes_eq q x.caller ≡ true → count_of (with_settlements no_contents (take left log)) q ≡ count_of (with_settlements no_contents log) q → x.number ≡ count_of (with_settlements no_contents log) q
 found_last log left x q sound some within at e same =
     let back : left - 1 + 1 ≡ left = omega arith in
-    last_number_at log (left - 1) x q true e sound (omega arith) at ∙ ap (λ n. count_of (committed_all no_contents (take n log)) q) back ∙ same
+    last_number_at log (left - 1) x q true e sound (omega arith) at ∙ ap (λ n. count_of (with_settlements no_contents (take n log)) q) back ∙ same
 
--- a change of another caller is passed over
-pub passed_over : (log : List Change) (left : ℕ) (x : Change) (q : List ℕ) → AreSettling no_contents log → 0 < left → left ≤ length log → x ≡ get_or log (left - 1) x → bytes_eq q x.caller ≡ false → count_of (committed_all no_contents (take left log)) q ≡ count_of (committed_all no_contents log) q → count_of (committed_all no_contents (take (left - 1) log)) q ≡ count_of (committed_all no_contents log) q
+-- a settlement of another caller is passed over
+pub passed_over : (log : List Settlement) (left : ℕ) (x : Settlement) (q : List ℕ) → AreSettling no_contents log → 0 < left → left ≤ length log → x ≡ get_or log (left - 1) x → bytes_eq q x.caller ≡ false → count_of (with_settlements no_contents (take left log)) q ≡ count_of (with_settlements no_contents log) q → count_of (with_settlements no_contents (take (left - 1) log)) q ≡ count_of (with_settlements no_contents log) q
 passed_over log left x q sound some within at e same =
     let back : left - 1 + 1 ≡ left = omega arith in
-    last_number_at log (left - 1) x q false e sound (omega arith) at ∙ ap (λ n. count_of (committed_all no_contents (take n log)) q) back ∙ same
+    last_number_at log (left - 1) x q false e sound (omega arith) at ∙ ap (λ n. count_of (with_settlements no_contents (take n log)) q) back ∙ same
 
-pub none_left : (log : List Change) (left : ℕ) (q : List ℕ) → left ≤ 0 → count_of (committed_all no_contents (take left log)) q ≡ count_of (committed_all no_contents log) q → 0 ≡ count_of (committed_all no_contents log) q
+pub none_left : (log : List Settlement) (left : ℕ) (q : List ℕ) → left ≤ 0 → count_of (with_settlements no_contents (take left log)) q ≡ count_of (with_settlements no_contents log) q → 0 ≡ count_of (with_settlements no_contents log) q
 none_left log left q gone same =
     let zero_left : 0 ≡ left = omega arith in
-    sym (none_settled q) ∙ ap (λ n. count_of (committed_all no_contents (take n log)) q) zero_left ∙ same
+    sym (none_settled q) ∙ ap (λ n. count_of (with_settlements no_contents (take n log)) q) zero_left ∙ same
 
--- what is seen of some changes is what the newest of them says, or else what is seen of those before it
+-- what is seen of some settlements is what the newest of them says, or else what is seen of those before it
 
 if_or : {A : Type 0} (b : Bool) (v : A) (rest : Option A) → (if b then Some v else rest) ≡ option_or (if b then Some v else None) rest
 if_or true v rest = refl
 if_or false v rest = refl
 
-changed_or : (found : Option ServiceParts) (subject : List ℕ) (change : DeskChange) (name : List ℕ) → changed_service found subject change name ≡ option_or (changed_service None subject change name) found
-changed_or found subject Nothing name = refl
-changed_or found subject (Updates s effects) name = if_or (bytes_eq name subject) s found
+changed_or : (found : Option ServiceParts) (subject : List ℕ) (d : DeskChange) (name : List ℕ) → seen_after found subject d name ≡ option_or (seen_after None subject d name) found
+changed_or found subject change.Nothing name = refl
+changed_or found subject (change.Service s effects) name = if_or (bytes_eq name subject) s found
 
-newest_committed : (log : List Change) (left : ℕ) (x : Change) → 0 < left → left ≤ length log → x ≡ get_or log (left - 1) x → committed_all no_contents (take left log) ≡ committed (committed_all no_contents (take (left - 1) log)) x
+newest_committed : (log : List Settlement) (left : ℕ) (x : Settlement) → 0 < left → left ≤ length log → x ≡ get_or log (left - 1) x → with_settlements no_contents (take left log) ≡ with_settlement (with_settlements no_contents (take (left - 1) log)) x
 newest_committed log left x some within at =
     let back : left ≡ left - 1 + 1 = omega arith in
-    ap (λ i. committed_all no_contents (take i log)) back ∙ so_far log (left - 1) x (omega arith) at
+    ap (λ i. with_settlements no_contents (take i log)) back ∙ so_far log (left - 1) x (omega arith) at
 
--- what a loop finds at a change, or else goes on with
-pub kept_from_end : (log : List Change) (left : ℕ) (x : Change) (q : List ℕ) (n : ℕ) (o p : Option Kept) → AreSettling no_contents log → 0 < left → left ≤ length log → x ≡ get_or log (left - 1) x → 1 ≤ n
-    → o ≡ (if bytes_eq q x.caller && (x.number == n) then Some x.kept else None) → o ≡ p
-    → kept_at (committed_all no_contents (take left log)) q n ≡ kept_at (committed_all no_contents log) q n
-    → option_or p (kept_at (committed_all no_contents (take (left - 1) log)) q n) ≡ kept_at (committed_all no_contents log) q n
-kept_from_end log left x q n o p sound some within at h says is same =
-    let before = committed_all no_contents (take (left - 1) log) in
-    ap (λ (found : Option Kept). option_or found (kept_at before q n)) (sym is ∙ says)
-    ∙ sym (if_or (bytes_eq q x.caller && (x.number == n)) x.kept (kept_at before q n))
-    ∙ sym (kept-step before x q n (sound-at no_contents log (left - 1) x sound (omega arith) at) h)
-    ∙ sym (ap (λ (c : Contents). kept_at c q n) (newest_committed log left x some within at))
+-- what a loop finds at a settlement, or else goes on with
+pub receipt_from_end : (log : List Settlement) (left : ℕ) (x : Settlement) (q : List ℕ) (n : ℕ) (o p : Option Receipt) → AreSettling no_contents log → 0 < left → left ≤ length log → x ≡ get_or log (left - 1) x → 1 ≤ n
+    → o ≡ (if bytes_eq q x.caller && (x.number == n) then Some x.receipt else None) → o ≡ p
+    → receipt_at (with_settlements no_contents (take left log)) q n ≡ receipt_at (with_settlements no_contents log) q n
+    → option_or p (receipt_at (with_settlements no_contents (take (left - 1) log)) q n) ≡ receipt_at (with_settlements no_contents log) q n
+receipt_from_end log left x q n o p sound some within at h says is same =
+    let before = with_settlements no_contents (take (left - 1) log) in
+    ap (λ (found : Option Receipt). option_or found (receipt_at before q n)) (sym is ∙ says)
+    ∙ sym (if_or (bytes_eq q x.caller && (x.number == n)) x.receipt (receipt_at before q n))
+    ∙ sym (receipt-step before x q n (sound-at no_contents log (left - 1) x sound (omega arith) at) h)
+    ∙ sym (ap (λ (c : Contents). receipt_at c q n) (newest_committed log left x some within at))
     ∙ same
 
-pub seen_from_end : KeepsWhatIsSeen → (log : List Change) (left : ℕ) (x : Change) (name : List ℕ) (o p : Option ServiceParts) → AreSettling no_contents log → 0 < left → left ≤ length log → x ≡ get_or log (left - 1) x
-    → o ≡ changed_service None (subject_of x.kept.command) x.desk name → o ≡ p
-    → seen (committed_all no_contents (take left log)).desk name ≡ seen (committed_all no_contents log).desk name
-    → option_or p (seen (committed_all no_contents (take (left - 1) log)).desk name) ≡ seen (committed_all no_contents log).desk name
+pub seen_from_end : KeepsWhatIsSeen → (log : List Settlement) (left : ℕ) (x : Settlement) (name : List ℕ) (o p : Option ServiceParts) → AreSettling no_contents log → 0 < left → left ≤ length log → x ≡ get_or log (left - 1) x
+    → o ≡ seen_after None (subject_of x.receipt.command) x.change name → o ≡ p
+    → seen (with_settlements no_contents (take left log)).desk name ≡ seen (with_settlements no_contents log).desk name
+    → option_or p (seen (with_settlements no_contents (take (left - 1) log)).desk name) ≡ seen (with_settlements no_contents log).desk name
 seen_from_end law log left x name o p sound some within at says is same =
-    let before = committed_all no_contents (take (left - 1) log) in
+    let before = with_settlements no_contents (take (left - 1) log) in
     ap (λ (found : Option ServiceParts). option_or found (seen before.desk name)) (sym is ∙ says)
-    ∙ sym (changed_or (seen before.desk name) (subject_of x.kept.command) x.desk name)
-    ∙ sym (seen-step law before x x.desk refl (sound-at no_contents log (left - 1) x sound (omega arith) at) name)
+    ∙ sym (changed_or (seen before.desk name) (subject_of x.receipt.command) x.change name)
+    ∙ sym (seen-step law before x x.change refl (sound-at no_contents log (left - 1) x sound (omega arith) at) name)
     ∙ sym (ap (λ (c : Contents). seen c.desk name) (newest_committed log left x some within at))
     ∙ same
 
-pub none_kept_left : (log : List Change) (left : ℕ) (q : List ℕ) (n : ℕ) → left ≤ 0 → kept_at (committed_all no_contents (take left log)) q n ≡ kept_at (committed_all no_contents log) q n → None ≡ kept_at (committed_all no_contents log) q n
-none_kept_left log left q n gone same =
+pub no_receipt_left : (log : List Settlement) (left : ℕ) (q : List ℕ) (n : ℕ) → left ≤ 0 → receipt_at (with_settlements no_contents (take left log)) q n ≡ receipt_at (with_settlements no_contents log) q n → None ≡ receipt_at (with_settlements no_contents log) q n
+no_receipt_left log left q n gone same =
     let zero_left : 0 ≡ left = omega arith in
-    sym (none_kept q n) ∙ ap (λ i. kept_at (committed_all no_contents (take i log)) q n) zero_left ∙ same
+    sym (no_receipt q n) ∙ ap (λ i. receipt_at (with_settlements no_contents (take i log)) q n) zero_left ∙ same
 
-pub none_seen_left : (log : List Change) (left : ℕ) (name : List ℕ) → left ≤ 0 → seen (committed_all no_contents (take left log)).desk name ≡ seen (committed_all no_contents log).desk name → None ≡ seen (committed_all no_contents log).desk name
+pub none_seen_left : (log : List Settlement) (left : ℕ) (name : List ℕ) → left ≤ 0 → seen (with_settlements no_contents (take left log)).desk name ≡ seen (with_settlements no_contents log).desk name → None ≡ seen (with_settlements no_contents log).desk name
 none_seen_left log left name gone same =
     let zero_left : 0 ≡ left = omega arith in
-    none_seen name ∙ ap (λ i. seen (committed_all no_contents (take i log)).desk name) zero_left ∙ same
+    none_seen name ∙ ap (λ i. seen (with_settlements no_contents (take i log)).desk name) zero_left ∙ same

@@ -5,21 +5,22 @@ use Rattle.std.specs.Fmt.{digits}
 use Rattle.canary_plan.specs.declared.command.Command.{Command}
 use Rattle.canary_plan.specs.declared.command.Command.TheVariants.{Start, Promote}
 use Rattle.canary_release.specs.declared.reply.Reply.{Reply}
+use Rattle.canary_release.specs.declared.reply.ReplyStatus.TheVariants.{Conflict}
 use Rattle.canary_release.proofs.Stories.{b, ok, no, web, v2, v3, add, two_pauses}
-use Rattle.canary_once.specs.declared.book.Kept.{Kept}
+use Rattle.canary_once.specs.declared.book.Receipt.{Receipt}
 use Rattle.canary_once.specs.declared.event.Event.{Event}
-use Rattle.canary_once.specs.declared.event.Event.TheVariants.{Request as RequestEvent}
-use Rattle.canary_once.specs.Contents.{no_contents, kept_of}
+use Rattle.canary_once.specs.declared.event.Event.TheVariants as event
+use Rattle.canary_once.specs.Contents.{no_contents, receipts_of}
 use Rattle.canary_once.specs.Answers.{answers_of, after}
 use Rattle.canary_once.specs.Single.{request_of}
-use Rattle.canary_once.proofs.Worlds.{replies_from_nothing, kept_from_nothing}
+use Rattle.canary_once.proofs.Worlds.{replies_from_nothing, receipts_from_nothing}
 
 abbrev conflict : List ℕ → Reply
-conflict body = record { status = 409; body = body }
+conflict body = record { status = Conflict; body = body }
 
 -- a request of that caller
 abbrev by : List ℕ → ℕ → ℕ → Command → Event
-by caller number moment command = RequestEvent (request_of moment caller number command)
+by caller number moment command = event.Request (request_of moment caller number command)
 
 abbrev ops : ℕ → ℕ → Command → Event
 ops number moment command = by (codes "ops") number moment command
@@ -57,8 +58,8 @@ doubled_replies : answers_of no_contents doubled ≡
 unfolding digits
 doubled_replies = replies_from_nothing doubled _ refl
 
--- five are settled, and kept with their replies
-doubled_kept : map (λ (k : Kept). k.reply) (kept_of (after no_contents doubled) (codes "ops")) ≡
+-- five are settled, and have receipts with their replies
+doubled_receipts : map (λ (k : Receipt). k.reply) (receipts_of (after no_contents doubled) (codes "ops")) ≡
     ok (codes "{\"code\":\"ok\",\"service\":\"web\",\"status\":\"Healthy\",\"step\":4,\"weight\":100}")
     ∷ ok (codes "{\"code\":\"ok\",\"service\":\"web\",\"status\":\"Paused\",\"step\":1,\"weight\":20}")
     ∷ ok (codes "{\"code\":\"ok\",\"service\":\"web\",\"status\":\"Paused\",\"step\":3,\"weight\":50}")
@@ -66,7 +67,7 @@ doubled_kept : map (λ (k : Kept). k.reply) (kept_of (after no_contents doubled)
     ∷ no (codes "{\"code\":\"not-in-progress\"}")
     ∷ []
 unfolding digits
-doubled_kept = kept_from_nothing doubled (codes "ops") _ refl
+doubled_receipts = receipts_from_nothing doubled (codes "ops") _ refl
 
 -- Each caller has its own numbers, and a refusal is kept as a reply is: it stands even where the command would now be accepted.
 

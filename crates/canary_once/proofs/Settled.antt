@@ -11,38 +11,38 @@ use Rattle.canary_release.specs.declared.reply.Reply.{Reply}
 use Rattle.canary_release.specs.Desks.{apply, machine}
 use Rattle.canary_once.specs.declared.event.Request.{Request}
 use Rattle.canary_once.specs.declared.event.Event.{Event}
-use Rattle.canary_once.specs.declared.event.Event.TheVariants.{Request as RequestEvent}
-use Rattle.canary_once.specs.Contents.{Contents, count_of, kept_at}
-use Rattle.canary_once.specs.Answers.{requests_of, is_of, is_new, next_number, news_after, news_of, bare, settled, after, repeated, ahead}
+use Rattle.canary_once.specs.declared.event.Event.TheVariants as event
+use Rattle.canary_once.specs.Contents.{Contents, count_of, receipt_at}
+use Rattle.canary_once.specs.Answers.{requests_of, is_of, is_new, next_number, news_after, news_of, bare, settled_requests, after, repeat_reply, ahead_reply}
 use Rattle.canary_once.specs.Laws.{replies_to_new, NewAreOfTheMachine, GoUpFrom, numbers_of, EachOnce}
 use Rattle.canary_once.proofs.Events.{requests-push, news-push, map-push, machine-push}
 
 -- the machine's replies with one more request, new or not
 one_new : (c : Contents) (before : List Event) (r : Request) (other : Reply) (rest : List Reply) (b : Bool)
-    → (let news = news_of c before in let told = (apply (machine c.desk (settled c before)).desk r.moment r.command).reply in
-    (machine c.desk (map bare (if b then news ++ r ∷ [] else news))).replies ++ rest ≡ (machine c.desk (settled c before)).replies ++ (if b then (if b then told else other) ∷ rest else rest))
+    → (let news = news_of c before in let said = (apply (machine c.desk (settled_requests c before)).desk r.moment r.command).reply in
+    (machine c.desk (map bare (if b then news ++ r ∷ [] else news))).replies ++ rest ≡ (machine c.desk (settled_requests c before)).replies ++ (if b then (if b then said else other) ∷ rest else rest))
 one_new c before r other rest true =
     let news = news_of c before in
     let run = machine c.desk (map bare news) in
-    let told = (apply run.desk r.moment r.command).reply in
+    let said = (apply run.desk r.moment r.command).reply in
     ap (λ (xs : List (ℕ × Command)). (machine c.desk xs).replies ++ rest) (map-push news r)
     ∙ ap (λ (rs : List Reply). rs ++ rest) (machine-push c.desk (map bare news) (bare r)).1
-    ∙ append_assoc run.replies (told ∷ []) rest
+    ∙ append_assoc run.replies (said ∷ []) rest
 one_new c before r other rest false = refl
 
-news-more : (c : Contents) (before : List Event) (r : Request) → news_of c (before ++ RequestEvent r ∷ []) ≡ (if is_new c (news_of c before) r then news_of c before ++ r ∷ [] else news_of c before)
+news-more : (c : Contents) (before : List Event) (r : Request) → news_of c (before ++ event.Request r ∷ []) ≡ (if is_new c (news_of c before) r then news_of c before ++ r ∷ [] else news_of c before)
 news-more c before r = ap (news_after c []) (requests-push before r) ∙ news-push c [] (requests_of before) r
 
-new_after : (c : Contents) (before es : List Event) → (machine c.desk (settled c before)).replies ++ replies_to_new c before es ≡ (machine c.desk (settled c (before ++ es))).replies
-new_after c before [] = append-nil (machine c.desk (settled c before)).replies ∙ ap (λ (b : List Event). (machine c.desk (settled c b)).replies) (sym (append-nil before))
-new_after c before (RequestEvent r ∷ es) =
-    let more = before ++ RequestEvent r ∷ [] in
+new_after : (c : Contents) (before es : List Event) → (machine c.desk (settled_requests c before)).replies ++ replies_to_new c before es ≡ (machine c.desk (settled_requests c (before ++ es))).replies
+new_after c before [] = append-nil (machine c.desk (settled_requests c before)).replies ∙ ap (λ (b : List Event). (machine c.desk (settled_requests c b)).replies) (sym (append-nil before))
+new_after c before (event.Request r ∷ es) =
+    let more = before ++ event.Request r ∷ [] in
     let next = next_number c (news_of c before) r.caller in
-    let other : Reply = (if nat_lt r.number next then repeated (kept_at (after c before) r.caller r.number) r.command else ahead next) in
+    let other : Reply = (if nat_lt r.number next then repeat_reply (receipt_at (after c before) r.caller r.number) r.command else ahead_reply next) in
     sym (one_new c before r other (replies_to_new c more es) (is_new c (news_of c before) r))
     ∙ ap (λ (news : List Request). (machine c.desk (map bare news)).replies ++ replies_to_new c more es) (sym (news-more c before r))
     ∙ new_after c more es
-    ∙ ap (λ (b : List Event). (machine c.desk (settled c b)).replies) (append_assoc before (RequestEvent r ∷ []) es)
+    ∙ ap (λ (b : List Event). (machine c.desk (settled_requests c b)).replies) (append_assoc before (event.Request r ∷ []) es)
 
 pub new_are_of_the_machine : NewAreOfTheMachine
 new_are_of_the_machine c es = new_after c [] es

@@ -7,20 +7,21 @@ use Rattle.std.specs.FinMap.{FinMap}
 use Rattle.canary_plan.specs.declared.command.Command.{Command}
 use Rattle.canary_plan.specs.Commands.{same_command}
 use Rattle.canary_release.specs.declared.reply.Reply.{Reply}
+use Rattle.canary_release.specs.declared.reply.ReplyStatus.TheVariants.{Conflict}
 use Rattle.canary_release.specs.Replies.{code_alone}
 use Rattle.canary_release.specs.Desks.{apply, machine}
-use Rattle.canary_once.specs.declared.book.Kept.{Kept}
+use Rattle.canary_once.specs.declared.book.Receipt.{Receipt}
 use Rattle.canary_once.specs.declared.event.Request.{Request}
 use Rattle.canary_once.specs.declared.event.Event.{Event}
-use Rattle.canary_once.specs.declared.event.Event.TheVariants.{Request as RequestEvent}
+use Rattle.canary_once.specs.declared.event.Event.TheVariants as event
 use Rattle.canary_once.specs.declared.event.Answer.{Answer}
-use Rattle.canary_once.specs.declared.event.Answer.TheVariants.{Told, Unavailable}
-use Rattle.canary_once.specs.Contents.{Contents, count_of, kept_at, keep}
+use Rattle.canary_once.specs.declared.event.Answer.TheVariants.{Replied, Unavailable}
+use Rattle.canary_once.specs.Contents.{Contents, count_of, receipt_at, with_receipt}
 
 -- the requests of events, in order
 abbrev pub requests_of : List Event → List Request
 requests_of [] = []
-requests_of (RequestEvent r ∷ es) = r ∷ requests_of es
+requests_of (event.Request r ∷ es) = r ∷ requests_of es
 
 -- New, repeat, ahead.
 
@@ -49,51 +50,51 @@ abbrev pub bare : Request → ℕ × Command
 bare r = (r.moment, r.command)
 
 -- the settled requests: the new ones, refused or not, with their moments
-abbrev pub settled : Contents → List Event → List (ℕ × Command)
-settled c es = map bare (news_of c es)
+abbrev pub settled_requests : Contents → List Event → List (ℕ × Command)
+settled_requests c es = map bare (news_of c es)
 
 -- Contents after events.
 
-abbrev pub kept_as : Request → Reply → Kept
-kept_as r reply = record { command = r.command; reply = reply }
+abbrev pub receipt_of : Request → Reply → Receipt
+receipt_of r reply = record { command = r.command; reply = reply }
 
--- each new request is kept with its reply, under its caller
-abbrev pub keep_all : FinMap (slice_cmp nat_cmp) (List Kept) → List Request → List Reply → FinMap (slice_cmp nat_cmp) (List Kept)
-keep_all callers [] replies = callers
-keep_all callers (r ∷ rs) [] = callers
-keep_all callers (r ∷ rs) (reply ∷ replies) = keep_all (keep callers r.caller (kept_as r reply)) rs replies
+-- each new request has a receipt with its reply, under its caller
+abbrev pub with_receipts : FinMap (slice_cmp nat_cmp) (List Receipt) → List Request → List Reply → FinMap (slice_cmp nat_cmp) (List Receipt)
+with_receipts callers [] replies = callers
+with_receipts callers (r ∷ rs) [] = callers
+with_receipts callers (r ∷ rs) (reply ∷ replies) = with_receipts (with_receipt callers r.caller (receipt_of r reply)) rs replies
 
 abbrev pub after : Contents → List Event → Contents
 after c es =
-    let run = machine c.desk (settled c es) in
-    record { callers = keep_all c.callers (news_of c es) run.replies; desk = run.desk }
+    let run = machine c.desk (settled_requests c es) in
+    record { callers = with_receipts c.callers (news_of c es) run.replies; desk = run.desk }
 
 -- Answers.
 
 -- {"code":"reused"}
-abbrev pub reused : Reply
-reused = record { status = 409; body = code_alone (codes "reused") }
+abbrev pub reused_reply : Reply
+reused_reply = record { status = Conflict; body = code_alone (codes "reused") }
 
 -- {"code":"ahead","expected":NUMBER}
-abbrev pub ahead : ℕ → Reply
-ahead expected = record { status = 409; body = codes "{\"code\":\"ahead\",\"expected\":" ++ (decimal expected ++ codes "}") }
+abbrev pub ahead_reply : ℕ → Reply
+ahead_reply expected = record { status = Conflict; body = codes "{\"code\":\"ahead\",\"expected\":" ++ (decimal expected ++ codes "}") }
 
--- a repeat gets what is kept under its number, if it is the same command
-abbrev pub repeated : Option Kept → Command → Reply
-repeated None command = reused
-repeated (Some kept) command = if same_command kept.command command then kept.reply else reused
+-- a repeat gets the reply of the receipt under its number, if it is the same command
+abbrev pub repeat_reply : Option Receipt → Command → Reply
+repeat_reply None command = reused_reply
+repeat_reply (Some receipt) command = if same_command receipt.command command then receipt.reply else reused_reply
 
--- the reply to a request, after these events: the machine's where it is new; what is kept where it is a repeat; else that it is ahead
+-- the reply to a request, after these events: the machine's where it is new; that of the receipt where it is a repeat; else that it is ahead
 abbrev pub answer_request : Contents → List Event → Request → Reply
 answer_request c before r =
     let next = next_number c (news_of c before) r.caller in
     if r.number == next
-    then (apply (machine c.desk (settled c before)).desk r.moment r.command).reply
-    else (if nat_lt r.number next then repeated (kept_at (after c before) r.caller r.number) r.command else ahead next)
+    then (apply (machine c.desk (settled_requests c before)).desk r.moment r.command).reply
+    else (if nat_lt r.number next then repeat_reply (receipt_at (after c before) r.caller r.number) r.command else ahead_reply next)
 
 -- the reply to an event, after these
 abbrev pub answer : Contents → List Event → Event → Reply
-answer c before (RequestEvent r) = answer_request c before r
+answer c before (event.Request r) = answer_request c before r
 
 -- the replies to events in order, after these
 abbrev pub answers_after : Contents → List Event → List Event → List Reply
@@ -108,10 +109,10 @@ answers_of c es = answers_after c [] es
 abbrev pub heard : List Event → List Answer → List Event
 heard [] answers = []
 heard (e ∷ es) [] = []
-heard (e ∷ es) (Told reply ∷ answers) = e ∷ heard es answers
+heard (e ∷ es) (Replied reply ∷ answers) = e ∷ heard es answers
 heard (e ∷ es) (Unavailable fault ∷ answers) = heard es answers
 
-abbrev pub told : List Answer → List Reply
-told [] = []
-told (Told reply ∷ answers) = reply ∷ told answers
-told (Unavailable fault ∷ answers) = told answers
+abbrev pub replies_in : List Answer → List Reply
+replies_in [] = []
+replies_in (Replied reply ∷ answers) = reply ∷ replies_in answers
+replies_in (Unavailable fault ∷ answers) = replies_in answers

@@ -1,53 +1,45 @@
--- What a book contains: for each caller the kept entries, from number 1 on, and the desk.
-use Rattle.std.specs.Prelude.{◌≡◌, ℕ, ◌+◌, ◌-◌, Bool, true, false, List, [], ◌∷◌, ◌++◌, length, Option, Some, unwrap_or, slice_get}
+-- What a book contains: for each caller the receipts of its settled requests, from number 1 on, and the desk.
+use Rattle.std.specs.Prelude.{◌≡◌, ℕ, ◌+◌, ◌-◌, List, [], ◌∷◌, ◌++◌, length, Option, Some, unwrap_or, slice_get}
 use Rattle.std.specs.Ordering.{nat_cmp}
 use Rattle.std.specs.Cmp.Lexicographic.{slice_cmp}
 use Rattle.std.specs.FinMap.{FinMap, get, insert, empty}
 use Rattle.canary_release.specs.Desks.{Desk, no_desk}
 use Rattle.canary_release.specs.Shapes.{changed, IsStep}
-use Rattle.canary_once.specs.declared.book.BookFault.{BookFault}
-use Rattle.canary_once.specs.declared.book.BookFault.TheVariants.{Memory, Storage}
-use Rattle.canary_once.specs.declared.book.Kept.{Kept}
-use Rattle.canary_once.specs.declared.book.Change.{Change}
+use Rattle.canary_once.specs.declared.book.Receipt.{Receipt}
+use Rattle.canary_once.specs.declared.book.Settlement.{Settlement}
 
 pub record Contents : Type 0 where
-  pub callers : FinMap (slice_cmp nat_cmp) (List Kept)
+  pub callers : FinMap (slice_cmp nat_cmp) (List Receipt)
   pub desk : Desk
 
 abbrev pub no_contents : Contents
 no_contents = record { callers = empty; desk = no_desk }
 
--- what is kept for a caller's numbers 1, 2 and so on
-abbrev pub kept_of : Contents → List ℕ → List Kept
-kept_of c caller = unwrap_or (get c.callers caller) []
+-- the receipts for a caller's numbers 1, 2 and so on
+abbrev pub receipts_of : Contents → List ℕ → List Receipt
+receipts_of c caller = unwrap_or (get c.callers caller) []
 
 -- the number of settled requests of a caller
 abbrev pub count_of : Contents → List ℕ → ℕ
-count_of c caller = length (kept_of c caller)
+count_of c caller = length (receipts_of c caller)
 
--- what is kept under a caller's number, from 1 on
-abbrev pub kept_at : Contents → List ℕ → ℕ → Option Kept
-kept_at c caller number = slice_get (kept_of c caller) (number - 1)
+-- the receipt under a caller's number, from 1 on
+abbrev pub receipt_at : Contents → List ℕ → ℕ → Option Receipt
+receipt_at c caller number = slice_get (receipts_of c caller) (number - 1)
 
--- each entry that was kept is kept as it was
-abbrev pub KeepsEntries : Contents → Contents → Type 0
-KeepsEntries old new = (caller : List ℕ) (number : ℕ) (kept : Kept) → kept_at old caller number ≡ Some kept → kept_at new caller number ≡ Some kept
+-- each receipt stays as it was
+abbrev pub KeepsReceipts : Contents → Contents → Type 0
+KeepsReceipts old new = (caller : List ℕ) (number : ℕ) (receipt : Receipt) → receipt_at old caller number ≡ Some receipt → receipt_at new caller number ≡ Some receipt
 
--- with one more entry for a caller
-abbrev pub keep : FinMap (slice_cmp nat_cmp) (List Kept) → List ℕ → Kept → FinMap (slice_cmp nat_cmp) (List Kept)
-keep callers caller kept = insert callers caller (unwrap_or (get callers caller) [] ++ kept ∷ [])
+-- with one more receipt for a caller
+abbrev pub with_receipt : FinMap (slice_cmp nat_cmp) (List Receipt) → List ℕ → Receipt → FinMap (slice_cmp nat_cmp) (List Receipt)
+with_receipt callers caller receipt = insert callers caller (unwrap_or (get callers caller) [] ++ receipt ∷ [])
 
--- with one settled request
-abbrev pub committed : Contents → Change → Contents
-committed c change = record { callers = keep c.callers change.caller change.kept; desk = changed c.desk change.kept.command change.desk }
+-- with one more settled request
+abbrev pub with_settlement : Contents → Settlement → Contents
+with_settlement c s = record { callers = with_receipt c.callers s.caller s.receipt; desk = changed c.desk s.receipt.command s.change }
 
 -- the number is the caller's next, and reply and change are the machine's step, for the command on this desk at some moment
-pub record IsSettling (c : Contents) (change : Change) : Type 0 where
-  pub number : change.number ≡ count_of c change.caller + 1
-  pub step : (moment : ℕ) × IsStep c.desk moment change.kept.command (record { reply = change.kept.reply; change = change.desk })
-
--- only a book that is not sure answers Storage
-abbrev pub IsFault : Bool → BookFault → Type 0
-IsFault sure Memory = Unit {0}
-IsFault true Storage = ⊥
-IsFault false Storage = Unit {0}
+pub record IsSettling (c : Contents) (s : Settlement) : Type 0 where
+  pub number : s.number ≡ count_of c s.caller + 1
+  pub step : (moment : ℕ) × IsStep c.desk moment s.receipt.command (record { reply = s.receipt.reply; change = s.change })

@@ -1,29 +1,36 @@
 -- One request, and the answer to one event.
-use Rattle.std.specs.Prelude.{◌≡◌, ℕ, ◌+◌, ◌==◌, nat_lt, Bool, if◌then◌else◌, List, [], ◌∷◌}
+use Rattle.std.specs.Prelude.{◌≡◌, ℕ, ◌+◌, ◌==◌, nat_lt, Bool, if◌then◌else◌, List, [], ◌∷◌, Result, IfOk, IfErr, OnErr}
 use Rattle.canary_plan.specs.declared.command.Command.{Command}
 use Rattle.canary_release.specs.declared.reply.Reply.{Reply}
 use Rattle.canary_release.specs.Desks.{apply}
+use Rattle.canary_once.specs.declared.book.BookFault.{BookFault}
 use Rattle.canary_once.specs.declared.event.Request.{Request}
 use Rattle.canary_once.specs.declared.event.Event.{Event}
+use Rattle.canary_once.specs.declared.event.Event.TheVariants as event
 use Rattle.canary_once.specs.declared.event.Answer.{Answer}
-use Rattle.canary_once.specs.declared.event.Answer.TheVariants.{Told, Unavailable}
-use Rattle.canary_once.specs.Contents.{Contents, count_of, kept_at, keep, IsFault}
-use Rattle.canary_once.specs.Answers.{kept_as, repeated, ahead, answer, after}
+use Rattle.canary_once.specs.declared.event.Answer.TheVariants.{Replied, Unavailable}
+use Rattle.canary_once.specs.Contents.{Contents, count_of, receipt_at, with_receipt, KeepsReceipts}
+use Rattle.canary_once.specs.Books.{BookState, IsFault}
+use Rattle.canary_once.specs.Answers.{receipt_of, repeat_reply, ahead_reply, answer, after}
 
 abbrev pub request_of : ℕ → List ℕ → ℕ → Command → Request
 request_of moment caller number command = record { moment = moment; caller = caller; number = number; command = command }
 
+-- the reply to a new request
+abbrev pub new_reply : Contents → Request → Reply
+new_reply c r = (apply c.desk r.moment r.command).reply
+
 -- contents with a new request settled
 abbrev pub settle : Contents → Request → Contents
-settle c r = let a = apply c.desk r.moment r.command in record { callers = keep c.callers r.caller (kept_as r a.reply); desk = a.desk }
+settle c r = let a = apply c.desk r.moment r.command in record { callers = with_receipt c.callers r.caller (receipt_of r a.reply); desk = a.desk }
 
 -- the reply to one request
 abbrev pub reply_to : Contents → Request → Reply
 reply_to c r =
     let next = count_of c r.caller + 1 in
     if r.number == next
-    then (apply c.desk r.moment r.command).reply
-    else (if nat_lt r.number next then repeated (kept_at c r.caller r.number) r.command else ahead next)
+    then new_reply c r
+    else (if nat_lt r.number next then repeat_reply (receipt_at c r.caller r.number) r.command else ahead_reply next)
 
 -- the contents after one request
 abbrev pub after_one : Contents → Request → Contents
@@ -31,10 +38,26 @@ after_one c r = if r.number == count_of c r.caller + 1 then settle c r else c
 
 -- an answer to an event, with the contents before and after: the machine's, or a 503 that changed nothing
 abbrev pub IsAnswer : Contents → Event → Answer → Contents → Type 0
-IsAnswer c e (Told reply) new = (reply ≡ answer c [] e) × (new ≡ after c (e ∷ []))
+IsAnswer c e (Replied reply) new = (reply ≡ answer c [] e) × (new ≡ after c (e ∷ []))
 IsAnswer c e (Unavailable fault) new = new ≡ c
 
 -- only over a book that is not sure an answer is 503 for its store
 abbrev pub IsFaultOf : Bool → Answer → Type 0
-IsFaultOf sure (Told reply) = Unit {0}
+IsFaultOf sure (Replied reply) = Unit {0}
 IsFaultOf sure (Unavailable fault) = IsFault sure fault
+
+-- what a book did as an event was answered
+pub record IsAnsweredBy (old new : BookState) (e : Event) (a : Answer) : Type 0 where
+  pub intact : new.is_intact → old.is_intact
+  pub step : new.is_intact → IsAnswer old.contents e a new.contents
+  pub receipts : new.is_intact → KeepsReceipts old.contents new.contents
+  pub sure : new.is_sure ≡ old.is_sure
+  pub fault : IsFaultOf old.is_sure a
+
+-- and as a request got its reply, these contents being there then, or failed
+pub record RepliesBy (reply : Contents → Reply) (next : Contents → Contents) (old new : BookState) (given : Result Reply BookFault) : Type 0 where
+  pub intact : new.is_intact → old.is_intact
+  pub ok : new.is_intact → IfOk given (λ r. (r ≡ reply old.contents) × (new.contents ≡ next old.contents))
+  pub err : new.is_intact → OnErr given (new.contents ≡ old.contents)
+  pub sure : new.is_sure ≡ old.is_sure
+  pub fault : IfErr given (IsFault old.is_sure)

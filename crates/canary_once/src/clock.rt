@@ -1,5 +1,6 @@
 //! Clocks.
-ghost use Rattle.std.specs.Prelude.{◌≡◌, ◌+◌, ◌≤◌, min};
+ghost use Rattle.std.specs.Prelude.{◌≡◌, ◌↔◌, ℕ, ◌+◌, ◌≤◌, min};
+ghost use Rattle.canary_once.specs.Ticks.{TellsSteps};
 
 use canary_base::moments::{LAST_MOMENT, Moment};
 use std::marker::Model;
@@ -14,7 +15,8 @@ pub trait Clock {
 
     /// The first coming moment; each other moves up by one.
     fn now(&mut self) -> Moment
-        ensures told { (told : ℕ → Moment) → tells self.old told → (result ≡ told 0) × tells self.new (λ k. told (k + 1)) };
+        ensures { (moment_at : ℕ → Moment) → tells self.old moment_at
+            → (result ≡ moment_at 0) × tells self.new (λ k. moment_at (k + 1)) };
 }
 
 /// A clock that tells `at`, `at + step` and so on, each at most the greatest moment. Contracts see
@@ -38,7 +40,8 @@ impl Model for StepClock {
 impl StepClock {
     /// A clock whose first moment is `at`, and each next one `step` seconds later.
     pub fn new(at: Moment, step: Moment) -> StepClock
-        ensures { result ≡ (at, step) }
+        ensures { (moment_at : ℕ → ℕ) → TellsSteps at step moment_at
+            ↔ ⟦<StepClock as Clock>⟧.tells result moment_at }
     {
         StepClock { at, step }
     }
@@ -47,7 +50,7 @@ impl StepClock {
 impl Clock for StepClock {
     ghost use Rattle.canary_once.specs.Ticks.{TellsSteps};
 
-    ghost tells = { λ c told. TellsSteps c.0 c.1 told };
+    ghost tells = { λ c moment_at. TellsSteps c.0 c.1 moment_at };
 
     fn now(&mut self) -> Moment {
         let now = self.at;

@@ -1,6 +1,6 @@
 //! Requests as they arrive, and their answers.
 ghost use Rattle.std.specs.Prelude.{◌≡◌, IfOk};
-ghost use Rattle.canary_once.specs.AnswerTexts.{status_of, body_of};
+ghost use Rattle.canary_once.specs.AnswerTexts.{answer_status, answer_body};
 
 use crate::book::BookFault;
 use canary_base::error::Memory;
@@ -51,10 +51,10 @@ impl Event {
     }
 }
 
-/// The answer to an event: a reply, or 503 where the book had no memory or its store failed.
+/// The answer to an event: a reply, or none where the book was out of memory or its store failed.
 #[derive(Drop)]
 pub enum Answer {
-    Told(Reply),
+    Replied(Reply),
     Unavailable(BookFault),
 }
 
@@ -64,27 +64,27 @@ impl Answer {
         ensures { IfOk result (λ copy. copy ≡ self.now) }
     {
         Ok(match self {
-            Answer::Told(reply) => Answer::Told(reply.copy(alloc)?),
+            Answer::Replied(reply) => Answer::Replied(reply.copy(alloc)?),
             Answer::Unavailable(fault) => Answer::Unavailable(*fault),
         })
     }
 
-    /// Its status of HTTP (RFC 9110): the reply's, or 503.
+    /// Its status code of HTTP (RFC 9110): the reply's, or 503.
     pub fn status(&self) -> u16
-        ensures { result ≡ status_of self.now }
+        ensures { result ≡ answer_status self.now }
     {
         match self {
-            Answer::Told(reply) => reply.status,
+            Answer::Replied(reply) => reply.status.code(),
             Answer::Unavailable(_) => 503,
         }
     }
 
     /// Its body of JSON: the reply's, or `{"code":"no-memory"}` or `{"code":"storage"}`.
     pub fn body(&self) -> &str
-        ensures { result.now ≡ body_of self.now }
+        ensures { result.now ≡ answer_body self.now }
     {
         match self {
-            Answer::Told(reply) => reply.body.as_str(),
+            Answer::Replied(reply) => reply.body.as_str(),
             Answer::Unavailable(BookFault::Memory) => "{\"code\":\"no-memory\"}",
             Answer::Unavailable(BookFault::Storage) => "{\"code\":\"storage\"}",
         }

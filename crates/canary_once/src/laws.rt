@@ -1,7 +1,12 @@
 //! Laws over the definitions alone.
-ghost use Rattle.canary_once.specs.Laws.{NewAreOfTheMachine, EachOnce, OneRequest, GoesOn, NoneIsAhead, ConflictsChangeNothing, RefusalsLeaveTheDesk, KeepsSettled, StaysSettled, AnswersSettled};
+ghost use Rattle.canary_once.specs.Laws.{NewAreOfTheMachine, EachOnce, OneRequest, RunsOn};
+ghost use Rattle.canary_once.specs.Laws.{NoneIsAhead, ConflictsChangeNothing};
+ghost use Rattle.canary_once.specs.Laws.{RefusalsLeaveTheDesk, KeepsSettled, StaysSettled};
 ghost use Rattle.canary_once.specs.Contents.{no_contents};
+ghost use Rattle.canary_once.specs.Books.{AreSure};
 
+use crate::book::Book;
+use crate::memory::MemoryBook;
 use canary_release::laws;
 
 /// The new requests of a list of events are answered by one run of the small machine over the
@@ -11,16 +16,16 @@ pub fn settled_requests()
     ensures once { EachOnce }
 {}
 
-/// What one request comes to: a new one is settled, a repeat gets what is kept, and one ahead is
-/// told so; neither of these changes anything.
+/// What one request comes to: a new one is settled, a repeat gets the reply of its receipt, and one
+/// ahead is refused; neither of these changes anything.
 pub fn one_request()
     ensures { OneRequest }
 {}
 
-/// A list of events goes on where another stopped: it does not matter how events are cut into
+/// A list of events runs on where another stopped: it does not matter how events are cut into
 /// runs.
-pub fn going_on()
-    ensures { GoesOn }
+pub fn running_on()
+    ensures { RunsOn }
 {}
 
 /// A caller with 1,000,000,000 settled requests has no number ahead: each number that a request
@@ -29,8 +34,7 @@ pub fn last_number()
     ensures { NoneIsAhead }
 {}
 
-/// A reply of status 409 leaves the contents as they were, and one of status 422 leaves the desk as
-/// it was.
+/// A conflict leaves the contents as they were, and a refusal leaves the desk as it was.
 pub fn refusals()
     ensures conflicts { ConflictsChangeNothing }
     ensures refused { RefusalsLeaveTheDesk }
@@ -38,12 +42,16 @@ pub fn refusals()
     laws::refusals();
 }
 
-/// Where each kept reply has status 200 or 422, as where none is kept, it stays so, and each answer
-/// has status 200, 409 or 422: no 503 is ever kept.
+/// A receipt is of a command that was accepted or refused, and of no conflict: so it is where
+/// nothing is settled, and so it stays.
 pub fn statuses()
     ensures none { KeepsSettled no_contents }
     ensures kept { StaysSettled }
-    ensures told { AnswersSettled }
 {
     laws::refusals();
 }
+
+/// The store of a book in memory is honest, and the book is sure, however it came about.
+pub fn memory_books()
+    ensures { AreSure ⟦<MemoryBook as Book>⟧.state }
+{}

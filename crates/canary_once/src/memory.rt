@@ -1,13 +1,15 @@
 //! A book in memory: the plain program that other books are compared with.
-ghost use Rattle.std.specs.Prelude.{◌≡◌, ◌==◌, ◌&&◌, [], ◌∷◌, ◌++◌, Some, OnOk, OnErr, IfErr, if◌then◌else◌};
+ghost use Rattle.std.specs.Prelude.{◌≡◌, ◌==◌, ◌&&◌, [], ◌∷◌, ◌++◌, Some, OnOk, OnErr, IfErr};
+ghost use Rattle.std.specs.Prelude.{if◌then◌else◌};
 ghost use Rattle.std.specs.Str.{bytes_eq};
 ghost use Rattle.std.specs.Option.{option_copied};
 ghost use Rattle.canary_plan.specs.Commands.{subject_of};
 ghost use Rattle.canary_release.specs.Shapes.{seen};
-ghost use Rattle.canary_once.specs.Contents.{no_contents, count_of, kept_at};
-ghost use Rattle.canary_once.specs.Logs.{committed_all, AreSettling, changed_service};
+ghost use Rattle.canary_once.specs.Contents.{no_contents, count_of, receipt_at};
+ghost use Rattle.canary_once.specs.Books.{IsEmptyAndSure};
+ghost use Rattle.canary_once.specs.Logs.{with_settlements, AreSettling, seen_after};
 
-use crate::book::{Book, BookFault, Change, Kept};
+use crate::book::{Book, BookFault, Receipt, Settlement};
 use canary_base::error::Memory;
 use canary_base::names::Name;
 use canary_base::numbers::Number;
@@ -21,16 +23,16 @@ use std::marker::Model;
 #[derive(Drop)]
 pub struct MemoryBook {
     alloc: Global,
-    log: Vec<Change>,
+    log: Vec<Settlement>,
 }
 
 impl Model for MemoryBook {
     ghost use Rattle.std.specs.Prelude.{List};
     ghost use Rattle.canary_once.specs.Contents.{no_contents};
     ghost use Rattle.canary_once.specs.Logs.{AreSettling};
-    ghost use Rattle.canary_once.specs.declared.book.Change.{Change};
+    ghost use Rattle.canary_once.specs.declared.book.Settlement.{Settlement};
 
-    ghost Value = { List Change };
+    ghost Value = { List Settlement };
 
     ghost view = { λ b. b.log.items };
 
@@ -40,7 +42,7 @@ impl Model for MemoryBook {
 impl MemoryBook {
     /// A book with nothing settled.
     pub fn new(alloc: Global) -> MemoryBook
-        ensures { result ≡ [] }
+        ensures { IsEmptyAndSure (⟦<MemoryBook as Book>⟧.state result) }
     {
         MemoryBook {
             alloc,
@@ -52,21 +54,21 @@ impl MemoryBook {
 impl Book for MemoryBook {
     ghost use Rattle.std.specs.Prelude.{true};
     ghost use Rattle.canary_once.specs.Contents.{no_contents};
-    ghost use Rattle.canary_once.specs.Logs.{committed_all};
+    ghost use Rattle.canary_once.specs.Logs.{with_settlements};
 
-    ghost contents = { committed_all no_contents };
-
-    ghost is_intact = { λ _. Unit {0} };
-
-    ghost is_sure = { λ _. true };
+    ghost state = { λ log. record {
+      contents = with_settlements no_contents log;
+      is_intact = Unit {0};
+      is_sure = true;
+    } };
 
     fn settled(&mut self, caller: &Name) -> Result<u32, BookFault> {
         Ok(settled_in(self.log.as_slice(), caller))
     }
 
-    fn kept(&mut self, caller: &Name, number: Number) -> Result<Option<Kept>, BookFault> {
-        match kept_in(self.log.as_slice(), caller, number) {
-            Some(kept) => Ok(Some(kept.copy(self.alloc)?)),
+    fn receipt(&mut self, caller: &Name, number: Number) -> Result<Option<Receipt>, BookFault> {
+        match receipt_in(self.log.as_slice(), caller, number) {
+            Some(receipt) => Ok(Some(receipt.copy(self.alloc)?)),
             None => Ok(None),
         }
     }
@@ -78,69 +80,72 @@ impl Book for MemoryBook {
         }
     }
 
-    fn commit(&mut self, change: Change) -> Result<(), BookFault> {
-        append(&mut self.log, change)
+    fn commit(&mut self, settlement: Settlement) -> Result<(), BookFault> {
+        append(&mut self.log, settlement)
     }
 }
 
-fn append(log: &mut Vec<Change>, change: Change) -> Result<(), BookFault>
-    ensures ok { OnOk result (log.new.items ≡ log.old.items ++ change ∷ []) }
+fn append(log: &mut Vec<Settlement>, settlement: Settlement) -> Result<(), BookFault>
+    ensures ok { OnOk result (log.new.items ≡ log.old.items ++ settlement ∷ []) }
     ensures err { OnErr result (log.new.items ≡ log.old.items) }
     ensures fault { IfErr result (λ fault. fault ≡ BookFault.Memory) }
 {
-    log.push(change)
+    log.push(settlement)
         .map_err(AllocError::from)
         .map_err(Memory::from)?;
     Ok(())
 }
 
-// The number of the caller's last request, which is looked for from the newest change on.
-fn settled_in(log: &[Change], caller: &Name) -> u32
+// The number of the caller's last request, which is looked for from the newest settlement on.
+fn settled_in(log: &[Settlement], caller: &Name) -> u32
     requires { AreSettling no_contents log.now }
-    ensures { result ≡ count_of (committed_all no_contents log.now) caller.now }
+    ensures { result ≡ count_of (with_settlements no_contents log.now) caller.now }
 {
     let mut left = log.len();
     while left > 0 {
         left -= 1;
-        let change = &log[left];
-        if *caller == change.caller {
-            return change.number.get();
+        let settlement = &log[left];
+        if *caller == settlement.caller {
+            return settlement.number.get();
         }
     }
     0
 }
 
-// What is kept for that number of the caller, which is looked for likewise.
-fn kept_in<'a>(log: &'a [Change], caller: &Name, number: Number) -> Option<&'a Kept>
+// The receipt under that number of the caller, which is looked for likewise.
+fn receipt_in<'a>(log: &'a [Settlement], caller: &Name, number: Number) -> Option<&'a Receipt>
     requires { AreSettling no_contents log.now }
-    ensures { option_copied result ≡ kept_at (committed_all no_contents log.now) caller.now number }
+    ensures { option_copied result
+        ≡ receipt_at (with_settlements no_contents log.now) caller.now number }
 {
     let wanted = number.get();
     let mut left = log.len();
     while left > 0 {
         left -= 1;
-        if let Some(kept) = kept_by(&log[left], caller, wanted) {
-            return Some(kept);
+        if let Some(receipt) = receipt_under(&log[left], caller, wanted) {
+            return Some(receipt);
         }
     }
     None
 }
 
-// What a change keeps, if it is for that number of the caller.
-fn kept_by<'a>(change: &'a Change, caller: &Name, number: u32) -> Option<&'a Kept>
-    ensures { option_copied result ≡ (if bytes_eq caller.now change.now.caller && change.now.number == number then Some change.now.kept else None) }
+// The receipt of a settlement, if it is under that number of the caller.
+fn receipt_under<'a>(settlement: &'a Settlement, caller: &Name, number: u32) -> Option<&'a Receipt>
+    ensures { option_copied result
+        ≡ (if bytes_eq caller.now settlement.now.caller && settlement.now.number == number
+        then Some settlement.now.receipt else None) }
 {
-    if change.number.get() == number && *caller == change.caller {
-        Some(&change.kept)
+    if settlement.number.get() == number && *caller == settlement.caller {
+        Some(&settlement.receipt)
     } else {
         None
     }
 }
 
-// The service of that name, as the newest change of it left it.
-fn service_in<'a>(log: &'a [Change], name: &Name) -> Option<&'a Service>
+// The service of that name, as the newest settlement of it left it.
+fn service_in<'a>(log: &'a [Settlement], name: &Name) -> Option<&'a Service>
     requires { AreSettling no_contents log.now }
-    ensures { option_copied result ≡ seen (committed_all no_contents log.now).desk name.now }
+    ensures { option_copied result ≡ seen (with_settlements no_contents log.now).desk name.now }
 {
     laws::changes();
     let mut left = log.len();
@@ -153,13 +158,15 @@ fn service_in<'a>(log: &'a [Change], name: &Name) -> Option<&'a Service>
     None
 }
 
-// The service of that name, if the change left one.
-fn service_by<'a>(change: &'a Change, name: &Name) -> Option<&'a Service>
-    ensures { option_copied result ≡ changed_service None (subject_of change.now.kept.command) change.now.desk name.now }
+// The service of that name, if the settlement left one.
+fn service_by<'a>(settlement: &'a Settlement, name: &Name) -> Option<&'a Service>
+    ensures { option_copied result
+        ≡ seen_after None (subject_of settlement.now.receipt.command)
+        settlement.now.change name.now }
 {
-    match &change.desk {
+    match &settlement.change {
         DeskChange::Service { service, .. } => {
-            if *name == change.kept.command.subject() {
+            if *name == settlement.receipt.command.subject() {
                 Some(service)
             } else {
                 None

@@ -1,13 +1,12 @@
 //! One request.
-ghost use Rattle.std.specs.Prelude.{◌≡◌, ◌+◌, IfOk, OnErr, IfErr};
-ghost use Rattle.canary_release.specs.Desks.{apply};
-ghost use Rattle.canary_once.specs.declared.event.Event.TheVariants.{Request};
-ghost use Rattle.canary_once.specs.Contents.{KeepsEntries, IsFault, count_of};
-ghost use Rattle.canary_once.specs.Answers.{reused, ahead, repeated};
-ghost use Rattle.canary_once.specs.Single.{IsAnswer, IsFaultOf, request_of, settle, reply_to, after_one};
+ghost use Rattle.std.specs.Prelude.{◌≡◌, ◌+◌, IfOk};
+ghost use Rattle.canary_once.specs.Contents.{count_of};
+ghost use Rattle.canary_once.specs.Answers.{reused_reply, ahead_reply, repeat_reply};
+ghost use Rattle.canary_once.specs.Single.{request_of, reply_to, after_one, new_reply, settle};
+ghost use Rattle.canary_once.specs.Single.{IsAnsweredBy, RepliesBy};
 
-use crate::book::{Book, BookFault, Change, Kept};
-use crate::event::Answer;
+use crate::book::{Book, BookFault, Receipt, Settlement};
+use crate::event::{Answer, Event};
 use canary_base::error::Memory;
 use canary_base::lists::Text;
 use canary_base::moments::Moment;
@@ -15,12 +14,12 @@ use canary_base::names::Name;
 use canary_base::numbers::Number;
 use canary_plan::command::Command;
 use canary_release::decide::decide;
-use canary_release::reply::Reply;
+use canary_release::reply::{Reply, ReplyStatus};
 use std::alloc::Global;
 
-/// Answers one request: a new one is settled, a repeat gets what is kept under its number, and one
-/// ahead of its turn is refused. Want of memory and a failed store are answered 503 and change
-/// nothing.
+/// Answers one request: a new one is settled, a repeat gets the reply of its receipt, and one ahead
+/// of its turn is refused. Where the book is out of memory or its store failed, the answer is 503
+/// and nothing changed.
 pub fn post<B: Book>(
     alloc: Global,
     book: &mut B,
@@ -29,13 +28,11 @@ pub fn post<B: Book>(
     number: Number,
     command: &Command,
 ) -> Answer
-    ensures intact { B.is_intact book.new → B.is_intact book.old }
-    ensures sure { (B.is_sure book.new ≡ B.is_sure book.old) × IsFaultOf (B.is_sure book.old) result }
-    ensures step { B.is_intact book.new → IsAnswer (B.contents book.old) (Request (request_of moment caller number command.now)) result (B.contents book.new) }
-    ensures kept { B.is_intact book.new → KeepsEntries (B.contents book.old) (B.contents book.new) }
+    ensures { IsAnsweredBy (B.state book.old) (B.state book.new)
+        (Event.Request (request_of moment caller number command.now)) result }
 {
     match reply(alloc, book, moment, caller, number, command) {
-        Ok(reply) => Answer::Told(reply),
+        Ok(reply) => Answer::Replied(reply),
         Err(fault) => Answer::Unavailable(fault),
     }
 }
@@ -48,10 +45,9 @@ fn reply<B: Book>(
     number: Number,
     command: &Command,
 ) -> Result<Reply, BookFault>
-    ensures intact { B.is_intact book.new → B.is_intact book.old }
-    ensures sure { (B.is_sure book.new ≡ B.is_sure book.old) × IfErr result (IsFault (B.is_sure book.old)) }
-    ensures ok { B.is_intact book.new → IfOk result (λ reply. (reply ≡ reply_to (B.contents book.old) (request_of moment caller number command.now)) × (B.contents book.new ≡ after_one (B.contents book.old) (request_of moment caller number command.now))) }
-    ensures err { B.is_intact book.new → OnErr result (B.contents book.new ≡ B.contents book.old) }
+    ensures { let r = request_of moment caller number command.now
+        in RepliesBy (λ c. reply_to c r) (λ c. after_one c r)
+        (B.state book.old) (B.state book.new) result }
 {
     let next = u64::from(book.settled(&caller)?) + 1;
     let asked = u64::from(number.get());
@@ -61,8 +57,8 @@ fn reply<B: Book>(
     if asked > next {
         return Ok(refuse_ahead(alloc, next)?);
     }
-    let kept = book.kept(&caller, number)?;
-    Ok(repeat(alloc, kept, command)?)
+    let receipt = book.receipt(&caller, number)?;
+    Ok(repeat(alloc, receipt, command)?)
 }
 
 // Settles a new request. Its reply is made before the commit.
@@ -74,37 +70,37 @@ fn settle_new<B: Book>(
     number: Number,
     command: &Command,
 ) -> Result<Reply, BookFault>
-    requires { B.is_intact book.old → number ≡ count_of (B.contents book.old) caller + 1 }
-    ensures intact { B.is_intact book.new → B.is_intact book.old }
-    ensures sure { (B.is_sure book.new ≡ B.is_sure book.old) × IfErr result (IsFault (B.is_sure book.old)) }
-    ensures ok { B.is_intact book.new → IfOk result (λ reply. (reply ≡ (apply (B.contents book.old).desk moment command.now).reply) × (B.contents book.new ≡ settle (B.contents book.old) (request_of moment caller number command.now))) }
-    ensures err { B.is_intact book.new → OnErr result (B.contents book.new ≡ B.contents book.old) }
+    requires { (B.state book.old).is_intact
+        → number ≡ count_of (B.state book.old).contents caller + 1 }
+    ensures { let r = request_of moment caller number command.now
+        in RepliesBy (λ c. new_reply c r) (λ c. settle c r)
+        (B.state book.old) (B.state book.new) result }
 {
     let subject = command.subject();
     let service = book.service(&subject)?;
     let decision = decide(alloc, service.as_ref(), moment, command)?;
     let reply = decision.reply.copy(alloc)?;
-    let change = Change {
+    let settlement = Settlement {
         caller,
         number,
-        kept: Kept {
+        receipt: Receipt {
             command: command.copy(alloc)?,
             reply: decision.reply,
         },
-        desk: decision.change,
+        change: decision.change,
     };
-    book.commit(change)?;
+    book.commit(settlement)?;
     Ok(reply)
 }
 
-// The kept reply, if it is the same command.
-fn repeat(alloc: Global, kept: Option<Kept>, command: &Command) -> Result<Reply, Memory>
-    ensures { IfOk result (λ reply. reply ≡ repeated kept command.now) }
+// The reply of the receipt, if it is of the same command.
+fn repeat(alloc: Global, receipt: Option<Receipt>, command: &Command) -> Result<Reply, Memory>
+    ensures { IfOk result (λ reply. reply ≡ repeat_reply receipt command.now) }
 {
-    match kept {
-        Some(kept) => {
-            if kept.command.is_same(command) {
-                Ok(kept.reply)
+    match receipt {
+        Some(receipt) => {
+            if receipt.command.is_same(command) {
+                Ok(receipt.reply)
             } else {
                 refuse_reused(alloc)
             }
@@ -114,21 +110,21 @@ fn repeat(alloc: Global, kept: Option<Kept>, command: &Command) -> Result<Reply,
 }
 
 fn refuse_reused(alloc: Global) -> Result<Reply, Memory>
-    ensures { IfOk result (λ reply. reply ≡ reused) }
+    ensures { IfOk result (λ reply. reply ≡ reused_reply) }
 {
     let body = String::from_str(alloc, "{\"code\":\"reused\"}")?;
     Ok(Reply {
-        status: 409,
+        status: ReplyStatus::Conflict,
         body: Text::of(body),
     })
 }
 
 fn refuse_ahead(alloc: Global, expected: u64) -> Result<Reply, Memory>
-    ensures { IfOk result (λ reply. reply ≡ ahead expected) }
+    ensures { IfOk result (λ reply. reply ≡ ahead_reply expected) }
 {
     let body = format!(in alloc; "{{\"code\":\"ahead\",\"expected\":{expected}}}")?;
     Ok(Reply {
-        status: 409,
+        status: ReplyStatus::Conflict,
         body: Text::of(body),
     })
 }

@@ -1,8 +1,8 @@
 //! Lists of events.
 ghost use Rattle.std.specs.Prelude.{◌≡◌, length, IfOk, OnErr, All};
-ghost use Rattle.canary_once.specs.Contents.{KeepsEntries};
-ghost use Rattle.canary_once.specs.Answers.{heard, told, answers_of, after};
-ghost use Rattle.canary_once.specs.Single.{IsAnswer, IsFaultOf};
+ghost use Rattle.canary_once.specs.Contents.{KeepsReceipts};
+ghost use Rattle.canary_once.specs.Answers.{heard, replies_in, answers_of, after};
+ghost use Rattle.canary_once.specs.Single.{IsAnsweredBy, IsFaultOf};
 
 use crate::book::Book;
 use crate::event::{Answer, Event};
@@ -17,12 +17,18 @@ use std::alloc::Global;
 /// # Errors
 /// `Memory` where there is no room for the answers; nothing was done.
 pub fn run<B: Book>(alloc: Global, book: &mut B, events: &[Event]) -> Result<Vec<Answer>, Memory>
-    ensures intact { B.is_intact book.new → B.is_intact book.old }
-    ensures sure { (B.is_sure book.new ≡ B.is_sure book.old) × IfOk result (λ answers. All (IsFaultOf (B.is_sure book.old)) answers.items) }
+    ensures intact { (B.state book.new).is_intact → (B.state book.old).is_intact }
+    ensures sure { ((B.state book.new).is_sure ≡ (B.state book.old).is_sure)
+        × IfOk result (λ answers. All (IsFaultOf (B.state book.old).is_sure) answers.items) }
     ensures count { IfOk result (λ answers. length answers.items ≡ length events.now) }
-    ensures answers { B.is_intact book.new → IfOk result (λ answers. told answers.items ≡ answers_of (B.contents book.old) (heard events.now answers.items)) }
-    ensures contents { B.is_intact book.new → IfOk result (λ answers. B.contents book.new ≡ after (B.contents book.old) (heard events.now answers.items)) }
-    ensures kept { B.is_intact book.new → KeepsEntries (B.contents book.old) (B.contents book.new) }
+    ensures answers { (B.state book.new).is_intact → IfOk result (λ answers.
+        replies_in answers.items
+        ≡ answers_of (B.state book.old).contents (heard events.now answers.items)) }
+    ensures contents { (B.state book.new).is_intact → IfOk result (λ answers.
+        (B.state book.new).contents
+        ≡ after (B.state book.old).contents (heard events.now answers.items)) }
+    ensures receipts { (B.state book.new).is_intact
+        → KeepsReceipts (B.state book.old).contents (B.state book.new).contents }
     ensures err { OnErr result (book.new ≡ book.old) }
 {
     let mut answers = Vec::with_capacity(alloc, events.len())?;
@@ -34,9 +40,7 @@ pub fn run<B: Book>(alloc: Global, book: &mut B, events: &[Event]) -> Result<Vec
 }
 
 fn answer<B: Book>(alloc: Global, book: &mut B, event: &Event) -> Answer
-    ensures intact { B.is_intact book.new → B.is_intact book.old }
-    ensures sure { (B.is_sure book.new ≡ B.is_sure book.old) × IsFaultOf (B.is_sure book.old) result }
-    ensures step { B.is_intact book.new → IsAnswer (B.contents book.old) event.now result (B.contents book.new) }
+    ensures { IsAnsweredBy (B.state book.old) (B.state book.new) event.now result }
 {
     match event {
         Event::Request(request) => post(

@@ -6,7 +6,7 @@ use Rattle.canary_plan.specs.declared.plan.CheckFault.TheVariants.{Refused, Memo
 use Rattle.canary_plan.specs.StrategyViews.{StrategyView}
 use Rattle.canary_plan.specs.Plans.{strategy_refusal, strategy_of}
 
--- the strategy where nothing refuses it, or the refusal that holds; want of memory at any point
+-- the strategy where nothing refuses it, or the refusal that holds; out of memory at any point
 abbrev pub IsChecked : List Step → Result StrategyView CheckFault → Type 0
 IsChecked steps (Ok strategy) = (strategy_refusal steps ≡ None) × (strategy ≡ strategy_of steps)
 IsChecked steps (Err (Refused refusal)) = strategy_refusal steps ≡ Some refusal

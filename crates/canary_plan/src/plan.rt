@@ -8,6 +8,8 @@ use canary_base::error::Memory;
 use canary_base::lists::Listed;
 use canary_base::names::{Label, Name};
 use std::alloc::Global;
+use std::error::Error;
+use std::fmt;
 use std::marker::Model;
 
 /// The most steps of a strategy.
@@ -64,6 +66,17 @@ impl From<Memory> for CheckFault {
         CheckFault::Memory
     }
 }
+
+impl fmt::Display for CheckFault {
+    fn fmt<W: fmt::Write>(&self, f: &mut fmt::Formatter<W>) -> fmt::Result {
+        match self {
+            CheckFault::Refused(refusal) => write!(f, "the strategy is refused: {refusal}"),
+            CheckFault::Memory => f.write_str("out of memory"),
+        }
+    }
+}
+
+impl Error for CheckFault {}
 
 /// A canary strategy that was checked: at most 64 steps, with no weight above 100.
 #[derive(Drop)]

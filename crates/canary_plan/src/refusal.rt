@@ -1,6 +1,9 @@
 //! Why a command is refused.
-ghost use Rattle.std.specs.Prelude.{◌≡◌};
+ghost use Rattle.std.specs.Prelude.{◌≡◌, Some};
 ghost use Rattle.canary_plan.specs.Refusals.{code_of};
+
+use std::error::Error;
+use std::fmt;
 
 /// Why a command is refused, in the order in which the reasons are looked at. A refused command
 /// leaves the desk as it was, and its refusal is kept as its reply.
@@ -38,3 +41,13 @@ impl Refusal {
         }
     }
 }
+
+impl fmt::Display for Refusal {
+    ghost output = { λ refusal. Some (code_of refusal) };
+
+    fn fmt<W: fmt::Write>(&self, f: &mut fmt::Formatter<W>) -> fmt::Result {
+        f.write_str(self.code())
+    }
+}
+
+impl Error for Refusal {}

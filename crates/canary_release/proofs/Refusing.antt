@@ -3,6 +3,7 @@ use Rattle.std.proofs.Common.{◌≡◌, ◌⊎◌, inl, inr, ℕ, refl, ap}
 use Rattle.std.specs.Prelude.{Option, Some, None, Result, Ok, Err}
 use Rattle.canary_plan.specs.declared.command.Command.{Command}
 use Rattle.canary_plan.specs.declared.refusal.Refusal.{Refusal}
+use Rattle.canary_release.specs.declared.reply.ReplyStatus.TheVariants.{Accepted, Refused}
 use Rattle.canary_release.specs.Courses.{Course}
 use Rattle.canary_release.specs.Commands.{Acted}
 use Rattle.canary_release.specs.Desks.{Ruling, rules, act_new, act_passed, ruling, ruling_on, Desk, desk_after}
@@ -11,7 +12,7 @@ use Rattle.canary_release.specs.Laws.{RefusalsLeaveTheDesk}
 
 -- it is accepted, or it is refused and changes nothing
 abbrev IsClear : Ruling → Type 0
-IsClear r = (r.reply.status ≡ 200) ⊎ ((r.reply.status ≡ 422) × (r.change ≡ Nothing))
+IsClear r = (r.reply.status ≡ Accepted) ⊎ ((r.reply.status ≡ Refused) × (r.change ≡ Nothing))
 
 clear_rules : (r : Result Acted Refusal) → IsClear (rules r)
 clear_rules (Ok a) = inl refl
@@ -21,7 +22,7 @@ clear : (found : Option Course) (now : ℕ) (command : Command) → IsClear (rul
 clear None now command = clear_rules (act_new command now)
 clear (Some c) now command = clear_rules (act_passed command c now)
 
-leaves : (desk : Desk) (command : Command) (r : Ruling) → IsClear r → (r.reply.status ≡ 200) ⊎ ((r.reply.status ≡ 422) × (desk_after desk command r.change ≡ desk))
+leaves : (desk : Desk) (command : Command) (r : Ruling) → IsClear r → (r.reply.status ≡ Accepted) ⊎ ((r.reply.status ≡ Refused) × (desk_after desk command r.change ≡ desk))
 leaves desk command r (inl accepted) = inl accepted
 leaves desk command r (inr refused) = inr (refused.0, ap (desk_after desk command) refused.1)
 

@@ -7,6 +7,7 @@ use Rattle.canary_plan.specs.declared.command.Command.{Command}
 use Rattle.canary_plan.specs.declared.command.Command.TheVariants.{Service}
 use Rattle.canary_plan.specs.declared.line.Line.{Line}
 use Rattle.canary_release.specs.declared.reply.Reply.{Reply}
+use Rattle.canary_release.specs.declared.reply.ReplyStatus.TheVariants.{Accepted, Refused}
 use Rattle.canary_release.specs.Pasts.{Past, no_past}
 
 -- 2026-01-01T00:00:00Z
@@ -14,10 +15,10 @@ abbrev pub b : ℕ
 b = 1767225600
 
 abbrev pub ok : List ℕ → Reply
-ok body = record { status = 200; body = body }
+ok body = record { status = Accepted; body = body }
 
 abbrev pub no : List ℕ → Reply
-no body = record { status = 422; body = body }
+no body = record { status = Refused; body = body }
 
 abbrev pub web : List ℕ
 web = codes "web"

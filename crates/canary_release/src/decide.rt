@@ -8,7 +8,7 @@ ghost use Rattle.canary_release.specs.Desks.{Desk, rules, new_stand, new_service
 ghost use Rattle.canary_release.specs.Shapes.{seen, whole, kept_course, acted_as, decided, IsStep};
 
 use crate::course::Draft;
-use crate::effect::Effect;
+use crate::effect::{Effect, copy_effects};
 use crate::laws;
 use crate::reply::Reply;
 use crate::service::{Runs, Service, ServiceParts, Stand, State};
@@ -34,11 +34,38 @@ pub enum DeskChange {
     },
 }
 
+impl DeskChange {
+    /// A copy of it.
+    pub fn copy(&self, alloc: Global) -> Result<DeskChange, Memory>
+        ensures { IfOk result (λ copy. copy ≡ self.now) }
+    {
+        Ok(match self {
+            DeskChange::Nothing => DeskChange::Nothing,
+            DeskChange::Service { service, effects } => DeskChange::Service {
+                service: service.copy(alloc)?,
+                effects: copy_effects(alloc, effects.as_slice())?,
+            },
+        })
+    }
+}
+
 /// What a command answers and does.
 #[derive(Drop)]
 pub struct Decision {
     pub reply: Reply,
     pub change: DeskChange,
+}
+
+impl Decision {
+    /// A copy of it.
+    pub fn copy(&self, alloc: Global) -> Result<Decision, Memory>
+        ensures { IfOk result (λ copy. copy ≡ self.now) }
+    {
+        Ok(Decision {
+            reply: self.reply.copy(alloc)?,
+            change: self.change.copy(alloc)?,
+        })
+    }
 }
 
 /// Decides a command at a moment: one step of the small machine, on every desk that has this

@@ -26,8 +26,7 @@ pub fn passing()
     ensures { PassesAsComputed }
 {}
 
-/// A command is accepted with status 200 or refused with 422, and one that is refused leaves the
-/// desk as it was.
+/// A command is accepted or refused, and one that is refused leaves the desk as it was.
 pub fn refusals()
     ensures { RefusalsLeaveTheDesk }
 {}

@@ -1,6 +1,6 @@
 //! Replies to settled requests.
 ghost use Rattle.std.specs.Prelude.{◌≡◌, IfOk};
-ghost use Rattle.canary_release.specs.Replies.{service_text, accepted, refused};
+ghost use Rattle.canary_release.specs.Replies.{status_code, service_text, accepted, refused};
 
 use crate::service::Stand;
 use canary_base::error::Memory;
@@ -8,11 +8,34 @@ use canary_base::lists::Text;
 use canary_plan::refusal::Refusal;
 use std::alloc::Global;
 
-/// A reply: a status of HTTP and a body of JSON. A command's is of status 200, or 422 where it is
-/// refused.
+/// What a reply says of its request.
+#[derive(Clone, Copy, Debug, PartialEq, Eq)]
+pub enum ReplyStatus {
+    /// The command was accepted.
+    Accepted,
+    /// The command was refused, which is kept.
+    Refused,
+    /// The request conflicts with what is settled, which changes nothing.
+    Conflict,
+}
+
+impl ReplyStatus {
+    /// Its status code of HTTP (RFC 9110): 200, 422 or 409.
+    pub fn code(self) -> u16
+        ensures { result ≡ status_code self }
+    {
+        match self {
+            ReplyStatus::Accepted => 200,
+            ReplyStatus::Refused => 422,
+            ReplyStatus::Conflict => 409,
+        }
+    }
+}
+
+/// A reply: what it says of its request, and a body of JSON. A command's is Accepted or Refused.
 #[derive(Drop)]
 pub struct Reply {
-    pub status: u16,
+    pub status: ReplyStatus,
     pub body: Text,
 }
 
@@ -39,7 +62,7 @@ impl Reply {
             "{{\"code\":\"ok\",\"service\":\"{name}\",\"status\":\"{status}\",\"step\":{step},\"weight\":{weight}}}"
         )?;
         Ok(Reply {
-            status: 200,
+            status: ReplyStatus::Accepted,
             body: Text::of(body),
         })
     }
@@ -51,7 +74,7 @@ impl Reply {
         let code = refusal.code();
         let body = format!(in alloc; "{{\"code\":\"{code}\"}}")?;
         Ok(Reply {
-            status: 422,
+            status: ReplyStatus::Refused,
             body: Text::of(body),
         })
     }

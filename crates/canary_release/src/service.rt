@@ -7,7 +7,7 @@ ghost use Rattle.canary_release.specs.Passing.{next_move, move_by};
 ghost use Rattle.canary_release.specs.Replies.{status_text};
 
 use crate::course::Draft;
-use crate::effect::Effect;
+use crate::effect::{Effect, copy_effects};
 use canary_base::error::Memory;
 use canary_base::lists::Listed;
 use canary_base::moments::Moment;
@@ -304,6 +304,77 @@ impl Service {
         Ok(Service { parts })
     }
 
+    /// Its name.
+    pub fn name(&self) -> Name
+        ensures value { result ≡ self.now.stand.name }
+    {
+        self.parts.stand.name
+    }
+
+    /// Its strategy.
+    pub fn strategy(&self) -> &Strategy
+        ensures value { result.now ≡ self.now.stand.strategy }
+    {
+        &self.parts.stand.strategy
+    }
+
+    /// Its stable version.
+    pub fn stable(&self) -> Label
+        ensures value { result ≡ self.now.stand.stable }
+    {
+        self.parts.stand.stable
+    }
+
+    /// The version of its last release, or the stable one where there was none.
+    pub fn version(&self) -> Label
+        ensures value { result ≡ self.now.stand.version }
+    {
+        self.parts.stand.version
+    }
+
+    /// Whether a release is going on.
+    pub fn state(&self) -> State
+        ensures value { result ≡ self.now.stand.state }
+    {
+        self.parts.stand.state
+    }
+
+    /// The present step, from 0; the number of steps at the end.
+    pub fn step(&self) -> u32
+        ensures value { result ≡ self.now.stand.step }
+        ensures on_steps { IsOnSteps self.now.stand }
+    {
+        self.parts.stand.step
+    }
+
+    /// When the present step was entered.
+    pub fn entered(&self) -> Moment
+        ensures value { result ≡ self.now.stand.entered }
+    {
+        self.parts.stand.entered
+    }
+
+    /// The last moment at which the service was judged.
+    pub fn last(&self) -> Moment
+        ensures value { result ≡ self.now.stand.last }
+    {
+        self.parts.stand.last
+    }
+
+    /// How many runs it has had.
+    pub fn run_count(&self) -> u32
+        ensures value { result ≡ self.now.runs.count }
+    {
+        self.parts.runs.count
+    }
+
+    /// Its open runs, by number.
+    pub fn open_runs(&self) -> &[OpenRun]
+        ensures value { result.now ≡ self.now.runs.open_runs }
+    {
+        self.parts.runs.open_runs.as_slice()
+    }
+
     /// Its status: Healthy where the release is done, Paused at a pause, else Progressing.
     pub fn status(&self) -> Status
         ensures { result ≡ status self.now.stand }
@@ -325,4 +396,16 @@ impl Service {
 pub struct Passed {
     pub service: Service,
     pub effects: Listed<Effect>,
+}
+
+impl Passed {
+    /// A copy of it.
+    pub fn copy(&self, alloc: Global) -> Result<Passed, Memory>
+        ensures { IfOk result (λ copy. copy ≡ self.now) }
+    {
+        Ok(Passed {
+            service: self.service.copy(alloc)?,
+            effects: copy_effects(alloc, self.effects.as_slice())?,
+        })
+    }
 }

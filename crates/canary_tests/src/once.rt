@@ -200,7 +200,7 @@ fn a_doubled_promotion_acts_once(rt: HostRuntime) -> Result<(), Fail> {
 fn moments(book: &mut MemoryBook) -> Option<(u64, u64)> {
     let web = Name::read("web".as_bytes())?;
     let service = book.service(&web).ok()??;
-    let stand = service.stand();
+    let stand = &service.parts().stand;
     Some((stand.last.get(), stand.entered.get()))
 }
 

@@ -9,8 +9,9 @@ use canary_plan::command::Command;
 use canary_plan::line::{Line, LineEvent};
 use canary_plan::plan::{ServiceSpec, Step};
 use canary_release::decide::{Decision, DeskChange, decide};
+use canary_release::effect::Effect;
 use canary_release::reply::Reply;
-use canary_release::service::{Effects, Service, Status};
+use canary_release::service::{Service, Status};
 use std::alloc::{AllocError, Global};
 use std::test::Fail;
 
@@ -77,10 +78,13 @@ fn write_line(text: &mut String, line: &Line) -> Result<(), AllocError> {
     }
 }
 
-fn lines_of(alloc: Global, effects: &Effects) -> Option<String> {
+/// The lines that the effects tell; no other effect has a line.
+fn lines_of(alloc: Global, effects: &[Effect]) -> Option<String> {
     let mut text = String::new(alloc);
-    for line in effects.lines.as_slice() {
-        write_line(&mut text, line).ok()?;
+    for effect in effects {
+        if let Effect::Told(line) = effect {
+            write_line(&mut text, line).ok()?;
+        }
     }
     Some(text)
 }
@@ -98,7 +102,7 @@ fn told(alloc: Global, service: Option<&Service>, asked: &str) -> Option<Outcome
     let DeskChange::Service { service, effects } = change else {
         return None;
     };
-    let lines = lines_of(alloc, &effects)?;
+    let lines = lines_of(alloc, effects.as_slice())?;
     Some(Outcome {
         reply,
         service,
@@ -149,8 +153,8 @@ fn service_copies(alloc: Global, service: &Service) -> Option<bool> {
 /// are told of that; none where memory was refused.
 fn passed(alloc: Global, service: &Service) -> Option<(u64, u32, usize)> {
     let passed = service.passed(alloc, Moment::new(LAST_MOMENT)?).ok()?;
-    let told = passed.effects.lines.as_slice().len();
-    let stand = passed.service.stand().copy(alloc).ok()?;
+    let told = passed.effects.as_slice().len();
+    let stand = &passed.service.parts().stand;
     Some((stand.last.get(), stand.step, told))
 }
 

@@ -6,13 +6,13 @@ use std::alloc::Global;
 use std::process::Abort;
 use std::test::Fail;
 
-// The command that the bytes are; none where they are none, or memory was refused.
+// The command that the bytes are; none where they are none, or memory ran out.
 fn read(alloc: Global, bytes: &[u8]) -> Option<Command> {
     command_from_json(alloc, bytes).ok()
 }
 
-// What is told of the bytes.
-fn told(alloc: Global, bytes: &[u8]) -> Result<&'static str, Memory> {
+// What the bytes read as.
+fn reading(alloc: Global, bytes: &[u8]) -> Result<&'static str, Memory> {
     match command_from_json(alloc, bytes) {
         Ok(_) => Ok("reads"),
         Err(WireFault::Unreadable) => Ok("unreadable"),
@@ -32,7 +32,7 @@ fn expect_rows(
     for row in rows.lines() {
         let (want, text) = row.split_once(' ').ok_or("a row")?;
         let body = format!(in alloc; "{front}{text}{end}")?;
-        assert_eq!(rt; told(alloc, body.as_bytes())?, want, "{text}");
+        assert_eq!(rt; reading(alloc, body.as_bytes())?, want, "{text}");
     }
     Ok(())
 }
@@ -91,9 +91,9 @@ fn tells_faults_of_bytes(rt: HostRuntime) -> Result<(), Fail> {
     expect_rows(&rt, alloc, PROMOTE, "\t\n", " \r\n")?;
     expect_rows(&rt, alloc, "unreadable ", " ", "")?;
     expect_rows(&rt, alloc, MARKED, "", r#"{"promote":{"service":"web"}}"#)?;
-    assert_eq!(rt; told(alloc, b"")?, "unreadable");
-    assert_eq!(rt; told(alloc, &promotion_of(alloc, b'e')?)?, "reads");
-    assert_eq!(rt; told(alloc, &promotion_of(alloc, 0xff)?)?, "unreadable");
+    assert_eq!(rt; reading(alloc, b"")?, "unreadable");
+    assert_eq!(rt; reading(alloc, &promotion_of(alloc, b'e')?)?, "reads");
+    assert_eq!(rt; reading(alloc, &promotion_of(alloc, 0xff)?)?, "unreadable");
     Ok(())
 }
 
@@ -185,8 +185,8 @@ fn reads_the_same_in_other_words(rt: HostRuntime) -> Result<(), Fail> {
     let alloc = rt.alloc();
     for row in SAME.lines() {
         let (one, other) = row.split_once(" = ").ok_or("a row")?;
-        let told = are_same(alloc, one, other).or(are_same(alloc, one, other));
-        assert!(rt; told == Some(true), "{row}");
+        let same = are_same(alloc, one, other).or(are_same(alloc, one, other));
+        assert!(rt; same == Some(true), "{row}");
     }
     Ok(())
 }

@@ -1,7 +1,7 @@
-//! Readers, writers and stores that fail under a stream.
+//! Readers, writers and stores that fail under a stream, and what is said of that.
 use crate::wire_serve::{
-    ALL, NO_ROUTE, NOT_FOUND, Told, clock, in_pieces, release, reply, served, served_over,
-    tells_of_memory,
+    ALL, GET, NO_ROUTE, NOT_FOUND, Script, Served, clock, in_pieces, release, replies_over,
+    replies_to, reply, unless_out_of_memory, wire_text,
 };
 use canary_base::error::Memory;
 use canary_base::names::Name;
@@ -9,18 +9,19 @@ use canary_base::numbers::Number;
 use canary_once::book::{Book, BookFault, Change, Kept};
 use canary_once::memory::MemoryBook;
 use canary_release::service::Service;
+use canary_wire::command::WireFault;
 use canary_wire::serve::{Ended, ServeFault, serve};
 use std::alloc::Global;
 use std::cell::Cell;
+use std::fmt::Display;
 use std::io;
 use std::io::{ErrorKind, Read, Write};
 use std::test::Fail;
 
-// Takes so many bytes a write, until its writes are spent; then it takes none.
+// Takes at most 50 bytes a write, until its writes are spent; then it takes none.
 #[derive(Drop)]
 struct Sink {
     bytes: Vec<u8>,
-    most: usize,
     writes: usize,
 }
 
@@ -30,7 +31,7 @@ impl Write for Sink {
             return Ok(0);
         }
         self.writes -= 1;
-        let count = self.most.min(buf.len());
+        let count = buf.len().min(50);
         self.bytes.extend_from_slice(&buf[..count])?;
         Ok(count)
     }
@@ -40,13 +41,13 @@ impl Write for Sink {
     }
 }
 
-// The messages of the release that lie whole within so many bytes, and what is written to them.
-fn whole_within(alloc: Global, bytes: usize) -> Result<Told, Fail> {
+// The messages of the release that lie whole within so many bytes, and the replies to them.
+fn whole_within(alloc: Global, bytes: usize) -> Result<Script, Fail> {
     let mut whole = release(alloc, 0)?;
     for messages in 1..ALL + 1 {
-        let told = release(alloc, messages)?;
-        if told.stream.len() <= bytes {
-            whole = told;
+        let script = release(alloc, messages)?;
+        if script.stream.len() <= bytes {
+            whole = script;
         }
     }
     Ok(whole)
@@ -57,15 +58,15 @@ fn whole_within(alloc: Global, bytes: usize) -> Result<Told, Fail> {
 fn is_answered_until(alloc: Global, stream: &[u8], reads: usize) -> Result<bool, Fail> {
     let mut reader = in_pieces(stream, 50, 50);
     reader.reads = reads;
-    let (written, ended) = served(alloc, &mut reader)?;
-    let told = whole_within(alloc, reads.saturating_mul(50))?;
-    Ok(ended == Err(ServeFault::Read) && written.as_slice() == told.replies.as_bytes())
+    let (written, ended) = replies_to(alloc, &mut reader)?;
+    let script = whole_within(alloc, reads.saturating_mul(50))?;
+    Ok(ended == Err(ServeFault::Read) && written.as_slice() == script.replies.as_bytes())
 }
 
 #[test]
 fn tells_of_a_reader_that_fails(rt: HostRuntime) -> Result<(), Fail> {
-    let told = release(rt.alloc(), ALL)?;
-    let stream = told.stream.as_bytes();
+    let script = release(rt.alloc(), ALL)?;
+    let stream = script.stream.as_bytes();
     assert!(rt; !stream.is_empty());
     for reads in 0..stream.len() / 50 + 1 {
         assert!(rt; is_answered_until(rt.alloc(), stream, reads)?, "{reads}");
@@ -73,32 +74,56 @@ fn tells_of_a_reader_that_fails(rt: HostRuntime) -> Result<(), Fail> {
     Ok(())
 }
 
-// Whether a stream to a writer that takes 50 bytes a write, so many times, writes a front of the
-// replies, and the stream sent again is answered as if it came once.
-fn is_answered_again(alloc: Global, told: &Told, writes: usize) -> Result<bool, Fail> {
-    let bytes = told.stream.as_bytes();
-    let mut book = MemoryBook::new(alloc);
+// What is written to a stream over a book where 50 bytes go out a write, so many times, and how it
+// ends.
+fn replies_in_writes(
+    alloc: Global,
+    stream: &[u8],
+    writes: usize,
+    book: &mut MemoryBook,
+) -> Result<Served, Memory> {
     let mut writer = Sink {
         bytes: Vec::new(alloc),
-        most: 50,
         writes,
     };
-    let ended = serve(alloc, &mut &bytes[..], &mut writer, &mut clock(), &mut book);
-    if ended == Err(ServeFault::Memory) || tells_of_memory(&writer.bytes) {
-        return Err(Memory.into());
-    }
-    let is_front = told.replies.as_bytes().starts_with(&writer.bytes);
-    let (again, all) = served_over(alloc, &mut &bytes[..], &mut book)?;
-    let is_whole = all == Ok(Ended::EndOfInput) && again.as_slice() == told.replies.as_bytes();
-    Ok(ended == Err(ServeFault::Write) && is_front && is_whole)
+    let ended = serve(alloc, &mut &stream[..], &mut writer, &mut clock(), book);
+    unless_out_of_memory(writer.bytes, ended)
+}
+
+// Whether the whole replies go out where each write is short.
+fn is_answered_in_short_writes(alloc: Global, script: &Script) -> Result<bool, Memory> {
+    let stream = script.stream.as_bytes();
+    let mut book = MemoryBook::new(alloc);
+    let (written, ended) = replies_in_writes(alloc, stream, usize::MAX, &mut book)?;
+    Ok(ended == Ok(Ended::EndOfInput) && written.as_slice() == script.replies.as_bytes())
+}
+
+#[test]
+fn writes_on_behind_a_short_write(rt: HostRuntime) -> Result<(), Fail> {
+    let script = release(rt.alloc(), ALL)?;
+    assert!(rt; !script.replies.is_empty());
+    assert!(rt; is_answered_in_short_writes(rt.alloc(), &script)?);
+    Ok(())
+}
+
+// Whether a stream to a writer that takes 50 bytes a write, so many times, is answered by a part of
+// the replies from their first byte on, and the stream sent again as if it came once.
+fn is_answered_again(alloc: Global, script: &Script, writes: usize) -> Result<bool, Fail> {
+    let stream = script.stream.as_bytes();
+    let mut book = MemoryBook::new(alloc);
+    let (written, ended) = replies_in_writes(alloc, stream, writes, &mut book)?;
+    let is_begun = script.replies.as_bytes().starts_with(&written);
+    let (again, all) = replies_over(alloc, &mut &stream[..], &mut book)?;
+    let is_whole = all == Ok(Ended::EndOfInput) && again.as_slice() == script.replies.as_bytes();
+    Ok(ended == Err(ServeFault::Write) && is_begun && is_whole)
 }
 
 #[test]
 fn tells_of_a_writer_that_fails(rt: HostRuntime) -> Result<(), Fail> {
-    let told = release(rt.alloc(), 4)?;
-    assert!(rt; !told.replies.is_empty());
-    for writes in 0..told.replies.len() / 50 + 1 {
-        assert!(rt; is_answered_again(rt.alloc(), &told, writes)?, "{writes}");
+    let script = release(rt.alloc(), 4)?;
+    assert!(rt; !script.replies.is_empty());
+    for writes in 0..script.replies.len() / 50 + 1 {
+        assert!(rt; is_answered_again(rt.alloc(), &script, writes)?, "{writes}");
     }
     Ok(())
 }
@@ -137,34 +162,25 @@ impl Book for Broken {
 #[test]
 fn tells_of_a_store_that_fails(rt: HostRuntime) -> Result<(), Fail> {
     let alloc = rt.alloc();
-    let told = release(alloc, 1)?;
-    let first = told.stream.as_bytes();
-    let want = reply(
-        alloc,
-        "503 Service Unavailable",
-        "",
-        r#"{"code":"storage"}"#,
-    )?;
+    let script = release(alloc, 1)?;
+    let mut stream = script.stream.as_bytes();
+    let code = r#"{"code":"storage"}"#;
+    let want = reply(alloc, "503 Service Unavailable", "", code)?;
     let mut written = Vec::new(alloc);
-    let ended = serve(
-        alloc,
-        &mut &first[..],
-        &mut written,
-        &mut clock(),
-        &mut Broken,
-    );
-    if ended == Err(ServeFault::Memory) || tells_of_memory(&written) {
-        return Err(Memory.into());
-    }
+    let ended = serve(alloc, &mut stream, &mut written, &mut clock(), &mut Broken);
+    let (written, ended) = unless_out_of_memory(written, ended)?;
     assert_eq!(rt; ended, Ok(Ended::EndOfInput));
     assert_eq!(rt; written.as_slice(), want.as_bytes());
     Ok(())
 }
 
-// Gives a message a read, once the reply to the one before was written.
+// Gives a message a read, three in all, and notes a read that comes before the reply to the message
+// before it was written.
 #[derive(Drop)]
 struct Polite<'a> {
     written: &'a Cell<usize>,
+    was_early: &'a Cell<bool>,
+    message: &'a [u8],
     reply: usize,
     given: usize,
 }
@@ -172,15 +188,15 @@ struct Polite<'a> {
 impl Read for Polite<'_> {
     fn read(&mut self, buf: &mut [u8]) -> io::Result<usize> {
         if self.written.get() < self.given.saturating_mul(self.reply) {
+            self.was_early.set(true);
             return Err(ErrorKind::Other.into());
         }
         if self.given >= 3 {
             return Ok(0);
         }
         self.given += 1;
-        let message = b"GET /nope HTTP/1.1\r\n\r\n";
-        let count = message.len().min(buf.len());
-        buf[..count].copy_from_slice(&message[..count]);
+        let count = self.message.len().min(buf.len());
+        buf[..count].copy_from_slice(&self.message[..count]);
         Ok(count)
     }
 }
@@ -203,23 +219,49 @@ impl Write for Counter<'_> {
     }
 }
 
-#[test]
-fn replies_before_the_next_read(rt: HostRuntime) -> Result<(), Fail> {
-    let alloc = rt.alloc();
-    let reply = reply(alloc, NOT_FOUND, "", NO_ROUTE)?;
+// How the polite messages are served, with how much is written, and whether a read comes early.
+fn serve_politely(alloc: Global, reply: usize) -> Result<(Ended, usize, bool), Fail> {
+    let message = wire_text(alloc, GET)?;
     let written = Cell::new(0);
+    let was_early = Cell::new(false);
     let mut reader = Polite {
         written: &written,
-        reply: reply.len(),
+        was_early: &was_early,
+        message: message.as_bytes(),
+        reply,
         given: 0,
     };
     let mut writer = Counter { written: &written };
     let mut book = MemoryBook::new(alloc);
-    let ended = serve(alloc, &mut reader, &mut writer, &mut clock(), &mut book);
-    if ended == Err(ServeFault::Memory) {
-        return Err(Memory.into());
+    match serve(alloc, &mut reader, &mut writer, &mut clock(), &mut book) {
+        Ok(ended) => Ok((ended, written.get(), was_early.get())),
+        Err(fault) => Err(fault.into()),
     }
-    assert_eq!(rt; ended, Ok(Ended::EndOfInput));
-    assert_eq!(rt; written.get(), reply.len().saturating_mul(3));
+}
+
+#[test]
+fn replies_before_the_next_read(rt: HostRuntime) -> Result<(), Fail> {
+    let reply = reply(rt.alloc(), NOT_FOUND, "", NO_ROUTE)?.len();
+    let (ended, written, was_early) = serve_politely(rt.alloc(), reply)?;
+    assert_eq!(rt; ended, Ended::EndOfInput);
+    assert!(rt; !was_early);
+    assert_eq!(rt; written, reply.saturating_mul(3));
+    Ok(())
+}
+
+fn says<F: Display>(alloc: Global, fault: &F, words: &str) -> Result<bool, Memory> {
+    Ok(format!(in alloc; "{fault}")?.as_str() == words)
+}
+
+#[test]
+fn says_what_went_wrong(rt: HostRuntime) -> Result<(), Fail> {
+    let alloc = rt.alloc();
+    assert!(rt; says(alloc, &WireFault::Unreadable, "the body is no command")?);
+    let unsupported = "the body asks for what the desk does not do";
+    assert!(rt; says(alloc, &WireFault::Unsupported, unsupported)?);
+    assert!(rt; says(alloc, &WireFault::Memory, "out of memory")?);
+    assert!(rt; says(alloc, &ServeFault::Read, "the input could not be read")?);
+    assert!(rt; says(alloc, &ServeFault::Write, "the output could not be written")?);
+    assert!(rt; says(alloc, &ServeFault::Memory, "out of memory")?);
     Ok(())
 }

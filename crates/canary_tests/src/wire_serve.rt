@@ -27,25 +27,25 @@ const RELEASE: &str =
 4 => {"promote":{"service":"web"}} => 200 OK => {"code":"ok","service":"web","status":"Healthy","step":4,"weight":100}
 5 => {"promote":{"service":"web"}} => 422 Unprocessable Content => {"code":"not-in-progress"}"#;
 
-// A stream, and what is written to it.
+// A stream, and the replies to it.
 #[derive(Drop)]
-pub(crate) struct Told {
+pub(crate) struct Script {
     pub stream: String,
     pub replies: String,
 }
 
-impl Told {
+impl Script {
     // A row's request, and the reply to it.
     fn add(&mut self, alloc: Global, row: &str) -> Result<(), Fail> {
         let (number, row) = split(row)?;
-        let (body, row) = split(row)?;
-        let (status, told) = split(row)?;
-        let len = body.len();
+        let (asked, row) = split(row)?;
+        let (status, body) = split(row)?;
+        let length = asked.len();
         let request = format!(in alloc;
-            "PUT /callers/ops/requests/{number} HTTP/1.1\r\nContent-Length: {len}\r\n\r\n{body}"
+            "PUT /callers/ops/requests/{number} HTTP/1.1\r\nContent-Length: {length}\r\n\r\n{asked}"
         )?;
         self.stream.push_str(request.as_str())?;
-        let answer = reply(alloc, status, "", told)?;
+        let answer = reply(alloc, status, "", body)?;
         self.replies.push_str(answer.as_str())?;
         Ok(())
     }
@@ -55,15 +55,15 @@ impl Told {
 pub(crate) const ALL: usize = 9;
 
 // The first messages of the release, so many.
-pub(crate) fn release(alloc: Global, messages: usize) -> Result<Told, Fail> {
-    let mut told = Told {
+pub(crate) fn release(alloc: Global, messages: usize) -> Result<Script, Fail> {
+    let mut script = Script {
         stream: String::new(alloc),
         replies: String::new(alloc),
     };
     for row in RELEASE.lines().take(messages) {
-        told.add(alloc, row)?;
+        script.add(alloc, row)?;
     }
-    Ok(told)
+    Ok(script)
 }
 
 // A reply with that status, with these fields behind its length.
@@ -116,32 +116,37 @@ pub(crate) fn clock() -> StepClock {
     StepClock::new(Moment::new(1_767_225_600).unwrap(), Moment::new(1).unwrap())
 }
 
-// What a stream is answered with over a book, and how it ended; or that memory was wanted.
-pub(crate) fn served_over<R: Read>(
-    alloc: Global,
-    reader: &mut R,
-    book: &mut MemoryBook,
-) -> Result<(Vec<u8>, Result<Ended, ServeFault>), Memory> {
-    let mut written = Vec::new(alloc);
-    let ended = serve(alloc, reader, &mut written, &mut clock(), book);
-    if ended == Err(ServeFault::Memory) || tells_of_memory(&written) {
+// What is written to a stream, and how it ends.
+pub(crate) type Served = (Vec<u8>, Result<Ended, ServeFault>);
+
+// The same where memory did not run out.
+pub(crate) fn unless_out_of_memory(
+    written: Vec<u8>,
+    ended: Result<Ended, ServeFault>,
+) -> Result<Served, Memory> {
+    let tells_of_memory = written
+        .windows(9)
+        .any(|window| window == b"no-memory".as_slice());
+    if ended == Err(ServeFault::Memory) || tells_of_memory {
         return Err(Memory);
     }
     Ok((written, ended))
 }
 
-// The same from an empty book on.
-pub(crate) fn served<R: Read>(
+// What is written to a stream over a book, and how it ends.
+pub(crate) fn replies_over<R: Read>(
     alloc: Global,
     reader: &mut R,
-) -> Result<(Vec<u8>, Result<Ended, ServeFault>), Memory> {
-    served_over(alloc, reader, &mut MemoryBook::new(alloc))
+    book: &mut MemoryBook,
+) -> Result<Served, Memory> {
+    let mut written = Vec::new(alloc);
+    let ended = serve(alloc, reader, &mut written, &mut clock(), book);
+    unless_out_of_memory(written, ended)
 }
 
-pub(crate) fn tells_of_memory(written: &[u8]) -> bool {
-    written
-        .windows(9)
-        .any(|window| window == b"no-memory".as_slice())
+// The same from an empty book on.
+pub(crate) fn replies_to<R: Read>(alloc: Global, reader: &mut R) -> Result<Served, Memory> {
+    replies_over(alloc, reader, &mut MemoryBook::new(alloc))
 }
 
 // Whether the stream is answered by these bytes and ends so.
@@ -151,7 +156,7 @@ fn is_served<R: Read>(
     want: &[u8],
     end: Ended,
 ) -> Result<bool, Memory> {
-    let (written, ended) = served(alloc, reader)?;
+    let (written, ended) = replies_to(alloc, reader)?;
     Ok(ended == Ok(end) && written.as_slice() == want)
 }
 
@@ -170,37 +175,23 @@ fn is_served_in(
 
 #[test]
 fn answers_a_release_in_any_pieces(rt: HostRuntime) -> Result<(), Fail> {
-    let told = release(rt.alloc(), ALL)?;
-    let bytes = told.stream.as_bytes();
-    let want = told.replies.as_bytes();
+    let script = release(rt.alloc(), ALL)?;
+    let bytes = script.stream.as_bytes();
+    let want = script.replies.as_bytes();
     assert!(rt; is_served_in(rt.alloc(), bytes, 1, 1, want)?);
     assert!(rt; is_served_in(rt.alloc(), bytes, 7, 7, want)?);
     assert!(rt; is_served_in(rt.alloc(), bytes, bytes.len(), 1, want)?);
     Ok(())
 }
 
-#[test]
-fn answers_a_release_cut_at_any_place(rt: HostRuntime) -> Result<(), Fail> {
-    let told = release(rt.alloc(), 4)?;
-    let bytes = told.stream.as_bytes();
-    let want = told.replies.as_bytes();
-    assert!(rt; !bytes.is_empty() && !want.is_empty());
-    for cut in 1..bytes.len() {
-        assert!(rt;
-            is_served_in(rt.alloc(), bytes, cut, bytes.len(), want)?,
-            "cut at {cut}"
-        );
-    }
-    Ok(())
-}
-
-fn wired(alloc: Global, text: &str) -> Result<String, Memory> {
+// The text of a row, with an end of line for each `|`.
+pub(crate) fn wire_text(alloc: Global, text: &str) -> Result<String, Memory> {
     lined(alloc, text, "\r\n")
 }
 
 // Whether a row's stream ends so and is not answered.
 fn is_not_answered(alloc: Global, row: &str, end: Ended) -> Result<bool, Memory> {
-    let stream = wired(alloc, row)?;
+    let stream = wire_text(alloc, row)?;
     is_served(alloc, &mut stream.as_bytes(), b"", end)
 }
 
@@ -230,9 +221,9 @@ fn tells_how_streams_end(rt: HostRuntime) -> Result<(), Fail> {
 
 // Whether a row's stream ends so, and is answered by its status, these fields and its body.
 fn is_answered(alloc: Global, row: &str, fields: &str, end: Ended) -> Result<bool, Fail> {
-    let (text, told) = split(row)?;
-    let (status, body) = split(told)?;
-    let stream = wired(alloc, text)?;
+    let (text, row) = split(row)?;
+    let (status, body) = split(row)?;
+    let stream = wire_text(alloc, text)?;
     let want = reply(alloc, status, fields, body)?;
     let found = is_served(alloc, &mut stream.as_bytes(), want.as_bytes(), end)?;
     Ok(found)
@@ -298,8 +289,8 @@ fn refuses_requests(rt: HostRuntime) -> Result<(), Fail> {
 
 // Whether these are written to that stream, each with an end of line for each `|`.
 fn is_written(alloc: Global, stream: &str, want: &str) -> Result<bool, Memory> {
-    let stream = wired(alloc, stream)?;
-    let want = wired(alloc, want)?;
+    let stream = wire_text(alloc, stream)?;
+    let want = wire_text(alloc, want)?;
     is_served(
         alloc,
         &mut stream.as_bytes(),
@@ -313,7 +304,7 @@ const HEAD: &str = "HEAD /callers/ops/requests/1?x HTTP/1.1||";
 const HEAD_REPLY: &str =
     "HTTP/1.1 405 Method Not Allowed|Content-Type: application/json|Content-Length: 17|Allow: PUT||";
 
-const GET: &str = "GET /nope HTTP/1.1||";
+pub(crate) const GET: &str = "GET /nope HTTP/1.1||";
 
 const GET_REPLY: &str =
     r#"HTTP/1.1 404 Not Found|Content-Type: application/json|Content-Length: 19||{"code":"no-route"}"#;

@@ -5,10 +5,10 @@ use Rattle.std.proofs.lemmas.List.{append-nil, append_assoc, length-append}
 use Rattle.std.proofs.Math.Seq.{take-append_seam, drop-append_seam}
 use Rattle.httparse.specs.Grammar.{RequestHead, print_request}
 use Rattle.httparse.proofs.GrammarLemmas.{request_unique}
-use Rattle.canary_wire.specs.declared.framing.Framing.TheVariants.{Body, Refused}
-use Rattle.canary_wire.specs.declared.refusal.Refusal.{Refusal}
+use Rattle.canary_wire.specs.declared.framing.Framing.TheVariants.{Body, Rejected}
+use Rattle.canary_wire.specs.declared.rejection.Rejection.{Rejection}
 use Rattle.canary_wire.specs.Heads.{head_framing, closes}
-use Rattle.canary_wire.specs.Cut.{Message, message_bytes, IsMessage, GoesOn, IsRefused, malformed, framed, IsUnfinished, head, body, HasNoHead, HasHead, Begins, Ending, IsCut, unfinished, closed, refused}
+use Rattle.canary_wire.specs.Cut.{Message, message_bytes, IsMessage, KeepsOpen, IsRejected, malformed, framed, IsUnfinished, head, body, HasNoHead, HasHead, Begins, Ending, IsCut, unfinished, closed, rejected}
 
 -- two fronts of one length
 fronts : (a b x y : List ℕ) → length a ≡ length b → a ++ x ≡ b ++ y → (a ≡ b) × (x ≡ y)
@@ -42,22 +42,22 @@ unfinished_none bytes x m (body h after n has f small short) is e =
     let k : length after ≡ length (m.body ++ x) = ap (λ t. length t) same.1 in
     omega (arith, length-append m.body x)
 
-refused_none : (bytes x : List ℕ) (r : Refusal) (bare : Bool) (m : Message) → IsRefused bytes r bare → IsMessage m → bytes ≡ message_bytes m ++ x → ⊥
-refused_none bytes x r bare m (malformed none h) is e = subst HasNoHead (append-nil bytes) (none []) m.head (m.body ++ x) (head_of m bytes x is e)
-refused_none bytes x r bare m (framed h after why has f) is e =
+rejected_none : (bytes x : List ℕ) (r : Rejection) (bare : Bool) (m : Message) → IsRejected bytes r bare → IsMessage m → bytes ≡ message_bytes m ++ x → ⊥
+rejected_none bytes x r bare m (malformed none h) is e = subst HasNoHead (append-nil bytes) (none []) m.head (m.body ++ x) (head_of m bytes x is e)
+rejected_none bytes x r bare m (framed h after why has f) is e =
     let same = same_head bytes h m.head after (m.body ++ x) has (head_of m bytes x is e) in
-    let l : Refused r ≡ Body (length m.body) = sym f ∙ ap head_framing same.0 ∙ is.framed in
+    let l : Rejected r ≡ Body (length m.body) = sym f ∙ ap head_framing same.0 ∙ is.framed in
     cc
 
 -- ---- where messages stop
 
 -- no message after which the stream goes on stands first
 abbrev pub Stops : List ℕ → Type 0
-Stops rest = (m : Message) (x : List ℕ) → GoesOn m → rest ≡ message_bytes m ++ x → ⊥
+Stops rest = (m : Message) (x : List ℕ) → KeepsOpen m → rest ≡ message_bytes m ++ x → ⊥
 
 -- the list of messages after which the stream goes on, and what stands behind them
 same_front : (ms ns : List Message) (r q : List ℕ) → flat_map message_bytes ms ++ r ≡ flat_map message_bytes ns ++ q
-    → AllByRecursion GoesOn ms → AllByRecursion GoesOn ns → Stops r → Stops q → (ms ≡ ns) × (r ≡ q)
+    → AllByRecursion KeepsOpen ms → AllByRecursion KeepsOpen ns → Stops r → Stops q → (ms ≡ ns) × (r ≡ q)
 same_front [] [] r q same a b u v = (refl, same)
 same_front [] (n ∷ ns) r q same a b u v = absurd (u n (flat_map message_bytes ns ++ q) b.0 (same ∙ append_assoc (message_bytes n) (flat_map message_bytes ns) q))
 same_front (m ∷ ms) [] r q same a b u v = absurd (v m (flat_map message_bytes ms ++ r) a.0 (sym same ∙ append_assoc (message_bytes m) (flat_map message_bytes ms) r))
@@ -73,8 +73,8 @@ begin_same bytes ms ns r q a b u v = same_front ms ns r q (sym a.whole ∙ b.who
 pub stops_unfinished : (rest : List ℕ) → IsUnfinished rest → Stops rest
 stops_unfinished rest u = λ m x g e. unfinished_none rest x m u g.is e
 
-pub stops_refused : (rest : List ℕ) (r : Refusal) (bare : Bool) → IsRefused rest r bare → Stops rest
-stops_refused rest r bare u = λ m x g e. refused_none rest x r bare m u g.is e
+pub stops_rejected : (rest : List ℕ) (r : Rejection) (bare : Bool) → IsRejected rest r bare → Stops rest
+stops_rejected rest r bare u = λ m x g e. rejected_none rest x r bare m u g.is e
 
 pub stops_closed : (last : Message) (rest : List ℕ) → IsMessage last → closes last.head ≡ true → Stops (message_bytes last ++ rest)
 stops_closed last rest is shut = λ m x g e.
@@ -82,27 +82,27 @@ stops_closed last rest is shut = λ m x g e.
     let stays : closes last.head ≡ false = ap (λ (k : Message). closes k.head) same.0 ∙ g.stays in
     let clash : true ≡ false = sym shut ∙ stays in cc
 
--- a message stands first, and what is unfinished or refused does too
+-- a message stands first, and what is unfinished or rejected does too
 pub not_unfinished : (last : Message) (rest q : List ℕ) → IsMessage last → IsUnfinished q → message_bytes last ++ rest ≡ q → ⊥
 not_unfinished last rest q is u e = unfinished_none q rest last u is (sym e)
 
-pub not_refused : (last : Message) (rest q : List ℕ) (r : Refusal) (bare : Bool) → IsMessage last → IsRefused q r bare → message_bytes last ++ rest ≡ q → ⊥
-not_refused last rest q r bare is u e = refused_none q rest r bare last u is (sym e)
+pub not_rejected : (last : Message) (rest q : List ℕ) (r : Rejection) (bare : Bool) → IsMessage last → IsRejected q r bare → message_bytes last ++ rest ≡ q → ⊥
+not_rejected last rest q r bare is u e = rejected_none q rest r bare last u is (sym e)
 
 pub cut_unique : (bytes : List ℕ) (ms ns : List Message) (e f : Ending) → IsCut bytes ms e → IsCut bytes ns f → ms ≡ ns
 cut_unique bytes ms ns e f (unfinished a r b u) (unfinished c q d v) = (begin_same bytes a c r q b d (stops_unfinished r u) (stops_unfinished q v)).0
-cut_unique bytes ms ns e f (unfinished a r b u) (refused c q w bare d v) = (begin_same bytes a c r q b d (stops_unfinished r u) (stops_refused q w bare v)).0
-cut_unique bytes ms ns e f (refused a r w bare b u) (unfinished c q d v) = (begin_same bytes a c r q b d (stops_refused r w bare u) (stops_unfinished q v)).0
-cut_unique bytes ms ns e f (refused a r w bare b u) (refused c q x other d v) = (begin_same bytes a c r q b d (stops_refused r w bare u) (stops_refused q x other v)).0
+cut_unique bytes ms ns e f (unfinished a r b u) (rejected c q w bare d v) = (begin_same bytes a c r q b d (stops_unfinished r u) (stops_rejected q w bare v)).0
+cut_unique bytes ms ns e f (rejected a r w bare b u) (unfinished c q d v) = (begin_same bytes a c r q b d (stops_rejected r w bare u) (stops_unfinished q v)).0
+cut_unique bytes ms ns e f (rejected a r w bare b u) (rejected c q x other d v) = (begin_same bytes a c r q b d (stops_rejected r w bare u) (stops_rejected q x other v)).0
 cut_unique bytes ms ns e f (closed a m r b is shut) (closed c n q d js too) =
     let s = begin_same bytes a c (message_bytes m ++ r) (message_bytes n ++ q) b d (stops_closed m r is shut) (stops_closed n q js too) in
     let t = same_first m n r q is js s.1 in
     λ i. s.0 i ++ t.0 i ∷ []
 cut_unique bytes ms ns e f (closed a m r b is shut) (unfinished c q d v) =
     absurd (not_unfinished m r q is v (begin_same bytes a c (message_bytes m ++ r) q b d (stops_closed m r is shut) (stops_unfinished q v)).1)
-cut_unique bytes ms ns e f (closed a m r b is shut) (refused c q w bare d v) =
-    absurd (not_refused m r q w bare is v (begin_same bytes a c (message_bytes m ++ r) q b d (stops_closed m r is shut) (stops_refused q w bare v)).1)
+cut_unique bytes ms ns e f (closed a m r b is shut) (rejected c q w bare d v) =
+    absurd (not_rejected m r q w bare is v (begin_same bytes a c (message_bytes m ++ r) q b d (stops_closed m r is shut) (stops_rejected q w bare v)).1)
 cut_unique bytes ms ns e f (unfinished c q d v) (closed a m r b is shut) =
     absurd (not_unfinished m r q is v (begin_same bytes a c (message_bytes m ++ r) q b d (stops_closed m r is shut) (stops_unfinished q v)).1)
-cut_unique bytes ms ns e f (refused c q w bare d v) (closed a m r b is shut) =
-    absurd (not_refused m r q w bare is v (begin_same bytes a c (message_bytes m ++ r) q b d (stops_closed m r is shut) (stops_refused q w bare v)).1)
+cut_unique bytes ms ns e f (rejected c q w bare d v) (closed a m r b is shut) =
+    absurd (not_rejected m r q w bare is v (begin_same bytes a c (message_bytes m ++ r) q b d (stops_closed m r is shut) (stops_rejected q w bare v)).1)

@@ -12,12 +12,12 @@ use Rattle.httparse.specs.declared.spans.RequestSpans.{RequestSpans}
 use Rattle.httparse.specs.Grammar.{RequestHead, IsRequestHead, ReadsRequest, AllPass, is_token_byte, is_uri_byte, crlf, print_request, HasNoRequest, NeverHasRequest}
 use Rattle.httparse.specs.Spans.{span_bytes, header_bytes, name_and_value, IsRequestOf, IsRequestWithin, RequestOverflows, RequestExceeds}
 use Rattle.httparse.proofs.GrammarLemmas.{request_prefix_free}
-use Rattle.canary_wire.specs.declared.refusal.Refusal.{Refusal}
-use Rattle.canary_wire.specs.declared.refusal.Refusal.TheVariants.{Malformed}
+use Rattle.canary_wire.specs.declared.rejection.Rejection.{Rejection}
+use Rattle.canary_wire.specs.declared.rejection.Rejection.TheVariants.{Malformed}
 use Rattle.canary_wire.specs.declared.framing.Framing.{Framing}
-use Rattle.canary_wire.specs.declared.framing.Framing.TheVariants.{Body, Refused}
+use Rattle.canary_wire.specs.declared.framing.Framing.TheVariants.{Body, Rejected}
 use Rattle.canary_wire.specs.Heads.{Header, framing_of, head_framing, headers_of, asks_to_close, closes, is_bare}
-use Rattle.canary_wire.specs.Cut.{Message, message_bytes, IsMessage, IsFirst, HasHead, NeverHasHead, long, beyond, never, lines, IsRefused, malformed, framed, IsUnfinished, head, body}
+use Rattle.canary_wire.specs.Cut.{Message, IsFirst, HasHead, NeverHasHead, long, beyond, never, lines, IsRejected, malformed, framed, IsUnfinished, head, body}
 
 -- no room for the fields of any head
 pub no_head_of_overflow : (bytes : List ℕ) → RequestOverflows 64 bytes → NeverHasHead bytes
@@ -26,16 +26,16 @@ no_head_of_overflow bytes over more h after has =
     let few : length h.fields ≤ 64 = has.0.lines in
     omega arith
 
-pub refused_by_error : (bytes : List ℕ) (e : Error) → RequestOverflows 64 bytes
+pub rejected_by_error : (bytes : List ℕ) (e : Error) → RequestOverflows 64 bytes
     → (e ≢ TooManyHeaders → NeverHasRequest bytes) → (e ≡ TooManyHeaders → RequestExceeds 64 bytes)
-    → IsRefused bytes Malformed false
-refused_by_error bytes TooManyHeaders over other many = malformed (no_head_of_overflow bytes over) (lines (many refl))
-refused_by_error bytes HeaderName over other many = malformed (no_head_of_overflow bytes over) (never (other (λ q. cc)))
-refused_by_error bytes HeaderValue over other many = malformed (no_head_of_overflow bytes over) (never (other (λ q. cc)))
-refused_by_error bytes NewLine over other many = malformed (no_head_of_overflow bytes over) (never (other (λ q. cc)))
-refused_by_error bytes Status over other many = malformed (no_head_of_overflow bytes over) (never (other (λ q. cc)))
-refused_by_error bytes Token over other many = malformed (no_head_of_overflow bytes over) (never (other (λ q. cc)))
-refused_by_error bytes Version over other many = malformed (no_head_of_overflow bytes over) (never (other (λ q. cc)))
+    → IsRejected bytes Malformed false
+rejected_by_error bytes TooManyHeaders over other many = malformed (no_head_of_overflow bytes over) (lines (many refl))
+rejected_by_error bytes HeaderName over other many = malformed (no_head_of_overflow bytes over) (never (other (λ q. cc)))
+rejected_by_error bytes HeaderValue over other many = malformed (no_head_of_overflow bytes over) (never (other (λ q. cc)))
+rejected_by_error bytes NewLine over other many = malformed (no_head_of_overflow bytes over) (never (other (λ q. cc)))
+rejected_by_error bytes Status over other many = malformed (no_head_of_overflow bytes over) (never (other (λ q. cc)))
+rejected_by_error bytes Token over other many = malformed (no_head_of_overflow bytes over) (never (other (λ q. cc)))
+rejected_by_error bytes Version over other many = malformed (no_head_of_overflow bytes over) (never (other (λ q. cc)))
 
 -- a front of a longer text
 front_of : (x bytes after more : List ℕ) → length x ≤ length bytes → bytes ++ more ≡ x ++ after → bytes ≡ x ++ drop (length x) bytes
@@ -44,8 +44,8 @@ front_of x bytes after more h e =
     let b : take (length x) (bytes ++ more) ≡ take (length x) bytes = take-append-le (length x) bytes more h in
     sym (take-append-drop (length x) bytes) ∙ ap (λ t. t ++ drop (length x) bytes) (sym b ∙ a)
 
-pub refused_long : (bytes : List ℕ) → HasNoRequest bytes → 16384 ≤ length bytes → IsRefused bytes Malformed false
-refused_long bytes none l =
+pub rejected_long : (bytes : List ℕ) → HasNoRequest bytes → 16384 ≤ length bytes → IsRejected bytes Malformed false
+rejected_long bytes none l =
     malformed
     (λ more h after has.
     let short = has.0.short in
@@ -54,8 +54,8 @@ refused_long bytes none l =
     (long l)
 
 -- a head that is too long
-pub refused_beyond : (bytes : List ℕ) (headers : List HeaderSpan) (r : RequestSpans) → IsRequestOf bytes headers r → 16384 < r.len → IsRefused bytes Malformed false
-refused_beyond bytes headers r of far =
+pub rejected_beyond : (bytes : List ℕ) (headers : List HeaderSpan) (r : RequestSpans) → IsRequestOf bytes headers r → 16384 < r.len → IsRejected bytes Malformed false
+rejected_beyond bytes headers r of far =
     malformed
     (λ more h after has.
     let same = request_prefix_free bytes more of.0 h (drop r.len bytes) after of.1.reads (has.0.valid, has.1) in
@@ -97,33 +97,34 @@ pub bare_as : (bytes : List ℕ) (headers : List HeaderSpan) (r : RequestSpans) 
     (m : List ℕ) (b : Bool) → m ≡ span_bytes bytes r.method → b ≡ bytes_eq m (codes "HEAD") → b ≡ is_bare of.0
 bare_as bytes headers r of m b em eb = eb ∙ ap (λ x. bytes_eq x (codes "HEAD")) (em ∙ of.1.method)
 
-pub refused_by_framing : (bytes : List ℕ) (headers : List HeaderSpan) (r : RequestSpans) (of : IsRequestOf bytes headers r)
-    → length headers ≤ 64 → r.len ≤ 16384 → (why : Refusal) (bare : Bool) → head_framing of.0 ≡ Refused why → bare ≡ is_bare of.0 → IsRefused bytes why bare
-refused_by_framing bytes headers r of room near why bare e b = let P : Bool → Type 0 = λ t. IsRefused bytes why t in subst P (sym b) (framed of.0 (drop r.len bytes) why (has_head bytes headers r of room near) e)
+pub rejected_by_framing : (bytes : List ℕ) (headers : List HeaderSpan) (r : RequestSpans) (of : IsRequestOf bytes headers r)
+    → length headers ≤ 64 → r.len ≤ 16384 → (why : Rejection) (bare : Bool) → head_framing of.0 ≡ Rejected why → bare ≡ is_bare of.0 → IsRejected bytes why bare
+rejected_by_framing bytes headers r of room near why bare e b = let P : Bool → Type 0 = λ t. IsRejected bytes why t in subst P (sym b) (framed of.0 (drop r.len bytes) why (has_head bytes headers r of room near) e)
 
 pub unfinished_body : (bytes : List ℕ) (headers : List HeaderSpan) (r : RequestSpans) (of : IsRequestOf bytes headers r)
-    → length headers ≤ 64 → r.len ≤ 16384 → (n : ℕ) → head_framing of.0 ≡ Body n → n ≤ 65536 → length bytes - r.len < n → IsUnfinished bytes
-unfinished_body bytes headers r of room near n e small short =
-    body of.0 (drop r.len bytes) n (has_head bytes headers r of room near) e small (rw length-drop short)
+    → length headers ≤ 64 → r.len ≤ 16384 → (n : ℕ) → head_framing of.0 ≡ Body n → n ≤ 65536 → r.len ≤ length bytes → length bytes < r.len + n → IsUnfinished bytes
+unfinished_body bytes headers r of room near n e small within short =
+    body of.0 (drop r.len bytes) n (has_head bytes headers r of room near) e small (rw length-drop (omega arith))
 
 pub first_message : (bytes : List ℕ) (headers : List HeaderSpan) (r : RequestSpans) (within : IsRequestWithin bytes headers r) (of : IsRequestOf bytes headers r)
-    → length headers ≤ 64 → r.len ≤ 16384 → (n : ℕ) (shut bare : Bool) → head_framing of.0 ≡ Body n → n ≤ length bytes - r.len → shut ≡ closes of.0 → bare ≡ is_bare of.0
-    → (m : Message) × IsFirst bytes (record { method = r.method; target = r.path; len = r.len; end = r.len + n; is_last = shut; head_alone = bare }) m
-first_message bytes headers r within of room near n shut bare e fits shuts bares =
+    → length headers ≤ 64 → r.len ≤ 16384 → (n last : ℕ) (shut bare : Bool) → head_framing of.0 ≡ Body n → last ≡ r.len + n → last ≤ length bytes → shut ≡ closes of.0 → bare ≡ is_bare of.0
+    → (m : Message) × IsFirst bytes (record { method = r.method; target = r.path; len = r.len; end = last; is_last = shut; head_alone = bare }) m
+first_message bytes headers r within of room near n last shut bare e ends fits shuts bares =
     let rest = drop r.len bytes in
-    let text = slice_range bytes r.len (r.len + n) in
+    let text = slice_range bytes r.len last in
     let in_len = within.section.len_fits in
     let lr : length rest ≡ length bytes - r.len = length-drop r.len bytes in
-    let count : r.len + n - r.len ≡ n = omega arith in
+    let count : last - r.len ≡ n = omega arith in
     let text_is : text ≡ take n rest = ap (λ k. take k rest) count in
     let text_len : length text ≡ n = ap (λ x. length x) text_is ∙ length-take-le n rest (omega arith) in
     let len = of.1.len in
-    let whole : bytes ≡ (print_request of.0 ++ text) ++ drop (r.len + n) bytes =
+    let whole : bytes ≡ (print_request of.0 ++ text) ++ drop last bytes =
     of.1.reads.1
     ∙ ap (λ x. print_request of.0 ++ x) (sym (take-append-drop n rest))
     ∙ ap (λ x. print_request of.0 ++ (x ++ drop n rest)) (sym text_is)
     ∙ ap (λ x. print_request of.0 ++ (text ++ x)) (drop-drop n r.len bytes)
-    ∙ sym (append_assoc (print_request of.0) text (drop (r.len + n) bytes)) in (
+    ∙ ap (λ k. print_request of.0 ++ (text ++ drop k bytes)) (sym ends)
+    ∙ sym (append_assoc (print_request of.0) text (drop last bytes)) in (
       record { head = of.0; body = text },
       record {
         is = record { head = (has_head bytes headers r of room near).0; framed = e ∙ ap (λ k. Body k) (sym text_len) };
@@ -140,14 +141,6 @@ first_message bytes headers r within of room near n shut bare e fits shuts bares
         head_alone = bares;
       },
     )
-
--- what is unfinished leaves room in a buffer of a whole head and a whole body
-pub unfinished_short : (bytes : List ℕ) → IsUnfinished bytes → length bytes < 81920
-unfinished_short bytes (head none short may) = omega arith
-unfinished_short bytes (body h after n has e small short) =
-    let l = ap (λ t. length t) has.1 in
-    let near = has.0.short in
-    omega (arith, l, length-append (print_request h) after)
 
 -- ---- nothing
 
@@ -197,7 +190,3 @@ may_become = (
 -- nothing is unfinished
 pub unfinished_empty : IsUnfinished []
 unfinished_empty = head (λ h after has. (let some = head_some h has.0 in let e = ap (λ t. length t) has.1 in omega (arith, e, length-append (print_request h) after))) (omega arith) (inl may_become)
-
--- a message has a byte at least
-pub message_some : (m : Message) → IsMessage m → 0 < length (message_bytes m)
-message_some m is = let some = head_some m.head is.head.valid in omega (arith, length-append (print_request m.head) m.body)

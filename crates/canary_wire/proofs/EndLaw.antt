@@ -1,4 +1,4 @@
--- How a stream ends is one thing too, but that one which ends inside a target or behind the 64th header line may also be refused.
+-- How a stream ends is one thing too, but that one which ends inside a target or behind the 64th header line may also be rejected.
 use Rattle.std.proofs.Common.{◌≡◌, ℕ, ◌⊎◌, inl, inr, Bool, true, false, List, [], ◌∷◌, ◌++◌, refl, sym, ap, ◌∙◌, subst, arith}
 use Rattle.std.specs.Prelude.{◌&&◌, ◌==◌, if◌then◌else◌}
 use Rattle.std.specs.List.{list_all}
@@ -9,12 +9,12 @@ use Rattle.std.proofs.lemmas.Bool.Decides.{eqb_tells}
 use Rattle.httparse.specs.Ascii.{space}
 use Rattle.httparse.specs.Grammar.{RequestHead, print_blank, print_version, print_section, print_end, lf, print_request, is_token_byte, IsToken, EndsInTarget}
 use Rattle.httparse.specs.Spans.{RequestExceeds}
-use Rattle.canary_wire.specs.declared.framing.Framing.TheVariants.{Body, Refused}
-use Rattle.canary_wire.specs.declared.refusal.Refusal.{Refusal}
-use Rattle.canary_wire.specs.declared.refusal.Refusal.TheVariants.{Malformed}
+use Rattle.canary_wire.specs.declared.framing.Framing.TheVariants.{Body, Rejected}
+use Rattle.canary_wire.specs.declared.rejection.Rejection.{Rejection}
+use Rattle.canary_wire.specs.declared.rejection.Rejection.TheVariants.{Malformed}
 use Rattle.canary_wire.specs.Heads.{head_framing, is_bare}
-use Rattle.canary_wire.specs.Cut.{Message, is_newline, long, beyond, never, lines, HasNoHead, IsRefused, malformed, framed, IsUnfinished, head, body, Ending, idle, cut_off, refusing, Begins, IsCut, unfinished, closed, refused, IsInDoubt, SameEnding}
-use Rattle.canary_wire.proofs.CutLaw.{same_head, begin_same, stops_unfinished, stops_refused, stops_closed, not_unfinished, not_refused}
+use Rattle.canary_wire.specs.Cut.{Message, is_newline, long, beyond, never, lines, HasNoHead, IsRejected, malformed, framed, IsUnfinished, head, body, Ending, idle, cut_off, rejecting, Begins, IsCut, unfinished, closed, rejected, IsInDoubt, SameEnding}
+use Rattle.canary_wire.proofs.CutLaw.{same_head, begin_same, stops_unfinished, stops_rejected, stops_closed, not_unfinished, not_rejected}
 
 -- ---- line ends alone are no part of a message
 
@@ -84,10 +84,10 @@ in_midst true other = absurd (other refl)
 in_midst false other = refl
 
 -- what may go on and may not
-abbrev IsMixed : List ℕ → Refusal → Bool → Type 0
-IsMixed rest r bare = IsInDoubt rest × (open_end (list_all is_newline rest) ≡ cut_off) × (refusing r bare ≡ refusing Malformed false)
+abbrev IsMixed : List ℕ → Rejection → Bool → Type 0
+IsMixed rest r bare = IsInDoubt rest × (open_end (list_all is_newline rest) ≡ cut_off) × (rejecting r bare ≡ rejecting Malformed false)
 
-mixed_at : (rest : List ℕ) (r : Refusal) (bare : Bool) → IsUnfinished rest → IsRefused rest r bare → IsMixed rest r bare
+mixed_at : (rest : List ℕ) (r : Rejection) (bare : Bool) → IsUnfinished rest → IsRejected rest r bare → IsMixed rest r bare
 mixed_at rest r bare (head none short may) (malformed head_none (long l)) = absurd (omega arith)
 mixed_at rest r bare (head none short may) (malformed head_none (beyond b)) = absurd (none b.0 b.1 b.2)
 mixed_at rest r bare (head none short may) (malformed head_none (never n)) =
@@ -100,42 +100,42 @@ mixed_at rest r bare (head none short may) (framed h after w has f) = absurd (no
 mixed_at rest r bare (body h after n has f small short) (malformed head_none hope) = absurd (subst HasNoHead (append-nil rest) (head_none []) h after has)
 mixed_at rest r bare (body h after n has f small short) (framed k more w haz g) =
     let same = same_head rest h k after more has haz in
-    let clash : Body n ≡ Refused r = sym f ∙ ap head_framing same.0 ∙ g in cc
+    let clash : Body n ≡ Rejected r = sym f ∙ ap head_framing same.0 ∙ g in cc
 
-refused_same : (rest : List ℕ) (r s : Refusal) (a b : Bool) → IsRefused rest r a → IsRefused rest s b → refusing r a ≡ refusing s b
-refused_same rest r s a b (malformed head_none hope) (malformed na hape) = refl
-refused_same rest r s a b (malformed head_none hope) (framed h after w has f) = absurd (subst HasNoHead (append-nil rest) (head_none []) h after has)
-refused_same rest r s a b (framed h after w has f) (malformed head_none hope) = absurd (subst HasNoHead (append-nil rest) (head_none []) h after has)
-refused_same rest r s a b (framed h after w has f) (framed k more x haz g) =
+rejected_same : (rest : List ℕ) (r s : Rejection) (a b : Bool) → IsRejected rest r a → IsRejected rest s b → rejecting r a ≡ rejecting s b
+rejected_same rest r s a b (malformed head_none hope) (malformed na hape) = refl
+rejected_same rest r s a b (malformed head_none hope) (framed h after w has f) = absurd (subst HasNoHead (append-nil rest) (head_none []) h after has)
+rejected_same rest r s a b (framed h after w has f) (malformed head_none hope) = absurd (subst HasNoHead (append-nil rest) (head_none []) h after has)
+rejected_same rest r s a b (framed h after w has f) (framed k more x haz g) =
     let same = same_head rest h k after more has haz in
-    let why : Refused r ≡ Refused s = sym f ∙ ap head_framing same.0 ∙ g in
+    let why : Rejected r ≡ Rejected s = sym f ∙ ap head_framing same.0 ∙ g in
     let which : r ≡ s = cc in
-    λ i. refusing (which i) (is_bare (same.0 i))
+    λ i. rejecting (which i) (is_bare (same.0 i))
 
 pub cut_ends : (bytes : List ℕ) (ms ns : List Message) (e f : Ending) → IsCut bytes ms e → IsCut bytes ns f → SameEnding bytes ms e f
 cut_ends bytes ms ns e f (unfinished a r b u) (unfinished c q d v) =
     inl (ap (λ t. open_end (list_all is_newline t)) (begin_same bytes a c r q b d (stops_unfinished r u) (stops_unfinished q v)).1)
-cut_ends bytes ms ns e f (unfinished a r b u) (refused c q w bare d v) =
-    let same = (begin_same bytes a c r q b d (stops_unfinished r u) (stops_refused q w bare v)).1 in
-    let P : List ℕ → Type 0 = λ t. IsRefused t w bare in
+cut_ends bytes ms ns e f (unfinished a r b u) (rejected c q w bare d v) =
+    let same = (begin_same bytes a c r q b d (stops_unfinished r u) (stops_rejected q w bare v)).1 in
+    let P : List ℕ → Type 0 = λ t. IsRejected t w bare in
     let m = mixed_at r w bare u (subst P (sym same) v) in
     inr ((r, b, m.0), inl (m.1, m.2))
-cut_ends bytes ms ns e f (refused c q w bare d v) (unfinished a r b u) =
-    let same = begin_same bytes a c r q b d (stops_unfinished r u) (stops_refused q w bare v) in
-    let P : List ℕ → Type 0 = λ t. IsRefused t w bare in
+cut_ends bytes ms ns e f (rejected c q w bare d v) (unfinished a r b u) =
+    let same = begin_same bytes a c r q b d (stops_unfinished r u) (stops_rejected q w bare v) in
+    let P : List ℕ → Type 0 = λ t. IsRejected t w bare in
     let Q : List Message → Type 0 = λ t. Begins bytes t r in
     let m = mixed_at r w bare u (subst P (sym same.1) v) in
     inr ((r, subst Q same.0 b, m.0), inr (m.1, m.2))
-cut_ends bytes ms ns e f (refused a r w bare b u) (refused c q x other d v) =
-    let same = (begin_same bytes a c r q b d (stops_refused r w bare u) (stops_refused q x other v)).1 in
-    let P : List ℕ → Type 0 = λ t. IsRefused t x other in
-    inl (refused_same r w x bare other u (subst P (sym same) v))
+cut_ends bytes ms ns e f (rejected a r w bare b u) (rejected c q x other d v) =
+    let same = (begin_same bytes a c r q b d (stops_rejected r w bare u) (stops_rejected q x other v)).1 in
+    let P : List ℕ → Type 0 = λ t. IsRejected t x other in
+    inl (rejected_same r w x bare other u (subst P (sym same) v))
 cut_ends bytes ms ns e f (closed a m r b is shut) (closed c n q d js too) = inl refl
 cut_ends bytes ms ns e f (closed a m r b is shut) (unfinished c q d v) =
     absurd (not_unfinished m r q is v (begin_same bytes a c _ q b d (stops_closed m r is shut) (stops_unfinished q v)).1)
-cut_ends bytes ms ns e f (closed a m r b is shut) (refused c q w bare d v) =
-    absurd (not_refused m r q w bare is v (begin_same bytes a c _ q b d (stops_closed m r is shut) (stops_refused q w bare v)).1)
+cut_ends bytes ms ns e f (closed a m r b is shut) (rejected c q w bare d v) =
+    absurd (not_rejected m r q w bare is v (begin_same bytes a c _ q b d (stops_closed m r is shut) (stops_rejected q w bare v)).1)
 cut_ends bytes ms ns e f (unfinished c q d v) (closed a m r b is shut) =
     absurd (not_unfinished m r q is v (begin_same bytes a c _ q b d (stops_closed m r is shut) (stops_unfinished q v)).1)
-cut_ends bytes ms ns e f (refused c q w bare d v) (closed a m r b is shut) =
-    absurd (not_refused m r q w bare is v (begin_same bytes a c _ q b d (stops_closed m r is shut) (stops_refused q w bare v)).1)
+cut_ends bytes ms ns e f (rejected c q w bare d v) (closed a m r b is shut) =
+    absurd (not_rejected m r q w bare is v (begin_same bytes a c _ q b d (stops_closed m r is shut) (stops_rejected q w bare v)).1)

@@ -41,6 +41,9 @@ each_fail f list i d front h e =
 pub each_end : {A : Type 0} (f : Data → Option A) (list : List Value) (i : ℕ) (front : List A) → length list ≤ i → with_front front (each f (items_view (drop i list))) ≡ Some front
 each_end f list i front h = rw (drop_all i list h) (ap Some (append-nil front))
 
+-- what a loop that reads each item goes by
+pub ruleset read_in_turn = (each_start, each_step, each_fail, each_end)
+
 -- ---- a list tested item after item
 
 pub any_step : (p : Data → Bool) (list : List Value) (i : ℕ) (d : Value) → i < length list → p (view (get_or list i d)) ≡ false
@@ -56,3 +59,6 @@ any_here p list i d h e =
 
 pub any_end : (p : Data → Bool) (list : List Value) (i : ℕ) → length list ≤ i → any_item p (items_view (drop i list)) ≡ false
 any_end p list i h = rw (drop_all i list h) refl
+
+-- what a loop that looks for an item goes by
+pub ruleset tested_in_turn = (any_step, any_here, any_end)

@@ -1,19 +1,31 @@
 -- What the router finds for the path of a request, and how that path is split.
-use Rattle.std.proofs.Common.{◌≡◌, ℕ, zero, suc, ◌+◌, ◌-◌, ◌<◌, List, [], ◌∷◌, ◌++◌, length, drop, take, get_or, subst, Option, Some, None, Bool, true, false, cond, refl, sym, ap, ◌∙◌, arith, codes, nat_eq, ◌==◌, ◌&&◌}
+use Rattle.std.proofs.Common.{◌≡◌, ℕ, zero, suc, ◌+◌, ◌-◌, ◌<◌, List, [], ◌∷◌, ◌++◌, length, drop, get_or, subst, Option, Some, None, Bool, true, false, cond, refl, sym, ap, ◌∙◌, arith, codes, nat_eq, ◌==◌, ◌&&◌}
 use Rattle.std.proofs.lemmas.Bool.Decides.{nat_tests}
-use Rattle.std.proofs.lemmas.List.{length-append, take_all, take-append-drop}
+use Rattle.std.proofs.lemmas.List.{length-append}
 use Rattle.std.proofs.Math.Numerals.{one-add}
-use Rattle.std.specs.List.{list_any, before_first, position, position_or_len}
+use Rattle.std.specs.List.{list_any, before_first}
 use Rattle.std.proofs.lemmas.Bool.{or_parts}
 use Rattle.std.proofs.lemmas.Option.{none-some}
 use Rattle.std.proofs.lemmas.List.{get_or-append-add}
 use Rattle.std.specs.Cmp.Lexicographic.{pointwise}
 use Rattle.std.specs.Prelude.{ltb}
-use Rattle.std.proofs.lemmas.Bool.{and_from, and_parts, lt-ltb, ltb-false}
+use Rattle.std.proofs.lemmas.Bool.{and_from, and_parts, lt-ltb}
 use Rattle.std.proofs.Math.Seq.{drop-append_seam}
 use Rattle.canary_wire.specs.Routes.{the_rows, request_row, IsPart, IsSplit, HasNoRoute}
 use Rattle.matchit.specs.Rows.{RowsOf, param_token, catch_all_token}
 use Rattle.matchit.specs.Seek.{own, step, or_else, seek, first, param_step, has_slash, segment, cuts, longest_suffix, with_suffix}
+use Rattle.matchit.specs.Router.{Refused}
+use Rattle.matchit.specs.declared.error.InsertError.{InsertError}
+use Rattle.matchit.specs.declared.error.InsertError.TheVariants.{Conflict, InvalidParam, InvalidParamSegment, InvalidCatchAll, OutOfMemory}
+use Rattle.canary_wire.specs.declared.routes.Route.{Route}
+
+-- a router without routes takes one, or there is no memory for it
+pub takes_first : (p : List ℕ) (e : InsertError) → Refused {T = Route} p [] e → e ≡ OutOfMemory
+takes_first p (Conflict with) (n, some, text) = absurd (none-some n some)
+takes_first p OutOfMemory is = refl
+takes_first p InvalidParamSegment is = absurd is
+takes_first p InvalidParam is = absurd is
+takes_first p InvalidCatchAll is = absurd is
 
 abbrev is_slash : ℕ → Bool
 is_slash b = b == 47
@@ -191,46 +203,9 @@ split_is path rest caller number e s =
     let front : before_first is_slash rest ≡ caller = ap (before_first is_slash) same ∙ before_slash caller (codes "requests/" ++ number) s.caller_is.1 in
     (front, ap (λ t. drop (length t) rest) front ∙ ap (drop (length caller)) same ∙ drop-append_seam caller (codes "/requests/" ++ number))
 
-pub no_callers : (path : List ℕ) → ((rest : List ℕ) → path ≡ codes "/callers/" ++ rest → ⊥) → (caller number : List ℕ) → ¬ (IsSplit path caller number)
-no_callers path none caller number s = none (caller ++ (codes "/requests/" ++ number)) s.whole
-
 pub no_requests : (path rest : List ℕ) → path ≡ codes "/callers/" ++ rest
     → ((more : List ℕ) → drop (length (before_first is_slash rest)) rest ≡ codes "/requests/" ++ more → ⊥) → (caller number : List ℕ) → ¬ (IsSplit path caller number)
 no_requests path rest e none caller number s = none number (split_is path rest caller number e s).1
-
--- a place that was found, or none
-cond_some : (b : Bool) (n at : ℕ) → cond b (Some n) None ≡ Some at → n ≡ at
-cond_some true n at e = cc
-cond_some false n at e = absurd (none-some at e)
-
-cond_none : (b : Bool) (n : ℕ) → cond b (Some n) None ≡ None → b ≡ false
-cond_none true n e = absurd (none-some n (sym e))
-cond_none false n e = refl
-
-pub take_place : (p : ℕ → Bool) (xs : List ℕ) (at : ℕ) → position p xs ≡ Some at → take at xs ≡ before_first p xs
-take_place p xs at e = ap (λ k. take k xs) (sym (cond_some (ltb (position_or_len p xs) (length xs)) (position_or_len p xs) at e))
-
-pub take_no_place : (p : ℕ → Bool) (xs : List ℕ) → position p xs ≡ None → xs ≡ before_first p xs
-take_no_place p xs e =
-    let none : ltb (position_or_len p xs) (length xs) ≡ false = cond_none (ltb (position_or_len p xs) (length xs)) (position_or_len p xs) e in
-    sym (take_all (position_or_len p xs) xs (ltb-false (position_or_len p xs) (length xs) none))
-
--- a front that is taken has its own length
-take_taken : (n : ℕ) (xs : List ℕ) → take (length (take n xs)) xs ≡ take n xs
-take_taken zero xs = refl
-take_taken (suc n) [] = refl
-take_taken (suc n) (x ∷ xs) = ap (λ t. x ∷ t) (take_taken n xs)
-
-take_front : (rest : List ℕ) → take (length (before_first is_slash rest)) rest ≡ before_first is_slash rest
-take_front rest = take_taken (position_or_len is_slash rest) rest
-
-pub is_split : (path rest number : List ℕ) → path ≡ codes "/callers/" ++ rest → drop (length (before_first is_slash rest)) rest ≡ codes "/requests/" ++ number
-    → IsPart (before_first is_slash rest) → IsPart number → IsSplit path (before_first is_slash rest) number
-is_split path rest number e f p q = record {
-  whole = e ∙ ap (λ t. codes "/callers/" ++ t) (sym (take-append-drop (length (before_first is_slash rest)) rest) ∙ ap (λ t. take (length (before_first is_slash rest)) rest ++ t) f ∙ ap (λ t. t ++ (codes "/requests/" ++ number)) (take_front rest));
-  caller_is = p;
-  number_is = q;
-}
 
 pub not_parts : (path rest number : List ℕ) → path ≡ codes "/callers/" ++ rest → drop (length (before_first is_slash rest)) rest ≡ codes "/requests/" ++ number
     → (IsPart (before_first is_slash rest) → IsPart number → ⊥) → (caller other : List ℕ) → ¬ (IsSplit path caller other)

@@ -11,10 +11,11 @@ use Rattle.http1.specs.Fields.{elements}
 use Rattle.serde_json.proofs.OnLiterals.{serde_json_on_literals}
 use Rattle.canary_plan.specs.declared.plan.Step.TheVariants.{SetWeight, Pause}
 use Rattle.canary_plan.specs.declared.command.Command.TheVariants.{Service, Start, Promote}
-use Rattle.canary_once.specs.declared.event.Answer.TheVariants.{Told}
-use Rattle.canary_wire.specs.declared.refusal.Refusal.TheVariants.{Malformed, Length, TooLong, Method, BadName}
-use Rattle.canary_wire.specs.declared.framing.Framing.TheVariants.{Body, Refused}
-use Rattle.canary_wire.specs.declared.reply.Said.TheVariants.{Refused as RefusedSo, Answered}
+use Rattle.canary_release.specs.declared.reply.ReplyStatus.TheVariants.{Accepted}
+use Rattle.canary_once.specs.declared.event.Answer.TheVariants.{Replied}
+use Rattle.canary_wire.specs.declared.rejection.Rejection.TheVariants.{Malformed, Length, TooLong, Method, BadName}
+use Rattle.canary_wire.specs.declared.framing.Framing.TheVariants.{Body, Rejected}
+use Rattle.canary_wire.specs.declared.reply.Response.TheVariants as response
 use Rattle.canary_wire.specs.CommandReadings.{unsupported, unreadable, readable}
 use Rattle.canary_wire.specs.Rollouts.{step_in, is_unsupported_step, is_unsupported_rollout}
 use Rattle.canary_wire.specs.CommandForms.{service_in, start_in, promote_in, reading_of_kind, body_reading}
@@ -57,22 +58,22 @@ length_of value = (codes "Content-Length", value)
 longest_body : framing_of (codes "PUT") (length_of (codes "65536") ∷ []) ≡ Body 65536
 longest_body = refl
 
-too_long_body : framing_of (codes "PUT") (length_of (codes "65537") ∷ []) ≡ Refused TooLong
+too_long_body : framing_of (codes "PUT") (length_of (codes "65537") ∷ []) ≡ Rejected TooLong
 too_long_body = refl
 
-sign_before_digits : framing_of (codes "PUT") (length_of (codes "+1") ∷ []) ≡ Refused Malformed
+sign_before_digits : framing_of (codes "PUT") (length_of (codes "+1") ∷ []) ≡ Rejected Malformed
 sign_before_digits = refl
 
-length_twice : framing_of (codes "GET") (length_of (codes "0") ∷ length_of (codes "0") ∷ []) ≡ Refused Malformed
+length_twice : framing_of (codes "GET") (length_of (codes "0") ∷ length_of (codes "0") ∷ []) ≡ Rejected Malformed
 length_twice = refl
 
-twice_goes_before_coded : framing_of (codes "GET") ((codes "Transfer-Encoding", codes "chunked") ∷ length_of (codes "0") ∷ length_of (codes "0") ∷ []) ≡ Refused Malformed
+twice_goes_before_coded : framing_of (codes "GET") ((codes "Transfer-Encoding", codes "chunked") ∷ length_of (codes "0") ∷ length_of (codes "0") ∷ []) ≡ Rejected Malformed
 twice_goes_before_coded = refl
 
-coded_goes_before_too_long : framing_of (codes "GET") ((codes "transfer-encoding", codes "chunked") ∷ length_of (codes "65537") ∷ []) ≡ Refused Length
+coded_goes_before_too_long : framing_of (codes "GET") ((codes "transfer-encoding", codes "chunked") ∷ length_of (codes "65537") ∷ []) ≡ Rejected Length
 coded_goes_before_too_long = refl
 
-put_without_length : framing_of (codes "PUT") [] ≡ Refused Length
+put_without_length : framing_of (codes "PUT") [] ≡ Rejected Length
 put_without_length = refl
 
 get_without_length : framing_of (codes "GET") [] ≡ Body 0
@@ -120,17 +121,17 @@ name_goes_before_number = (
 
 -- ---- replies
 
-promoted_text : reply_text (Answered (Told (record { status = 200; body = codes "{\"code\":\"ok\",\"service\":\"web\",\"status\":\"Paused\",\"step\":3,\"weight\":50}" }))) false false
+promoted_text : reply_text (response.Answered (Replied (record { status = Accepted; body = codes "{\"code\":\"ok\",\"service\":\"web\",\"status\":\"Paused\",\"step\":3,\"weight\":50}" }))) false false
     ≡ codes "HTTP/1.1 200 OK\r\nContent-Type: application/json\r\nContent-Length: 68\r\n\r\n{\"code\":\"ok\",\"service\":\"web\",\"status\":\"Paused\",\"step\":3,\"weight\":50}"
 unfolding reply_text head_text digits
 promoted_text = refl
 
-method_text_to_head : reply_text (RefusedSo Method) false true
+method_text_to_head : reply_text (response.Rejected Method) false true
     ≡ codes "HTTP/1.1 405 Method Not Allowed\r\nContent-Type: application/json\r\nContent-Length: 17\r\nAllow: PUT\r\n\r\n"
 unfolding reply_text head_text digits
 method_text_to_head = refl
 
-too_long_text : reply_text (RefusedSo TooLong) true false
+too_long_text : reply_text (response.Rejected TooLong) true false
     ≡ codes "HTTP/1.1 413 Content Too Large\r\nContent-Type: application/json\r\nContent-Length: 19\r\nConnection: close\r\n\r\n{\"code\":\"too-long\"}"
 unfolding reply_text head_text digits
 too_long_text = refl

@@ -5,21 +5,18 @@ use Rattle.std.specs.List.{list_all}
 use Rattle.std.specs.Io.KnownBytes.{Appends, Consumes, IsAtEnd}
 use Rattle.std.proofs.lemmas.List.{append-nil, append_assoc, length-append, map-append}
 use Rattle.std.proofs.lemmas.Grind.{flat_map-append}
-use Rattle.canary_wire.specs.declared.refusal.Refusal.{Refusal}
+use Rattle.canary_wire.specs.declared.rejection.Rejection.{Rejection}
 use Rattle.canary_wire.specs.declared.cut.Parts.{Parts}
 use Rattle.canary_wire.specs.declared.reply.WriteFault.{WriteFault}
-use Rattle.canary_wire.specs.declared.serve.Ended.{Ended}
 use Rattle.canary_wire.specs.declared.serve.Ended.TheVariants.{EndOfInput, Closed, Truncated, TurnsSpent}
-use Rattle.canary_wire.specs.declared.serve.TurnFault.{TurnFault}
-use Rattle.canary_wire.specs.declared.serve.TurnFault.TheVariants.{Read, Write}
 use Rattle.canary_wire.specs.declared.serve.Turn.{Turn}
-use Rattle.canary_wire.specs.declared.serve.Turn.TheVariants.{GoesOn, Ends}
-use Rattle.canary_wire.specs.Cut.{Message, message_bytes, IsMessage, IsFirst, IsRefused, IsUnfinished, Begins, Ending, idle, cut_off, closing, refusing, is_newline, IsCut, unfinished, closed, refused}
-use Rattle.canary_wire.specs.Cut.{GoesOn as KeepsOpen}
+use Rattle.canary_wire.specs.declared.serve.Turn.TheVariants.{Continues, Ends}
+use Rattle.canary_wire.specs.Cut.{Message, message_bytes, IsMessage, IsFirst, IsRejected, IsUnfinished, Begins, Ending, idle, cut_off, closing, rejecting, is_newline, IsCut, unfinished, closed, rejected}
+use Rattle.canary_wire.specs.Cut.{KeepsOpen}
 use Rattle.canary_wire.specs.Writes.{Known, Writes}
-use Rattle.canary_once.specs.Laws.{GoesOn as EventsGoOn}
-use Rattle.canary_wire.specs.Exchanges.{Exchange, messages_of, reply_bytes, Point, Exchanges, Holds, Went}
-use Rattle.canary_wire.specs.Serving.{last_reply, end_of, IsOpen, EndsAs, Serves, ServesTo, ServesSome, ServesUntil, TurnsTo, IsCutShort, in_reply, in_refusal, IsSoFar, Answers, AnswersAll, AnswersUntil, AnswersHeld, RefusesAll}
+use Rattle.canary_once.specs.Laws.{RunsOn}
+use Rattle.canary_wire.specs.Exchanges.{Exchange, messages_of, reply_bytes, Point, Exchanges, Went}
+use Rattle.canary_wire.specs.Serving.{last_reply, end_of, IsOpen, EndsAs, Serves, ServesTo, ServesSome, ServesUntil, IsCutShort, in_reply, in_rejection, IsSoFar, Answers, AnswersAll, AnswersUntil, AnswersHeld, RejectsAll}
 use Rattle.canary_wire.proofs.CutLemmas.{unfinished_empty}
 use Rattle.canary_wire.proofs.WriteLemmas.{appends_none, appends_more, consumes_none, consumes_more, writes_all}
 use Rattle.canary_wire.proofs.ExchangeLemmas.{all-append, went_none, went_one, went_then, holds_of}
@@ -49,7 +46,7 @@ begins_as bytes rest other ms e b = let P : List ℕ → Type 0 = λ t. Begins b
 
 cut_then : (bytes mid : List ℕ) (ms ns : List Message) (e : Ending) → Begins bytes ms mid → IsCut mid ns e → IsCut bytes (ms ++ ns) e
 cut_then bytes mid ms ns e b (unfinished ks rest c u) = unfinished (ms ++ ns) rest (begins_then bytes mid rest ms ns b c) u
-cut_then bytes mid ms ns e b (refused ks rest r bare c u) = refused (ms ++ ns) rest r bare (begins_then bytes mid rest ms ns b c) u
+cut_then bytes mid ms ns e b (rejected ks rest r bare c u) = rejected (ms ++ ns) rest r bare (begins_then bytes mid rest ms ns b c) u
 cut_then bytes mid ms ns e b (closed ks last rest c is shut) =
     let P : List Message → Type 0 = λ t. IsCut bytes t closing in
     subst P (append_assoc ms ks (last ∷ [])) (closed (ms ++ ks) last rest (begins_then bytes mid (message_bytes last ++ rest) ms ks b c) is shut)
@@ -72,9 +69,9 @@ cut_short_then bytes mid text xs ys b (in_reply ks last rest front c is cut e) =
     subst P (append_assoc xs ks (last ∷ []))
     (in_reply (xs ++ ks) last rest front (subst Q (sym (messages-append xs ks)) (begins_then bytes mid (message_bytes last.message ++ rest) (messages_of xs) (messages_of ks) b c)) is cut
     (texts_then xs ks text front e))
-cut_short_then bytes mid text xs ys b (in_refusal ks rest front r bare c is cut e) =
+cut_short_then bytes mid text xs ys b (in_rejection ks rest front r bare c is cut e) =
     let Q : List Message → Type 0 = λ t. Begins bytes t rest in
-    in_refusal (xs ++ ys) rest front r bare (subst Q (sym (messages-append xs ys)) (begins_then bytes mid rest (messages_of xs) (messages_of ys) b c)) is cut (texts_then xs ys text front e)
+    in_rejection (xs ++ ys) rest front r bare (subst Q (sym (messages-append xs ys)) (begins_then bytes mid rest (messages_of xs) (messages_of ys) b c)) is cut (texts_then xs ys text front e)
 
 -- ---- what is held was answered
 
@@ -131,21 +128,21 @@ answers_until w w1 w2 p p1 p2 bytes rest parts m x fault so first same e wrote =
       written = appends_more w w1 w2 (flat_map reply_bytes so.exchanges) wrote.front so.written wrote.written;
     }
 
-pub answers_refused : (w w1 w2 : Known) (p p1 : Point) (bytes rest left : List ℕ) (r : Refusal) (bare : Bool) (result : Result Turn WriteFault)
-    → Answers w w1 p p1 bytes rest → IsRefused rest r bare → RefusesAll w1 w2 (last_reply (refusing r bare)) result → AnswersHeld w w2 p p1 bytes left result
-answers_refused w w1 w2 p p1 bytes rest left r bare (Ok GoesOn) so is wrote = absurd wrote
-answers_refused w w1 w2 p p1 bytes rest left r bare (Ok Ends) so is wrote = record {
+pub answers_rejected : (w w1 w2 : Known) (p p1 : Point) (bytes rest left : List ℕ) (r : Rejection) (bare : Bool) (result : Result Turn WriteFault)
+    → Answers w w1 p p1 bytes rest → IsRejected rest r bare → RejectsAll w1 w2 (last_reply (rejecting r bare)) result → AnswersHeld w w2 p p1 bytes left result
+answers_rejected w w1 w2 p p1 bytes rest left r bare (Ok Continues) so is wrote = absurd wrote
+answers_rejected w w1 w2 p p1 bytes rest left r bare (Ok Ends) so is wrote = record {
   exchanges = so.exchanges;
-  end = refusing r bare;
+  end = rejecting r bare;
   shut = tt;
-  cut = refused (messages_of so.exchanges) rest r bare so.begins is;
+  cut = rejected (messages_of so.exchanges) rest r bare so.begins is;
   went = so.went;
-  written = appends_more w w1 w2 (flat_map reply_bytes so.exchanges) (last_reply (refusing r bare)) so.written wrote;
+  written = appends_more w w1 w2 (flat_map reply_bytes so.exchanges) (last_reply (rejecting r bare)) so.written wrote;
 }
-answers_refused w w1 w2 p p1 bytes rest left r bare (Err fault) so is wrote = record {
+answers_rejected w w1 w2 p p1 bytes rest left r bare (Err fault) so is wrote = record {
   text = flat_map reply_bytes so.exchanges ++ wrote.0;
   exchanges = so.exchanges;
-  cut = in_refusal so.exchanges rest wrote.0 r bare so.begins is wrote.1 refl;
+  cut = in_rejection so.exchanges rest wrote.0 r bare so.begins is wrote.1 refl;
   went = so.went;
   written = appends_more w w1 w2 (flat_map reply_bytes so.exchanges) wrote.0 so.written wrote.2;
 }
@@ -165,7 +162,7 @@ so_far_none r w p held e = record {
 }
 
 -- the front that was read before, and what was read now
-module _ (goes : EventsGoOn) (r r1 r2 w w1 : Known) (p p1 : Point) (n : ℕ) (old new got : List ℕ) (so : IsSoFar r r1 w w1 p p1 n old) (e : new ≡ old ++ got) (more : Consumes r1 r2 got) where
+module _ (goes : RunsOn) (r r1 r2 w w1 : Known) (p p1 : Point) (n : ℕ) (old new got : List ℕ) (so : IsSoFar r r1 w w1 p p1 n old) (e : new ≡ old ++ got) (more : Consumes r1 r2 got) where
   begins_new : Begins (so.bytes ++ got) (messages_of so.exchanges) new
   begins_new = begins_as (so.bytes ++ got) (old ++ got) new (messages_of so.exchanges) (sym e) (begins_more so.bytes old got (messages_of so.exchanges) so.begins)
 
@@ -225,7 +222,7 @@ is_open : (b : Bool) → IsOpen (if b then idle else cut_off)
 is_open true = tt
 is_open false = tt
 
-serves_open : EventsGoOn → (r r1 w w1 : Known) (p p1 : Point) (bytes rest : List ℕ) (xs : List Exchange) → Consumes r r1 bytes → Begins bytes (messages_of xs) rest → IsUnfinished rest → Went p p1 xs → Appends w w1 (flat_map reply_bytes xs)
+serves_open : RunsOn → (r r1 w w1 : Known) (p p1 : Point) (bytes rest : List ℕ) (xs : List Exchange) → Consumes r r1 bytes → Begins bytes (messages_of xs) rest → IsUnfinished rest → Went p p1 xs → Appends w w1 (flat_map reply_bytes xs)
     → Serves r r1 w w1 p p1 bytes (if list_all is_newline rest then idle else cut_off)
 serves_open goes r r1 w w1 p p1 bytes rest xs read begins u went wrote =
     let P : List ℕ → Type 0 = λ t. Appends w w1 t in record {
@@ -236,7 +233,7 @@ serves_open goes r r1 w w1 p p1 bytes rest xs read begins u went wrote =
       written = subst P (sym (ap (λ t. flat_map reply_bytes xs ++ t) (no_last (list_all is_newline rest)) ∙ append-nil (flat_map reply_bytes xs))) wrote;
     }
 
-pub so_far_open : EventsGoOn → (r r1 r2 w w1 : Known) (p p1 : Point) (n : ℕ) (old : List ℕ) → IsSoFar r r1 w w1 p p1 n old → Consumes r1 r2 [] → ServesSome r r2 w w1 p p1
+pub so_far_open : RunsOn → (r r1 r2 w w1 : Known) (p p1 : Point) (n : ℕ) (old : List ℕ) → IsSoFar r r1 w w1 p p1 n old → Consumes r1 r2 [] → ServesSome r r2 w w1 p p1
 so_far_open goes r r1 r2 w w1 p p1 n old so more =
     let P : List ℕ → Type 0 = λ t. Consumes r r2 t in
     let read = subst P (append-nil so.bytes) (consumes_more r r1 r2 so.bytes [] so.read more) in (
@@ -246,7 +243,7 @@ so_far_open goes r r1 r2 w w1 p p1 n old so more =
       serves_open goes r r2 w w1 p p1 so.bytes old so.exchanges read so.begins so.unfinished so.went so.written,
     )
 
-pub so_far_spent : EventsGoOn → (r r1 w w1 : Known) (p p1 : Point) (n : ℕ) (old : List ℕ) → IsSoFar r r1 w w1 p p1 n old → 1000000000 ≤ n → ServesTo r r1 w w1 p p1 TurnsSpent
+pub so_far_spent : RunsOn → (r r1 w w1 : Known) (p p1 : Point) (n : ℕ) (old : List ℕ) → IsSoFar r r1 w w1 p p1 n old → 1000000000 ≤ n → ServesTo r r1 w w1 p p1 TurnsSpent
 so_far_spent goes r r1 w w1 p p1 n old so spent = (
   so.bytes,
   (if list_all is_newline old then idle else cut_off),
@@ -262,7 +259,7 @@ ends_at : (b : Bool) (bytes : List ℕ) (left : Known) → IsAtEnd left → Ends
 ends_at true bytes left h = (refl, h)
 ends_at false bytes left h = (refl, h)
 
-pub so_far_end : EventsGoOn → (r r1 r2 w w1 : Known) (p p1 : Point) (n : ℕ) (old new got : List ℕ) → IsSoFar r r1 w w1 p p1 n old → new ≡ old ++ got → Consumes r1 r2 got → length got ≡ 0 → IsAtEnd r2
+pub so_far_end : RunsOn → (r r1 r2 w w1 : Known) (p p1 : Point) (n : ℕ) (old new got : List ℕ) → IsSoFar r r1 w w1 p p1 n old → new ≡ old ++ got → Consumes r1 r2 got → length got ≡ 0 → IsAtEnd r2
     → ServesTo r r2 w w1 p p1 (end_of new)
 so_far_end goes r r1 r2 w w1 p p1 n old new got so e more none at =
     let nothing = empty got none in
@@ -277,8 +274,3 @@ so_far_end goes r r1 r2 w w1 p p1 n old new got so e more none at =
     )
 
 -- ---- what holds however the serving ends
-
-pub turns_hold : (r r1 w w1 : Known) (p p1 : Point) (result : Result Ended TurnFault) → TurnsTo r r1 w w1 p p1 result → (xs : List Exchange) × Holds p p1 xs
-turns_hold r r1 w w1 p p1 (Ok ended) t = (t.3.exchanges, t.3.holds)
-turns_hold r r1 w w1 p p1 (Err Read) t = (t.3.exchanges, t.3.holds)
-turns_hold r r1 w w1 p p1 (Err Write) t = (t.exchanges, t.holds)

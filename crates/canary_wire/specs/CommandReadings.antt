@@ -14,14 +14,14 @@ abbrev pub reading_of_form : {A : Type 0} → Option A → Reading A
 reading_of_form None = unreadable
 reading_of_form (Some a) = readable a
 
--- the answer tells this reading, or want of memory
+-- the answer tells this reading, or that memory ran out
 abbrev pub IsReading : {A : Type 0} → Reading A → Result A WireFault → Type 0
 IsReading reading (Ok a) = reading ≡ readable a
 IsReading reading (Err Unreadable) = reading ≡ unreadable
 IsReading reading (Err Unsupported) = reading ≡ unsupported
 IsReading reading (Err Memory) = Unit {0}
 
--- the answer is what a form gives, or Unreadable where it gives nothing, or want of memory
+-- the answer is what a form gives, or Unreadable where it gives nothing, or that memory ran out
 abbrev pub IsRead : {A : Type 0} → Option A → Result A WireFault → Type 0
 IsRead form (Ok a) = form ≡ Some a
 IsRead form (Err Unreadable) = form ≡ None

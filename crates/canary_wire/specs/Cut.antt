@@ -3,9 +3,9 @@ use Rattle.std.specs.Prelude.{◌≡◌, ℕ, ◌<◌, ◌≤◌, ◌⊎◌, Boo
 use Rattle.std.specs.List.{list_all, AllByRecursion}
 use Rattle.httparse.specs.Grammar.{RequestHead, print_request, IsRequestHead, ReadsRequest, HasNoRequest, NeverHasRequest, EndsInTarget, MayBecomeRequest}
 use Rattle.httparse.specs.Spans.{span_bytes, RequestExceeds}
-use Rattle.canary_wire.specs.declared.refusal.Refusal.{Refusal}
-use Rattle.canary_wire.specs.declared.refusal.Refusal.TheVariants.{Malformed}
-use Rattle.canary_wire.specs.declared.framing.Framing.TheVariants.{Body, Refused}
+use Rattle.canary_wire.specs.declared.rejection.Rejection.{Rejection}
+use Rattle.canary_wire.specs.declared.rejection.Rejection.TheVariants.{Malformed}
+use Rattle.canary_wire.specs.declared.framing.Framing.TheVariants.{Body, Rejected}
 use Rattle.canary_wire.specs.declared.cut.Next.{Next}
 use Rattle.canary_wire.specs.declared.cut.Next.TheVariants as next
 use Rattle.canary_wire.specs.declared.cut.Parts.{Parts}
@@ -32,7 +32,7 @@ pub record IsMessage (m : Message) : Type 0 where
   pub framed : head_framing m.head ≡ Body (length m.body)
 
 -- a message, after whose reply the stream goes on
-pub record GoesOn (m : Message) : Type 0 where
+pub record KeepsOpen (m : Message) : Type 0 where
   pub is : IsMessage m
   pub stays : closes m.head ≡ false
 
@@ -63,10 +63,10 @@ pub data Hopeless (bytes : List ℕ) : Type 0 where
   -- they end past the 64th header line
   lines : RequestExceeds 64 bytes → Hopeless bytes
 
--- the bytes begin with what is refused so; the reply is its head alone, or not
-pub data IsRefused (bytes : List ℕ) : Refusal → Bool → Type 0 where
-  malformed : NeverHasHead bytes → Hopeless bytes → IsRefused bytes Malformed false
-  framed : (h : RequestHead) (after : List ℕ) (r : Refusal) → HasHead bytes h after → head_framing h ≡ Refused r → IsRefused bytes r (is_bare h)
+-- the bytes begin with what is rejected so; the reply is its head alone, or not
+pub data IsRejected (bytes : List ℕ) : Rejection → Bool → Type 0 where
+  malformed : NeverHasHead bytes → Hopeless bytes → IsRejected bytes Malformed false
+  framed : (h : RequestHead) (after : List ℕ) (r : Rejection) → HasHead bytes h after → head_framing h ≡ Rejected r → IsRejected bytes r (is_bare h)
 
 -- no whole message, and more bytes may make one
 pub data IsUnfinished (bytes : List ℕ) : Type 0 where
@@ -79,35 +79,35 @@ pub data IsUnfinished (bytes : List ℕ) : Type 0 where
 abbrev pub is_newline : ℕ → Bool
 is_newline b = b == 13 || b == 10
 
--- how the cutting ends: with nothing left but line ends, in the midst of a message, after a message that closes the stream, or at a refusal
+-- how the cutting ends: with nothing left but line ends, in the midst of a message, after a message that closes the stream, or at a rejection
 pub data Ending : Type 0 where
   idle cut_off closing : Ending
-  refusing : Refusal → Bool → Ending
+  rejecting : Rejection → Bool → Ending
 
 -- the bytes begin with these messages, after each of which the stream goes on
 pub record Begins (bytes : List ℕ) (ms : List Message) (rest : List ℕ) : Type 0 where
   pub whole : bytes ≡ flat_map message_bytes ms ++ rest
-  pub each : AllByRecursion GoesOn ms
+  pub each : AllByRecursion KeepsOpen ms
 
--- the messages of a stream up to its end, the first message that closes it or the first refusal
+-- the messages of a stream up to its end, the first message that closes it or the first rejection
 pub data IsCut (bytes : List ℕ) : List Message → Ending → Type 0 where
   unfinished : (ms : List Message) (rest : List ℕ) → Begins bytes ms rest → IsUnfinished rest
       → IsCut bytes ms (if list_all is_newline rest then idle else cut_off)
   closed : (ms : List Message) (last : Message) (rest : List ℕ) → Begins bytes ms (message_bytes last ++ rest) → IsMessage last → closes last.head ≡ true
       → IsCut bytes (ms ++ last ∷ []) closing
-  refused : (ms : List Message) (rest : List ℕ) (r : Refusal) (bare : Bool) → Begins bytes ms rest → IsRefused rest r bare
-      → IsCut bytes ms (refusing r bare)
+  rejected : (ms : List Message) (rest : List ℕ) (r : Rejection) (bare : Bool) → Begins bytes ms rest → IsRejected rest r bare
+      → IsCut bytes ms (rejecting r bare)
 
 -- bytes that end inside the target of a request or behind the 64th header line
 abbrev pub IsInDoubt : List ℕ → Type 0
 IsInDoubt rest = EndsInTarget rest ⊎ RequestExceeds 64 rest
 
--- two ends of one stream behind these messages are the same, but where what is left is in doubt, it may be cut off or refused
+-- two ends of one stream behind these messages are the same, but where what is left is in doubt, it may be cut off or rejected
 abbrev pub SameEnding : List ℕ → List Message → Ending → Ending → Type 0
 SameEnding bytes ms e f =
     (e ≡ f)
     ⊎ (((rest : List ℕ) × Begins bytes ms rest × IsInDoubt rest)
-    × (((e ≡ cut_off) × (f ≡ refusing Malformed false)) ⊎ ((f ≡ cut_off) × (e ≡ refusing Malformed false))))
+    × (((e ≡ cut_off) × (f ≡ rejecting Malformed false)) ⊎ ((f ≡ cut_off) × (e ≡ rejecting Malformed false))))
 
 -- ---- what the code finds first
 
@@ -128,5 +128,5 @@ pub record IsFirst (bytes : List ℕ) (p : Parts) (m : Message) : Type 0 where
 
 abbrev pub Cuts : List ℕ → Next → Type 0
 Cuts bytes (next.Message p) = (m : Message) × IsFirst bytes p m
-Cuts bytes (next.Refused r bare) = IsRefused bytes r bare
+Cuts bytes (next.Rejected r bare) = IsRejected bytes r bare
 Cuts bytes next.Unfinished = IsUnfinished bytes

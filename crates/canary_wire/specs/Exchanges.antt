@@ -4,15 +4,16 @@ use Rattle.std.specs.List.{AllByRecursion}
 use Rattle.canary_plan.specs.declared.command.Command.{Command}
 use Rattle.canary_once.specs.declared.event.Request.{Request}
 use Rattle.canary_once.specs.declared.event.Event.{Event}
-use Rattle.canary_once.specs.declared.event.Event.TheVariants.{Request as RequestEvent}
+use Rattle.canary_once.specs.declared.event.Event.TheVariants as event
 use Rattle.canary_once.specs.declared.event.Answer.{Answer}
-use Rattle.canary_once.specs.Contents.{Contents, KeepsEntries}
-use Rattle.canary_once.specs.Answers.{told, heard, answers_of, after}
+use Rattle.canary_once.specs.Contents.{Contents, KeepsReceipts}
+use Rattle.canary_once.specs.Books.{BookState}
+use Rattle.canary_once.specs.Answers.{replies_in, heard, answers_of, after}
 use Rattle.canary_once.specs.Single.{request_of, IsAnswer, IsFaultOf}
-use Rattle.canary_wire.specs.declared.refusal.Refusal.{Refusal}
-use Rattle.canary_wire.specs.declared.refusal.Refusal.TheVariants.{Unsupported, Unreadable}
-use Rattle.canary_wire.specs.declared.reply.Said.{Said}
-use Rattle.canary_wire.specs.declared.reply.Said.TheVariants.{Refused, NoMemory, Answered}
+use Rattle.canary_wire.specs.declared.rejection.Rejection.{Rejection}
+use Rattle.canary_wire.specs.declared.rejection.Rejection.TheVariants.{Unsupported, Unreadable}
+use Rattle.canary_wire.specs.declared.reply.Response.{Response}
+use Rattle.canary_wire.specs.declared.reply.Response.TheVariants.{Rejected, NoMemory, Answered}
 use Rattle.canary_wire.specs.declared.routes.Address.{Address}
 use Rattle.canary_wire.specs.CommandReadings.{unsupported, unreadable, readable}
 use Rattle.canary_wire.specs.CommandForms.{body_reading}
@@ -23,35 +24,36 @@ use Rattle.canary_wire.specs.Routes.{IsAddress}
 
 -- ---- what comes of a message
 
--- it is refused by the rules alone, or there was no memory to read its command, or it is a request to the register, which answered
-pub data Outcome : Type 0 where
-  refused : Refusal → Outcome
-  no_memory : Outcome
-  posted : Request → Answer → Outcome
+-- it is rejected, or memory ran out as its command was read, or it is a request to the register, which answered
+pub data Handling : Type 0 where
+  rejected : Rejection → Handling
+  no_memory : Handling
+  posted : Request → Answer → Handling
 
-abbrev pub said_of : Outcome → Said
-said_of (refused r) = Refused r
-said_of no_memory = NoMemory
-said_of (posted r a) = Answered a
+-- what its reply says
+abbrev pub response_of : Handling → Response
+response_of (rejected r) = Rejected r
+response_of no_memory = NoMemory
+response_of (posted r a) = Answered a
 
--- a body has no command, and is refused so
-abbrev pub IsUnread : List ℕ → Refusal → Type 0
+-- a body is no command, and is rejected so
+abbrev pub IsUnread : List ℕ → Rejection → Type 0
 IsUnread body Unsupported = body_reading body ≡ unsupported
 IsUnread body Unreadable = body_reading body ≡ unreadable
 IsUnread body _ = ⊥
 
--- what comes of a method, a target and a body at a moment: the first refusal that holds, or the request that they are
-abbrev pub IsOutcome : List ℕ → List ℕ → List ℕ → ℕ → Outcome → Type 0
-IsOutcome method target body moment (refused r) = IsAddress method target (Err r) ⊎ ((a : Address) × IsAddress method target (Ok a) × IsUnread body r)
-IsOutcome method target body moment no_memory = (a : Address) × IsAddress method target (Ok a)
-IsOutcome method target body moment (posted request answer) =
+-- what comes of a method, a target and a body at a moment: the first rejection that holds, or the request that they are
+abbrev pub IsHandling : List ℕ → List ℕ → List ℕ → ℕ → Handling → Type 0
+IsHandling method target body moment (rejected r) = IsAddress method target (Err r) ⊎ ((a : Address) × IsAddress method target (Ok a) × IsUnread body r)
+IsHandling method target body moment no_memory = (a : Address) × IsAddress method target (Ok a)
+IsHandling method target body moment (posted request answer) =
     (a : Address) × (command : Command) × IsAddress method target (Ok a) × (body_reading body ≡ readable command) × (request ≡ request_of moment a.caller a.number command)
 
--- only over a book that is not sure an outcome is 503 for its store
-abbrev pub IsSureOutcome : Bool → Outcome → Type 0
-IsSureOutcome sure (refused r) = Unit {0}
-IsSureOutcome sure no_memory = Unit {0}
-IsSureOutcome sure (posted request answer) = IsFaultOf sure answer
+-- only over a book that is not sure a request is answered 503 for its store
+abbrev pub IsSureHandling : Bool → Handling → Type 0
+IsSureHandling sure (rejected r) = Unit {0}
+IsSureHandling sure no_memory = Unit {0}
+IsSureHandling sure (posted request answer) = IsFaultOf sure answer
 
 -- ---- exchanges
 
@@ -59,13 +61,13 @@ IsSureOutcome sure (posted request answer) = IsFaultOf sure answer
 pub record Exchange : Type 0 where
   pub message : Message
   pub moment : ℕ
-  pub outcome : Outcome
+  pub handling : Handling
 
 abbrev pub IsExchange : Exchange → Type 0
-IsExchange x = IsOutcome x.message.head.method x.message.head.target x.message.body x.moment x.outcome
+IsExchange x = IsHandling x.message.head.method x.message.head.target x.message.body x.moment x.handling
 
 abbrev pub reply_bytes : Exchange → List ℕ
-reply_bytes x = reply_text (said_of x.outcome) (closes x.message.head) (is_bare x.message.head)
+reply_bytes x = reply_text (response_of x.handling) (closes x.message.head) (is_bare x.message.head)
 
 abbrev pub messages_of : List Exchange → List Message
 messages_of xs = map (λ x. x.message) xs
@@ -74,79 +76,77 @@ abbrev pub moments_of : List Exchange → List ℕ
 moments_of xs = map (λ x. x.moment) xs
 
 -- the events that the register was asked, in order, and its answers
-abbrev pub event_in : Outcome → List Event
-event_in (refused r) = []
+abbrev pub event_in : Handling → List Event
+event_in (rejected r) = []
 event_in no_memory = []
-event_in (posted request answer) = RequestEvent request ∷ []
+event_in (posted request answer) = event.Request request ∷ []
 
-abbrev pub answer_in : Outcome → List Answer
-answer_in (refused r) = []
+abbrev pub answer_in : Handling → List Answer
+answer_in (rejected r) = []
 answer_in no_memory = []
 answer_in (posted request answer) = answer ∷ []
 
 abbrev pub events_of : List Exchange → List Event
-events_of xs = flat_map (λ x. event_in x.outcome) xs
+events_of xs = flat_map (λ x. event_in x.handling) xs
 
-abbrev pub given_in : List Exchange → List Answer
-given_in xs = flat_map (λ x. answer_in x.outcome) xs
+abbrev pub answers_in : List Exchange → List Answer
+answers_in xs = flat_map (λ x. answer_in x.handling) xs
 
 -- ---- where the desk stands
 
--- the moments that its clock will tell, and its book: whether its store is honest, whether it is sure, and its contents
+-- the moments that its clock will tell, and how its book stands
 pub record Point : Type 1 where
   pub clock : (ℕ → ℕ) → Type 0
-  pub intact : Type 0
-  pub sure : Bool
-  pub desk : Contents
+  pub book : BookState
 
-abbrev pub point : ((ℕ → ℕ) → Type 0) → Type 0 → Bool → Contents → Point
-point clock intact sure desk = record { clock = clock; intact = intact; sure = sure; desk = desk }
+abbrev pub point : ((ℕ → ℕ) → Type 0) → BookState → Point
+point clock book = record { clock = clock; book = book }
 
--- these are the first moments that are told
-abbrev pub AreTold : (ℕ → ℕ) → List ℕ → Type 0
-AreTold told moments = (k : ℕ) → k < length moments → slice_index moments k ≡ told k
+-- of all moments these are the first
+abbrev pub AreFirst : (ℕ → ℕ) → List ℕ → Type 0
+AreFirst moment_at moments = (k : ℕ) → k < length moments → slice_index moments k ≡ moment_at k
 
 -- from one point to another these exchanges were held, in order: the k-th message has the clock's k-th moment, and of the events answered otherwise than by 503 the answers, and the contents afterwards, are those of the small machine
 pub record Holds (old new : Point) (xs : List Exchange) : Type 0 where
   pub each : AllByRecursion IsExchange xs
-  pub moments : (told : ℕ → ℕ) → old.clock told → AreTold told (moments_of xs) × new.clock (λ k. told (k + length xs))
-  pub intact : new.intact → old.intact
-  pub sure : (new.sure ≡ old.sure) × AllByRecursion (λ x. IsSureOutcome old.sure x.outcome) xs
-  pub answers : new.intact → told (given_in xs) ≡ answers_of old.desk (heard (events_of xs) (given_in xs))
-  pub contents : new.intact → new.desk ≡ after old.desk (heard (events_of xs) (given_in xs))
-  pub kept : new.intact → KeepsEntries old.desk new.desk
+  pub moments : (moment_at : ℕ → ℕ) → old.clock moment_at → AreFirst moment_at (moments_of xs) × new.clock (λ k. moment_at (k + length xs))
+  pub intact : new.book.is_intact → old.book.is_intact
+  pub sure : (new.book.is_sure ≡ old.book.is_sure) × AllByRecursion (λ x. IsSureHandling old.book.is_sure x.handling) xs
+  pub answers : new.book.is_intact → replies_in (answers_in xs) ≡ answers_of old.book.contents (heard (events_of xs) (answers_in xs))
+  pub contents : new.book.is_intact → new.book.contents ≡ after old.book.contents (heard (events_of xs) (answers_in xs))
+  pub receipts : new.book.is_intact → KeepsReceipts old.book.contents new.book.contents
 
 -- ---- step by step
 
--- one outcome, with the contents before and after
-abbrev pub IsStep : Contents → Outcome → Contents → Type 0
-IsStep c (refused r) new = new ≡ c
-IsStep c no_memory new = new ≡ c
-IsStep c (posted request answer) new = IsAnswer c (RequestEvent request) answer new
+-- one message is handled so, with the contents before and after
+abbrev pub IsHandled : Contents → Handling → Contents → Type 0
+IsHandled c (rejected r) new = new ≡ c
+IsHandled c no_memory new = new ≡ c
+IsHandled c (posted request answer) new = IsAnswer c (event.Request request) answer new
 
--- outcomes in order
-abbrev pub AreSteps : Contents → List Exchange → Contents → Type 0
-AreSteps c [] new = new ≡ c
-AreSteps c (x ∷ xs) new = (mid : Contents) × IsStep c x.outcome mid × AreSteps mid xs new
+-- messages are, one after another
+abbrev pub AreHandled : Contents → List Exchange → Contents → Type 0
+AreHandled c [] new = new ≡ c
+AreHandled c (x ∷ xs) new = (mid : Contents) × IsHandled c x.handling mid × AreHandled mid xs new
 
--- what the book did at one outcome
-pub record Books (old_intact new_intact : Type 0) (old_sure new_sure : Bool) (old new : Contents) (o : Outcome) : Type 0 where
-  pub intact : new_intact → old_intact
-  pub sure : (new_sure ≡ old_sure) × IsSureOutcome old_sure o
-  pub step : new_intact → IsStep old o new
-  pub kept : new_intact → KeepsEntries old new
+-- what the book did as one message was handled
+pub record Books (old new : BookState) (h : Handling) : Type 0 where
+  pub intact : new.is_intact → old.is_intact
+  pub sure : (new.is_sure ≡ old.is_sure) × IsSureHandling old.is_sure h
+  pub handled : new.is_intact → IsHandled old.contents h new.contents
+  pub receipts : new.is_intact → KeepsReceipts old.contents new.contents
 
 -- one message is answered
 pub record Exchanges (old new : Point) (x : Exchange) : Type 0 where
   pub is : IsExchange x
-  pub moment : (told : ℕ → ℕ) → old.clock told → (x.moment ≡ told 0) × new.clock (λ k. told (k + 1))
-  pub books : Books old.intact new.intact old.sure new.sure old.desk new.desk x.outcome
+  pub moment : (moment_at : ℕ → ℕ) → old.clock moment_at → (x.moment ≡ moment_at 0) × new.clock (λ k. moment_at (k + 1))
+  pub books : Books old.book new.book x.handling
 
 -- messages are answered, one after another
 pub record Went (old new : Point) (xs : List Exchange) : Type 0 where
   pub each : AllByRecursion IsExchange xs
-  pub moments : (told : ℕ → ℕ) → old.clock told → AreTold told (moments_of xs) × new.clock (λ k. told (k + length xs))
-  pub intact : new.intact → old.intact
-  pub sure : (new.sure ≡ old.sure) × AllByRecursion (λ x. IsSureOutcome old.sure x.outcome) xs
-  pub steps : new.intact → AreSteps old.desk xs new.desk
-  pub kept : new.intact → KeepsEntries old.desk new.desk
+  pub moments : (moment_at : ℕ → ℕ) → old.clock moment_at → AreFirst moment_at (moments_of xs) × new.clock (λ k. moment_at (k + length xs))
+  pub intact : new.book.is_intact → old.book.is_intact
+  pub sure : (new.book.is_sure ≡ old.book.is_sure) × AllByRecursion (λ x. IsSureHandling old.book.is_sure x.handling) xs
+  pub handled : new.book.is_intact → AreHandled old.book.contents xs new.book.contents
+  pub receipts : new.book.is_intact → KeepsReceipts old.book.contents new.book.contents

@@ -6,9 +6,9 @@ use Rattle.std.specs.Str.Parse.{digits_value}
 use Rattle.httparse.specs.Grammar.{RequestHead}
 use Rattle.httparse.specs.Spans.{name_and_value}
 use Rattle.http1.specs.Fields.{elements_named, has_option}
-use Rattle.canary_wire.specs.declared.refusal.Refusal.TheVariants.{Malformed, Length, TooLong}
+use Rattle.canary_wire.specs.declared.rejection.Rejection.TheVariants.{Malformed, Length, TooLong}
 use Rattle.canary_wire.specs.declared.framing.Framing.{Framing}
-use Rattle.canary_wire.specs.declared.framing.Framing.TheVariants.{Body, Refused}
+use Rattle.canary_wire.specs.declared.framing.Framing.TheVariants.{Body, Rejected}
 
 -- a name and a value
 abbrev pub Header : Type 0
@@ -29,15 +29,15 @@ is_digits v = nat_lt 0 (length v) && list_all is_ascii_digit v
 -- how long the body is, by one value of `Content-Length`
 abbrev pub framing_one : List ℕ → Bool → Framing
 framing_one v coded =
-    if not (is_digits v) then Refused Malformed
-    else (if coded then Refused Length
-    else (if nat_lt 65536 (digits_value 10 v) then Refused TooLong else Body (digits_value 10 v)))
+    if not (is_digits v) then Rejected Malformed
+    else (if coded then Rejected Length
+    else (if nat_lt 65536 (digits_value 10 v) then Rejected TooLong else Body (digits_value 10 v)))
 
 -- how long the body is, by all of them, where it is coded or not, for a method that needs a length or not
 abbrev pub framing : Bool → List (List ℕ) → Bool → Framing
-framing needs [] coded = if coded || needs then Refused Length else Body 0
+framing needs [] coded = if coded || needs then Rejected Length else Body 0
 framing needs (v ∷ []) coded = framing_one v coded
-framing needs (v ∷ w ∷ vs) coded = Refused Malformed
+framing needs (v ∷ w ∷ vs) coded = Rejected Malformed
 
 -- a list has an element
 abbrev pub has_any : List (List ℕ) → Bool
@@ -52,7 +52,7 @@ framing_of method headers =
 -- a body within the limit
 abbrev pub IsSmall : Framing → Type 0
 IsSmall (Body n) = n ≤ 65536
-IsSmall (Refused r) = Unit {0}
+IsSmall (Rejected r) = Unit {0}
 
 -- a `Connection` field lists `close`
 unfoldable pub asks_to_close : List Header → Bool

@@ -14,44 +14,44 @@ unless_null null = None
 unless_null value = Some value
 
 -- the member of that key, where it is there and not null
-abbrev pub given : List ℕ → Data → Option Data
-given key value = option_and_then unless_null (get key value)
+abbrev pub member_of : List ℕ → Data → Option Data
+member_of key value = option_and_then unless_null (get key value)
 
 -- what the form gives of the member of that key, which has to be there
-abbrev pub needed : {A : Type 0} → List ℕ → (Data → Option A) → Data → Option A
-needed key form value = option_and_then form (given key value)
+abbrev pub in_member : {A : Type 0} → List ℕ → (Data → Option A) → Data → Option A
+in_member key form value = option_and_then form (member_of key value)
 
 abbrev pub form_or : {A : Type 0} → A → (Data → Option A) → Option Data → Option A
 form_or absent form None = Some absent
 form_or absent form (Some value) = form value
 
 -- what the form gives of the member of that key, or this where it is absent
-abbrev pub optional : {A : Type 0} → List ℕ → A → (Data → Option A) → Data → Option A
-optional key absent form value = form_or absent form (given key value)
+abbrev pub in_member_or : {A : Type 0} → List ℕ → A → (Data → Option A) → Data → Option A
+in_member_or key absent form value = form_or absent form (member_of key value)
 
 -- the member of that key is there and passes the test
 abbrev pub has : List ℕ → (Data → Bool) → Data → Bool
-has key test value = unwrap_or (option_map test (given key value)) false
+has key test value = unwrap_or (option_map test (member_of key value)) false
 
 -- ---- what a member holds
 
-abbrev pub accepted_by : (List ℕ → Bool) → List ℕ → Option (List ℕ)
-accepted_by test text = if test text then Some text else None
+abbrev pub some_if : (List ℕ → Bool) → List ℕ → Option (List ℕ)
+some_if test text = if test text then Some text else None
 
 -- a text that is a name
 abbrev pub name_in : Data → Option (List ℕ)
-name_in value = option_and_then (accepted_by is_name) (as_str value)
+name_in value = option_and_then (some_if is_name) (as_str value)
 
 -- a text that is a label
 abbrev pub label_in : Data → Option (List ℕ)
-label_in value = option_and_then (accepted_by is_label) (as_str value)
+label_in value = option_and_then (some_if is_label) (as_str value)
 
 abbrev pub up_to : ℕ → ℕ → Option ℕ
 up_to greatest number = if nat_le number greatest then Some number else None
 
 -- a number without point and exponent, from 0 up to this
-abbrev pub whole_up_to : ℕ → Data → Option ℕ
-whole_up_to greatest value = option_and_then (up_to greatest) (option_and_then as_u64 (as_number value))
+abbrev pub number_up_to : ℕ → Data → Option ℕ
+number_up_to greatest value = option_and_then (up_to greatest) (option_and_then as_u64 (as_number value))
 
 abbrev pub each : {A : Type 0} → (Data → Option A) → Items → Option (List A)
 each form no_items = Some []

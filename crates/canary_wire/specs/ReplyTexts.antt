@@ -2,62 +2,62 @@
 use Rattle.std.specs.Prelude.{ℕ, Bool, true, false, ◌&&◌, ◌==◌, nat_le, List, [], ◌++◌, length, codes, decimal, if◌then◌else◌}
 use Rattle.http.specs.StatusCode.{code_digits}
 use Rattle.canary_release.specs.Replies.{code_alone}
-use Rattle.canary_once.specs.AnswerTexts.{status_of, body_of}
-use Rattle.canary_wire.specs.declared.refusal.Refusal.{Refusal}
-use Rattle.canary_wire.specs.declared.refusal.Refusal.TheVariants.{Malformed, Length, TooLong, NoRoute, Method, BadName, BadNumber, Unsupported, Unreadable}
-use Rattle.canary_wire.specs.declared.reply.Said.{Said}
-use Rattle.canary_wire.specs.declared.reply.Said.TheVariants.{Refused, NoMemory, Answered}
+use Rattle.canary_once.specs.AnswerTexts.{answer_status, answer_body}
+use Rattle.canary_wire.specs.declared.rejection.Rejection.{Rejection}
+use Rattle.canary_wire.specs.declared.rejection.Rejection.TheVariants.{Malformed, Length, TooLong, NoRoute, Method, BadName, BadNumber, Unsupported, Unreadable}
+use Rattle.canary_wire.specs.declared.reply.Response.{Response}
+use Rattle.canary_wire.specs.declared.reply.Response.TheVariants.{Rejected, NoMemory, Answered}
 
--- ---- refusals
+-- ---- rejections
 
-abbrev pub refusal_status : Refusal → ℕ
-refusal_status Malformed = 400
-refusal_status Length = 411
-refusal_status TooLong = 413
-refusal_status NoRoute = 404
-refusal_status Method = 405
-refusal_status BadName = 400
-refusal_status BadNumber = 400
-refusal_status Unsupported = 400
-refusal_status Unreadable = 400
+abbrev pub rejection_status : Rejection → ℕ
+rejection_status Malformed = 400
+rejection_status Length = 411
+rejection_status TooLong = 413
+rejection_status NoRoute = 404
+rejection_status Method = 405
+rejection_status BadName = 400
+rejection_status BadNumber = 400
+rejection_status Unsupported = 400
+rejection_status Unreadable = 400
 
-abbrev pub refusal_code : Refusal → List ℕ
-refusal_code Malformed = codes "malformed"
-refusal_code Length = codes "length"
-refusal_code TooLong = codes "too-long"
-refusal_code NoRoute = codes "no-route"
-refusal_code Method = codes "method"
-refusal_code BadName = codes "bad-name"
-refusal_code BadNumber = codes "bad-number"
-refusal_code Unsupported = codes "unsupported"
-refusal_code Unreadable = codes "unreadable"
+abbrev pub rejection_code : Rejection → List ℕ
+rejection_code Malformed = codes "malformed"
+rejection_code Length = codes "length"
+rejection_code TooLong = codes "too-long"
+rejection_code NoRoute = codes "no-route"
+rejection_code Method = codes "method"
+rejection_code BadName = codes "bad-name"
+rejection_code BadNumber = codes "bad-number"
+rejection_code Unsupported = codes "unsupported"
+rejection_code Unreadable = codes "unreadable"
 
 -- {"code":CODE}
-abbrev pub refusal_body : Refusal → List ℕ
-refusal_body r = code_alone (refusal_code r)
+abbrev pub rejection_body : Rejection → List ℕ
+rejection_body r = code_alone (rejection_code r)
 
--- ---- what is said in a reply
-
-abbrev pub said_status : Said → ℕ
-said_status (Refused r) = refusal_status r
-said_status NoMemory = 503
-said_status (Answered a) = status_of a
-
-abbrev pub said_body : Said → List ℕ
-said_body (Refused r) = refusal_body r
-said_body NoMemory = codes "{\"code\":\"no-memory\"}"
-said_body (Answered a) = body_of a
-
--- the reply names the methods of the route
-abbrev pub allows : Said → Bool
-allows (Refused Method) = true
-allows said = false
-
--- ---- texts
+-- ---- what a reply says
 
 -- a status code has three digits; in place of any other number stands 500
 abbrev pub status_code : ℕ → ℕ
 status_code n = if nat_le 100 n && nat_le n 999 then n else 500
+
+abbrev pub response_status : Response → ℕ
+response_status (Rejected r) = rejection_status r
+response_status NoMemory = 503
+response_status (Answered a) = status_code (answer_status a)
+
+abbrev pub response_body : Response → List ℕ
+response_body (Rejected r) = rejection_body r
+response_body NoMemory = codes "{\"code\":\"no-memory\"}"
+response_body (Answered a) = answer_body a
+
+-- the reply names the methods of the route
+abbrev pub allows : Response → Bool
+allows (Rejected Method) = true
+allows response = false
+
+-- ---- texts
 
 -- (RFC 9110, section 15)
 abbrev pub reason_of : ℕ → List ℕ
@@ -85,7 +85,7 @@ head_text status size allow close =
     ++ line_if allow (codes "Allow: PUT\r\n") ++ line_if close (codes "Connection: close\r\n") ++ codes "\r\n"
 
 -- the head, and the body unless the head stands alone; the stream ends after it, or not
-unfoldable pub reply_text : Said → Bool → Bool → List ℕ
-reply_text said close bare =
-    head_text (status_code (said_status said)) (length (said_body said)) (allows said) close
-    ++ (if bare then [] else said_body said)
+unfoldable pub reply_text : Response → Bool → Bool → List ℕ
+reply_text response close bare =
+    head_text (response_status response) (length (response_body response)) (allows response) close
+    ++ (if bare then [] else response_body response)

@@ -5,33 +5,33 @@ use Rattle.canary_plan.specs.declared.plan.Step.{Step}
 use Rattle.canary_plan.specs.declared.plan.Step.TheVariants.{SetWeight, Pause}
 use Rattle.serde_json.specs.Data.{Data, Members, no_members, member}
 use Rattle.serde_json.specs.Find.{as_object}
-use Rattle.canary_wire.specs.ManifestForms.{unless_null, given, needed, optional, has, name_in, whole_up_to, list_of, is_true, is_other_text, is_no_empty_list, some_item}
+use Rattle.canary_wire.specs.ManifestForms.{unless_null, member_of, in_member, in_member_or, has, name_in, number_up_to, list_of, is_true, is_other_text, is_no_empty_list, some_item}
 
 -- ---- what a manifest says
 
 abbrev pub rollout_name : Data → Option (List ℕ)
-rollout_name manifest = needed (codes "metadata") (needed (codes "name") name_in) manifest
+rollout_name manifest = in_member (codes "metadata") (in_member (codes "name") name_in) manifest
 
 -- an object; a duration is not read yet
 abbrev pub pause_in : Data → Option Step
-pause_in pause = if is_some (as_object pause) && is_none (given (codes "duration") pause) then Some Pause else None
+pause_in pause = if is_some (as_object pause) && is_none (member_of (codes "duration") pause) then Some Pause else None
 
 -- exactly one of the three is there; an analysis is not read yet
 abbrev pub only_step : Option Data → Option Data → Option Data → Option Step
-only_step (Some weight) None None = option_map SetWeight (whole_up_to 1000000 weight)
+only_step (Some weight) None None = option_map SetWeight (number_up_to 1000000 weight)
 only_step None (Some pause) None = pause_in pause
 only_step weight pause analysis = None
 
 unfoldable pub step_in : Data → Option Step
-step_in step = only_step (given (codes "setWeight") step) (given (codes "pause") step) (given (codes "analysis") step)
+step_in step = only_step (member_of (codes "setWeight") step) (member_of (codes "pause") step) (member_of (codes "analysis") step)
 
 -- an object; an analysis beside the steps is not read yet
 abbrev pub canary_steps : Data → Option (List Step)
 canary_steps canary =
-    if is_some (as_object canary) && is_none (given (codes "analysis") canary) then optional (codes "steps") [] (list_of step_in) canary else None
+    if is_some (as_object canary) && is_none (member_of (codes "analysis") canary) then in_member_or (codes "steps") [] (list_of step_in) canary else None
 
 abbrev pub rollout_steps : Data → Option (List Step)
-rollout_steps manifest = needed (codes "spec") (needed (codes "strategy") (needed (codes "canary") canary_steps)) manifest
+rollout_steps manifest = in_member (codes "spec") (in_member (codes "strategy") (in_member (codes "canary") canary_steps)) manifest
 
 -- ---- what the desk does not do
 

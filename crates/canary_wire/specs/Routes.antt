@@ -4,8 +4,8 @@ use Rattle.std.specs.List.{list_any, before_first}
 use Rattle.matchit.specs.Rows.{RowsOf, param_token}
 use Rattle.matchit.specs.Router.{RouteOf}
 use Rattle.canary_base.specs.Names.{is_name}
-use Rattle.canary_wire.specs.declared.refusal.Refusal.{Refusal}
-use Rattle.canary_wire.specs.declared.refusal.Refusal.TheVariants.{NoRoute, Method, BadName, BadNumber}
+use Rattle.canary_wire.specs.declared.rejection.Rejection.{Rejection}
+use Rattle.canary_wire.specs.declared.rejection.Rejection.TheVariants.{NoRoute, Method, BadName, BadNumber}
 use Rattle.canary_wire.specs.declared.routes.Route.{Route}
 use Rattle.canary_wire.specs.declared.routes.Route.TheVariants.{Request}
 use Rattle.canary_wire.specs.declared.routes.Address.{Address}
@@ -38,8 +38,8 @@ HasNoRoute path = (caller number : List ℕ) → ¬ (IsRequestPath path caller n
 abbrev pub IsPut : List ℕ → List ℕ → List ℕ → List ℕ → Type 0
 IsPut method target caller number = IsRequestPath (path_of target) caller number × (method ≡ codes "PUT")
 
--- whose request a method and a target are, or the first refusal that holds
-abbrev pub IsAddress : List ℕ → List ℕ → Result Address Refusal → Type 0
+-- whose request a method and a target are, or the first rejection that holds
+abbrev pub IsAddress : List ℕ → List ℕ → Result Address Rejection → Type 0
 IsAddress method target (Ok a) = (number : List ℕ) × IsPut method target a.caller number × IsTrue (is_name a.caller) × SpellsNumber number a.number
 IsAddress method target (Err NoRoute) = HasNoRoute (path_of target)
 IsAddress method target (Err Method) = (caller number : List ℕ) × IsRequestPath (path_of target) caller number × (method ≢ codes "PUT")

@@ -2,16 +2,16 @@
 use Rattle.std.specs.Prelude.{◌≡◌, ℕ, ◌<◌, ◌≤◌, Bool, true, List, [], ◌∷◌, ◌++◌, length, flat_map, Ok, Err, Result, if◌then◌else◌}
 use Rattle.std.specs.List.{list_all}
 use Rattle.std.specs.Io.KnownBytes.{Appends, Consumes, IsAtEnd}
-use Rattle.canary_wire.specs.declared.refusal.Refusal.{Refusal}
-use Rattle.canary_wire.specs.declared.reply.Said.TheVariants.{Refused}
+use Rattle.canary_wire.specs.declared.rejection.Rejection.{Rejection}
+use Rattle.canary_wire.specs.declared.reply.Response.TheVariants.{Rejected}
 use Rattle.canary_wire.specs.declared.serve.Ended.{Ended}
 use Rattle.canary_wire.specs.declared.serve.Ended.TheVariants.{EndOfInput, Closed, Truncated, TurnsSpent}
 use Rattle.canary_wire.specs.declared.serve.Turn.{Turn}
-use Rattle.canary_wire.specs.declared.serve.Turn.TheVariants.{GoesOn, Ends}
+use Rattle.canary_wire.specs.declared.serve.Turn.TheVariants.{Continues, Ends}
 use Rattle.canary_wire.specs.declared.serve.TurnFault.{TurnFault}
 use Rattle.canary_wire.specs.declared.serve.TurnFault.TheVariants.{Read, Write}
 use Rattle.canary_wire.specs.declared.reply.WriteFault.{WriteFault}
-use Rattle.canary_wire.specs.Cut.{is_newline, message_bytes, IsMessage, IsRefused, IsUnfinished, Begins, Ending, idle, cut_off, closing, refusing, IsCut}
+use Rattle.canary_wire.specs.Cut.{is_newline, message_bytes, IsMessage, IsRejected, IsUnfinished, Begins, Ending, idle, cut_off, closing, rejecting, IsCut}
 use Rattle.canary_wire.specs.ReplyTexts.{reply_text}
 use Rattle.canary_wire.specs.Writes.{Known}
 use Rattle.canary_wire.specs.Exchanges.{Exchange, messages_of, reply_bytes, Point, Holds, Went}
@@ -20,26 +20,26 @@ use Rattle.canary_wire.specs.Exchanges.{Exchange, messages_of, reply_bytes, Poin
 abbrev pub end_of : List ℕ → Ended
 end_of rest = if list_all is_newline rest then EndOfInput else Truncated
 
--- the reply of the refusal that ends the stream
+-- the reply of the rejection that ends the stream
 abbrev pub last_reply : Ending → List ℕ
 last_reply idle = []
 last_reply cut_off = []
 last_reply closing = []
-last_reply (refusing r bare) = reply_text (Refused r) true bare
+last_reply (rejecting r bare) = reply_text (Rejected r) true bare
 
 -- more bytes might have gone on
 abbrev pub IsOpen : Ending → Type 0
 IsOpen idle = Unit {0}
 IsOpen cut_off = Unit {0}
 IsOpen closing = ⊥
-IsOpen (refusing r bare) = ⊥
+IsOpen (rejecting r bare) = ⊥
 
--- a message or a refusal ended the stream
+-- a message or a rejection ended the stream
 abbrev pub IsShut : Ending → Type 0
 IsShut idle = ⊥
 IsShut cut_off = ⊥
 IsShut closing = Unit {0}
-IsShut (refusing r bare) = Unit {0}
+IsShut (rejecting r bare) = Unit {0}
 
 -- how the serving ended, by how the cutting of the bytes that were read ended, and what the reader has left
 abbrev pub EndsAs : List ℕ → Ending → Known → Ended → Type 0
@@ -49,7 +49,7 @@ EndsAs bytes end left Closed = IsShut end
 EndsAs bytes end left TurnsSpent = IsOpen end × (1000000000 ≤ length bytes)
 
 -- (here `r` is what the reader has left, `w` what the writer holds)
--- the bytes that were read are cut into messages, and the bytes that were written are the replies to these, in order, and then that of the refusal that ends the stream
+-- the bytes that were read are cut into messages, and the bytes that were written are the replies to these, in order, and then that of the rejection that ends the stream
 pub record Serves (r new_r w new_w : Known) (old new : Point) (bytes : List ℕ) (end : Ending) : Type 0 where
   pub exchanges : List Exchange
   pub read : Consumes r new_r bytes
@@ -66,20 +66,20 @@ abbrev pub ServesSome : Known → Known → Known → Known → Point → Point 
 ServesSome r new_r w new_w old new =
     (bytes : List ℕ) × (end : Ending) × IsOpen end × Serves r new_r w new_w old new bytes end
 
--- a text of which a front went out, and not the whole
-pub record IsFrontOf (text front : List ℕ) : Type 0 where
+-- the first bytes of a text, and not all of them
+pub record IsProperPrefix (text front : List ℕ) : Type 0 where
   pub back : List ℕ
   pub parts : text ≡ front ++ back
   pub short : 0 < length back
 
--- these exchanges were held, and in the midst of the last one's reply, or of the refusal's behind it, the writer failed
+-- these exchanges were held, and in the midst of the last one's reply, or of the rejection's behind it, the writer failed
 pub data IsCutShort (bytes text : List ℕ) : List Exchange → Type 0 where
   in_reply : (xs : List Exchange) (last : Exchange) (rest front : List ℕ) → Begins bytes (messages_of xs) (message_bytes last.message ++ rest) → IsMessage last.message
-      → IsFrontOf (reply_bytes last) front → text ≡ flat_map reply_bytes xs ++ front → IsCutShort bytes text (xs ++ last ∷ [])
-  in_refusal : (xs : List Exchange) (rest front : List ℕ) (r : Refusal) (bare : Bool) → Begins bytes (messages_of xs) rest → IsRefused rest r bare
-      → IsFrontOf (last_reply (refusing r bare)) front → text ≡ flat_map reply_bytes xs ++ front → IsCutShort bytes text xs
+      → IsProperPrefix (reply_bytes last) front → text ≡ flat_map reply_bytes xs ++ front → IsCutShort bytes text (xs ++ last ∷ [])
+  in_rejection : (xs : List Exchange) (rest front : List ℕ) (r : Rejection) (bare : Bool) → Begins bytes (messages_of xs) rest → IsRejected rest r bare
+      → IsProperPrefix (last_reply (rejecting r bare)) front → text ≡ flat_map reply_bytes xs ++ front → IsCutShort bytes text xs
 
--- the writer failed: what went out is a front of the replies, and the last message is the one whose reply did not go out whole
+-- the writer failed: what went out are the first bytes of the replies, and the last message is the one whose reply did not go out whole
 pub record ServesUntil (r new_r w new_w : Known) (old new : Point) : Type 0 where
   pub bytes : List ℕ
   pub text : List ℕ
@@ -133,12 +133,12 @@ pub record AnswersUntil (w new_w : Known) (old new : Point) (bytes : List ℕ) :
 
 -- what became of held bytes
 abbrev pub AnswersHeld : Known → Known → Point → Point → List ℕ → List ℕ → Result Turn WriteFault → Type 0
-AnswersHeld w new_w old new held rest (Ok GoesOn) = Answers w new_w old new held rest × IsUnfinished rest
+AnswersHeld w new_w old new held rest (Ok Continues) = Answers w new_w old new held rest × IsUnfinished rest
 AnswersHeld w new_w old new held rest (Ok Ends) = AnswersAll w new_w old new held
 AnswersHeld w new_w old new held rest (Err fault) = AnswersUntil w new_w old new held
 
 -- the text that ends the stream went out, or the writer failed in its midst
-abbrev pub RefusesAll : Known → Known → List ℕ → Result Turn WriteFault → Type 0
-RefusesAll w new_w text (Ok GoesOn) = ⊥
-RefusesAll w new_w text (Ok Ends) = Appends w new_w text
-RefusesAll w new_w text (Err fault) = (front : List ℕ) × IsFrontOf text front × Appends w new_w front
+abbrev pub RejectsAll : Known → Known → List ℕ → Result Turn WriteFault → Type 0
+RejectsAll w new_w text (Ok Continues) = ⊥
+RejectsAll w new_w text (Ok Ends) = Appends w new_w text
+RejectsAll w new_w text (Err fault) = (front : List ℕ) × IsProperPrefix text front × Appends w new_w front

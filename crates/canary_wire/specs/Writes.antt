@@ -6,7 +6,7 @@ use Rattle.std.specs.Io.KnownBytes.{Appends}
 abbrev pub Known : Type 0
 Known = Option (List ℕ)
 
--- a front of the text went out: all of it, or on a fault less
+-- the first bytes of the text went out: all of them, or on a fault less
 pub record Writes {E : Type 0} (old new : Known) (text : List ℕ) (result : Result (Unit {0}) E) : Type 0 where
   pub front : List ℕ
   pub back : List ℕ

@@ -1,14 +1,15 @@
 //! Answering one message.
 ghost use Rattle.std.specs.Prelude.{◌≡◌, ℕ, List, Ok};
 ghost use Rattle.canary_wire.specs.Cut.{Message, IsFirst};
-ghost use Rattle.canary_wire.specs.Exchanges.{Outcome, Exchange, said_of, IsOutcome, reply_bytes, point, Books, Exchanges};
+ghost use Rattle.canary_wire.specs.Exchanges.{Handling, Exchange, Exchanges, Books};
+ghost use Rattle.canary_wire.specs.Exchanges.{response_of, IsHandling, reply_bytes, point};
 ghost use Rattle.canary_wire.specs.Routes.{the_rows, IsAddress};
 ghost use Rattle.canary_wire.specs.Writes.{Writes};
 
 use crate::command::{WireFault, command_from_json};
 use crate::cut::Parts;
-use crate::refusal::Refusal;
-use crate::reply::{Said, WriteFault, write_reply};
+use crate::rejection::Rejection;
+use crate::reply::{Response, WriteFault, write_reply};
 use crate::routes::{Address, Route, address_of};
 use canary_base::moments::Moment;
 use canary_once::book::Book;
@@ -18,8 +19,8 @@ use matchit::Router;
 use std::alloc::Global;
 use std::io::Write;
 
-/// Answers the message that stands first in these bytes: the clock is asked once, the register is
-/// asked where the message is a request, and then the reply is written.
+// Answers the message that stands first in these bytes: the clock is asked once, the register is
+// asked where the message is a request, and then the reply is written.
 pub(crate) fn answer<W: Write, C: Clock, B: Book>(
     alloc: Global,
     router: &Router<Route>,
@@ -32,20 +33,21 @@ pub(crate) fn answer<W: Write, C: Clock, B: Book>(
     requires message { (m : Message) × IsFirst bytes.now parts m }
     requires routes { router.now ≡ the_rows }
     ensures { (m : Message) → IsFirst bytes.now parts m → (x : Exchange) × (x.message ≡ m)
-        × Exchanges (point (C.tells clock.old) (B.is_intact book.old) (B.is_sure book.old) (B.contents book.old))
-        (point (C.tells clock.new) (B.is_intact book.new) (B.is_sure book.new) (B.contents book.new)) x
+        × Exchanges
+        (point (C.tells clock.old) (B.state book.old))
+        (point (C.tells clock.new) (B.state book.new)) x
         × Writes (W.contents writer.old) (W.contents writer.new) (reply_bytes x) result }
 {
     let moment = clock.now();
     let method = parts.method.of(bytes);
     let target = parts.target.of(bytes);
     let body = &bytes[parts.len..parts.end];
-    let said = said_to(alloc, router, method, target, body, moment, book);
-    write_reply(writer, &said, parts.is_last, parts.head_alone)
+    let response = handle(alloc, router, method, target, body, moment, book);
+    write_reply(writer, &response, parts.is_last, parts.head_alone)
 }
 
-// What is said to a message at a moment.
-fn said_to<B: Book>(
+// Handles a message at a moment, and answers what its reply is to say.
+fn handle<B: Book>(
     alloc: Global,
     router: &Router<Route>,
     method: &[u8],
@@ -53,27 +55,29 @@ fn said_to<B: Book>(
     body: &[u8],
     moment: Moment,
     book: &mut B,
-) -> Said
+) -> Response
     requires { router.now ≡ the_rows }
-    ensures { (o : Outcome) × (result ≡ said_of o) × IsOutcome method.now target.now body.now moment o
-        × Books (B.is_intact book.old) (B.is_intact book.new) (B.is_sure book.old) (B.is_sure book.new) (B.contents book.old) (B.contents book.new) o }
+    ensures { (h : Handling) × (result ≡ response_of h)
+        × IsHandling method.now target.now body.now moment h
+        × Books (B.state book.old) (B.state book.new) h }
 {
     match address_of(router, method, target) {
-        Ok(address) => said_to_request(alloc, address, body, moment, book),
-        Err(refusal) => Said::Refused(refusal),
+        Ok(address) => handle_request(alloc, address, body, moment, book),
+        Err(rejection) => Response::Rejected(rejection),
     }
 }
 
-// What is said to a request.
-fn said_to_request<B: Book>(
+// The same where the message is a request.
+fn handle_request<B: Book>(
     alloc: Global,
     address: Address,
     body: &[u8],
     moment: Moment,
     book: &mut B,
-) -> Said
-    ensures { (method target : List ℕ) → IsAddress method target (Ok address) → (o : Outcome) × (result ≡ said_of o) × IsOutcome method target body.now moment o
-        × Books (B.is_intact book.old) (B.is_intact book.new) (B.is_sure book.old) (B.is_sure book.new) (B.contents book.old) (B.contents book.new) o }
+) -> Response
+    ensures { (method target : List ℕ) → IsAddress method target (Ok address) → (h : Handling)
+        × (result ≡ response_of h) × IsHandling method target body.now moment h
+        × Books (B.state book.old) (B.state book.new) h }
 {
     match command_from_json(alloc, body) {
         Ok(command) => {
@@ -85,10 +89,10 @@ fn said_to_request<B: Book>(
                 address.number,
                 &command,
             );
-            Said::Answered(answer)
+            Response::Answered(answer)
         }
-        Err(WireFault::Unsupported) => Said::Refused(Refusal::Unsupported),
-        Err(WireFault::Unreadable) => Said::Refused(Refusal::Unreadable),
-        Err(WireFault::Memory) => Said::NoMemory,
+        Err(WireFault::Unsupported) => Response::Rejected(Rejection::Unsupported),
+        Err(WireFault::Unreadable) => Response::Rejected(Rejection::Unreadable),
+        Err(WireFault::Memory) => Response::NoMemory,
     }
 }

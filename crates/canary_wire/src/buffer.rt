@@ -1,19 +1,20 @@
 //! The bytes of a stream that were read and not yet answered.
-ghost use Rattle.std.specs.Prelude.{◌≡◌, ℕ, List, ◌+◌, ◌<◌, ◌≤◌, ◌++◌, [], length, take, drop, vec_len, IfOk, OnErr, Ok};
+ghost use Rattle.std.specs.Prelude.{◌≡◌, ℕ, ◌+◌, ◌<◌, ◌≤◌, Ok, IfOk, OnErr};
+ghost use Rattle.std.specs.Prelude.{List, [], ◌++◌, length, take, drop, vec_len};
 ghost use Rattle.std.specs.Io.KnownBytes.{Consumes, IsAtEnd};
 
 use canary_base::error::Memory;
 use std::alloc::Global;
 use std::io::Read;
 
-/// The room: a head of 16,384 bytes and a body of 65,536.
+// The room: a head of 16,384 bytes and a body of 65,536.
 const ROOM: usize = 81_920;
 
-/// The reader failed.
+// The reader failed.
 #[derive(Clone, Copy, Debug, PartialEq, Eq)]
 pub(crate) struct ReadFault;
 
-/// The bytes that were read and not yet taken.
+// The bytes that were read and not yet taken.
 #[derive(Drop)]
 pub(crate) struct Buffer {
     bytes: Vec<u8>,
@@ -25,14 +26,12 @@ pub(crate) struct Buffer {
 }
 
 impl Buffer {
-    ghost use Rattle.canary_wire.specs.Buffers.{held};
+    ghost use Rattle.canary_wire.specs.Buffers.{bytes_held};
+    ghost use Rattle.canary_wire.specs.Cut.{IsUnfinished};
 
-    /// An empty buffer, with all the room that it will ever need.
-    ///
-    /// # Errors
-    /// `Memory` where an allocation was refused.
+    // An empty buffer, with all the room that it will ever need.
     pub(crate) fn new(alloc: Global) -> Result<Buffer, Memory>
-        ensures { IfOk result (λ buffer. held buffer ≡ []) }
+        ensures { IfOk result (λ buffer. bytes_held buffer ≡ []) }
     {
         let bytes = vec![in alloc; 0u8; ROOM]?;
         Ok(Buffer {
@@ -42,34 +41,48 @@ impl Buffer {
         })
     }
 
-    /// The bytes that it holds.
-    pub(crate) fn held(&self) -> &[u8]
-        ensures { result.now ≡ held self.now }
+    // The bytes that it holds.
+    pub(crate) fn as_slice(&self) -> &[u8]
+        ensures { result.now ≡ bytes_held self.now }
     {
         &self.bytes[self.start..self.end]
     }
 
-    /// Lets the first bytes go.
+    // Lets the first bytes go.
     pub(crate) fn take(&mut self, count: usize)
-        requires { count ≤ length (held self.old) }
-        ensures { held self.new ≡ drop count (held self.old) }
+        requires { count ≤ length (bytes_held self.old) }
+        ensures { bytes_held self.new ≡ drop count (bytes_held self.old) }
     {
         self.start += count;
     }
 
-    /// Reads more bytes behind those that it holds, and says how many: none only at the end of the
-    /// input.
-    ///
-    /// # Errors
-    /// Where the reader fails, also where it is interrupted; nothing was read.
+    // Reads more bytes behind those that it holds, and says how many: none only at the end of the
+    // input. It holds nothing then that can be answered: what is whole is answered before more is
+    // waited for. Where the reader fails, also where it is interrupted, nothing was read.
     pub(crate) fn fill<R: Read>(&mut self, reader: &mut R) -> Result<usize, ReadFault>
-        requires { length (held self.old) < 81920 }
-        ensures more { IfOk result (λ n. (got : List ℕ) × (held self.new ≡ held self.old ++ got)
+        requires { IsUnfinished (bytes_held self.old) }
+        ensures more { IfOk result (λ n. (got : List ℕ)
+            × (bytes_held self.new ≡ bytes_held self.old ++ got)
             × Consumes (R.remaining reader.old) (R.remaining reader.new) got × (length got ≡ n)) }
         ensures end { result ≡ Ok 0 → IsAtEnd (R.remaining reader.new) }
-        ensures err { OnErr result ((held self.new ≡ held self.old) × Consumes (R.remaining reader.old) (R.remaining reader.new) []) }
+        ensures err { OnErr result ((bytes_held self.new ≡ bytes_held self.old)
+            × Consumes (R.remaining reader.old) (R.remaining reader.new) []) }
     {
         self.compact();
+        self.read_behind(reader)
+    }
+
+    // The same where there is room behind the bytes that it holds.
+    fn read_behind<R: Read>(&mut self, reader: &mut R) -> Result<usize, ReadFault>
+        requires unfinished { IsUnfinished (bytes_held self.old) }
+        requires room { self.old.end < 81920 }
+        ensures more { IfOk result (λ n. (got : List ℕ)
+            × (bytes_held self.new ≡ bytes_held self.old ++ got)
+            × Consumes (R.remaining reader.old) (R.remaining reader.new) got × (length got ≡ n)) }
+        ensures end { result ≡ Ok 0 → IsAtEnd (R.remaining reader.new) }
+        ensures err { OnErr result ((bytes_held self.new ≡ bytes_held self.old)
+            × Consumes (R.remaining reader.old) (R.remaining reader.new) []) }
+    {
         match read_at(reader, &mut self.bytes, self.end) {
             Ok(n) => {
                 self.end += n;
@@ -81,8 +94,8 @@ impl Buffer {
 
     // Makes room behind the bytes that it holds.
     fn compact(&mut self)
-        requires { length (held self.old) < 81920 }
-        ensures kept { held self.new ≡ held self.old }
+        requires { length (bytes_held self.old) < 81920 }
+        ensures kept { bytes_held self.new ≡ bytes_held self.old }
         ensures room { self.new.end < 81920 }
     {
         if self.end < ROOM {
@@ -98,10 +111,12 @@ impl Buffer {
 fn read_at<R: Read>(reader: &mut R, bytes: &mut [u8], at: usize) -> Result<usize, ReadFault>
     requires { at < length bytes.old }
     ensures within { IfOk result (λ n. at + n ≤ length bytes.old) }
-    ensures more { IfOk result (λ n. (got : List ℕ) × (rest : List ℕ) × (bytes.new ≡ take at bytes.old ++ (got ++ rest))
+    ensures more { IfOk result (λ n. (got : List ℕ) × (rest : List ℕ)
+        × (bytes.new ≡ take at bytes.old ++ (got ++ rest))
         × Consumes (R.remaining reader.old) (R.remaining reader.new) got × (length got ≡ n)) }
     ensures end { result ≡ Ok 0 → IsAtEnd (R.remaining reader.new) }
-    ensures err { OnErr result ((rest : List ℕ) × (bytes.new ≡ take at bytes.old ++ rest) × Consumes (R.remaining reader.old) (R.remaining reader.new) []) }
+    ensures err { OnErr result ((rest : List ℕ) × (bytes.new ≡ take at bytes.old ++ rest)
+        × Consumes (R.remaining reader.old) (R.remaining reader.new) []) }
 {
     match reader.read(&mut bytes[at..]) {
         Ok(n) => Ok(n),

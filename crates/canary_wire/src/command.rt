@@ -13,24 +13,30 @@ ghost use Rattle.serde_json.specs.Find.{as_object};
 ghost use Rattle.canary_wire.specs.CommandReadings.{IsRead, IsReading};
 ghost use Rattle.canary_wire.specs.ManifestForms.{has, name_in, label_in};
 ghost use Rattle.canary_wire.specs.Rollouts.{is_unsupported_rollout};
-ghost use Rattle.canary_wire.specs.CommandForms.{at, is_object_of, only_member, service_in, start_in, promote_in, service_reading, reading_of_kind, command_reading, body_reading};
+ghost use Rattle.canary_wire.specs.CommandForms.{at, is_object_of, only_member, service_in};
+ghost use Rattle.canary_wire.specs.CommandForms.{start_in, promote_in, service_reading};
+ghost use Rattle.canary_wire.specs.CommandForms.{reading_of_kind, command_reading, body_reading};
 
-use crate::form::{given, label_in, name_in};
+use crate::form::{label_in, member_of, name_in};
 use crate::rollout::{is_unsupported_rollout, rollout_name, rollout_steps};
 use canary_base::names::{Label, Name};
 use canary_plan::command::Command;
 use canary_plan::plan::ServiceSpec;
 use serde_json::Value;
 use std::alloc::{AllocFailed, Global};
+use thiserror::Error;
 
 /// Why no command was read.
-#[derive(Clone, Copy, Debug, PartialEq, Eq)]
+#[derive(Clone, Copy, Debug, PartialEq, Eq, Error)]
 pub enum WireFault {
     /// The bytes are no JSON in UTF-8, or no command in JSON.
+    #[error("the body is no command")]
     Unreadable,
     /// The body asks for what the desk does not do.
+    #[error("the body asks for what the desk does not do")]
     Unsupported,
     /// An allocation was refused.
+    #[error("out of memory")]
     Memory,
 }
 
@@ -93,7 +99,8 @@ fn command_of_kind(alloc: Global, kind: &str, value: &Value) -> Result<Command, 
 // The key and the value of the only member of an object.
 #[tactic(auto, using(crate::proofs::Members::only_of_one, crate::proofs::Members::none_of_more))]
 fn only_member(value: &Value) -> Option<(&str, &Value)>
-    ensures { option_map (λ m. (m.0.now, view m.1.now)) result ≡ option_and_then only_member (as_object (view value.now)) }
+    ensures { option_map (λ m. (m.0.now, view m.1.now)) result
+        ≡ option_and_then only_member (as_object (view value.now)) }
 {
     let members = value.as_object()?;
     if members.len() != 1 {
@@ -126,7 +133,7 @@ fn service_command(alloc: Global, value: &Value) -> Result<Command, WireFault>
 fn is_unsupported_service(value: &Value) -> bool
     ensures { result ≡ has (codes "manifest") is_unsupported_rollout (view value.now) }
 {
-    given(value, "manifest").is_some_and(is_unsupported_rollout)
+    member_of(value, "manifest").is_some_and(is_unsupported_rollout)
 }
 
 #[tactic(auto, unfolding(crate::specs::CommandForms::service_in))]

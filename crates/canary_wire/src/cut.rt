@@ -4,77 +4,78 @@ ghost use Rattle.httparse.specs.Spans.{IsRequestWithin, IsRequestOf};
 ghost use Rattle.canary_wire.specs.Cut.{Cuts};
 
 use crate::framing::{Framing, closes, frame, is_bare};
-use crate::refusal::Refusal;
+use crate::rejection::Rejection;
 use httparse::Status;
 use httparse::spans::{EMPTY_HEADER_SPAN, HeaderSpan, RequestSpans, Span, parse_request};
 
-/// The most bytes of a head.
+// The most bytes of a head.
 pub(crate) const MOST_HEAD: usize = 16_384;
 
-/// The most header lines.
+// The most header lines.
 const MOST_LINES: usize = 64;
 
-/// Where the parts of a message are, and what its head asks of the reply.
+// Where the parts of a message are, and what its head asks of the reply.
 #[derive(Clone, Copy, Debug)]
 pub(crate) struct Parts {
     pub method: Span,
     pub target: Span,
-    /// The length of the head.
+    // The length of the head.
     pub len: usize,
-    /// The length of the message.
+    // The length of the message.
     pub end: usize,
-    /// Whether the stream ends after the reply.
+    // Whether the stream ends after the reply.
     pub is_last: bool,
-    /// Whether the reply is its head alone.
+    // Whether the reply is its head alone.
     pub head_alone: bool,
 }
 
-/// What stands first: a message, a refusal that ends the stream, with whether its reply is its head
-/// alone, or less than either.
+// What stands first: a message, a rejection that ends the stream, with whether its reply is its
+// head alone, or less than either.
 #[derive(Clone, Copy, Debug)]
 pub(crate) enum Next {
     Message(Parts),
-    Refused(Refusal, bool),
+    Rejected(Rejection, bool),
     Unfinished,
 }
 
-/// What stands first.
+// What stands first.
 pub(crate) fn first(bytes: &[u8]) -> Next
     ensures { Cuts bytes.now result }
 {
     let mut headers = [EMPTY_HEADER_SPAN; MOST_LINES];
     match parse_request(bytes, &mut headers) {
-        Ok(Status::Complete(head)) => whole(bytes, &headers, head),
+        Ok(Status::Complete(head)) => first_with_head(bytes, &headers, head),
         Ok(Status::Partial) if bytes.len() < MOST_HEAD => Next::Unfinished,
-        Ok(Status::Partial) => Next::Refused(Refusal::Malformed, false),
-        Err(_) => Next::Refused(Refusal::Malformed, false),
+        Ok(Status::Partial) => Next::Rejected(Rejection::Malformed, false),
+        Err(_) => Next::Rejected(Rejection::Malformed, false),
     }
 }
 
-// What stands first where a head does.
-fn whole(bytes: &[u8], headers: &[HeaderSpan], head: RequestSpans) -> Next
+// What stands first where a whole head does.
+fn first_with_head(bytes: &[u8], headers: &[HeaderSpan], head: RequestSpans) -> Next
     requires within { IsRequestWithin bytes.now headers.now head }
     requires of { IsRequestOf bytes.now headers.now head }
     requires lines { length headers.now ≤ 64 }
     ensures { Cuts bytes.now result }
 {
     if head.len > MOST_HEAD {
-        return Next::Refused(Refusal::Malformed, false);
+        return Next::Rejected(Rejection::Malformed, false);
     }
     let method = head.method.of(bytes);
     let fields = &headers[..head.headers];
     let head_alone = is_bare(method);
     match frame(bytes, method, fields) {
-        Framing::Refused(refusal) => Next::Refused(refusal, head_alone),
+        Framing::Rejected(rejection) => Next::Rejected(rejection, head_alone),
         Framing::Body(n) => {
-            if bytes.len() - head.len < n {
+            let end = head.len + n;
+            if bytes.len() < end {
                 return Next::Unfinished;
             }
             Next::Message(Parts {
                 method: head.method,
                 target: head.path,
                 len: head.len,
-                end: head.len + n,
+                end,
                 is_last: closes(bytes, head.version, fields),
                 head_alone,
             })

@@ -1,27 +1,29 @@
 //! How long the body of a message is (RFC 9112, section 6), and whether the stream ends after the
 //! reply to it (RFC 9112, section 9.3).
-ghost use Rattle.std.specs.Prelude.{◌≡◌, ◌==◌, ◌||◌, ℕ, ◌≤◌, List, [], ◌∷◌, ◌++◌, length, map, All, if◌then◌else◌, Some, None, min, bytes_eq, codes};
+ghost use Rattle.std.specs.Prelude.{◌≡◌, ◌==◌, ◌||◌, ℕ, ◌≤◌, Some, None, if◌then◌else◌};
+ghost use Rattle.std.specs.Prelude.{List, [], ◌∷◌, ◌++◌, length, map, All, min, bytes_eq, codes};
 ghost use Rattle.std.specs.Char.{to_ascii_lowercase};
 ghost use Rattle.std.specs.Str.Parse.{digits_value};
 ghost use Rattle.httparse.specs.Spans.{IsWithin, IsHeaderWithin, header_bytes, span_bytes};
-ghost use Rattle.canary_wire.specs.Heads.{is_digits, values_named, has_any, framing_one, framing, framing_of, IsSmall, asks_to_close};
+ghost use Rattle.canary_wire.specs.Heads.{is_digits, values_named, has_any, asks_to_close};
+ghost use Rattle.canary_wire.specs.Heads.{framing_one, framing, framing_of, IsSmall};
 ghost use Rattle.canary_wire.specs.Named.{Shows, IsShown};
 
-use crate::refusal::Refusal;
+use crate::rejection::Rejection;
 use http1::fields::KnownFields;
 use httparse::spans::{HeaderSpan, Span};
 
-/// The most bytes of a body.
+// The most bytes of a body.
 pub(crate) const MOST_BODY: usize = 65_536;
 
-/// How long a body is, or why its head is refused.
+// How long a body is, or why its head is rejected.
 #[derive(Clone, Copy, Debug, PartialEq, Eq)]
 pub(crate) enum Framing {
     Body(usize),
-    Refused(Refusal),
+    Rejected(Rejection),
 }
 
-/// The values of the fields of one name: none, one, or more.
+// The values of the fields of one name: none, one, or more.
 #[derive(Clone, Copy, Debug)]
 pub(crate) enum Named {
     Zero,
@@ -29,7 +31,7 @@ pub(crate) enum Named {
     Many,
 }
 
-/// How long the body is, or why the head is refused.
+// How long the body is, or why the head is rejected.
 pub(crate) fn frame(buf: &[u8], method: &[u8], headers: &[HeaderSpan]) -> Framing
     requires { All (IsHeaderWithin (length buf.now)) headers.now }
     ensures is { result ≡ framing_of method.now (map (header_bytes buf.now) headers.now) }
@@ -40,8 +42,8 @@ pub(crate) fn frame(buf: &[u8], method: &[u8], headers: &[HeaderSpan]) -> Framin
     scan(buf, headers, b"content-length").frame(buf, needs, coded)
 }
 
-/// Whether the stream ends after the reply: the head is of HTTP/1.0, or a `Connection` field lists
-/// `close`.
+// Whether the stream ends after the reply: the head is of HTTP/1.0, or a `Connection` field lists
+// `close`.
 pub(crate) fn closes(buf: &[u8], version: u8, headers: &[HeaderSpan]) -> bool
     requires { All (IsHeaderWithin (length buf.now)) headers.now }
     ensures { result ≡ (version == 0 || asks_to_close (map (header_bytes buf.now) headers.now)) }
@@ -49,7 +51,7 @@ pub(crate) fn closes(buf: &[u8], version: u8, headers: &[HeaderSpan]) -> bool
     version == 0 || asks_to_close(buf, headers)
 }
 
-/// Whether the reply to a message of this method is its head alone.
+// Whether the reply to a message of this method is its head alone.
 pub(crate) fn is_bare(method: &[u8]) -> bool
     ensures { result ≡ bytes_eq method.now (codes "HEAD") }
 {
@@ -69,7 +71,8 @@ fn asks_to_close(buf: &[u8], headers: &[HeaderSpan]) -> bool
 fn scan(buf: &[u8], headers: &[HeaderSpan], name: &[u8]) -> Named
     requires fits { All (IsHeaderWithin (length buf.now)) headers.now }
     requires lower { map to_ascii_lowercase name.now ≡ name.now }
-    ensures { Shows buf.now result (values_named name.now (map (header_bytes buf.now) headers.now)) }
+    ensures { Shows buf.now result
+        (values_named name.now (map (header_bytes buf.now) headers.now)) }
 {
     let mut found = Named::Zero;
     for h in headers {
@@ -90,7 +93,8 @@ fn is_named(field: &[u8], name: &[u8]) -> bool
 impl Named {
     // Takes one more value, if it is a hit.
     fn add(self, hit: bool, value: Span) -> Named
-        ensures { (buf : List ℕ) (values : List (List ℕ)) → Shows buf self values → IsWithin (length buf) value
+        ensures { (buf : List ℕ) (values : List (List ℕ))
+            → Shows buf self values → IsWithin (length buf) value
             → Shows buf result (values ++ (if hit then span_bytes buf value ∷ [] else [])) }
     {
         if !hit {
@@ -103,7 +107,8 @@ impl Named {
     }
 
     fn is_any(self) -> bool
-        ensures { (buf : List ℕ) (values : List (List ℕ)) → Shows buf self values → result ≡ has_any values }
+        ensures { (buf : List ℕ) (values : List (List ℕ))
+            → Shows buf self values → result ≡ has_any values }
     {
         !matches!(self, Named::Zero)
     }
@@ -111,14 +116,15 @@ impl Named {
     // How long the body is, where these are the values of `Content-Length`.
     fn frame(self, buf: &[u8], needs: bool, coded: bool) -> Framing
         requires { IsShown buf.now self }
-        ensures is { (values : List (List ℕ)) → Shows buf.now self values → result ≡ framing needs values coded }
+        ensures is { (values : List (List ℕ))
+            → Shows buf.now self values → result ≡ framing needs values coded }
         ensures small { IsSmall result }
     {
         match self {
-            Named::Zero if coded || needs => Framing::Refused(Refusal::Length),
+            Named::Zero if coded || needs => Framing::Rejected(Rejection::Length),
             Named::Zero => Framing::Body(0),
             Named::One(span) => frame_one(span.of(buf), coded),
-            Named::Many => Framing::Refused(Refusal::Malformed),
+            Named::Many => Framing::Rejected(Rejection::Malformed),
         }
     }
 }
@@ -129,12 +135,12 @@ fn frame_one(value: &[u8], coded: bool) -> Framing
     ensures small { IsSmall result }
 {
     let Some(n) = parse_length(value) else {
-        return Framing::Refused(Refusal::Malformed);
+        return Framing::Rejected(Rejection::Malformed);
     };
     if coded {
-        Framing::Refused(Refusal::Length)
+        Framing::Rejected(Rejection::Length)
     } else if n > MOST_BODY {
-        Framing::Refused(Refusal::TooLong)
+        Framing::Rejected(Rejection::TooLong)
     } else {
         Framing::Body(n)
     }
@@ -142,7 +148,8 @@ fn frame_one(value: &[u8], coded: bool) -> Framing
 
 // The number of the digits, cut off above the limit of a body.
 fn parse_length(digits: &[u8]) -> Option<usize>
-    ensures { result ≡ (if is_digits digits.now then Some (min (digits_value 10 digits.now) 65537) else None) }
+    ensures { result
+        ≡ (if is_digits digits.now then Some (min (digits_value 10 digits.now) 65537) else None) }
 {
     if digits.is_empty() {
         return None;

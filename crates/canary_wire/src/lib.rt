@@ -2,8 +2,8 @@
 //!
 //! Callers may rest on this: a command is read from JSON exactly as its definition reads it. Over
 //! any reader, writer, clock and book `serve` cuts the bytes that it reads into messages, in one
-//! way only, and writes their replies in order: each is a refusal that the rules fix, a 503, or the
-//! register's answer at the clock's next moment.
+//! way only, and writes their replies in order: each is a rejection that the rules fix, a 503, or
+//! the register's answer at the clock's next moment.
 #![tactic(auto)]
 
 mod answer;
@@ -13,7 +13,7 @@ mod cut;
 mod form;
 mod framing;
 pub mod laws;
-mod refusal;
+mod rejection;
 mod reply;
 mod rollout;
 mod routes;

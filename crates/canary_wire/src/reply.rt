@@ -1,43 +1,44 @@
 //! Replies (RFC 9112), and writing them.
 ghost use Rattle.std.specs.Prelude.{◌≡◌, ◌++◌, ◌≤◌, length};
-ghost use Rattle.canary_wire.specs.ReplyTexts.{said_status, said_body, allows, status_code, reason_of, line_if, head_text, reply_text};
+ghost use Rattle.canary_wire.specs.ReplyTexts.{response_status, response_body, allows, status_code};
+ghost use Rattle.canary_wire.specs.ReplyTexts.{reason_of, line_if, head_text, reply_text};
 ghost use Rattle.canary_wire.specs.Writes.{Writes};
 
-use crate::refusal::Refusal;
+use crate::rejection::Rejection;
 use arrayvec::ArrayString;
 use canary_once::event::Answer;
 use http::StatusCode;
 use std::io::Write;
 
-/// Room for the head of any reply, and behind it for most bodies.
+// Room for the head of any reply, and behind it for most bodies.
 const ROOM: usize = 512;
 
-/// What is said in the reply to a message.
+// What the reply to a message says.
 #[derive(Drop)]
-pub(crate) enum Said {
-    Refused(Refusal),
+pub(crate) enum Response {
+    Rejected(Rejection),
     NoMemory,
     Answered(Answer),
 }
 
-impl Said {
-    fn status(&self) -> u16
-        ensures { result ≡ said_status self.now }
+impl Response {
+    fn status(&self) -> StatusCode
+        ensures { result ≡ response_status self.now }
     {
         match self {
-            Said::Refused(refusal) => refusal.status(),
-            Said::NoMemory => 503,
-            Said::Answered(answer) => answer.status(),
+            Response::Rejected(rejection) => rejection.status(),
+            Response::NoMemory => StatusCode::SERVICE_UNAVAILABLE,
+            Response::Answered(answer) => status_code(answer.status()),
         }
     }
 
     fn body(&self) -> &str
-        ensures { result.now ≡ said_body self.now }
+        ensures { result.now ≡ response_body self.now }
     {
         match self {
-            Said::Refused(refusal) => refusal.body(),
-            Said::NoMemory => "{\"code\":\"no-memory\"}",
-            Said::Answered(answer) => answer.body(),
+            Response::Rejected(rejection) => rejection.body(),
+            Response::NoMemory => "{\"code\":\"no-memory\"}",
+            Response::Answered(answer) => answer.body(),
         }
     }
 
@@ -45,33 +46,29 @@ impl Said {
     fn allows(&self) -> bool
         ensures { result ≡ allows self.now }
     {
-        matches!(self, Said::Refused(Refusal::Method))
+        matches!(self, Response::Rejected(Rejection::Method))
     }
 }
 
-/// The writer failed, or took no byte.
+// The writer failed, or took no byte.
 #[derive(Clone, Copy, Debug, PartialEq, Eq)]
 pub(crate) struct WriteFault;
 
-/// Writes the reply that says this: its head alone where that is asked, and with `Connection:
-/// close` where the stream ends after it. It takes no memory. What went out before a fault is a front of
-/// the reply.
+// Writes the reply that says this: its head alone where that is asked, and with `Connection: close`
+// where the stream ends after it. It takes no memory. What went out before a fault are the first
+// bytes of the reply.
 #[tactic(auto, unfolding(crate::specs::ReplyTexts::reply_text))]
 pub(crate) fn write_reply<W: Write>(
     writer: &mut W,
-    said: &Said,
+    response: &Response,
     is_last: bool,
     head_alone: bool,
 ) -> Result<(), WriteFault>
-    ensures { Writes (W.contents writer.old) (W.contents writer.new) (reply_text said.now is_last head_alone) result }
+    ensures { Writes (W.contents writer.old) (W.contents writer.new)
+        (reply_text response.now is_last head_alone) result }
 {
-    let body = said.body();
-    let head = reply_head(
-        status_code(said.status()),
-        body.len(),
-        said.allows(),
-        is_last,
-    );
+    let body = response.body();
+    let head = reply_head(response.status(), body.len(), response.allows(), is_last);
     if head_alone {
         return write_all(writer, head.as_str().as_bytes());
     }
@@ -136,7 +133,8 @@ fn write_both<W: Write>(
     mut head: ArrayString<ROOM>,
     body: &str,
 ) -> Result<(), WriteFault>
-    ensures { Writes (W.contents writer.old) (W.contents writer.new) (head.bytes ++ body.now) result }
+    ensures { Writes (W.contents writer.old) (W.contents writer.new)
+        (head.bytes ++ body.now) result }
 {
     if body.len() <= head.remaining_capacity() {
         head.push_str(body);

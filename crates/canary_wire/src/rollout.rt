@@ -3,43 +3,47 @@ ghost use Rattle.std.specs.Prelude.{◌≡◌, codes};
 ghost use Rattle.serde_json.specs.View.{view, items_view, members_view};
 ghost use Rattle.canary_wire.specs.CommandReadings.{IsRead};
 ghost use Rattle.canary_wire.specs.ManifestForms.{each, list_of, has, is_true, any_item, some_item};
-ghost use Rattle.canary_wire.specs.Rollouts.{rollout_name, pause_in, step_in, canary_steps, rollout_steps, is_unsupported_analysis, is_step_key, any_other, has_other_member, is_unsupported_step, is_unsupported_canary, is_unsupported_strategy, is_unsupported_spec, is_unsupported_rollout};
+ghost use Rattle.canary_wire.specs.Rollouts.{rollout_name, pause_in, step_in, canary_steps};
+ghost use Rattle.canary_wire.specs.Rollouts.{rollout_steps, is_unsupported_analysis, is_step_key};
+ghost use Rattle.canary_wire.specs.Rollouts.{any_other, has_other_member, is_unsupported_step};
+ghost use Rattle.canary_wire.specs.Rollouts.{is_unsupported_canary, is_unsupported_strategy};
+ghost use Rattle.canary_wire.specs.Rollouts.{is_unsupported_spec, is_unsupported_rollout};
 
 use crate::command::WireFault;
-use crate::form::{given, is_no_empty_list, is_other_text, is_true, name_in, whole_up_to};
+use crate::form::{is_no_empty_list, is_other_text, is_true, member_of, name_in, number_up_to};
 use canary_base::lists::Listed;
 use canary_base::names::Name;
 use canary_plan::plan::Step;
 use serde_json::{Map, Value};
 use std::alloc::Global;
 
-/// The greatest weight that is read. What a strategy takes is less, and checked later.
+// The greatest weight that is read. What a strategy takes is less, and checked later.
 const GREATEST_WEIGHT_READ: u32 = 1_000_000;
 
-/// The name in a manifest.
+// The name in a manifest.
 pub(crate) fn rollout_name(manifest: &Value) -> Option<Name>
     ensures { result ≡ rollout_name (view manifest.now) }
 {
-    name_in(given(given(manifest, "metadata")?, "name")?)
+    name_in(member_of(member_of(manifest, "metadata")?, "name")?)
 }
 
-/// The steps in a manifest.
+// The steps in a manifest.
 pub(crate) fn rollout_steps(alloc: Global, manifest: &Value) -> Result<Listed<Step>, WireFault>
     ensures { IsRead (rollout_steps (view manifest.now)) result }
 {
-    let spec = given(manifest, "spec").ok_or(WireFault::Unreadable)?;
-    let strategy = given(spec, "strategy").ok_or(WireFault::Unreadable)?;
-    let canary = given(strategy, "canary").ok_or(WireFault::Unreadable)?;
+    let spec = member_of(manifest, "spec").ok_or(WireFault::Unreadable)?;
+    let strategy = member_of(spec, "strategy").ok_or(WireFault::Unreadable)?;
+    let canary = member_of(strategy, "canary").ok_or(WireFault::Unreadable)?;
     canary_steps(alloc, canary)
 }
 
 fn canary_steps(alloc: Global, canary: &Value) -> Result<Listed<Step>, WireFault>
     ensures { IsRead (canary_steps (view canary.now)) result }
 {
-    if !canary.is_object() || given(canary, "analysis").is_some() {
+    if !canary.is_object() || member_of(canary, "analysis").is_some() {
         return Err(WireFault::Unreadable);
     }
-    match given(canary, "steps") {
+    match member_of(canary, "steps") {
         Some(steps) => steps_of(alloc, steps),
         None => Ok(Listed::of(Vec::new(alloc))),
     }
@@ -54,7 +58,7 @@ fn steps_of(alloc: Global, steps: &Value) -> Result<Listed<Step>, WireFault>
     }
 }
 
-#[tactic(auto, using(crate::proofs::Items::each_start, crate::proofs::Items::each_step, crate::proofs::Items::each_fail, crate::proofs::Items::each_end))]
+#[tactic(auto, using(crate::proofs::Items::read_in_turn))]
 fn steps_in(alloc: Global, list: &Vec<Value>) -> Result<Listed<Step>, WireFault>
     ensures { IsRead (each step_in (items_view list.now.items)) result }
 {
@@ -71,11 +75,11 @@ fn step_in(step: &Value) -> Option<Step>
     ensures { result ≡ step_in (view step.now) }
 {
     match (
-        given(step, "setWeight"),
-        given(step, "pause"),
-        given(step, "analysis"),
+        member_of(step, "setWeight"),
+        member_of(step, "pause"),
+        member_of(step, "analysis"),
     ) {
-        (Some(weight), None, None) => Some(Step::SetWeight(whole_up_to(
+        (Some(weight), None, None) => Some(Step::SetWeight(number_up_to(
             weight,
             GREATEST_WEIGHT_READ,
         )?)),
@@ -87,43 +91,43 @@ fn step_in(step: &Value) -> Option<Step>
 fn pause_in(pause: &Value) -> Option<Step>
     ensures { result ≡ pause_in (view pause.now) }
 {
-    if pause.is_object() && given(pause, "duration").is_none() {
+    if pause.is_object() && member_of(pause, "duration").is_none() {
         Some(Step::Pause)
     } else {
         None
     }
 }
 
-/// Whether a manifest asks for what the desk does not do: another kind of manifest, a paused
-/// rollout, blue-green, a step of another kind, or in an analysis a dry run, measurement retention
-/// or a template of the cluster.
+// Whether a manifest asks for what the desk does not do: another kind of manifest, a paused
+// rollout, blue-green, a step of another kind, or in an analysis a dry run, measurement retention
+// or a template of the cluster.
 #[tactic(auto, unfolding(crate::specs::Rollouts::is_unsupported_rollout))]
 pub(crate) fn is_unsupported_rollout(manifest: &Value) -> bool
     ensures { result ≡ is_unsupported_rollout (view manifest.now) }
 {
-    given(manifest, "kind").is_some_and(|kind| is_other_text(kind, "Rollout"))
-        || given(manifest, "spec").is_some_and(is_unsupported_spec)
+    member_of(manifest, "kind").is_some_and(|kind| is_other_text(kind, "Rollout"))
+        || member_of(manifest, "spec").is_some_and(is_unsupported_spec)
 }
 
 fn is_unsupported_spec(spec: &Value) -> bool
     ensures { result ≡ is_unsupported_spec (view spec.now) }
 {
-    given(spec, "paused").is_some_and(is_true)
-        || given(spec, "strategy").is_some_and(is_unsupported_strategy)
+    member_of(spec, "paused").is_some_and(is_true)
+        || member_of(spec, "strategy").is_some_and(is_unsupported_strategy)
 }
 
 fn is_unsupported_strategy(strategy: &Value) -> bool
     ensures { result ≡ is_unsupported_strategy (view strategy.now) }
 {
-    given(strategy, "blueGreen").is_some()
-        || given(strategy, "canary").is_some_and(is_unsupported_canary)
+    member_of(strategy, "blueGreen").is_some()
+        || member_of(strategy, "canary").is_some_and(is_unsupported_canary)
 }
 
 fn is_unsupported_canary(canary: &Value) -> bool
     ensures { result ≡ is_unsupported_canary (view canary.now) }
 {
-    given(canary, "steps").is_some_and(has_unsupported_step)
-        || given(canary, "analysis").is_some_and(is_unsupported_analysis)
+    member_of(canary, "steps").is_some_and(has_unsupported_step)
+        || member_of(canary, "analysis").is_some_and(is_unsupported_analysis)
 }
 
 fn has_unsupported_step(steps: &Value) -> bool
@@ -135,7 +139,7 @@ fn has_unsupported_step(steps: &Value) -> bool
     }
 }
 
-#[tactic(auto, using(crate::proofs::Items::any_step, crate::proofs::Items::any_here, crate::proofs::Items::any_end))]
+#[tactic(auto, using(crate::proofs::Items::tested_in_turn))]
 fn is_any_step_unsupported(list: &Vec<Value>) -> bool
     ensures { result ≡ any_item is_unsupported_step (items_view list.now.items) }
 {
@@ -151,7 +155,7 @@ fn is_any_step_unsupported(list: &Vec<Value>) -> bool
 fn is_unsupported_step(step: &Value) -> bool
     ensures { result ≡ is_unsupported_step (view step.now) }
 {
-    has_other_member(step) || given(step, "analysis").is_some_and(is_unsupported_analysis)
+    has_other_member(step) || member_of(step, "analysis").is_some_and(is_unsupported_analysis)
 }
 
 fn has_other_member(step: &Value) -> bool
@@ -183,9 +187,9 @@ fn is_step_key(key: &str) -> bool
 fn is_unsupported_analysis(analysis: &Value) -> bool
     ensures { result ≡ is_unsupported_analysis (view analysis.now) }
 {
-    given(analysis, "dryRun").is_some_and(is_no_empty_list)
-        || given(analysis, "measurementRetention").is_some_and(is_no_empty_list)
-        || given(analysis, "templates").is_some_and(has_cluster_template)
+    member_of(analysis, "dryRun").is_some_and(is_no_empty_list)
+        || member_of(analysis, "measurementRetention").is_some_and(is_no_empty_list)
+        || member_of(analysis, "templates").is_some_and(has_cluster_template)
 }
 
 fn has_cluster_template(templates: &Value) -> bool
@@ -197,7 +201,7 @@ fn has_cluster_template(templates: &Value) -> bool
     }
 }
 
-#[tactic(auto, using(crate::proofs::Items::any_step, crate::proofs::Items::any_here, crate::proofs::Items::any_end))]
+#[tactic(auto, using(crate::proofs::Items::tested_in_turn))]
 fn is_any_of_the_cluster(list: &Vec<Value>) -> bool
     ensures { result ≡ any_item (has (codes "clusterScope") is_true) (items_view list.now.items) }
 {
@@ -212,5 +216,5 @@ fn is_any_of_the_cluster(list: &Vec<Value>) -> bool
 fn is_of_the_cluster(template: &Value) -> bool
     ensures { result ≡ has (codes "clusterScope") is_true (view template.now) }
 {
-    given(template, "clusterScope").is_some_and(is_true)
+    member_of(template, "clusterScope").is_some_and(is_true)
 }

@@ -1,27 +1,29 @@
 //! Serving a stream.
 ghost use Rattle.std.specs.Prelude.{◌≡◌, [], ◌++◌, IfOk, Err};
 ghost use Rattle.std.specs.List.{list_all};
-ghost use Rattle.canary_once.specs.Contents.{KeepsEntries};
-ghost use Rattle.canary_wire.specs.Cut.{is_newline, refusing};
+ghost use Rattle.canary_once.specs.Contents.{KeepsReceipts};
+ghost use Rattle.canary_wire.specs.Cut.{is_newline, rejecting};
 ghost use Rattle.canary_wire.specs.Exchanges.{point};
 ghost use Rattle.canary_wire.specs.Routes.{the_rows};
-ghost use Rattle.canary_wire.specs.Buffers.{held};
-ghost use Rattle.canary_wire.specs.Serving.{last_reply, end_of, ServesTo, ServesSome, ServesUntil, TurnsTo, AnswersHeld, RefusesAll};
+ghost use Rattle.canary_wire.specs.Buffers.{bytes_held};
+ghost use Rattle.canary_wire.specs.Serving.{last_reply, end_of, ServesTo, ServesSome, ServesUntil};
+ghost use Rattle.canary_wire.specs.Serving.{TurnsTo, AnswersHeld, RejectsAll};
 
 use crate::answer::answer;
 use crate::buffer::Buffer;
 use crate::cut::{Next, first};
-use crate::refusal::Refusal;
-use crate::reply::{Said, WriteFault, write_reply};
+use crate::rejection::Rejection;
+use crate::reply::{Response, WriteFault, write_reply};
 use crate::routes::{Route, routes};
 use canary_once::book::Book;
 use canary_once::clock::Clock;
-use canary_once::laws::going_on;
+use canary_once::laws::running_on;
 use matchit::Router;
 use std::alloc::Global;
 use std::io::{Read, Write};
+use thiserror::Error;
 
-/// The most reads of one stream.
+// The most reads of one stream.
 const MOST_READS: u32 = 1_000_000_000;
 
 /// How a stream ended.
@@ -29,7 +31,7 @@ const MOST_READS: u32 = 1_000_000_000;
 pub enum Ended {
     /// The input ended, and nothing but line ends stood behind the last message.
     EndOfInput,
-    /// The last message asked for that, or was refused in a way that ends the stream.
+    /// The last message asked for that, or was rejected in a way that ends the stream.
     Closed,
     /// The input ended in the midst of a message.
     Truncated,
@@ -38,37 +40,40 @@ pub enum Ended {
 }
 
 /// Why a stream was not served to its end.
-#[derive(Clone, Copy, Debug, PartialEq, Eq)]
+#[derive(Clone, Copy, Debug, PartialEq, Eq, Error)]
 pub enum ServeFault {
     /// The reader failed.
+    #[error("the input could not be read")]
     Read,
     /// The writer failed, or took no byte.
+    #[error("the output could not be written")]
     Write,
     /// An allocation was refused.
+    #[error("out of memory")]
     Memory,
 }
 
-/// Whether a stream goes on.
+// Whether a stream goes on.
 #[derive(Clone, Copy, Debug, PartialEq, Eq)]
 pub(crate) enum Turn {
-    GoesOn,
+    Continues,
     Ends,
 }
 
 /// Serves a stream of requests of HTTP (RFC 9110, RFC 9112), each answered as soon as it is whole.
 ///
 /// The bytes that are read are cut into messages. For each the clock is asked once, the register is
-/// asked where the message is a request, and its reply is written. The stream ends at the end of
-/// the input, after a message of HTTP/1.0 or with `Connection: close`, at a message that is refused
-/// as `malformed`, `length` or `too-long`, or after 1,000,000,000 reads. Where memory is wanted
-/// later than before the first read, the reply is 503.
+/// asked where the message is a request, and its reply is written before more is read. The stream
+/// ends at the end of the input, after a message of HTTP/1.0 or with `Connection: close`, at a
+/// message that is rejected as `malformed`, `length` or `too-long`, or after 1,000,000,000 reads.
+/// Where memory runs out behind the first read, the reply is 503.
 ///
 /// # Errors
 /// `Memory` where there was none for the buffer of 81,920 bytes or for the routes: nothing was
 /// read, written or asked. `Read` where the reader failed, also where it was interrupted: all that
 /// was read before is answered. `Write` where the writer failed or took no byte: what was written
-/// is a front of the replies, and the message whose reply did not go out whole is the last that was
-/// answered; if it was a new request, it is settled.
+/// are the replies up to the midst of one; the message of that one is the last that was answered,
+/// and if it was a new request, it is settled.
 pub fn serve<R: Read, W: Write, C: Clock, B: Book>(
     alloc: Global,
     reader: &mut R,
@@ -76,19 +81,24 @@ pub fn serve<R: Read, W: Write, C: Clock, B: Book>(
     clock: &mut C,
     book: &mut B,
 ) -> Result<Ended, ServeFault>
-    ensures ok { IfOk result (λ ended. ServesTo (R.remaining reader.old) (R.remaining reader.new) (W.contents writer.old) (W.contents writer.new)
-        (point (C.tells clock.old) (B.is_intact book.old) (B.is_sure book.old) (B.contents book.old))
-        (point (C.tells clock.new) (B.is_intact book.new) (B.is_sure book.new) (B.contents book.new)) ended) }
-    ensures read { result ≡ Err ServeFault.Read → ServesSome (R.remaining reader.old) (R.remaining reader.new) (W.contents writer.old) (W.contents writer.new)
-        (point (C.tells clock.old) (B.is_intact book.old) (B.is_sure book.old) (B.contents book.old))
-        (point (C.tells clock.new) (B.is_intact book.new) (B.is_sure book.new) (B.contents book.new)) }
-    ensures write { result ≡ Err ServeFault.Write → ServesUntil (R.remaining reader.old) (R.remaining reader.new) (W.contents writer.old) (W.contents writer.new)
-        (point (C.tells clock.old) (B.is_intact book.old) (B.is_sure book.old) (B.contents book.old))
-        (point (C.tells clock.new) (B.is_intact book.new) (B.is_sure book.new) (B.contents book.new)) }
-    ensures memory { result ≡ Err ServeFault.Memory → (reader.new ≡ reader.old) × (writer.new ≡ writer.old) × (clock.new ≡ clock.old) × (book.new ≡ book.old) }
-    ensures intact { B.is_intact book.new → B.is_intact book.old }
-    ensures sure { B.is_sure book.new ≡ B.is_sure book.old }
-    ensures kept { B.is_intact book.new → KeepsEntries (B.contents book.old) (B.contents book.new) }
+    ensures ok { IfOk result (λ ended. ServesTo (R.remaining reader.old) (R.remaining reader.new)
+        (W.contents writer.old) (W.contents writer.new)
+        (point (C.tells clock.old) (B.state book.old))
+        (point (C.tells clock.new) (B.state book.new)) ended) }
+    ensures read { result ≡ Err ServeFault.Read → ServesSome (R.remaining reader.old)
+        (R.remaining reader.new) (W.contents writer.old) (W.contents writer.new)
+        (point (C.tells clock.old) (B.state book.old))
+        (point (C.tells clock.new) (B.state book.new)) }
+    ensures write { result ≡ Err ServeFault.Write → ServesUntil (R.remaining reader.old)
+        (R.remaining reader.new) (W.contents writer.old) (W.contents writer.new)
+        (point (C.tells clock.old) (B.state book.old))
+        (point (C.tells clock.new) (B.state book.new)) }
+    ensures memory { result ≡ Err ServeFault.Memory → (reader.new ≡ reader.old)
+        × (writer.new ≡ writer.old) × (clock.new ≡ clock.old) × (book.new ≡ book.old) }
+    ensures intact { (B.state book.new).is_intact → (B.state book.old).is_intact }
+    ensures sure { (B.state book.new).is_sure ≡ (B.state book.old).is_sure }
+    ensures receipts { (B.state book.new).is_intact
+        → KeepsReceipts (B.state book.old).contents (B.state book.new).contents }
 {
     let Ok(mut buffer) = Buffer::new(alloc) else {
         return Err(ServeFault::Memory);
@@ -110,8 +120,8 @@ pub(crate) enum TurnFault {
     Write,
 }
 
-// Reads and answers in turn, from an empty buffer on. That what is answered turn by turn is what the
-// register answers to the whole stream is its law `going_on`.
+// Reads and answers in turn, from an empty buffer on. That what is answered turn by turn is what
+// the register answers to the whole stream is its law `running_on`.
 fn serve_turns<R: Read, W: Write, C: Clock, B: Book>(
     alloc: Global,
     router: &Router<Route>,
@@ -121,22 +131,23 @@ fn serve_turns<R: Read, W: Write, C: Clock, B: Book>(
     clock: &mut C,
     book: &mut B,
 ) -> Result<Ended, TurnFault>
-    requires empty { held buffer.old ≡ [] }
+    requires empty { bytes_held buffer.old ≡ [] }
     requires routes { router.now ≡ the_rows }
-    ensures { TurnsTo (R.remaining reader.old) (R.remaining reader.new) (W.contents writer.old) (W.contents writer.new)
-        (point (C.tells clock.old) (B.is_intact book.old) (B.is_sure book.old) (B.contents book.old))
-        (point (C.tells clock.new) (B.is_intact book.new) (B.is_sure book.new) (B.contents book.new)) result }
+    ensures { TurnsTo (R.remaining reader.old) (R.remaining reader.new)
+        (W.contents writer.old) (W.contents writer.new)
+        (point (C.tells clock.old) (B.state book.old))
+        (point (C.tells clock.new) (B.state book.new)) result }
 {
-    going_on();
+    running_on();
     'turns: for _turn in 0..MOST_READS {
         let Ok(count) = buffer.fill(reader) else {
             return Err(TurnFault::Read);
         };
         if count == 0 {
-            return Ok(end_of(buffer.held()));
+            return Ok(end_of(buffer.as_slice()));
         }
         match answer_held(alloc, router, buffer, writer, clock, book) {
-            Ok(Turn::GoesOn) => {}
+            Ok(Turn::Continues) => {}
             Ok(Turn::Ends) => return Ok(Ended::Closed),
             Err(_) => return Err(TurnFault::Write),
         }
@@ -173,17 +184,17 @@ fn answer_held<W: Write, C: Clock, B: Book>(
 ) -> Result<Turn, WriteFault>
     requires routes { router.now ≡ the_rows }
     ensures { AnswersHeld (W.contents writer.old) (W.contents writer.new)
-        (point (C.tells clock.old) (B.is_intact book.old) (B.is_sure book.old) (B.contents book.old))
-        (point (C.tells clock.new) (B.is_intact book.new) (B.is_sure book.new) (B.contents book.new))
-        (held buffer.old) (held buffer.new) result }
+        (point (C.tells clock.old) (B.state book.old))
+        (point (C.tells clock.new) (B.state book.new))
+        (bytes_held buffer.old) (bytes_held buffer.new) result }
 {
     'messages: loop {
-        match first(buffer.held()) {
+        match first(buffer.as_slice()) {
             Next::Message(parts) => {
                 if let Err(fault) = answer(
                     alloc,
                     router,
-                    buffer.held(),
+                    buffer.as_slice(),
                     parts,
                     writer,
                     clock,
@@ -196,20 +207,25 @@ fn answer_held<W: Write, C: Clock, B: Book>(
                 }
                 buffer.take(parts.end);
             }
-            Next::Refused(refusal, head_alone) => {
-                return refuse(writer, refusal, head_alone);
+            Next::Rejected(rejection, head_alone) => {
+                return reject(writer, rejection, head_alone);
             }
-            Next::Unfinished => return Ok(Turn::GoesOn),
+            Next::Unfinished => return Ok(Turn::Continues),
         }
     }
 }
 
-// Writes the reply of a refusal that ends the stream.
-fn refuse<W: Write>(writer: &mut W, refusal: Refusal, head_alone: bool) -> Result<Turn, WriteFault>
-    ensures { RefusesAll (W.contents writer.old) (W.contents writer.new) (last_reply (refusing refusal head_alone)) result }
+// Writes the reply of a rejection that ends the stream.
+fn reject<W: Write>(
+    writer: &mut W,
+    rejection: Rejection,
+    head_alone: bool,
+) -> Result<Turn, WriteFault>
+    ensures { RejectsAll (W.contents writer.old) (W.contents writer.new)
+        (last_reply (rejecting rejection head_alone)) result }
 {
-    let said = Said::Refused(refusal);
-    match write_reply(writer, &said, true, head_alone) {
+    let response = Response::Rejected(rejection);
+    match write_reply(writer, &response, true, head_alone) {
         Ok(()) => Ok(Turn::Ends),
         Err(fault) => Err(fault),
     }

@@ -1,5 +1,17 @@
-use Rattle.canary_once.proofs.Events.{moved_keeps}
+use Rattle.std.proofs.Common.{◌∙◌}
+use Rattle.canary_once.specs.declared.event.Request.{Request}
+use Rattle.canary_once.specs.Single.{request_of}
+use Rattle.canary_once.proofs.Events.{reply_first, after_first, moved_keeps}
 use Rattle.canary_once.proofs.post.post.Goals as goal
 
-pub returns-in-Ok-clause-kept : goal.returns-in-Ok-clause-kept
-returns-in-Ok-clause-kept g c = λ i. moved_keeps _ _ _ (c.in-Ok.ensures.ok i).1
+pub returns-in-Ok : goal.returns-in-Ok
+returns-in-Ok g c =
+    let asked : Request = request_of c.args.moment c.args.caller c.args.number c.args.command.now in
+    let r = c.in-Ok.ensures in
+    record {
+      intact = r.intact;
+      step = λ i. ((r.ok i).0 ∙ reply_first _ asked, (r.ok i).1 ∙ after_first _ asked);
+      receipts = λ i. moved_keeps _ _ asked (r.ok i).1;
+      sure = r.sure;
+      fault = tt;
+    }

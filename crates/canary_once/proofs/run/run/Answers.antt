@@ -6,7 +6,6 @@ use Rattle.canary_once.specs.Contents.{Contents}
 use Rattle.std.proofs.lemmas.List.Elements.{All-push}
 use Rattle.std.specs.Prelude.{All, Bool}
 use Rattle.canary_once.specs.Single.{IsAnswer, IsFaultOf}
-use Rattle.canary_once.proofs.Events.{answer_keeps}
 use Rattle.canary_once.proofs.Runs.{IsRun, run-push}
 use Rattle.canary_once.proofs.run.run.Goals as goal
 
@@ -25,11 +24,11 @@ loop-event-preserved g c =
     let below : c.loop-event.event-index < length c.args.events.now = omega arith in
     record {
       intact = λ x. i.intact (p.intact x);
-      sure = p.sure.0 ∙ i.sure;
+      sure = p.sure ∙ i.sure;
       count = o.len ∙ ap (λ n. n + 1) i.count;
       len = ap length o.items ∙ length-append _ _ ∙ ap (λ n. n + 1) i.len;
       room = omega (arith, i.room, o.capacity);
-      faults = one_fault _ _ _ _ _ i.faults o.items i.sure p.sure.1;
-      kept = λ x q n k e. answer_keeps _ _ _ _ (p.step x) q n k (i.kept (p.intact x) q n k e);
+      faults = one_fault _ _ _ _ _ i.faults o.items i.sure p.fault;
+      receipts = λ x q n k e. p.receipts x q n k (i.receipts (p.intact x) q n k e);
       run = λ x. one_more _ _ _ _ _ _ _ _ _ below i.len o.items c.event-item.is (i.run (p.intact x)) (p.step x);
     }

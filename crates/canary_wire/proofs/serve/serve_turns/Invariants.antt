@@ -1,4 +1,4 @@
-use Rattle.canary_wire.specs.Buffers.{held}
+use Rattle.canary_wire.specs.Buffers.{bytes_held}
 use Rattle.canary_wire.specs.Exchanges.{point}
 use Rattle.canary_wire.specs.Serving.{IsSoFar}
 use Rattle.canary_wire.proofs.serve.serve_turns.Given as goal
@@ -6,6 +6,6 @@ use Rattle.canary_wire.proofs.serve.serve_turns.Given as goal
 abbrev pub invariant-turns : goal.invariant-turns
 invariant-turns g l =
     IsSoFar (g.R.Read.remaining l.fn.reader) (g.R.Read.remaining l.reader) (g.W.Write.contents l.fn.writer) (g.W.Write.contents l.writer)
-    (point (g.C.Clock.tells l.fn.clock) (g.B.Book.is_intact l.fn.book) (g.B.Book.is_sure l.fn.book) (g.B.Book.contents l.fn.book))
-    (point (g.C.Clock.tells l.clock) (g.B.Book.is_intact l.book) (g.B.Book.is_sure l.book) (g.B.Book.contents l.book))
-    l._turn (held l.buffer)
+    (point (g.C.Clock.tells l.fn.clock) (g.B.Book.state l.fn.book))
+    (point (g.C.Clock.tells l.clock) (g.B.Book.state l.book))
+    l._turn (bytes_held l.buffer)

@@ -1,0 +1,47 @@
+-- How a book stands, and what its calls do.
+use Rattle.std.specs.Prelude.{◌≡◌, Bool, true, false, Result, IfOk, IfErr, OnOk, OnErr}
+use Rattle.canary_once.specs.declared.book.BookFault.{BookFault}
+use Rattle.canary_once.specs.declared.book.BookFault.TheVariants.{Memory, Storage}
+use Rattle.canary_once.specs.declared.book.Settlement.{Settlement}
+use Rattle.canary_once.specs.Contents.{Contents, no_contents, KeepsReceipts, with_settlement}
+
+-- what it contains, however it is kept; whether its store is honest: nobody else writes it, and it gives back what was written; and whether it is sure: its calls never answer Storage
+pub record BookState : Type 1 where
+  pub contents : Contents
+  pub is_intact : Type 0
+  pub is_sure : Bool
+
+-- only a book that is not sure answers Storage
+abbrev pub IsFault : Bool → BookFault → Type 0
+IsFault sure Memory = Unit {0}
+IsFault true Storage = ⊥
+IsFault false Storage = Unit {0}
+
+-- A store that is honest as a call ends was so as the call began, and no call changes whether the book is sure.
+
+-- a call finds this in the contents, or fails; it changes nothing
+pub record Finds {A : Type 0} (value : Contents → A) (old new : BookState) (found : Result A BookFault) : Type 0 where
+  pub intact : new.is_intact → old.is_intact
+  pub same : new.is_intact → new.contents ≡ old.contents
+  pub value_of_old : new.is_intact → IfOk found (λ x. x ≡ value old.contents)
+  pub sure : new.is_sure ≡ old.is_sure
+  pub fault : IfErr found (IsFault old.is_sure)
+
+-- a call settles a request, with all that it changes, or fails and changes nothing
+pub record Commits (s : Settlement) (old new : BookState) (done : Result (Unit {0}) BookFault) : Type 0 where
+  pub intact : new.is_intact → old.is_intact
+  pub ok : new.is_intact → OnOk done (new.contents ≡ with_settlement old.contents s)
+  pub err : new.is_intact → OnErr done (new.contents ≡ old.contents)
+  pub receipts : new.is_intact → KeepsReceipts old.contents new.contents
+  pub sure : new.is_sure ≡ old.is_sure
+  pub fault : IfErr done (IsFault old.is_sure)
+
+-- nothing is settled, the store is honest, and the book is sure
+pub record IsEmptyAndSure (b : BookState) : Type 0 where
+  pub none : b.contents ≡ no_contents
+  pub intact : b.is_intact
+  pub sure : b.is_sure ≡ true
+
+-- however a book of a kind came about, its store is honest, and it is sure
+abbrev pub AreSure : {B : Type 0} → (B → BookState) → Type 0
+AreSure {B} state = (b : B) → (state b).is_intact × ((state b).is_sure ≡ true)

@@ -1,0 +1,60 @@
+//! Why a message is turned away before the register is asked.
+ghost use Rattle.std.specs.Prelude.{◌≡◌};
+ghost use Rattle.canary_wire.specs.ReplyTexts.{rejection_status, rejection_body};
+
+use http::StatusCode;
+
+// Why a message is rejected before the register is asked.
+#[derive(Clone, Copy, Debug, PartialEq, Eq)]
+pub(crate) enum Rejection {
+    // No head of a request, or a `Content-Length` twice or that is no number.
+    Malformed,
+    // A body whose length is not told by a `Content-Length` alone.
+    Length,
+    // A body that is longer than the limit.
+    TooLong,
+    // A target that is no route.
+    NoRoute,
+    // A method that the route does not have.
+    Method,
+    // A caller that is no name.
+    BadName,
+    // A number that is no request number.
+    BadNumber,
+    // A command that asks for what the desk does not do.
+    Unsupported,
+    // A body that is no command.
+    Unreadable,
+}
+
+impl Rejection {
+    // Its status of HTTP (RFC 9110).
+    pub(crate) fn status(self) -> StatusCode
+        ensures { result ≡ rejection_status self }
+    {
+        match self {
+            Rejection::NoRoute => StatusCode::NOT_FOUND,
+            Rejection::Method => StatusCode::METHOD_NOT_ALLOWED,
+            Rejection::Length => StatusCode::LENGTH_REQUIRED,
+            Rejection::TooLong => StatusCode::PAYLOAD_TOO_LARGE,
+            _ => StatusCode::BAD_REQUEST,
+        }
+    }
+
+    // Its body of JSON.
+    pub(crate) fn body(self) -> &'static str
+        ensures { result.now ≡ rejection_body self }
+    {
+        match self {
+            Rejection::Malformed => "{\"code\":\"malformed\"}",
+            Rejection::Length => "{\"code\":\"length\"}",
+            Rejection::TooLong => "{\"code\":\"too-long\"}",
+            Rejection::NoRoute => "{\"code\":\"no-route\"}",
+            Rejection::Method => "{\"code\":\"method\"}",
+            Rejection::BadName => "{\"code\":\"bad-name\"}",
+            Rejection::BadNumber => "{\"code\":\"bad-number\"}",
+            Rejection::Unsupported => "{\"code\":\"unsupported\"}",
+            Rejection::Unreadable => "{\"code\":\"unreadable\"}",
+        }
+    }
+}
