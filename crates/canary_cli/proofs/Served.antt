@@ -1,8 +1,6 @@
 -- From the clauses of `serve` to how the input of `pipe` was served.
-use Rattle.std.proofs.Common.{◌≡◌, ◌∙◌, ℕ, List, [], Result, Ok, Err, IfOk, ap, refl}
-use Rattle.canary_once.specs.declared.book.Change.{Change}
-use Rattle.canary_once.specs.Contents.{no_contents}
-use Rattle.canary_once.specs.Logs.{committed_all}
+use Rattle.std.proofs.Common.{◌≡◌, ◌∙◌, ℕ, Result, Ok, Err, IfOk, ap, refl}
+use Rattle.canary_once.specs.Contents.{Contents, no_contents}
 use Rattle.canary_wire.specs.Serving.{ServesTo, ServesSome, ServesUntil}
 use Rattle.canary_wire.specs.Writes.{Known}
 use Rattle.canary_wire.specs.declared.serve.Ended.{Ended}
@@ -10,12 +8,12 @@ use Rattle.canary_wire.specs.declared.serve.ServeFault.{ServeFault}
 use Rattle.canary_wire.specs.declared.serve.ServeFault.TheVariants.{Read, Write, Memory}
 use Rattle.canary_cli.specs.Performed.{Standing, point_of, fresh, IsServed}
 
--- a clock of steps, and a book that is a list of what was settled
-abbrev pub standing : ℕ × ℕ → List Change → Standing
-standing clock book = record { at = clock.0; step = clock.1; contents = committed_all no_contents book }
+-- a clock of steps, and what a book contains
+abbrev pub standing : ℕ × ℕ → Contents → Standing
+standing clock contents = record { at = clock.0; step = clock.1; contents = contents }
 
-pub standing_fresh : (clock : ℕ × ℕ) (book : List Change) (at step : ℕ) → clock ≡ (at, step) → book ≡ [] → standing clock book ≡ fresh at step
-standing_fresh clock book at step clock_is book_is = ap (λ c. standing c book) clock_is ∙ ap (standing (at, step)) book_is
+pub standing_fresh : (clock : ℕ × ℕ) (contents : Contents) (at step : ℕ) → clock ≡ (at, step) → contents ≡ no_contents → standing clock contents ≡ fresh at step
+standing_fresh clock contents at step clock_is none = ap (λ c. standing c contents) clock_is ∙ ap (standing (at, step)) none
 
 pub served_so : (r new_r w new_w : Known) (start end : Standing) (served : Result Ended ServeFault)
     → IfOk served (λ ended. ServesTo r new_r w new_w (point_of start) (point_of end) ended)

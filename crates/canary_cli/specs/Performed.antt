@@ -57,7 +57,7 @@ pub record Standing : Type 0 where
 
 -- nothing else writes its book, whose store can't fail
 abbrev pub point_of : Standing → Point
-point_of s = point (TellsSteps s.at s.step) (Unit {0}) true s.contents
+point_of s = point (TellsSteps s.at s.step) (record { contents = s.contents; is_intact = Unit {0}; is_sure = true })
 
 abbrev pub fresh : ℕ → ℕ → Standing
 fresh at step = record { at = at; step = step; contents = no_contents }

@@ -40,7 +40,8 @@ impl Model for StepClock {
 impl StepClock {
     /// A clock whose first moment is `at`, and each next one `step` seconds later.
     pub fn new(at: Moment, step: Moment) -> StepClock
-        ensures { (moment_at : ℕ → ℕ) → TellsSteps at step moment_at
+        ensures value { result ≡ (at, step) }
+        ensures tells { (moment_at : ℕ → ℕ) → TellsSteps at step moment_at
             ↔ ⟦<StepClock as Clock>⟧.tells result moment_at }
     {
         StepClock { at, step }

@@ -3,12 +3,12 @@
 //! one request is answered so, and it is sent again.
 ghost use Rattle.std.specs.Prelude.{◌≡◌};
 
-use crate::rows::split;
-use canary_base::lists::Listed;
+use crate::rows::{says, split};
+use canary_base::lists::{Listed, Text};
 use canary_base::moments::{LAST_MOMENT, Moment};
 use canary_base::names::{Label, Name};
 use canary_base::numbers::Number;
-use canary_once::book::{Book, BookFault, Change, Kept};
+use canary_once::book::{Book, BookFault, Receipt, Settlement};
 use canary_once::clock::{Clock, StepClock};
 use canary_once::event::{Answer, Event, Request};
 use canary_once::memory::MemoryBook;
@@ -16,6 +16,8 @@ use canary_once::post::post;
 use canary_once::run::run;
 use canary_plan::command::Command;
 use canary_plan::plan::{ServiceSpec, Step};
+use canary_release::decide::DeskChange;
+use canary_release::reply::{Reply, ReplyStatus};
 use canary_release::service::Service;
 use std::alloc::Global;
 use std::process::Abort;
@@ -46,6 +48,10 @@ const ONE_PAUSE: [Step; 1] = [Step::Pause];
 const TOO_HEAVY: [Step; 2] = [Step::SetWeight(100), Step::SetWeight(101)];
 
 const TOO_MANY: [Step; 65] = [Step::Pause; 65];
+
+const WEIGHTS: [Step; 64] = [Step::SetWeight(7); 64];
+
+const TWO_WEIGHTS: [Step; 2] = [Step::SetWeight(5), Step::SetWeight(100)];
 
 const HEALTHY: &str = r#"{"code":"ok","service":"web","status":"Healthy","step":4,"weight":100}"#;
 
@@ -85,6 +91,16 @@ const STEPLESS: &str =
     r#"1 0 add none => 200 => {"code":"ok","service":"web","status":"Healthy","step":0,"weight":100}
 2 1 start v2 => 200 => {"code":"ok","service":"web","status":"Healthy","step":0,"weight":100}"#;
 
+/// Releases that go by themselves to their end: one start tells of each step.
+const WHOLE: &str =
+    r#"1 0 add weights => 200 => {"code":"ok","service":"web","status":"Healthy","step":64,"weight":100}
+2 1 start v2 => 200 => {"code":"ok","service":"web","status":"Healthy","step":64,"weight":100}
+3 1 start v2 => 422 => {"code":"already-stable"}"#;
+
+const WHOLE_IN_TWO: &str =
+    r#"1 0 add weight => 200 => {"code":"ok","service":"web","status":"Healthy","step":2,"weight":100}
+2 1 start v2 => 200 => {"code":"ok","service":"web","status":"Healthy","step":2,"weight":100}"#;
+
 /// The first request and its answer.
 const FIRST: &str =
     r#"1 0 add two => 200 => {"code":"ok","service":"web","status":"Healthy","step":4,"weight":100}"#;
@@ -102,6 +118,12 @@ fn steps_of(name: &str) -> &'static [Step] {
     }
     if name == "many" {
         return &TOO_MANY;
+    }
+    if name == "weights" {
+        return &WEIGHTS;
+    }
+    if name == "weight" {
+        return &TWO_WEIGHTS;
     }
     &[]
 }
@@ -200,8 +222,7 @@ fn a_doubled_promotion_acts_once(rt: HostRuntime) -> Result<(), Fail> {
 fn moments(book: &mut MemoryBook) -> Option<(u64, u64)> {
     let web = Name::read("web".as_bytes())?;
     let service = book.service(&web).ok()??;
-    let stand = &service.parts().stand;
-    Some((stand.last.get(), stand.entered.get()))
+    Some((service.last().get(), service.entered().get()))
 }
 
 #[test]
@@ -215,6 +236,13 @@ fn refusals_and_moments_that_fall(rt: HostRuntime) -> Result<(), Fail> {
 #[test]
 fn a_service_without_steps(rt: HostRuntime) -> Result<(), Fail> {
     send_all(&rt, rt.alloc(), STEPLESS)?;
+    Ok(())
+}
+
+#[test]
+fn releases_without_a_pause(rt: HostRuntime) -> Result<(), Fail> {
+    send_all(&rt, rt.alloc(), WHOLE)?;
+    send_all(&rt, rt.alloc(), WHOLE_IN_TWO)?;
     Ok(())
 }
 
@@ -260,7 +288,7 @@ fn one_failure_is_answered_once(rt: HostRuntime) -> Result<(), Fail> {
 #[derive(Clone, Copy, PartialEq, Eq)]
 enum Call {
     Settled,
-    Kept,
+    Receipt,
     Service,
     Commit,
 }
@@ -286,23 +314,17 @@ impl Faulty {
 
 impl Book for Faulty {
     ghost use Rattle.std.specs.Prelude.{false};
-    ghost use Rattle.canary_once.specs.Contents.{no_contents};
-    ghost use Rattle.canary_once.specs.Logs.{committed_all};
 
-    ghost contents = { λ b. committed_all no_contents b.book };
-
-    ghost is_intact = { λ _. Unit {0} };
-
-    ghost is_sure = { λ _. false };
+    ghost state = { λ b. record (⟦<MemoryBook as Book>⟧.state b.book) { is_sure = false } };
 
     fn settled(&mut self, caller: &Name) -> Result<u32, BookFault> {
         self.reach(Call::Settled)?;
         self.book.settled(caller)
     }
 
-    fn kept(&mut self, caller: &Name, number: Number) -> Result<Option<Kept>, BookFault> {
-        self.reach(Call::Kept)?;
-        self.book.kept(caller, number)
+    fn receipt(&mut self, caller: &Name, number: Number) -> Result<Option<Receipt>, BookFault> {
+        self.reach(Call::Receipt)?;
+        self.book.receipt(caller, number)
     }
 
     fn service(&mut self, name: &Name) -> Result<Option<Service>, BookFault> {
@@ -310,9 +332,9 @@ impl Book for Faulty {
         self.book.service(name)
     }
 
-    fn commit(&mut self, change: Change) -> Result<(), BookFault> {
+    fn commit(&mut self, settlement: Settlement) -> Result<(), BookFault> {
         self.reach(Call::Commit)?;
-        self.book.commit(change)
+        self.book.commit(settlement)
     }
 }
 
@@ -358,7 +380,7 @@ fn a_store_that_fails(rt: HostRuntime) -> Result<(), Fail> {
         assert!(rt; settled(&mut book) == Some(0));
     }
     send(&rt, alloc, &mut book, FIRST)?;
-    assert!(rt; is_refused(alloc, &mut book, Call::Kept));
+    assert!(rt; is_refused(alloc, &mut book, Call::Receipt));
     send(&rt, alloc, &mut book, FIRST)?;
     Ok(())
 }
@@ -399,11 +421,11 @@ fn posts(alloc: Global, book: &mut MemoryBook, clock: &mut StepClock) -> Option<
     Some(told.status() == 200 && told.body() == HEALTHY)
 }
 
-/// Whether the entry of that request is kept, and copies; none where memory was refused.
-fn is_kept(alloc: Global, book: &mut MemoryBook) -> Option<bool> {
+/// Whether there is a receipt of that request, and it copies; none where memory was refused.
+fn has_receipt(alloc: Global, book: &mut MemoryBook) -> Option<bool> {
     let asked = command(alloc, "add two")?;
-    let kept = book.kept(&ops()?, Number::new(1)?).ok()??;
-    let copy = kept.copy(alloc).ok()?;
+    let receipt = book.receipt(&ops()?, Number::new(1)?).ok()??;
+    let copy = receipt.copy(alloc).ok()?;
     Some(copy.command.is_same(&asked) && copy.reply.body.as_str() == HEALTHY)
 }
 
@@ -419,6 +441,39 @@ fn one_post(rt: HostRuntime) -> Result<(), Fail> {
     }
     assert!(rt; clock.now().get() == LAST_MOMENT);
     assert!(rt; settled(&mut book) == Some(1));
-    assert!(rt; is_kept(alloc, &mut book).or(is_kept(alloc, &mut book)) == Some(true));
+    assert!(rt; has_receipt(alloc, &mut book).or(has_receipt(alloc, &mut book)) == Some(true));
+    Ok(())
+}
+
+/// Whether a settlement copies; none where memory was refused.
+fn settlement_copies(alloc: Global) -> Option<bool> {
+    let settlement = Settlement {
+        caller: ops()?,
+        number: Number::new(1)?,
+        receipt: Receipt {
+            command: command(alloc, "promote it")?,
+            reply: Reply {
+                status: ReplyStatus::Refused,
+                body: Text::of(String::from_str(alloc, UNKNOWN).ok()?),
+            },
+        },
+        change: DeskChange::Nothing,
+    };
+    let copy = settlement.copy(alloc).ok()?;
+    let reply = copy.receipt.reply;
+    Some(reply.status == ReplyStatus::Refused && reply.body.as_str() == UNKNOWN)
+}
+
+#[test]
+fn settlements_copy(rt: HostRuntime) {
+    let alloc = rt.alloc();
+    assert!(rt; settlement_copies(alloc).or(settlement_copies(alloc)) == Some(true));
+}
+
+#[test]
+fn faults_of_books_in_words(rt: HostRuntime) -> Result<(), Fail> {
+    let alloc = rt.alloc();
+    assert!(rt; says(alloc, &BookFault::Memory, "out of memory")?);
+    assert!(rt; says(alloc, &BookFault::Storage, "the store failed")?);
     Ok(())
 }

@@ -1,10 +1,12 @@
 //! Worked strategies, codes of refusals, and copies with ample memory.
+use crate::rows::says;
 use canary_base::lists::Listed;
 use canary_base::names::{Label, Name};
 use canary_plan::command::Command;
 use canary_plan::plan::{CheckFault, ServiceSpec, Step, Strategy};
 use canary_plan::refusal::Refusal;
 use std::alloc::Global;
+use std::test::Fail;
 
 const TWO_PAUSES: [Step; 4] = [
     Step::SetWeight(20),
@@ -80,4 +82,13 @@ fn copies_plans(rt: HostRuntime) {
 fn prints_codes(rt: HostRuntime) {
     assert!(rt; Refusal::BadStrategy.code() == "bad-strategy");
     assert!(rt; Refusal::NotInProgress.code() == "not-in-progress");
+}
+
+#[test]
+fn prints_faults(rt: HostRuntime) -> Result<(), Fail> {
+    let alloc = rt.alloc();
+    let refused = CheckFault::Refused(Refusal::BadStrategy);
+    assert!(rt; says(alloc, &refused, "the strategy is refused: bad-strategy")?);
+    assert!(rt; says(alloc, &CheckFault::Memory, "out of memory")?);
+    Ok(())
 }

@@ -10,7 +10,7 @@ use canary_plan::line::{Line, LineEvent};
 use canary_plan::plan::{ServiceSpec, Step};
 use canary_release::decide::{Decision, DeskChange, decide};
 use canary_release::effect::Effect;
-use canary_release::reply::Reply;
+use canary_release::reply::{Reply, ReplyStatus};
 use canary_release::service::{Service, Status};
 use std::alloc::{AllocError, Global};
 use std::test::Fail;
@@ -123,7 +123,7 @@ fn a_release_tells_its_history(rt: HostRuntime) -> Result<(), Fail> {
         let (asked, told) = split(row)?;
         let (body, lines) = split(told)?;
         let told = again(rt.alloc(), service.as_ref(), asked)?;
-        assert_eq!(rt; told.reply.status, 200);
+        assert!(rt; told.reply.status == ReplyStatus::Accepted);
         assert_eq!(rt; told.reply.body.as_str(), body);
         assert_eq!(rt; told.lines.as_str(), lines);
         service = Some(told.service);
@@ -140,7 +140,7 @@ fn paused(alloc: Global) -> Result<Outcome, Fail> {
 /// Whether a reply copies; none where memory was refused.
 fn reply_copies(alloc: Global, reply: &Reply) -> Option<bool> {
     let copy = reply.copy(alloc).ok()?;
-    Some(copy.status == 200 && copy.body.as_str() == reply.body.as_str())
+    Some(copy.status == reply.status && copy.body.as_str() == reply.body.as_str())
 }
 
 /// Whether a service copies; none where memory was refused.
@@ -154,8 +154,43 @@ fn service_copies(alloc: Global, service: &Service) -> Option<bool> {
 fn passed(alloc: Global, service: &Service) -> Option<(u64, u32, usize)> {
     let passed = service.passed(alloc, Moment::new(LAST_MOMENT)?).ok()?;
     let told = passed.effects.as_slice().len();
-    let stand = &passed.service.parts().stand;
-    Some((stand.last.get(), stand.step, told))
+    let service = passed.service;
+    Some((service.last().get(), service.step(), told))
+}
+
+/// The lines that a copy of a decision tells; none where memory was refused.
+fn decision_copy(alloc: Global, service: &Service) -> Option<String> {
+    let copy = decided(alloc, Some(service), "2 promote")?
+        .copy(alloc)
+        .ok()?;
+    match copy.change {
+        DeskChange::Service { effects, .. } => lines_of(alloc, effects.as_slice()),
+        DeskChange::Nothing => None,
+    }
+}
+
+/// The weight of the service in a copy of one that passed, and how many lines are told; none where
+/// memory was refused.
+fn passed_copy(alloc: Global, service: &Service) -> Option<(u32, usize)> {
+    let passed = service.passed(alloc, Moment::new(LAST_MOMENT)?).ok()?;
+    let copy = passed.copy(alloc).ok()?;
+    Some((copy.service.weight(), copy.effects.as_slice().len()))
+}
+
+#[test]
+fn a_decision_copies(rt: HostRuntime) -> Result<(), Fail> {
+    let alloc = rt.alloc();
+    let told = paused(alloc)?;
+    let service = &told.service;
+    let lines = decision_copy(alloc, service).or(decision_copy(alloc, service));
+    let lines = lines.ok_or("lines")?;
+    assert_eq!(rt;
+        lines.as_str(),
+        "2 promote;2 step 2 setWeight 50;2 step 3 pause;"
+    );
+    let passed = passed_copy(alloc, service).or(passed_copy(alloc, service));
+    assert!(rt; passed == Some((20, 0)));
+    Ok(())
 }
 
 #[test]

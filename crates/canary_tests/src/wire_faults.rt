@@ -1,4 +1,5 @@
 //! Readers, writers and stores that fail under a stream, and what is said of that.
+use crate::rows::says;
 use crate::wire_serve::{
     ALL, GET, NO_ROUTE, NOT_FOUND, Script, Served, clock, in_pieces, release, replies_over,
     replies_to, reply, unless_out_of_memory, wire_text,
@@ -6,14 +7,13 @@ use crate::wire_serve::{
 use canary_base::error::Memory;
 use canary_base::names::Name;
 use canary_base::numbers::Number;
-use canary_once::book::{Book, BookFault, Change, Kept};
+use canary_once::book::{Book, BookFault, Receipt, Settlement};
 use canary_once::memory::MemoryBook;
 use canary_release::service::Service;
 use canary_wire::command::WireFault;
 use canary_wire::serve::{Ended, ServeFault, serve};
 use std::alloc::Global;
 use std::cell::Cell;
-use std::fmt::Display;
 use std::io;
 use std::io::{ErrorKind, Read, Write};
 use std::test::Fail;
@@ -136,17 +136,17 @@ impl Book for Broken {
     ghost use Rattle.std.specs.Prelude.{false};
     ghost use Rattle.canary_once.specs.Contents.{no_contents};
 
-    ghost contents = { λ _. no_contents };
-
-    ghost is_intact = { λ _. Unit {0} };
-
-    ghost is_sure = { λ _. false };
+    ghost state = { λ _. record {
+      contents = no_contents;
+      is_intact = Unit {0};
+      is_sure = false;
+    } };
 
     fn settled(&mut self, _: &Name) -> Result<u32, BookFault> {
         Err(BookFault::Storage)
     }
 
-    fn kept(&mut self, _: &Name, _: Number) -> Result<Option<Kept>, BookFault> {
+    fn receipt(&mut self, _: &Name, _: Number) -> Result<Option<Receipt>, BookFault> {
         Err(BookFault::Storage)
     }
 
@@ -154,7 +154,7 @@ impl Book for Broken {
         Err(BookFault::Storage)
     }
 
-    fn commit(&mut self, _: Change) -> Result<(), BookFault> {
+    fn commit(&mut self, _: Settlement) -> Result<(), BookFault> {
         Err(BookFault::Storage)
     }
 }
@@ -247,10 +247,6 @@ fn replies_before_the_next_read(rt: HostRuntime) -> Result<(), Fail> {
     assert!(rt; !was_early);
     assert_eq!(rt; written, reply.saturating_mul(3));
     Ok(())
-}
-
-fn says<F: Display>(alloc: Global, fault: &F, words: &str) -> Result<bool, Memory> {
-    Ok(format!(in alloc; "{fault}")?.as_str() == words)
 }
 
 #[test]
