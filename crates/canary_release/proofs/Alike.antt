@@ -14,7 +14,6 @@ use Rattle.canary_release.specs.Pasts.{Run, Past, change_at, opened_run, with_re
 use Rattle.canary_release.specs.Watching.{opened_now, counted, counted_in, is_other, happens, after_all}
 use Rattle.canary_release.specs.Courses.{Course, Watch, course_from}
 use Rattle.canary_release.specs.Desks.{watch_of}
-use Rattle.canary_release.specs.Shapes.{kept_watch}
 use Rattle.canary_release.specs.Laws.{WatchesAlike}
 
 none_alike : (n : ℕ) → map counts_of (replicate n []) ≡ replicate n (counts [])
@@ -93,9 +92,9 @@ watches_alike one p [] = refl
 watches_alike one p (x ∷ xs) = watches_alike one (grows p x) xs ∙ ap (λ w. after_all w xs) (one_alike one p x)
 
 -- the model's watch is the watch of what is kept
-pub one_watch : WatchesAlike → (p : Past) (kept : Runs) → kept ≡ watched p → watch_of p ≡ kept_watch kept
+pub one_watch : WatchesAlike → (p : Past) (kept : Runs) → kept ≡ watched p → watch_of p ≡ after_all kept
 one_watch alike p kept known = λ i xs. (alike p xs ∙ ap (λ (w : Runs). after_all w xs) (sym known)) i
 
 -- so a rule, which is told of a course alone, says of the one what it says of the other
-pub rules_alike : WatchesAlike → {A : Type 0} (rule : Course → A) (s : Stand) (p : Past) (kept : Runs) → kept ≡ watched p → rule (course_from s (watch_of p)) ≡ rule (course_from s (kept_watch kept))
+pub rules_alike : WatchesAlike → {A : Type 0} (rule : Course → A) (s : Stand) (p : Past) (kept : Runs) → kept ≡ watched p → rule (course_from s (watch_of p)) ≡ rule (course_from s (after_all kept))
 rules_alike alike rule s p kept known = ap (λ (w : Watch). rule (course_from s w)) (one_watch alike p kept known)

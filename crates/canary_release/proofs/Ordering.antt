@@ -13,8 +13,7 @@ use Rattle.canary_plan.specs.declared.plan.Step.TheVariants.{SetWeight, Pause}
 use Rattle.canary_plan.specs.declared.plan.ServiceSpec.{ServiceSpec}
 use Rattle.canary_plan.specs.declared.command.Command.{Command}
 use Rattle.canary_plan.specs.declared.command.Command.TheVariants.{Service as AddService, Start, Promote}
-use Rattle.canary_plan.specs.declared.line.LineEvent.{LineEvent}
-use Rattle.canary_plan.specs.declared.line.LineEvent.TheVariants.{Created, Started, Promoted, WeightEntered, PauseEntered, Finished}
+use Rattle.canary_plan.specs.declared.line.LineEvent.TheVariants.{Started, Promoted}
 use Rattle.canary_plan.specs.declared.refusal.Refusal.{Refusal}
 use Rattle.canary_plan.specs.declared.refusal.Refusal.TheVariants.{BadStrategy, NotInProgress, NotPaused}
 use Rattle.canary_plan.specs.Refusals.{first_that_holds}

@@ -10,7 +10,7 @@ use Rattle.canary_plan.specs.declared.refusal.Refusal.TheVariants.{ServiceExists
 use Rattle.canary_plan.specs.Refusals.{first_that_holds}
 use Rattle.canary_release.specs.declared.service.State.TheVariants.{InProgress}
 use Rattle.canary_release.specs.declared.service.Status.{Status}
-use Rattle.canary_release.specs.declared.service.Status.TheVariants.{Healthy, Paused, Progressing}
+use Rattle.canary_release.specs.declared.service.Status.TheVariants.{Progressing}
 use Rattle.canary_release.specs.declared.service.Stand.{Stand}
 use Rattle.canary_release.specs.Services.{is_going, is_done, status}
 use Rattle.canary_release.specs.Courses.{Course, with_stand, tell}
@@ -19,8 +19,7 @@ use Rattle.canary_release.specs.Replies.{service_text}
 
 abbrev pub is_progressing : Status → Bool
 is_progressing Progressing = true
-is_progressing Healthy = false
-is_progressing Paused = false
+is_progressing shown = false
 
 abbrev pub start_refusal : Stand → List ℕ → Option Refusal
 start_refusal s version = first_that_holds ((is_going s.state, ReleaseInProgress) ∷ (is_done s.state && bytes_eq version s.stable, AlreadyStable) ∷ [])

@@ -1,7 +1,7 @@
 -- Passing time: a chain of moves.
 use Rattle.std.specs.Prelude.{◌≡◌, ℕ, zero, suc, ◌+◌, ◌-◌, ◌≤◌, nat_le, Bool, true, false, IsTrue, if◌then◌else◌, length, Option, Some, None, max}
 use Rattle.canary_plan.specs.declared.plan.Step.{Step}
-use Rattle.canary_plan.specs.declared.plan.Step.TheVariants.{SetWeight, Pause}
+use Rattle.canary_plan.specs.declared.plan.Step.TheVariants.{SetWeight}
 use Rattle.canary_release.specs.declared.service.Stand.{Stand}
 use Rattle.canary_release.specs.Services.{is_going, step_of}
 use Rattle.canary_release.specs.Courses.{Course, with_stand}
@@ -14,8 +14,7 @@ is_free s = is_going s.state
 -- the moment at which a step that was entered at one moves by time, or none
 abbrev pub leaves_at : Option Step → ℕ → Option ℕ
 leaves_at (Some (SetWeight percent)) entered = Some entered
-leaves_at (Some Pause) entered = None
-leaves_at None entered = None
+leaves_at step entered = None
 
 -- a move at moment e: the next step is entered when the present one leaves
 abbrev pub Moves : Course → ℕ → Course → Type 0
@@ -43,9 +42,7 @@ Passes c t passed =
     let at = judged_at c.stand t in
     (n : ℕ) × (end' : Course) × Chain n at c end' × IsLongest at c n × (passed ≡ with_last end' at)
 
--- The same, computed.
-
--- the moment of the next move, or none
+-- the moment of the next move, or none; from here on, the same is computed
 abbrev pub next_move : Stand → Option ℕ
 next_move s = if is_free s then leaves_at (step_of s) s.entered else None
 

@@ -23,8 +23,7 @@ step_of s = slice_get s.strategy.steps s.step
 
 abbrev pub is_pause : Option Step → Bool
 is_pause (Some Pause) = true
-is_pause (Some (SetWeight percent)) = false
-is_pause None = false
+is_pause step = false
 
 -- it stands on a step, or after the last
 abbrev pub IsOnSteps : Stand → Type 0

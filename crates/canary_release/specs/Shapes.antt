@@ -4,7 +4,6 @@ use Rattle.std.specs.FinMap.{get}
 use Rattle.canary_plan.specs.declared.command.Command.{Command}
 use Rattle.canary_plan.specs.declared.refusal.Refusal.{Refusal}
 use Rattle.canary_plan.specs.Commands.{subject_of}
-use Rattle.canary_release.specs.declared.service.Runs.{Runs}
 use Rattle.canary_release.specs.declared.service.ServiceParts.{ServiceParts}
 use Rattle.canary_release.specs.declared.service.Passed.{Passed}
 use Rattle.canary_release.specs.declared.course.Draft.{Draft}
@@ -13,23 +12,19 @@ use Rattle.canary_release.specs.declared.decide.DeskChange.TheVariants.{Nothing,
 use Rattle.canary_release.specs.declared.decide.Decision.{Decision}
 use Rattle.canary_release.specs.Pasts.{watched}
 use Rattle.canary_release.specs.Watching.{after_all}
-use Rattle.canary_release.specs.Courses.{Course, Watch, course_from, runs_now}
+use Rattle.canary_release.specs.Courses.{Course, course_from, runs_now}
 use Rattle.canary_release.specs.Passing.{pass}
 use Rattle.canary_release.specs.Commands.{Acted, leads}
 use Rattle.canary_release.specs.Desks.{ModelService, Change, Ruling, Desk, ruling_on, with_service, apply}
 use Rattle.canary_release.specs.Desks.Change.{Nothing as Stays, Becomes}
 
--- what is watched, from what is kept
-abbrev pub kept_watch : Runs → Watch
-kept_watch kept xs = after_all kept xs
-
--- a service as it is kept, with nothing changed
+-- a service as it is kept, with nothing changed: what is kept gives the watch
 abbrev pub kept_course : ServiceParts → Course
-kept_course s = course_from s.stand (kept_watch s.runs)
+kept_course s = course_from s.stand (after_all s.runs)
 
 -- a course of the code, as the definitions see it: what was kept gives the watch
 abbrev pub whole : Draft → Course
-whole d = record { stand = d.stand; effects = d.watched.effects; watch = kept_watch d.watched.kept }
+whole d = record { stand = d.stand; effects = d.watched.effects; watch = after_all d.watched.kept }
 
 -- what is kept of a service of the model: how it stands, and what is watched of its past
 abbrev pub shape : ModelService → ServiceParts
