@@ -460,7 +460,7 @@ fn settlement_copies(alloc: Global) -> Option<bool> {
         change: DeskChange::Nothing,
     };
     let copy = settlement.copy(alloc).ok()?;
-    let reply = copy.receipt.reply;
+    let reply = &copy.receipt.reply;
     Some(reply.status == ReplyStatus::Refused && reply.body.as_str() == UNKNOWN)
 }
 

@@ -16,6 +16,9 @@ one_more c now new events i given more e a lt n pushed at run h =
 one_fault : (sure now : Bool) (given more : List Answer) (a : Answer) → All (IsFaultOf sure) given → more ≡ given ++ a ∷ [] → now ≡ sure → IsFaultOf now a → All (IsFaultOf sure) more
 one_fault sure now given more a all pushed same one = subst (All (IsFaultOf sure)) (sym pushed) (All-push (IsFaultOf sure) given a all (subst (λ s. IsFaultOf s a) same one))
 
+longer : (given more : List Answer) (a : Answer) (n : ℕ) → more ≡ given ++ a ∷ [] → length given ≡ n → length more ≡ n + 1
+longer given more a n pushed len = ap length pushed ∙ length-append given (a ∷ []) ∙ ap (λ k. k + 1) len
+
 pub loop-event-preserved : goal.loop-event-preserved
 loop-event-preserved g c =
     let i = c.loop-event.invariant in
@@ -26,7 +29,7 @@ loop-event-preserved g c =
       intact = λ x. i.intact (p.intact x);
       sure = p.sure ∙ i.sure;
       count = o.len ∙ ap (λ n. n + 1) i.count;
-      len = ap length o.items ∙ length-append _ _ ∙ ap (λ n. n + 1) i.len;
+      len = longer _ _ _ _ o.items i.len;
       room = omega (arith, i.room, o.capacity);
       faults = one_fault _ _ _ _ _ i.faults o.items i.sure p.fault;
       receipts = λ x q n k e. p.receipts x q n k (i.receipts (p.intact x) q n k e);
