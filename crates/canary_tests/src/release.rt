@@ -163,7 +163,7 @@ fn decision_copy(alloc: Global, service: &Service) -> Option<String> {
     let copy = decided(alloc, Some(service), "2 promote")?
         .copy(alloc)
         .ok()?;
-    match copy.change {
+    match &copy.change {
         DeskChange::Service { effects, .. } => lines_of(alloc, effects.as_slice()),
         DeskChange::Nothing => None,
     }
