@@ -1,0 +1,170 @@
+//! From token to token without the tree: which token may stand at a place of a condition.
+ghost use Rattle.std.specs.Prelude.{◌≡◌};
+ghost use Rattle.canary_condition.specs.Following.{after_operand, begun, compared, operand_begun};
+ghost use Rattle.canary_condition.specs.Following.{joined, ended, after_result, after_item};
+ghost use Rattle.canary_condition.specs.Following.{after_index, next, expected};
+ghost use Rattle.canary_condition.specs.Fronts.{may_end};
+
+use crate::explanation::Expected;
+use crate::token::Token;
+
+// A side of a comparison.
+#[derive(Clone, Copy)]
+pub(crate) enum Side {
+    Left,
+    Right,
+}
+
+// What stands before a place of a condition.
+#[derive(Clone, Copy)]
+pub(crate) enum Place {
+    // Nothing, `and`, `or`, `not` or `(`.
+    Term,
+    // `result`, which may be an operand or the beginning of one.
+    Result(Side),
+    // `result[`.
+    Item(Side),
+    // `result[` and digits.
+    Index(Side),
+    // An operand on the left of a comparison.
+    Comparison,
+    // A comparison sign.
+    Operand,
+    // A comparison or a bracket.
+    End,
+}
+
+// The place after an operand.
+fn after_operand(side: Side) -> Place
+    ensures { result ≡ after_operand side }
+{
+    match side {
+        Side::Left => Place::Comparison,
+        Side::Right => Place::End,
+    }
+}
+
+// The place after a token where a comparison, a bracket or a `not` begins.
+fn begun(token: Token) -> Option<Place>
+    ensures { result ≡ begun token }
+{
+    match token {
+        Token::NotSign => Some(Place::Term),
+        Token::Open => Some(Place::Term),
+        Token::ResultWord => Some(Place::Result(Side::Left)),
+        Token::Digits(_) => Some(Place::Comparison),
+        Token::Minus(_) => Some(Place::Comparison),
+        _ => None,
+    }
+}
+
+// The place after a token that follows an operand on the left.
+fn compared(token: Token) -> Option<Place>
+    ensures { result ≡ compared token }
+{
+    match token {
+        Token::Compares(_) => Some(Place::Operand),
+        _ => None,
+    }
+}
+
+// The place after a token that follows a comparison sign.
+fn operand_begun(token: Token) -> Option<Place>
+    ensures { result ≡ operand_begun token }
+{
+    match token {
+        Token::ResultWord => Some(Place::Result(Side::Right)),
+        Token::Digits(_) => Some(Place::End),
+        Token::Minus(_) => Some(Place::End),
+        _ => None,
+    }
+}
+
+// The place after a token that follows a comparison or a bracket, with so many brackets open.
+fn joined(opened: usize, token: Token) -> Option<Place>
+    ensures { result ≡ joined opened token }
+{
+    match token {
+        Token::AndSign => Some(Place::Term),
+        Token::OrSign => Some(Place::Term),
+        Token::Close if opened > 0 => Some(Place::End),
+        _ => None,
+    }
+}
+
+// The place after a token that follows a whole operand.
+fn ended(side: Side, opened: usize, token: Token) -> Option<Place>
+    ensures { result ≡ ended side opened token }
+{
+    match side {
+        Side::Left => compared(token),
+        Side::Right => joined(opened, token),
+    }
+}
+
+fn after_result(side: Side, opened: usize, token: Token) -> Option<Place>
+    ensures { result ≡ after_result side opened token }
+{
+    match token {
+        Token::OpenItem => Some(Place::Item(side)),
+        _ => ended(side, opened, token),
+    }
+}
+
+fn after_item(side: Side, token: Token) -> Option<Place>
+    ensures { result ≡ after_item side token }
+{
+    match token {
+        Token::Digits(place) if place >= 0 => Some(Place::Index(side)),
+        _ => None,
+    }
+}
+
+fn after_index(side: Side, token: Token) -> Option<Place>
+    ensures { result ≡ after_index side token }
+{
+    match token {
+        Token::CloseItem => Some(after_operand(side)),
+        _ => None,
+    }
+}
+
+// The place after a token, with so many brackets open before it; none where it may not stand.
+pub(crate) fn next(place: Place, opened: usize, token: Token) -> Option<Place>
+    ensures { result ≡ next place opened token }
+{
+    match place {
+        Place::Term => begun(token),
+        Place::Result(side) => after_result(side, opened, token),
+        Place::Item(side) => after_item(side, token),
+        Place::Index(side) => after_index(side, token),
+        Place::Comparison => compared(token),
+        Place::Operand => operand_begun(token),
+        Place::End => joined(opened, token),
+    }
+}
+
+// What may stand at a place, with so many brackets open.
+pub(crate) fn expected(place: Place, opened: usize) -> Expected
+    ensures { result ≡ expected place opened }
+{
+    match place {
+        Place::Term => Expected::Term,
+        Place::Result(Side::Left) => Expected::ItemOrComparison,
+        Place::Result(Side::Right) if opened == 0 => Expected::ItemSignOrEnd,
+        Place::Result(Side::Right) => Expected::ItemSignOrClose,
+        Place::Item(_) => Expected::Index,
+        Place::Index(_) => Expected::CloseItem,
+        Place::Comparison => Expected::Comparison,
+        Place::Operand => Expected::Operand,
+        Place::End if opened == 0 => Expected::SignOrEnd,
+        Place::End => Expected::SignOrClose,
+    }
+}
+
+// Whether a condition may end there.
+pub(crate) fn may_end(expected: Expected) -> bool
+    ensures { result ≡ may_end expected }
+{
+    matches!(expected, Expected::SignOrEnd | Expected::ItemSignOrEnd)
+}
