@@ -1,2 +1,14 @@
+pub mod Fitting
 pub mod Alike
-mod Rows
+pub mod Readings
+pub mod RowsOfCommands
+pub mod Named
+pub mod Copying
+pub mod LineLemmas
+pub mod RowsOfLines
+pub mod Unreadable
+pub mod Settling
+pub mod Analyses
+pub mod Accepting
+pub mod Seen
+pub mod Rows

@@ -1,43 +1,180 @@
--- Worked strategies and commands, computed on the definitions, so that a wrong rule in a definition does not check.
-use Rattle.std.proofs.Common.{◌≡◌, [], ◌∷◌, Some, None, true, false, refl}
-use Rattle.std.specs.Prelude.{codes, replicate}
-use Rattle.canary_plan.specs.declared.plan.Step.TheVariants.{SetWeight, Pause}
-use Rattle.canary_plan.specs.declared.refusal.Refusal.TheVariants.{BadStrategy}
-use Rattle.canary_plan.specs.declared.command.Command.TheVariants.{Start, Promote}
-use Rattle.canary_plan.specs.Plans.{strategy_refusal}
+-- Worked templates and strategies, computed on the definitions, so that a wrong rule in a definition does not check.
+use Rattle.std.proofs.Common.{◌≡◌, ℕ, List, [], ◌∷◌, Some, None, true, false, refl, pos, map}
+use Rattle.std.specs.Prelude.{codes, replicate, if◌then◌else◌, Option, option_map}
+use Rattle.std.specs.Str.{bytes_eq}
+use Rattle.canary_condition.specs.declared.condition.Comparison.TheVariants.{Less, Greater}
+use Rattle.canary_condition.specs.declared.condition.Operand.TheVariants.{Whole, Number}
+use Rattle.canary_condition.specs.Trees.Tree.{Compare}
+use Rattle.canary_metric.specs.Metrics.{MetricValue}
+use Rattle.canary_plan.specs.declared.step.Step.{Step}
+use Rattle.canary_plan.specs.declared.step.Step.TheVariants.{SetWeight, Pause, Analysis}
+use Rattle.canary_plan.specs.declared.service.Background.{Background}
+use Rattle.canary_plan.specs.declared.service.ServiceSpec.{ServiceSpec}
+use Rattle.canary_plan.specs.declared.template_spec.MetricSpec.{MetricSpec}
+use Rattle.canary_plan.specs.declared.template_spec.TemplateSpec.{TemplateSpec}
+use Rattle.canary_plan.specs.declared.template.ConditionKey.TheVariants.{Success, Failure}
+use Rattle.canary_plan.specs.declared.refusal.Refusal.TheVariants.{BadCondition, IntervalNeeded, DuplicateMetric, BadDryRun, UnknownTemplate, EndlessMetric, BadStrategy}
+use Rattle.canary_plan.specs.Conditions.{condition_of}
+use Rattle.canary_plan.specs.Plans.{Templates, template_of, strategy_of, metrics_at, is_marked}
+use Rattle.canary_plan.specs.PlanRefusals.{template_refusal, strategy_refusal}
 use Rattle.canary_plan.specs.Refusals.{code_of}
-use Rattle.canary_plan.specs.Commands.{same_command, subject_of}
+use Rattle.canary_plan.specs.Binding.{bad_condition}
 
-two_pauses : strategy_refusal (SetWeight 20 ∷ Pause ∷ SetWeight 50 ∷ Pause ∷ []) ≡ None
+-- Conditions.
+
+above_10 : condition_of (codes "result > 10") ≡ Some (Compare Whole Greater (Number (pos 10)))
+above_10 = refl
+
+no_right_side : condition_of (codes "result >") ≡ None
+no_right_side = refl
+
+no_decimals : condition_of (codes "result > 0.5") ≡ None
+no_decimals = refl
+
+too_long : condition_of (replicate 1025 32) ≡ None
+too_long = refl
+
+-- Templates.
+
+abbrev metric : List ℕ → MetricSpec
+metric name =
+    record {
+      name = name;
+      success = None;
+      failure = None;
+      interval = None;
+      initial_delay = 0;
+      count = None;
+      failure_limit = 0;
+      inconclusive_limit = 0;
+      consecutive_error_limit = 4;
+      within = refl;
+    }
+
+abbrev one : MetricSpec → TemplateSpec
+one m = record { name = codes "t"; metrics = m ∷ []; dry_run = []; within = refl }
+
+abbrev two : MetricSpec → MetricSpec → List (List ℕ) → TemplateSpec
+two m n dry_run = record { name = codes "t"; metrics = m ∷ n ∷ []; dry_run = dry_run; within = refl }
+
+-- success above 10, failure below 5
+abbrev spread : TemplateSpec
+spread = one (record (metric (codes "m")) { success = Some (codes "result > 10"); failure = Some (codes "result < 5"); within = refl })
+
+spread_is_bound : template_refusal spread ≡ None
+spread_is_bound = refl
+
+spread_failure : map (λ (m : MetricValue). m.failure) (template_of spread).metrics ≡ Some (Compare Whole Less (Number (pos 5))) ∷ []
+spread_failure = refl
+
+-- a metric that wants three measurements and has no interval
+abbrev thrice : MetricSpec
+thrice = record (metric (codes "m")) { count = Some 3; within = refl }
+
+abbrev unread : MetricSpec
+unread = record (metric (codes "m")) { failure = Some (codes "result >"); within = refl }
+
+interval_needed : template_refusal (one thrice) ≡ Some IntervalNeeded
+interval_needed = refl
+
+once_needs_none : template_refusal (one (record (metric (codes "m")) { count = Some 1; within = refl })) ≡ None
+once_needs_none = refl
+
+-- in order: a bad condition, an interval that is needed, a name twice, a name that is no metric
+bad_condition_first : template_refusal (two thrice unread (codes "x" ∷ [])) ≡ Some BadCondition
+bad_condition_first = refl
+
+interval_second : template_refusal (two thrice (metric (codes "m")) (codes "x" ∷ [])) ≡ Some IntervalNeeded
+interval_second = refl
+
+duplicate_third : template_refusal (two (metric (codes "m")) (metric (codes "m")) (codes "x" ∷ [])) ≡ Some DuplicateMetric
+duplicate_third = refl
+
+foreign_last : template_refusal (two (metric (codes "m")) (metric (codes "n")) (codes "n" ∷ codes "x" ∷ [])) ≡ Some BadDryRun
+foreign_last = refl
+
+all_are_marked : template_refusal (two (metric (codes "m")) (metric (codes "n")) (codes ".*" ∷ [])) ≡ None
+all_are_marked = refl
+
+one_is_marked : map (λ (m : MetricValue). m.dry_run) (template_of (two (metric (codes "m")) (metric (codes "n")) (codes "n" ∷ []))).metrics ≡ false ∷ true ∷ []
+one_is_marked = refl
+
+marked_by_all : is_marked (codes ".*" ∷ []) (codes "m") ≡ true
+marked_by_all = refl
+
+second_failure : bad_condition 0 (thrice ∷ unread ∷ []) ≡ Some (record { metric = 1; key = Failure })
+second_failure = refl
+
+success_before_failure : bad_condition 0 (record (metric (codes "m")) { success = Some (codes "("); failure = Some (codes ")"); within = refl } ∷ []) ≡ Some (record { metric = 0; key = Success })
+success_before_failure = refl
+
+-- Strategies, where `t` is the template above, `errs` is measured each minute, and `u` is not known.
+
+abbrev each_minute : TemplateSpec
+each_minute = record { name = codes "errs"; metrics = record (metric (codes "e")) { interval = Some 60; within = refl } ∷ []; dry_run = []; within = refl }
+
+abbrev known : Templates
+known name =
+    if bytes_eq name (codes "t") then Some (template_of spread) else (if bytes_eq name (codes "errs") then Some (template_of each_minute) else None)
+
+abbrev web : List Step → Option Background → ServiceSpec
+web steps background = record { name = codes "web"; version = codes "v1"; steps = steps; background = background }
+
+abbrev behind : List (List ℕ) → Option Background
+behind names = Some (record { templates = names; starting_step = 0 })
+
+abbrev step_of : List (List ℕ) → List Step
+step_of names = SetWeight 10 ∷ Analysis names ∷ SetWeight 60 ∷ Pause None ∷ []
+
+two_pauses : strategy_refusal known (web (SetWeight 20 ∷ Pause None ∷ SetWeight 50 ∷ Pause None ∷ []) None) ≡ None
 two_pauses = refl
 
-no_steps : strategy_refusal [] ≡ None
+no_steps : strategy_refusal known (web [] None) ≡ None
 no_steps = refl
 
-weight_100 : strategy_refusal (SetWeight 100 ∷ []) ≡ None
-weight_100 = refl
+in_a_step : strategy_refusal known (web (step_of (codes "t" ∷ [])) None) ≡ None
+in_a_step = refl
 
-weight_101 : strategy_refusal (Pause ∷ SetWeight 101 ∷ []) ≡ Some BadStrategy
+metrics_of_the_step : option_map (map (λ (m : MetricValue). m.name)) (metrics_at (strategy_of known (web (step_of (codes "t" ∷ [])) None)) (Some 1)) ≡ Some (codes "m" ∷ [])
+metrics_of_the_step = refl
+
+none_of_a_weight : metrics_at (strategy_of known (web (step_of (codes "t" ∷ [])) None)) (Some 0) ≡ None
+none_of_a_weight = refl
+
+-- a background may be measured without end, and a step may not
+in_the_background : strategy_refusal known (web (SetWeight 20 ∷ Pause None ∷ []) (behind (codes "errs" ∷ []))) ≡ None
+in_the_background = refl
+
+metrics_behind : option_map (map (λ (m : MetricValue). m.name)) (metrics_at (strategy_of known (web [] (behind (codes "errs" ∷ [])))) None) ≡ Some (codes "e" ∷ [])
+metrics_behind = refl
+
+endless_in_a_step : strategy_refusal known (web (step_of (codes "errs" ∷ [])) None) ≡ Some EndlessMetric
+endless_in_a_step = refl
+
+-- in order: a name twice, a template that is not there, a metric without end, a bad strategy
+duplicate_first : strategy_refusal known (web (SetWeight 101 ∷ Analysis (codes "errs" ∷ codes "u" ∷ codes "errs" ∷ []) ∷ []) None) ≡ Some DuplicateMetric
+duplicate_first = refl
+
+unknown_second : strategy_refusal known (web (SetWeight 101 ∷ Analysis (codes "errs" ∷ codes "u" ∷ []) ∷ []) None) ≡ Some UnknownTemplate
+unknown_second = refl
+
+endless_third : strategy_refusal known (web (SetWeight 101 ∷ Analysis (codes "errs" ∷ []) ∷ []) None) ≡ Some EndlessMetric
+endless_third = refl
+
+weight_101 : strategy_refusal known (web (SetWeight 101 ∷ []) None) ≡ Some BadStrategy
 weight_101 = refl
 
-of_64_steps : strategy_refusal (replicate 64 Pause) ≡ None
+weight_100 : strategy_refusal known (web (SetWeight 100 ∷ []) None) ≡ None
+weight_100 = refl
+
+of_64_steps : strategy_refusal known (web (replicate 64 (Pause None)) None) ≡ None
 of_64_steps = refl
 
-of_65_steps : strategy_refusal (replicate 65 Pause) ≡ Some BadStrategy
+of_65_steps : strategy_refusal known (web (replicate 65 (Pause None)) None) ≡ Some BadStrategy
 of_65_steps = refl
+
+of_no_template : strategy_refusal known (web (step_of []) None) ≡ Some BadStrategy
+of_no_template = refl
 
 code : code_of BadStrategy ≡ codes "bad-strategy"
 code = refl
-
-same_start : same_command (Start (codes "web") (codes "v2")) (Start (codes "web") (codes "v2")) ≡ true
-same_start = refl
-
--- under one number, another version is another command
-other_version : same_command (Start (codes "web") (codes "v2")) (Start (codes "web") (codes "v3")) ≡ false
-other_version = refl
-
-promote_is_no_start : same_command (Promote (codes "web")) (Start (codes "web") (codes "v2")) ≡ false
-promote_is_no_start = refl
-
-subject : subject_of (Promote (codes "web")) ≡ codes "web"
-subject = refl

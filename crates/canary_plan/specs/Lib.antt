@@ -1,5 +1,10 @@
-pub mod StrategyViews
-pub mod Plans
-pub mod Checking
+pub mod Limits
+pub mod Conditions
 pub mod Refusals
+pub mod Plans
+pub mod PlanRefusals
+pub mod Checking
+pub mod Binding
 pub mod Commands
+pub mod Lines
+pub mod LineReading

@@ -1,31 +1,54 @@
 //! Commands.
-ghost use Rattle.std.specs.Prelude.{◌≡◌, IfOk};
-ghost use Rattle.std.specs.Cmp.Lexicographic.{pointwise};
+ghost use Rattle.std.specs.Prelude.{◌≡◌, ◌&&◌, IfOk};
 ghost use Rattle.std.specs.Option.{option_copied};
-ghost use Rattle.canary_plan.specs.Commands.{kind_of, subject_of, version_of, service_in, same_option, same_step, same_command, same_service};
+ghost use Rattle.canary_plan.specs.Commands.{kind_of, subject_of, version_of};
+ghost use Rattle.canary_plan.specs.Commands.{template_in, service_in, report_in};
+ghost use Rattle.canary_plan.specs.Commands.{same_command, same_parts};
+ghost use Rattle.canary_plan.specs.Commands.{same_option, same_service, same_report};
 
-use crate::plan::{ServiceSpec, Step};
+use crate::report::Report;
+use crate::same::{are_same_reports, are_same_services, are_same_templates};
+use crate::service::ServiceSpec;
+use crate::template_spec::TemplateSpec;
 use canary_base::error::Memory;
 use canary_base::names::{Label, Name};
 use std::alloc::Global;
 
-/// What a release engineer asks of the desk.
+/// What release engineers and metric agents ask of the desk.
 #[derive(Drop)]
 pub enum Command {
+    /// Registers a template.
+    Template(TemplateSpec),
     /// Registers a service with its strategy and its stable version.
     Service(ServiceSpec),
     /// Begins a release of that version.
     Start { service: Name, version: Label },
-    /// Ends the pause at which a release stands.
+    /// Ends a hold, or the pause at which a release stands.
     Promote { service: Name },
+    /// Goes to the end of a release.
+    PromoteFull { service: Name },
+    /// Aborts a release.
+    Abort { service: Name },
+    /// Begins a release anew with the version that was aborted.
+    Retry { service: Name },
+    /// Lets time pass.
+    Tick { service: Name },
+    /// Brings measurements of one run.
+    Report(Report),
 }
 
 /// What kind of command it is.
 #[derive(Clone, Copy, Debug, PartialEq, Eq)]
 pub enum CommandKind {
+    Template,
     Service,
     Start,
     Promote,
+    PromoteFull,
+    Abort,
+    Retry,
+    Tick,
+    Report,
 }
 
 impl Command {
@@ -34,19 +57,32 @@ impl Command {
         ensures { result ≡ kind_of self.now }
     {
         match self {
+            Command::Template(_) => CommandKind::Template,
             Command::Service(_) => CommandKind::Service,
             Command::Start { .. } => CommandKind::Start,
             Command::Promote { .. } => CommandKind::Promote,
+            Command::PromoteFull { .. } => CommandKind::PromoteFull,
+            Command::Abort { .. } => CommandKind::Abort,
+            Command::Retry { .. } => CommandKind::Retry,
+            Command::Tick { .. } => CommandKind::Tick,
+            Command::Report(_) => CommandKind::Report,
         }
     }
 
-    /// The service that it names.
+    /// The service that it names, or the template.
     pub fn subject(&self) -> Name
         ensures { result ≡ subject_of self.now }
     {
         match self {
+            Command::Template(spec) => spec.name,
             Command::Service(spec) => spec.name,
-            Command::Start { service, .. } | Command::Promote { service } => *service,
+            Command::Report(report) => report.service,
+            Command::Start { service, .. }
+            | Command::Promote { service }
+            | Command::PromoteFull { service }
+            | Command::Abort { service }
+            | Command::Retry { service }
+            | Command::Tick { service } => *service,
         }
     }
 
@@ -56,6 +92,16 @@ impl Command {
     {
         match self {
             Command::Start { version, .. } => Some(*version),
+            _ => None,
+        }
+    }
+
+    /// The template that it registers, if it is a `Template`.
+    pub fn template(&self) -> Option<&TemplateSpec>
+        ensures { option_copied result ≡ template_in self.now }
+    {
+        match self {
+            Command::Template(spec) => Some(spec),
             _ => None,
         }
     }
@@ -70,52 +116,59 @@ impl Command {
         }
     }
 
+    /// The measurements that it brings, if it is a `Report`.
+    pub fn report(&self) -> Option<&Report>
+        ensures { option_copied result ≡ report_in self.now }
+    {
+        match self {
+            Command::Report(report) => Some(report),
+            _ => None,
+        }
+    }
+
     /// Whether it is the same command: of the same kind, with the same parts.
     pub fn is_same(&self, other: &Command) -> bool
         ensures { result ≡ same_command self.now other.now }
     {
-        self.kind() == other.kind()
-            && self.subject() == other.subject()
-            && self.version() == other.version()
-            && are_same_services(self.service(), other.service())
+        self.kind() == other.kind() && self.has_same_parts(other)
     }
 
-    /// A copy of it.
+    fn has_same_parts(&self, other: &Command) -> bool
+        ensures { result ≡ same_parts self.now other.now }
+    {
+        self.subject() == other.subject()
+            && self.version() == other.version()
+            && are_same_templates(self.template(), other.template())
+            && self.asks_the_same(other)
+    }
+
+    // Whether the services that they register and the reports that they bring are the same.
+    fn asks_the_same(&self, other: &Command) -> bool
+        ensures { result
+            ≡ (same_option same_service (service_in self.now) (service_in other.now)
+            && same_option same_report (report_in self.now) (report_in other.now)) }
+    {
+        are_same_services(self.service(), other.service())
+            && are_same_reports(self.report(), other.report())
+    }
+
+    /// A copy of it, or `Memory`.
     pub fn copy(&self, alloc: Global) -> Result<Command, Memory>
         ensures { IfOk result (λ copy. copy ≡ self.now) }
     {
         Ok(match self {
+            Command::Template(spec) => Command::Template(spec.copy(alloc)?),
             Command::Service(spec) => Command::Service(spec.copy(alloc)?),
             Command::Start { service, version } => Command::Start {
                 service: *service,
                 version: *version,
             },
             Command::Promote { service } => Command::Promote { service: *service },
+            Command::PromoteFull { service } => Command::PromoteFull { service: *service },
+            Command::Abort { service } => Command::Abort { service: *service },
+            Command::Retry { service } => Command::Retry { service: *service },
+            Command::Tick { service } => Command::Tick { service: *service },
+            Command::Report(report) => Command::Report(report.copy(alloc)?),
         })
     }
-}
-
-fn are_same_services(ours: Option<&ServiceSpec>, theirs: Option<&ServiceSpec>) -> bool
-    ensures { result
-        ≡ same_option same_service (option_copied ours.entry) (option_copied theirs.entry) }
-{
-    match (ours, theirs) {
-        (None, None) => true,
-        (Some(ours), Some(theirs)) => is_same_service(ours, theirs),
-        _ => false,
-    }
-}
-
-fn is_same_service(ours: &ServiceSpec, theirs: &ServiceSpec) -> bool
-    ensures { result ≡ same_service ours.now theirs.now }
-{
-    ours.name == theirs.name
-        && ours.version == theirs.version
-        && are_same_steps(ours.steps.as_slice(), theirs.steps.as_slice())
-}
-
-fn are_same_steps(ours: &[Step], theirs: &[Step]) -> bool
-    ensures { result ≡ pointwise same_step ours.now theirs.now }
-{
-    ours == theirs
 }

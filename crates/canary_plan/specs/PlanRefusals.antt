@@ -1,0 +1,98 @@
+-- Why a template or a service is refused, in order.
+use Rattle.std.specs.Prelude.{ℕ, ◌||◌, ◌&&◌, nat_lt, not, Bool, false, List, [], ◌∷◌, ◌++◌, length, map, Option, Some, None, is_none}
+use Rattle.std.specs.List.{list_any, list_all, filter_map}
+use Rattle.std.specs.Str.{bytes_eq}
+use Rattle.canary_metric.specs.Metrics.{MetricValue, effective_count}
+use Rattle.canary_plan.specs.declared.step.Step.{Step}
+use Rattle.canary_plan.specs.declared.step.Step.TheVariants.{SetWeight, Pause, Analysis}
+use Rattle.canary_plan.specs.declared.service.Background.{Background}
+use Rattle.canary_plan.specs.declared.service.ServiceSpec.{ServiceSpec}
+use Rattle.canary_plan.specs.declared.template_spec.MetricSpec.{MetricSpec}
+use Rattle.canary_plan.specs.declared.template_spec.TemplateSpec.{TemplateSpec}
+use Rattle.canary_plan.specs.declared.refusal.Refusal.{Refusal}
+use Rattle.canary_plan.specs.declared.refusal.Refusal.TheVariants.{BadCondition, IntervalNeeded, DuplicateMetric, BadDryRun, UnknownTemplate, EndlessMetric, BadStrategy}
+use Rattle.canary_plan.specs.Conditions.{condition_of}
+use Rattle.canary_plan.specs.Plans.{Templates, all_metrics, metrics_named, has_weight_in_range, are_metrics_of_run}
+use Rattle.canary_plan.specs.Refusals.{first_that_holds}
+
+-- some name stands twice
+abbrev pub has_duplicate : List (List ℕ) → Bool
+has_duplicate [] = false
+has_duplicate (name ∷ names) = list_any (bytes_eq name) names || has_duplicate names
+
+-- a condition that is there and has no reading
+abbrev pub is_unreadable : Option (List ℕ) → Bool
+is_unreadable None = false
+is_unreadable (Some text) = is_none (condition_of text)
+
+abbrev pub has_bad_condition : MetricSpec → Bool
+has_bad_condition m = is_unreadable m.success || is_unreadable m.failure
+
+abbrev pub is_above_one : Option ℕ → Bool
+is_above_one None = false
+is_above_one (Some n) = nat_lt 1 n
+
+-- a count above 1 without an interval
+abbrev pub needs_interval : MetricSpec → Bool
+needs_interval m = is_above_one m.count && is_none m.interval
+
+-- a name that is neither a metric of the template nor `.*`
+abbrev pub is_foreign : TemplateSpec → List ℕ → Bool
+is_foreign t name = not (bytes_eq name all_metrics || list_any (λ (m : MetricSpec). bytes_eq m.name name) t.metrics)
+
+-- why a template is refused
+abbrev pub template_refusal : TemplateSpec → Option Refusal
+template_refusal t =
+    first_that_holds (
+    (list_any has_bad_condition t.metrics, BadCondition)
+    ∷ (list_any needs_interval t.metrics, IntervalNeeded)
+    ∷ (has_duplicate (map (λ (m : MetricSpec). m.name) t.metrics), DuplicateMetric)
+    ∷ (list_any (is_foreign t) t.dry_run, BadDryRun)
+    ∷ []
+    )
+
+abbrev pub names_of_step : Step → Option (List (List ℕ))
+names_of_step (Analysis names) = Some names
+names_of_step (SetWeight percent) = None
+names_of_step (Pause seconds) = None
+
+abbrev pub names_of_background : Option Background → List (List (List ℕ))
+names_of_background None = []
+names_of_background (Some b) = b.templates ∷ []
+
+-- the templates' names of each step analysis
+abbrev pub step_analyses : ServiceSpec → List (List (List ℕ))
+step_analyses s = filter_map names_of_step s.steps
+
+-- the templates' names of each analysis
+abbrev pub analyses : ServiceSpec → List (List (List ℕ))
+analyses s = step_analyses s ++ names_of_background s.background
+
+-- two metrics of one name among the known templates of an analysis
+abbrev pub repeats_metric : Templates → List (List ℕ) → Bool
+repeats_metric known names = has_duplicate (map (λ (m : MetricValue). m.name) (metrics_named known names))
+
+abbrev pub has_unknown : Templates → List (List ℕ) → Bool
+has_unknown known names = list_any (λ name. is_none (known name)) names
+
+-- a metric that has no effective count, dry-run or not
+abbrev pub is_endless : Templates → List (List ℕ) → Bool
+is_endless known names = list_any (λ (m : MetricValue). is_none (effective_count m)) (metrics_named known names)
+
+-- no template or more than 8, or not 1 to 32 metrics
+abbrev pub is_misfit : Templates → List (List ℕ) → Bool
+is_misfit known names = nat_lt (length names) 1 || (nat_lt 8 (length names) || not (are_metrics_of_run (metrics_named known names)))
+
+abbrev pub is_bad_strategy : Templates → ServiceSpec → Bool
+is_bad_strategy known s = nat_lt 64 (length s.steps) || (not (list_all has_weight_in_range s.steps) || list_any (is_misfit known) (analyses s))
+
+-- why a service's strategy is refused
+abbrev pub strategy_refusal : Templates → ServiceSpec → Option Refusal
+strategy_refusal known s =
+    first_that_holds (
+    (list_any (repeats_metric known) (analyses s), DuplicateMetric)
+    ∷ (list_any (has_unknown known) (analyses s), UnknownTemplate)
+    ∷ (list_any (is_endless known) (step_analyses s), EndlessMetric)
+    ∷ (is_bad_strategy known s, BadStrategy)
+    ∷ []
+    )

@@ -1,0 +1,158 @@
+//! Strategies that have been checked.
+ghost use Rattle.std.specs.Prelude.{◌≡◌, ◌≤◌, Some, None, IsTrue, IfOk, IfSome, length, option_copied};
+ghost use Rattle.std.specs.FinMap.{get};
+ghost use Rattle.canary_plan.specs.Plans.{is_accepted, metrics_at};
+ghost use Rattle.canary_plan.specs.Checking.{IsChecked};
+
+use crate::checking;
+use crate::fault::CheckFault;
+use crate::service::{Background, ServiceSpec};
+use crate::step::Step;
+use crate::templates::Templates;
+use canary_base::error::Memory;
+use canary_base::lists::Listed;
+use canary_metric::metric::Metric;
+use std::alloc::Global;
+use std::marker::Model;
+use std::rc::Rc;
+
+/// The most steps of a strategy.
+pub const MOST_STEPS: usize = 64;
+
+/// The greatest weight, in percent.
+pub const GREATEST_WEIGHT: u32 = 100;
+
+/// A strategy with the metrics of its analyses.
+#[derive(Drop)]
+pub struct CheckedStrategy {
+    pub steps: Listed<Step>,
+    pub background: Option<Background>,
+    /// The metrics of each step's analysis, none where the step is no analysis.
+    pub step_metrics: Listed<Listed<Metric>>,
+    /// The metrics of the background analysis.
+    pub background_metrics: Listed<Metric>,
+}
+
+impl CheckedStrategy {
+    // The metrics of the analysis at that step, or of the background.
+    fn metrics(&self, step: Option<u32>) -> Option<&[Metric]>
+        ensures { option_copied result ≡ metrics_at self.now step }
+    {
+        match step {
+            Some(step) => self.step_metrics(step),
+            None => self.background_metrics(),
+        }
+    }
+
+    fn step_metrics(&self, step: u32) -> Option<&[Metric]>
+        ensures { option_copied result ≡ metrics_at self.now (Some step) }
+    {
+        match self.steps.as_slice().get(step as usize)? {
+            Step::SetWeight(_) => None,
+            Step::Pause(_) => None,
+            Step::Analysis(_) => {
+                let metrics = self.step_metrics.as_slice().get(step as usize)?;
+                Some(metrics.as_slice())
+            }
+        }
+    }
+
+    fn background_metrics(&self) -> Option<&[Metric]>
+        ensures { option_copied result ≡ metrics_at self.now None }
+    {
+        match self.background {
+            Some(_) => Some(self.background_metrics.as_slice()),
+            None => None,
+        }
+    }
+}
+
+/// A strategy that was checked: at most 64 steps, no weight above 100, and 1 to 32 metrics of each
+/// analysis. Its copies share it, so that a copy takes no memory.
+#[derive(Drop)]
+pub struct Strategy {
+    checked: Rc<CheckedStrategy>,
+}
+
+impl Model for Strategy {
+    ghost use Rattle.std.specs.Prelude.{IsTrue};
+    ghost use Rattle.canary_plan.specs.Plans.{is_accepted};
+    ghost use Rattle.canary_plan.specs.declared.strategy.CheckedStrategy.{CheckedStrategy};
+    ghost use Rattle.canary_plan.specs.contracts.strategy.CheckedStrategy.{the_row};
+
+    ghost Value = { CheckedStrategy };
+
+    ghost coded = { the_row.coded };
+
+    ghost view = { λ s. s.checked.value };
+
+    ghost invariant = { λ s. IsTrue (is_accepted s.checked.value) };
+}
+
+impl Strategy {
+    /// The strategy that a service asks for, its analyses with the metrics of the templates that
+    /// are known.
+    ///
+    /// # Errors
+    /// `Refused` with the first of these that holds: `DuplicateMetric` where two metrics of one
+    /// analysis have one name, among the templates that are known; `UnknownTemplate` where a
+    /// template of an analysis is not; `EndlessMetric` where a step's analysis has a metric with no
+    /// effective count; `BadStrategy` where there are more than 64 steps, a weight above 100, or an
+    /// analysis with no template, more than 8 or more than 32 metrics. `Memory` in place of any.
+    pub fn check(
+        alloc: Global,
+        spec: &ServiceSpec,
+        known: &Templates,
+    ) -> Result<Strategy, CheckFault>
+        ensures { IsChecked (get known.now) spec.now result }
+    {
+        if let Some(refusal) = checking::refusal(alloc, spec, known)? {
+            return Err(CheckFault::Refused(refusal));
+        }
+        let checked = checking::strategy_of(alloc, spec, known)?;
+        checking::counts_stand(&checked);
+        Ok(Strategy::of(alloc, checked)?)
+    }
+
+    // The strategy that was checked.
+    fn of(alloc: Global, checked: CheckedStrategy) -> Result<Strategy, Memory>
+        requires { IsTrue (is_accepted checked) }
+        ensures { IfOk result (λ strategy. strategy ≡ checked) }
+    {
+        let checked = Rc::new(alloc, checked)?;
+        Ok(Strategy { checked })
+    }
+
+    /// A copy of it, which takes no memory; `Memory` where it has as many copies as can be counted.
+    pub fn copy(&self) -> Result<Strategy, Memory>
+        ensures { IfOk result (λ copy. copy ≡ self.now) }
+    {
+        let checked = self.checked.clone()?;
+        Ok(Strategy { checked })
+    }
+
+    /// Its steps.
+    pub fn steps(&self) -> &[Step]
+        ensures value { result.now ≡ self.now.steps }
+        ensures accepted { IsTrue (is_accepted self.now) }
+    {
+        self.checked.steps.as_slice()
+    }
+
+    /// Its background analysis, if it has one.
+    pub fn background(&self) -> Option<&Background>
+        ensures { option_copied result ≡ self.now.background }
+    {
+        self.checked.background.as_ref()
+    }
+
+    /// The metrics of the analysis at that step, from 0, or of the background; none where there is
+    /// no such analysis. 1 to 32.
+    pub fn metrics(&self, step: Option<u32>) -> Option<&[Metric]>
+        ensures value { option_copied result ≡ metrics_at self.now step }
+        ensures limit { IfSome result (λ metrics. (1 ≤ length metrics.now)
+            × (length metrics.now ≤ 32)) }
+    {
+        self.checked.metrics(step)
+    }
+}

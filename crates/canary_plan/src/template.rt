@@ -1,0 +1,287 @@
+//! Templates whose conditions have been read.
+ghost use Rattle.std.specs.Prelude.{◌≡◌, ◌||◌, false, map, IfOk, IsTrue};
+ghost use Rattle.std.specs.List.{list_any};
+ghost use Rattle.std.specs.Str.{bytes_eq};
+ghost use Rattle.canary_plan.specs.Conditions.{condition_of};
+ghost use Rattle.canary_plan.specs.Plans.{all_metrics, is_marked, bound_metric, condition_if};
+ghost use Rattle.canary_plan.specs.PlanRefusals.{is_unreadable, has_bad_condition, template_refusal};
+ghost use Rattle.canary_plan.specs.PlanRefusals.{needs_interval, has_duplicate, is_foreign};
+ghost use Rattle.canary_metric.specs.Settings.{are_within_limits, metric_of};
+ghost use Rattle.canary_plan.specs.Binding.{IsRead, bad_key, bad_condition};
+ghost use Rattle.canary_plan.specs.Checking.{IsBound};
+
+use crate::fault::BindFault;
+use crate::labels::has_duplicate;
+use crate::laws;
+use crate::refusal::Refusal;
+use crate::template_spec::{MetricSpec, TemplateSpec};
+use canary_base::error::Memory;
+use canary_base::lists::{Listed, Text};
+use canary_base::names::Label;
+use canary_condition::condition::{Condition, ConditionFault};
+use canary_metric::metric::{Metric, MetricSettings};
+use std::alloc::Global;
+
+// The name that marks every metric of its template.
+const ALL_METRICS: &str = ".*";
+
+/// A condition of a metric.
+#[derive(Clone, Copy, Debug, PartialEq, Eq)]
+pub enum ConditionKey {
+    /// `successCondition`.
+    Success,
+    /// `failureCondition`.
+    Failure,
+}
+
+/// A condition that has no reading: that of the metric at this place, from 0.
+#[derive(Clone, Copy, Debug, PartialEq, Eq)]
+pub struct BadCondition {
+    pub metric: u32,
+    pub key: ConditionKey,
+}
+
+/// An analysis template whose conditions have been read.
+#[derive(Drop)]
+pub struct Template {
+    pub spec: TemplateSpec,
+    pub metrics: Listed<Metric>,
+}
+
+impl Template {
+    /// The template that is asked for, its conditions read and each metric marked that is measured
+    /// without counting.
+    ///
+    /// # Errors
+    /// `Refused` with the first of these that holds: `BadCondition` where a condition has no
+    /// reading; `IntervalNeeded` where a metric has a count above 1 and no interval;
+    /// `DuplicateMetric` where two metrics have one name; `BadDryRun` where a name that is to be
+    /// measured without counting is neither a metric's nor `.*`. `Memory` in place of any.
+    pub fn bind(alloc: Global, spec: &TemplateSpec) -> Result<Template, BindFault>
+        ensures { IsBound spec.now result }
+    {
+        let metrics = bound_metrics(alloc, spec.metrics.as_slice(), spec.dry_run.as_slice())?;
+        if let Some(refusal) = other_refusal(alloc, spec)? {
+            return Err(BindFault::Refused(refusal));
+        }
+        let spec = spec.copy(alloc)?;
+        Ok(Template { spec, metrics })
+    }
+
+    /// A copy of it, or `Memory`.
+    pub fn copy(&self, alloc: Global) -> Result<Template, Memory>
+        ensures { IfOk result (λ copy. copy ≡ self.now) }
+    {
+        let spec = self.spec.copy(alloc)?;
+        let metrics = copy_metrics(alloc, self.metrics.as_slice())?;
+        Ok(Template { spec, metrics })
+    }
+}
+
+impl TemplateSpec {
+    /// The first condition that has no reading: of the first metric that has such a one, and of
+    /// this metric `successCondition` before `failureCondition`. None where each has a reading.
+    ///
+    /// # Errors
+    /// `Memory`.
+    pub fn bad_condition(&self, alloc: Global) -> Result<Option<BadCondition>, Memory>
+        ensures { IfOk result (λ found. found ≡ bad_condition 0 self.now.metrics) }
+    {
+        let mut place = 0;
+        for metric in self.metrics.as_slice() {
+            if let Some(key) = bad_key(alloc, metric)? {
+                return Ok(Some(BadCondition { metric: place, key }));
+            }
+            place += 1;
+        }
+        Ok(None)
+    }
+}
+
+// The key of a metric's first condition that has no reading.
+fn bad_key(alloc: Global, metric: &MetricSpec) -> Result<Option<ConditionKey>, Memory>
+    ensures { IfOk result (λ found. found ≡ bad_key metric.now) }
+{
+    if is_unreadable(alloc, &metric.success)? {
+        return Ok(Some(ConditionKey::Success));
+    }
+    if is_unreadable(alloc, &metric.failure)? {
+        return Ok(Some(ConditionKey::Failure));
+    }
+    Ok(None)
+}
+
+// Whether it is there and has no reading.
+fn is_unreadable(alloc: Global, text: &Option<Text>) -> Result<bool, Memory>
+    ensures { IfOk result (λ unreadable. unreadable ≡ is_unreadable text.now) }
+{
+    match text {
+        None => Ok(false),
+        Some(text) => Ok(condition_of(alloc, text.as_str())?.is_none()),
+    }
+}
+
+fn copy_metrics(alloc: Global, metrics: &[Metric]) -> Result<Listed<Metric>, Memory>
+    ensures { IfOk result (λ copies. copies ≡ metrics.now) }
+{
+    let mut copies = Listed::of(Vec::new(alloc));
+    for metric in metrics {
+        copies.push(metric.copy(alloc)?)?;
+    }
+    Ok(copies)
+}
+
+// The metrics of a template, in order.
+fn bound_metrics(
+    alloc: Global,
+    specs: &[MetricSpec],
+    dry_run: &[Text],
+) -> Result<Listed<Metric>, BindFault>
+    ensures { IsRead (list_any has_bad_condition specs.now)
+        (map (bound_metric dry_run.now) specs.now) result }
+{
+    let mut metrics = Listed::of(Vec::new(alloc));
+    for spec in specs {
+        metrics.push(bound_metric(alloc, spec, dry_run)?)?;
+    }
+    Ok(metrics)
+}
+
+// A metric with its conditions read, and its mark.
+fn bound_metric(alloc: Global, spec: &MetricSpec, dry_run: &[Text]) -> Result<Metric, BindFault>
+    ensures { IsRead (has_bad_condition spec.now) (bound_metric dry_run.now spec.now) result }
+{
+    let success = read(alloc, &spec.success)?;
+    let failure = read(alloc, &spec.failure)?;
+    let settings = MetricSettings {
+        name: spec.name,
+        success,
+        failure,
+        interval: spec.interval,
+        initial_delay: Some(spec.initial_delay),
+        count: spec.count,
+        failure_limit: Some(spec.failure_limit),
+        inconclusive_limit: Some(spec.inconclusive_limit),
+        consecutive_error_limit: Some(spec.consecutive_error_limit),
+        dry_run: is_marked(dry_run, spec.name),
+    };
+    Ok(metric_of(settings))
+}
+
+fn metric_of(settings: MetricSettings) -> Metric
+    requires { IsTrue (are_within_limits settings) }
+    ensures { result ≡ metric_of settings }
+{
+    Metric::new(settings).unwrap()
+}
+
+// Whether these names mark that metric as measured without counting.
+fn is_marked(dry_run: &[Text], name: Label) -> bool
+    ensures { result ≡ is_marked dry_run.now name }
+{
+    dry_run.iter().any(|marked| marks(marked, name))
+}
+
+fn marks(marked: &Text, name: Label) -> bool
+    ensures { result ≡ (bytes_eq marked.now all_metrics || bytes_eq marked.now name) }
+{
+    marked.as_str() == ALL_METRICS || marked.as_str() == name.as_str()
+}
+
+// The condition that is asked for, if one is.
+fn read(alloc: Global, text: &Option<Text>) -> Result<Option<Condition>, BindFault>
+    ensures { IsRead (is_unreadable text.now) (condition_if text.now) result }
+{
+    let Some(text) = text else {
+        return Ok(None);
+    };
+    match condition_of(alloc, text.as_str())? {
+        Some(condition) => Ok(Some(condition)),
+        None => Err(BindFault::Refused(Refusal::BadCondition)),
+    }
+}
+
+// The condition of a text, or none where it is no condition.
+fn condition_of(alloc: Global, text: &str) -> Result<Option<Condition>, Memory>
+    ensures { IfOk result (λ found. found ≡ condition_of text.now) }
+{
+    laws::conditions();
+    match Condition::parse(alloc, text) {
+        Ok(condition) => Ok(Some(condition)),
+        Err(fault) => {
+            if fault == ConditionFault::Memory {
+                return Err(Memory);
+            }
+            Ok(None)
+        }
+    }
+}
+
+// Why a template is refused whose conditions all have a reading.
+fn other_refusal(alloc: Global, spec: &TemplateSpec) -> Result<Option<Refusal>, Memory>
+    ensures { IfOk result (λ found. list_any has_bad_condition spec.now.metrics ≡ false → found
+        ≡ template_refusal spec.now) }
+{
+    if some_needs_interval(spec.metrics.as_slice()) {
+        return Ok(Some(Refusal::IntervalNeeded));
+    }
+    if repeats_name(alloc, spec.metrics.as_slice())? {
+        return Ok(Some(Refusal::DuplicateMetric));
+    }
+    if some_is_foreign(spec) {
+        return Ok(Some(Refusal::BadDryRun));
+    }
+    Ok(None)
+}
+
+fn some_needs_interval(metrics: &[MetricSpec]) -> bool
+    ensures { result ≡ list_any needs_interval metrics.now }
+{
+    metrics.iter().any(needs_interval)
+}
+
+// Whether it has a count above 1 and no interval.
+fn needs_interval(metric: &MetricSpec) -> bool
+    ensures { result ≡ needs_interval metric.now }
+{
+    match metric.count {
+        Some(count) => count > 1 && metric.interval.is_none(),
+        None => false,
+    }
+}
+
+// Whether two metrics have one name.
+fn repeats_name(alloc: Global, metrics: &[MetricSpec]) -> Result<bool, Memory>
+    ensures { IfOk result (λ repeats. repeats
+        ≡ has_duplicate (map (λ (m : MetricSpec). m.name) metrics.now)) }
+{
+    let mut names = Vec::new(alloc);
+    for metric in metrics {
+        names.push(metric.name)?;
+    }
+    has_duplicate(alloc, names.as_slice())
+}
+
+fn some_is_foreign(spec: &TemplateSpec) -> bool
+    ensures { result ≡ list_any (is_foreign spec.now) spec.now.dry_run }
+{
+    spec.dry_run
+        .as_slice()
+        .iter()
+        .any(|name| is_foreign(spec, name))
+}
+
+// Whether that name is neither a metric's nor the one for all.
+fn is_foreign(spec: &TemplateSpec, name: &Text) -> bool
+    ensures { result ≡ is_foreign spec.now name.now }
+{
+    !(name.as_str() == ALL_METRICS || is_metric(spec.metrics.as_slice(), name))
+}
+
+fn is_metric(metrics: &[MetricSpec], name: &Text) -> bool
+    ensures { result ≡ list_any (λ (m : MetricSpec). bytes_eq m.name name.now) metrics.now }
+{
+    metrics
+        .iter()
+        .any(|metric| metric.name.as_str() == name.as_str())
+}

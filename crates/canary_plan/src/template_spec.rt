@@ -1,0 +1,102 @@
+//! Templates as they are asked for.
+ghost use Rattle.std.specs.Prelude.{◌≡◌, IsTrue, IfOk, length};
+ghost use Rattle.canary_plan.specs.Limits.{are_metric_limits, is_metric_count};
+
+use canary_base::durations::Seconds;
+use canary_base::error::Memory;
+use canary_base::lists::{Listed, Text};
+use canary_base::names::{Label, Name};
+use std::alloc::Global;
+
+/// A metric as a template asks for it, with its defaults filled in. A condition is not empty, a
+/// count is not 0, and the count and the limits are at most 1,000,000.
+#[derive(Drop)]
+pub struct MetricSpec {
+    pub name: Label,
+    /// `successCondition`.
+    pub success: Option<Text>,
+    /// `failureCondition`.
+    pub failure: Option<Text>,
+    pub interval: Option<Seconds>,
+    pub initial_delay: Seconds,
+    pub count: Option<u32>,
+    pub failure_limit: u32,
+    pub inconclusive_limit: u32,
+    pub consecutive_error_limit: u32,
+    ghost within: { IsTrue (are_metric_limits success failure count failure_limit inconclusive_limit consecutive_error_limit) },
+}
+
+impl MetricSpec {
+    /// A copy of it, or `Memory`.
+    pub fn copy(&self, alloc: Global) -> Result<MetricSpec, Memory>
+        ensures { IfOk result (λ copy. copy ≡ self.now) }
+    {
+        let success = copy_text(alloc, &self.success)?;
+        let failure = copy_text(alloc, &self.failure)?;
+        Ok(MetricSpec {
+            name: self.name,
+            success,
+            failure,
+            interval: self.interval,
+            initial_delay: self.initial_delay,
+            count: self.count,
+            failure_limit: self.failure_limit,
+            inconclusive_limit: self.inconclusive_limit,
+            consecutive_error_limit: self.consecutive_error_limit,
+        })
+    }
+}
+
+/// An analysis template as it is asked for: 1 to 32 metrics, and the names of those that are
+/// measured without counting (`.*` for all).
+#[derive(Drop)]
+pub struct TemplateSpec {
+    pub name: Name,
+    pub metrics: Listed<MetricSpec>,
+    pub dry_run: Listed<Text>,
+    ghost within: { IsTrue (is_metric_count (length metrics)) },
+}
+
+impl TemplateSpec {
+    /// A copy of it, or `Memory`.
+    pub fn copy(&self, alloc: Global) -> Result<TemplateSpec, Memory>
+        ensures { IfOk result (λ copy. copy ≡ self.now) }
+    {
+        let metrics = copy_metric_specs(alloc, self.metrics.as_slice())?;
+        let dry_run = copy_texts(alloc, self.dry_run.as_slice())?;
+        Ok(TemplateSpec {
+            name: self.name,
+            metrics,
+            dry_run,
+        })
+    }
+}
+
+fn copy_metric_specs(alloc: Global, metrics: &[MetricSpec]) -> Result<Listed<MetricSpec>, Memory>
+    ensures { IfOk result (λ copies. copies ≡ metrics.now) }
+{
+    let mut copies = Listed::of(Vec::new(alloc));
+    for metric in metrics {
+        copies.push(metric.copy(alloc)?)?;
+    }
+    Ok(copies)
+}
+
+fn copy_texts(alloc: Global, texts: &[Text]) -> Result<Listed<Text>, Memory>
+    ensures { IfOk result (λ copies. copies ≡ texts.now) }
+{
+    let mut copies = Listed::of(Vec::new(alloc));
+    for text in texts {
+        copies.push(text.copy(alloc)?)?;
+    }
+    Ok(copies)
+}
+
+fn copy_text(alloc: Global, text: &Option<Text>) -> Result<Option<Text>, Memory>
+    ensures { IfOk result (λ copy. copy ≡ text.now) }
+{
+    match text {
+        None => Ok(None),
+        Some(text) => Ok(Some(text.copy(alloc)?)),
+    }
+}
