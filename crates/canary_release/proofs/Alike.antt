@@ -7,9 +7,9 @@ use Rattle.canary_release.specs.declared.effect.Recorded.{Recorded}
 use Rattle.canary_release.specs.declared.effect.Closing.{Closing}
 use Rattle.canary_release.specs.declared.effect.Effect.{Effect}
 use Rattle.canary_release.specs.declared.effect.Effect.TheVariants.{Told, Opened, Measured, Closed}
-use Rattle.canary_release.specs.declared.service.OpenRun.{OpenRun}
-use Rattle.canary_release.specs.declared.service.Runs.{Runs}
-use Rattle.canary_release.specs.declared.service.Stand.{Stand}
+use Rattle.canary_release.specs.declared.runs.OpenRun.{OpenRun}
+use Rattle.canary_release.specs.declared.runs.Runs.{Runs}
+use Rattle.canary_release.specs.declared.stand.Stand.{Stand}
 use Rattle.canary_release.specs.Pasts.{Run, Past, change_at, opened_run, with_recorded, measured_in, closed_in, grows, is_open, measurement_of, counts_of, tallied, watched}
 use Rattle.canary_release.specs.Watching.{opened_now, counted, counted_in, is_other, happens, after_all}
 use Rattle.canary_release.specs.Courses.{Course, Watch, course_from}

@@ -2,7 +2,7 @@
 use Rattle.std.proofs.Common.{◌≡◌, ℕ, zero, suc, ◌+◌, ◌-◌, ◌≤◌, List, [], ◌∷◌, length, Bool, true, false, refl, ap, ◌∙◌, sym, subst, arith, true≢false}
 use Rattle.std.specs.Prelude.{if◌then◌else◌, Option, Some, None, slice_get, IsTrue}
 use Rattle.std.proofs.lemmas.Bool.Decides.{nat_tests}
-use Rattle.canary_plan.specs.declared.plan.Step.{Step}
+use Rattle.canary_plan.specs.declared.step.Step.{Step}
 use Rattle.canary_release.specs.Services.{step_of}
 use Rattle.canary_release.specs.Courses.{Course}
 use Rattle.canary_release.specs.Entering.{enter}
@@ -84,7 +84,7 @@ one_move : (c x y : Course) (d e : ℕ) → Moves c d x → Moves c e y → x �
 one_move c x y d e g h = g.2 ∙ ap (enter c (c.stand.step + 1)) (some_injective d e (sym g.1 ∙ h.1)) ∙ sym h.2
 
 -- a chain that comes to rest is a longest one
-rest_is_longest : (k t : ℕ) (c x : Course) → Chain k t c x → IsAtRest t x → IsLongest t c k
+pub rest_is_longest : (k t : ℕ) (c x : Course) → Chain k t c x → IsAtRest t x → IsLongest t c k
 rest_is_longest zero t c x g rest zero d h = omega arith
 rest_is_longest zero t c x g rest (suc m) d h = absurd (subst (IsAtRest t) g rest h.0 h.1 h.2 h.3)
 rest_is_longest (suc k) t c x g rest zero d h = omega arith
@@ -98,7 +98,7 @@ one_end zero t c x y g h = g ∙ sym h
 one_end (suc n) t c x y g h = one_end n t g.1 x y g.4 (subst (λ (d : Course). Chain n t d y) (sym (one_move c g.1 h.1 g.0 h.0 g.2 h.2)) h.4)
 
 -- longest chains have one end
-one_longest : (m n t : ℕ) (c x y : Course) → Chain m t c x → IsLongest t c m → Chain n t c y → IsLongest t c n → x ≡ y
+pub one_longest : (m n t : ℕ) (c x y : Course) → Chain m t c x → IsLongest t c m → Chain n t c y → IsLongest t c n → x ≡ y
 one_longest m n t c x y g gl h hl =
     let below : m ≤ n = hl m x g in
     let above : n ≤ m = gl n y h in

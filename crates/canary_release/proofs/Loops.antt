@@ -38,7 +38,6 @@ chain_on t e d h go = one_more (length d.stand.strategy.steps - d.stand.step) (l
 
 -- where the chain from one course has come to
 pub record IsOnChain (t : ℕ) (from d : Course) : Type 0 where
-  pub on_steps : d.stand.step ≤ length d.stand.strategy.steps
   pub same_strategy : d.stand.strategy ≡ from.stand.strategy
   pub rest : followed d t ≡ followed from t
 
@@ -46,7 +45,6 @@ to_next : (t e : ℕ) (from d : Course) → IsOnChain t from d → d.stand.step 
 to_next t e from d h lt go =
     let k = enter_keeps d (d.stand.step + 1) e in
     record {
-      on_steps = rw (k.0, k.1) (omega arith);
       same_strategy = k.0 ∙ h.same_strategy;
       rest = rw (k.0, k.1) (sym (chain_on t e d lt go) ∙ h.rest);
     }

@@ -1,216 +1,309 @@
--- The machine keeps services in order.
-use Rattle.std.proofs.Common.{◌≡◌, ℕ, zero, suc, ◌+◌, ◌-◌, ◌≤◌, List, [], ◌∷◌, length, Bool, true, false, refl, ap, sym, ◌∙◌, subst, arith, true≢false}
-use Rattle.std.specs.Prelude.{if◌then◌else◌, cond, not, Option, Some, None, option_map, Result, Ok, Err, slice_get, IsTrue, ◌==◌}
+-- The machine keeps a desk in order.
+use Rattle.std.proofs.Common.{◌≡◌, ℕ, zero, suc, List, [], ◌∷◌, Bool, true, false, refl, ap, sym, ◌∙◌, subst}
+use Rattle.std.specs.Prelude.{◌||◌, ◌&&◌, ◌-◌, not, length, filter, is_none, slice_get, cond, nat_lt, IsTrue, Option, Some, None, option_map, Result, Ok, Err}
+use Rattle.std.specs.List.{AllByRecursion, list_any}
 use Rattle.std.specs.Ordering.{nat_cmp}
-use Rattle.std.specs.Str.{bytes_eq}
 use Rattle.std.specs.Cmp.Lexicographic.{slice_cmp, nat_list_cmp_total}
-use Rattle.std.specs.FinMap.{get, get-insert, get-empty}
+use Rattle.std.specs.Str.{bytes_eq}
+use Rattle.std.specs.FinMap.{FinMap, get, insert, get-insert, get-empty}
 use Rattle.std.proofs.lemmas.Map.Text.{is_eq-slice_cmp}
 use Rattle.std.proofs.lemmas.Slice.Eq.{bytes_eq-Decides}
-use Rattle.std.proofs.lemmas.Bool.Decides.{nat_tests, Decides-eqb}
-use Rattle.canary_plan.specs.declared.plan.Step.{Step}
-use Rattle.canary_plan.specs.declared.plan.Step.TheVariants.{SetWeight, Pause}
-use Rattle.canary_plan.specs.declared.plan.ServiceSpec.{ServiceSpec}
+use Rattle.std.proofs.lemmas.Bool.Decides.{nat_tests}
+use Rattle.std.proofs.Common.{◌≤◌, arith, ◌==◌}
+use Rattle.canary_plan.specs.declared.service.ServiceSpec.{ServiceSpec}
+use Rattle.canary_plan.specs.declared.template_spec.TemplateSpec.{TemplateSpec}
+use Rattle.canary_plan.specs.declared.template.Template.{Template}
+use Rattle.canary_plan.specs.declared.strategy.CheckedStrategy.{CheckedStrategy}
 use Rattle.canary_plan.specs.declared.command.Command.{Command}
-use Rattle.canary_plan.specs.declared.command.Command.TheVariants.{Service as AddService, Start, Promote}
-use Rattle.canary_plan.specs.declared.line.LineEvent.TheVariants.{Started, Promoted}
+use Rattle.canary_plan.specs.declared.command.Command.TheVariants.{Template as AddTemplate, Service as AddService, Start, Promote, PromoteFull, Abort, Retry, Tick, Report}
 use Rattle.canary_plan.specs.declared.refusal.Refusal.{Refusal}
-use Rattle.canary_plan.specs.declared.refusal.Refusal.TheVariants.{BadStrategy, NotInProgress, NotPaused}
-use Rattle.canary_plan.specs.Refusals.{first_that_holds}
+use Rattle.canary_plan.specs.Plans.{Templates, is_accepted}
+use Rattle.canary_plan.specs.PlanRefusals.{template_refusal, strategy_refusal}
 use Rattle.canary_plan.specs.Commands.{subject_of}
-use Rattle.canary_plan.specs.StrategyViews.{StrategyView}
-use Rattle.canary_plan.specs.Plans.{strategy_of, is_strategy, strategy_refusal}
-use Rattle.canary_release.specs.declared.service.State.{State}
-use Rattle.canary_release.specs.declared.service.State.TheVariants.{InProgress, Done}
-use Rattle.canary_release.specs.declared.service.Stand.{Stand}
-use Rattle.canary_release.specs.Services.{IsOnSteps, is_going, is_done, status}
-use Rattle.canary_release.specs.Courses.{Course, with_stand, tell}
-use Rattle.canary_release.specs.Entering.{enter, finish, show_step}
-use Rattle.canary_release.specs.Passing.{next_move, is_by, move_at, chain_end, judged_at, pass}
-use Rattle.canary_release.specs.Commands.{Acted, leads, start, promote, begun, start_refusal, promote_refusal, is_progressing, unless, act}
-use Rattle.canary_release.specs.Desks.{ModelService, course_of, Change, new_service, rules, passed_on, act_passed, ruling, ruling_on, after, Desk, no_desk, desk_after, apply}
-use Rattle.canary_release.specs.Desks.Change.{Nothing, Becomes}
-use Rattle.canary_release.specs.Order.{IsInOrder, AreInOrder, StayInOrder}
-use Rattle.canary_release.proofs.Chains.{IsAtRest, going, chain_ends}
+use Rattle.canary_release.specs.declared.runs.OpenRun.{OpenRun}
+use Rattle.canary_release.specs.declared.runs.Runs.{Runs}
+use Rattle.canary_release.specs.declared.service.ServiceParts.{ServiceParts}
+use Rattle.canary_release.specs.Pasts.{Run, Past, no_past, grows_by, watched}
+use Rattle.canary_release.specs.Watching.{after_all}
+use Rattle.canary_release.specs.Services.{is_going, is_held}
+use Rattle.canary_release.specs.Courses.{Course, Watch, course_from, runs_now, has_number}
+use Rattle.canary_release.specs.Commands.{Acted, unless, leads}
+use Rattle.canary_release.specs.Desks.{ModelService, Desk, no_desk, Change, course_of, watch_of, rules, act_passed, act_new, new_service, adds_unless, rule_template, rule_service, ruling, ruling_on, after, desk_after, apply, machine}
+use Rattle.canary_release.specs.Desks.Change.{Nothing, Adds, Becomes}
+use Rattle.canary_release.specs.Shapes.{kept_course, kept_after, shape}
+use Rattle.canary_release.specs.Parts.{runs_wanted, is_misplaced, is_misnumbered, repeats_number, has_wrong_tallies, is_background_run, is_step_run, has_background_run, is_astray, is_judged, is_broken}
+use Rattle.canary_release.specs.Passing.{next_move, is_by}
+use Rattle.canary_release.specs.PartsLaws.{ActingKeepsParts, NewPartsAreUnbroken}
+use Rattle.canary_release.specs.Laws.{WatchesAlike}
+use Rattle.canary_release.specs.Order.{IsRun, IsInOrder, IsTemplate, AreInOrder, StayInOrder}
+use Rattle.canary_release.proofs.Alike.{one_watch}
+use Rattle.canary_release.proofs.OrderingBasics.{neither, each, none_passes, some_same}
+use Rattle.canary_release.proofs.OrderingAllowed.{IsNumbered, AreDistinct, IsAtMost, IsFollowing}
+use Rattle.canary_release.proofs.OrderingReports.{follows}
+use Rattle.canary_release.proofs.OrderingPasts.{HasLists, IsOrdered, ordered_after_all}
+use Rattle.canary_release.proofs.OrderingTemplates.{KeepsKnown, AreBound, stays_same, strategy_accepted}
 
--- a service of that name as it changes, whose step was entered by t
-record Goes (name : List ℕ) (plan : StrategyView) (t : ℕ) (s : Stand) : Type 0 where
-  named : s.name ≡ name
-  same : s.strategy ≡ plan
-  on_steps : IsOnSteps s
-  done : is_done s.state ≡ (s.step == length s.strategy.steps)
-  stable : is_done s.state ≡ true → s.stable ≡ s.version
-  entered : s.entered ≤ t
+-- What unbroken parts say of the open runs.
 
--- one that stands in order, as judged last
-record Stands (name : List ℕ) (plan : StrategyView) (s : Stand) : Type 0 where
-  goes : Goes name plan s.last s
-  at_rest : is_by s.last (next_move s) ≡ false
+distinct_runs : (rs : List OpenRun) → repeats_number rs ≡ false → AreDistinct rs
+distinct_runs [] e = tt
+distinct_runs (r ∷ rs) e =
+    let h = neither (list_any (has_number r.number) rs) (repeats_number rs) e in
+    (none_passes (has_number r.number) rs h.0, distinct_runs rs h.1)
 
-goes_show : (name : List ℕ) (plan : StrategyView) (t : ℕ) (c : Course) (s : Option Step) (i at : ℕ) → Goes name plan t c.stand → Goes name plan t (show_step c s i at).stand
-goes_show name plan t c (Some (SetWeight percent)) i at g = g
-goes_show name plan t c (Some Pause) i at g = g
-goes_show name plan t c None i at g = g
+runs_within : (n : ℕ) (rs : List OpenRun) → list_any (is_misnumbered n) rs ≡ false → AllByRecursion (IsAtMost n) rs
+runs_within n rs e = each (λ (r : OpenRun). is_misnumbered n r ≡ false) (IsAtMost n) (λ r h. at_most r.number ((neither (r.number == 0) (nat_lt n r.number) h).1)) rs (none_passes (is_misnumbered n) rs e)
+  where
+    at_most : (k : ℕ) → nat_lt n k ≡ false → k ≤ n
+    at_most k h = grind (arith, nat_tests, h)
 
--- a step is entered, or the end, where the release is in progress
-goes_enter : (name : List ℕ) (plan : StrategyView) (t : ℕ) (c : Course) (i at : ℕ) → c.stand.name ≡ name → c.stand.strategy ≡ plan → is_done c.stand.state ≡ false → i ≤ length c.stand.strategy.steps → at ≤ t → Goes name plan t (enter c i at).stand
-goes_enter name plan t c i at named same under_way le by =
-    let there : Course = with_stand c (record c.stand { step = i; entered = at }) in
-    let step : Option Step = slice_get c.stand.strategy.steps i in
-    elim (i == length c.stand.strategy.steps)
-    as (λ b. (i == length c.stand.strategy.steps) ≡ b → Goes name plan t (let d : Course = (if b then finish there at else show_step there step i at) in d).stand) [
-      | true ↦ λ e. record { named = named; same = same; on_steps = le; done = sym e; stable = λ h. refl; entered = by }
-      | false ↦ λ e. goes_show name plan t there step i at (record { named = named; same = same; on_steps = le; done = under_way ∙ sym e; stable = λ h. absurd (true≢false (sym h ∙ under_way)); entered = by })
-    ] refl
+pub record PartsSay (p : ServiceParts) : Type 0 where
+  pub numbered : IsNumbered p.runs
+  pub unjudged : list_any (is_judged p.stand) p.runs.open_runs ≡ false
 
-goes_later : (name : List ℕ) (plan : StrategyView) (t u : ℕ) (s : Stand) → t ≤ u → Goes name plan t s → Goes name plan u s
-goes_later name plan t u s le g = record { named = g.named; same = g.same; on_steps = g.on_steps; done = g.done; stable = g.stable; entered = let e = g.entered in omega arith }
+-- each cause of a list of which none holds
+no_cause : (k : ℕ) (causes : List Bool) (b : Bool) → list_any (λ (c : Bool). c) causes ≡ false → slice_get causes k ≡ Some b → b ≡ false
+no_cause k [] b none at = cc at
+no_cause zero (c ∷ causes) b none at = sym (some_same c b at) ∙ (neither c (list_any (λ (x : Bool). x) causes) none).0
+no_cause (suc k) (c ∷ causes) b none at = no_cause k causes b (neither c (list_any (λ (x : Bool). x) causes) none).1 at
 
-not_done : (s : State) → IsTrue (is_going s) → is_done s ≡ false
-not_done InProgress h = refl
-not_done Done h = cc h
+pub parts_say : (p : ServiceParts) → is_broken p ≡ false → PartsSay p
+parts_say p e =
+    let stand = p.stand in
+    let going = is_going stand.state in
+    let runs = p.runs.open_runs in
+    let causes : List Bool = (
+    is_misplaced stand
+    ∷ nat_lt stand.last stand.entered
+    ∷ nat_lt 1000000 p.runs.count
+    ∷ (going && nat_lt (1000000 - p.runs.count) (runs_wanted p))
+    ∷ list_any (is_misnumbered p.runs.count) runs
+    ∷ repeats_number runs
+    ∷ list_any (has_wrong_tallies stand) runs
+    ∷ (not going && nat_lt 0 (length runs))
+    ∷ nat_lt 1 (length (filter is_background_run runs))
+    ∷ nat_lt 1 (length (filter is_step_run runs))
+    ∷ list_any (is_astray stand) runs
+    ∷ (has_background_run p && (not stand.background || stand.background_hold))
+    ∷ (is_held stand && not going)
+    ∷ (stand.background && is_none stand.strategy.background)
+    ∷ (stand.background_hold && not stand.background)
+    ∷ list_any (is_judged stand) runs
+    ∷ is_by stand.last (next_move stand)
+    ∷ []
+    ) in
+    let within = no_cause 4 causes (list_any (is_misnumbered p.runs.count) runs) e refl in
+    let once = no_cause 5 causes (repeats_number runs) e refl in
+    let unjudged = no_cause 15 causes (list_any (is_judged stand) runs) e refl in
+    record { numbered = record { most = runs_within p.runs.count runs within; distinct = distinct_runs runs once }; unjudged = unjudged }
 
--- a step that is not the end has a next one, or the end behind it
-below : (i n : ℕ) → i ≤ n → (i == n) ≡ false → i + 1 ≤ n
-below i n le apart = grind (arith, nat_tests, le, apart)
+-- A service.
 
-goes_chain : (name : List ℕ) (plan : StrategyView) (n t : ℕ) (c : Course) → Goes name plan t c.stand → Goes name plan t (chain_end n t c).stand
-goes_chain name plan zero t c g = g
-goes_chain name plan (suc n) t c g =
-    elim (is_by t (next_move c.stand))
-    as (λ b. is_by t (next_move c.stand) ≡ b → Goes name plan t (let d : Course = elim b [ true ↦ chain_end n t (move_at c (next_move c.stand)) | false ↦ c ] in d).stand) [
-      | true ↦ λ moves.
-          let m = going c t moves in
-          let under_way : is_done c.stand.state ≡ false = not_done c.stand.state m.moves.0 in
-          let next : c.stand.step + 1 ≤ length c.stand.strategy.steps = below c.stand.step (length c.stand.strategy.steps) g.on_steps (sym g.done ∙ under_way) in
-          goes_chain name plan n t (move_at c (next_move c.stand)) (subst (λ (d : Course). Goes name plan t d.stand) (sym m.moves.2 ∙ m.is_next) (goes_enter name plan t c (c.stand.step + 1) m.e g.named g.same under_way next m.in_time))
-      | false ↦ λ stops. g
-    ] refl
+to_lists : (s : ModelService) (rs : List Run) → AllByRecursion (IsRun s) rs → AllByRecursion (HasLists s.stand.strategy s.past.measurements) rs
+to_lists s rs h = each (IsRun s) (HasLists s.stand.strategy s.past.measurements) (λ r k. record { metrics = k.metrics; analysis = k.analysis; one_each = k.one_each; lists = k.lists }) rs h
 
-rest_by : (t : ℕ) (c : Course) → IsAtRest t c → is_by t (next_move c.stand) ≡ false
-rest_by t c rest =
-    elim (is_by t (next_move c.stand)) as (λ b. is_by t (next_move c.stand) ≡ b → b ≡ false)
-    [ true ↦ λ moves. let m = going c t moves in absurd (rest m.e m.next m.moves m.in_time) | false ↦ λ stops. refl ] refl
+from_lists : (s : ModelService) (rs : List Run) → AllByRecursion (HasLists s.stand.strategy s.past.measurements) rs → AllByRecursion (IsRun s) rs
+from_lists s rs h = each (HasLists s.stand.strategy s.past.measurements) (IsRun s) (λ r k. record { metrics = k.metrics; analysis = k.analysis; one_each = k.one_each; lists = k.lists }) rs h
 
--- a service that is passed stands in order
-stands_passed : (name : List ℕ) (plan : StrategyView) (c : Course) (t : ℕ) → Goes name plan (judged_at c.stand t) c.stand → Stands name plan (pass c t).stand
-stands_passed name plan c t g =
-    let at = judged_at c.stand t in
-    let n = length c.stand.strategy.steps - c.stand.step in
-    let h = goes_chain name plan n at c g in
-    let ends = chain_ends n at c (omega arith) in
+pub past_ordered : (known : Templates) (name : List ℕ) (m : ModelService) → IsInOrder known name m → IsOrdered m.stand.strategy m.past
+past_ordered known name m o = record { numbered = o.numbered; runs = to_lists m m.past.runs o.runs; measured = o.measured }
+
+-- the change of a service that was found, and what came of it
+pub record HasBecome (known : Templates) (name : List ℕ) (m : ModelService) (command : Command) (c : Course) : Type 0 where
+  pub order : IsInOrder known name (after (Some m) command c.stand c.effects)
+  pub following : IsFollowing m.stand (watched m.past) c
+
+service_becomes : WatchesAlike → ActingKeepsParts → (known : Templates) → AreBound known → (name : List ℕ) (m : ModelService) (command : Command) (now : ℕ) (a : Acted) → IsInOrder known name m → act_passed command (course_of m) now ≡ Ok a → HasBecome known name m command a.course
+service_becomes alike acting known bound name m command now a o e =
+    let w : Runs = watched m.past in
+    let accepted : IsTrue (is_accepted m.stand.strategy) = subst (λ (st : CheckedStrategy). IsTrue (is_accepted st)) (sym o.strategy) (strategy_accepted known m.made bound o.accepted) in
+    let same : watch_of m.past ≡ after_all w = one_watch alike m.past w refl in
+    let kept : act_passed command (kept_course (shape m)) now ≡ Ok a = ap (λ (v : Watch). act_passed command (course_from m.stand v) now) (sym same) ∙ e in
+    let f0 : IsFollowing m.stand w (kept_course (shape m)) = record { strategy = refl; name = refl; watch = refl; allowed = tt } in
+    let f : IsFollowing m.stand w a.course = follows m.stand w accepted (parts_say (shape m) o.parts).numbered command (kept_course (shape m)) now a f0 kept in
+    let unbroken : is_broken (kept_after a.course) ≡ false = (acting command (shape m) now a accepted o.parts kept).0 in
+    let grown : Past = grows_by m.past a.course.effects in
+    let now_watched : runs_now a.course ≡ watched grown = (λ i. f.watch i a.course.effects) ∙ sym (alike m.past a.course.effects) in
+    let ordered : IsOrdered a.course.stand.strategy grown = subst (λ (st : CheckedStrategy). IsOrdered st grown) (sym f.strategy) (ordered_after_all alike m.stand.strategy m.past a.course.effects f.allowed (past_ordered known name m o)) in
     record {
-      goes = record { named = h.named; same = h.same; on_steps = h.on_steps; done = h.done; stable = h.stable; entered = h.entered };
-      at_rest = rest_by at (chain_end n at c) ends.2;
+      order =
+          record {
+            named = o.named;
+            shown = f.name ∙ o.shown;
+            strategy = f.strategy ∙ o.strategy;
+            accepted = o.accepted;
+            numbered = ordered.numbered;
+            runs = from_lists (after (Some m) command a.course.stand a.course.effects) grown.runs ordered.runs;
+            measured = ordered.measured;
+            parts = ap (λ (v : Runs). is_broken (record { stand = a.course.stand; runs = v })) (sym now_watched) ∙ unbroken;
+          };
+      following = f;
     }
 
-stands_again : (name : List ℕ) (plan : StrategyView) (c : Course) (t : ℕ) → Goes name plan t c.stand → Stands name plan (pass c t).stand
-stands_again name plan c t g = stands_passed name plan c t (goes_later name plan t (judged_at c.stand t) c.stand (omega arith) g)
+service_begins : NewPartsAreUnbroken → (known : Templates) (spec : ServiceSpec) (now : ℕ) → strategy_refusal known spec ≡ None → IsInOrder known spec.name (after None (AddService spec) (new_service known spec now).stand (new_service known spec now).effects)
+service_begins adding known spec now none =
+    record {
+      named = refl;
+      shown = refl;
+      strategy = refl;
+      accepted = none;
+      numbered = tt;
+      runs = tt;
+      measured = refl;
+      parts = adding known spec now;
+    }
 
-stands_first : (name : List ℕ) (plan : StrategyView) (s : Stand) (t : ℕ) → Stands name plan s → Goes name plan (judged_at s t) s
-stands_first name plan s t o = goes_later name plan s.last (judged_at s t) s (omega arith) o.goes
+-- What a command brings, from the service of its name as it was found.
 
--- where it leads goes on in order, or stands so
-abbrev Leads : (Stand → Type 0) → Result Acted Refusal → Type 0
-Leads P (Ok a) = P a.course.stand
-Leads P (Err refusal) = Unit {0}
+abbrev pub OrderIf : Templates → List ℕ → Option ModelService → Type 0
+OrderIf known name None = Unit {0}
+OrderIf known name (Some m) = IsInOrder known name m
 
-leads_unless : (P : Stand → Type 0) (o : Option Refusal) (c : Course) → (o ≡ None → P c.stand) → Leads P (unless o (leads c))
-leads_unless P None c h = h refl
-leads_unless P (Some refusal) c h = tt
+-- a new service has no runs
+pub record HasBegun (known : Templates) (name : List ℕ) (command : Command) (c : Course) : Type 0 where
+  pub order : IsInOrder known name (after None command c.stand c.effects)
+  pub no_runs : (grows_by no_past c.effects).runs ≡ []
 
-still_going : (under_way progressing : Bool) → first_that_holds ((not under_way, NotInProgress) ∷ (progressing, NotPaused) ∷ []) ≡ None → IsTrue under_way
-still_going true progressing h = refl
-still_going false progressing h = cc h
+pub record HasAdded (known : Templates) (name : List ℕ) (t : Template) : Type 0 where
+  pub order : IsTemplate name t
+  pub new : known name ≡ None
 
-leads_promote : (name : List ℕ) (plan : StrategyView) (c : Course) (t : ℕ) → Goes name plan t c.stand → promote_refusal c.stand ≡ None → Goes name plan t (promote c t).stand
-leads_promote name plan c t g accepted =
-    let under_way : is_done c.stand.state ≡ false = not_done c.stand.state (still_going (is_going c.stand.state) (is_progressing (status c.stand)) accepted) in
-    let next : c.stand.step + 1 ≤ length c.stand.strategy.steps = below c.stand.step (length c.stand.strategy.steps) g.on_steps (sym g.done ∙ under_way) in
-    goes_enter name plan t (tell c t Promoted) (c.stand.step + 1) t g.named g.same under_way next (omega arith)
+abbrev pub HasCome : Templates → Option ModelService → Command → Change → Type 0
+HasCome known found command Nothing = Unit {0}
+HasCome known found command (Adds t) = HasAdded known (subject_of command) t
+HasCome known None command (Becomes c) = HasBegun known (subject_of command) command c
+HasCome known (Some m) command (Becomes c) = HasBecome known (subject_of command) m command c
 
-leads_act : (name : List ℕ) (plan : StrategyView) (command : Command) (c : Course) (t : ℕ) → Goes name plan t c.stand → Leads (Goes name plan t) (act command c t)
-leads_act name plan (AddService spec) c t g = tt
-leads_act name plan (Start q version) c t g =
-    leads_unless (Goes name plan t) (start_refusal c.stand version) (start c t version) (λ accepted. goes_enter name plan t (tell (begun c version) t (Started version)) 0 t g.named g.same refl (omega arith) (omega arith))
-leads_act name plan (Promote q) c t g = leads_unless (Goes name plan t) (promote_refusal c.stand) (promote c t) (leads_promote name plan c t g)
+module _ (alike : WatchesAlike) (acting : ActingKeepsParts) (adding : NewPartsAreUnbroken) (known : Templates) (bound : AreBound known) where
+  came_old : (m : ModelService) (command : Command) (now : ℕ) → IsInOrder known (subject_of command) m → (r : Result Acted Refusal) → act_passed command (course_of m) now ≡ r → HasCome known (Some m) command (rules r).change
+  came_old m command now o (Ok a) e = service_becomes alike acting known bound (subject_of command) m command now a o e
+  came_old m command now o (Err refusal) e = tt
 
-leads_on : (name : List ℕ) (plan : StrategyView) (r : Result Acted Refusal) (t : ℕ) → Leads (Goes name plan t) r → Leads (Stands name plan) (passed_on r t)
-leads_on name plan (Ok a) t g = stands_again name plan a.course t g
-leads_on name plan (Err refusal) t g = tt
+  came_new : (spec : ServiceSpec) (now : ℕ) (refusal : Option Refusal) → strategy_refusal known spec ≡ refusal → HasCome known None (AddService spec) (rules (unless refusal (leads (new_service known spec now)))).change
+  came_new spec now None e = record { order = service_begins adding known spec now e; no_runs = refl }
+  came_new spec now (Some refusal) e = tt
 
-leads_passed : (name : List ℕ) (plan : StrategyView) (command : Command) (c : Course) (now : ℕ) → Stands name plan c.stand → Leads (Stands name plan) (act_passed command c now)
-leads_passed name plan command c now o =
-    let t = judged_at c.stand now in
-    let d = pass c now in
-    let g = (stands_passed name plan c now (stands_first name plan c.stand now o)).goes in
-    leads_on name plan (act command d t) t (leads_act name plan command d t (record { named = g.named; same = g.same; on_steps = g.on_steps; done = g.done; stable = g.stable; entered = g.entered }))
+  came_to_none : (command : Command) (now : ℕ) → HasCome known None command (rules (act_new known command now)).change
+  came_to_none (AddService spec) now = came_new spec now (strategy_refusal known spec) refl
+  came_to_none (AddTemplate spec) now = tt
+  came_to_none (Start name version) now = tt
+  came_to_none (Promote name) now = tt
+  came_to_none (PromoteFull name) now = tt
+  came_to_none (Abort name) now = tt
+  came_to_none (Retry name) now = tt
+  came_to_none (Tick name) now = tt
+  came_to_none (Report report) now = tt
 
--- what a ruling leaves of a service that is there, or is not
-abbrev Leaves : Command → Option ModelService → Change → Type 0
-Leaves command found Nothing = Unit {0}
-Leaves command found (Becomes c) = IsInOrder (subject_of command) (after found command c.stand c.effects)
+  came_to_service : (found : Option ModelService) (now : ℕ) (command : Command) → OrderIf known (subject_of command) found → HasCome known found command (rule_service known (option_map course_of found) now command).change
+  came_to_service None now command o = came_to_none command now
+  came_to_service (Some m) now command o = came_old m command now o (act_passed command (course_of m) now) refl
 
-in_order : (name : List ℕ) (m : ModelService) → m.made.name ≡ name → IsTrue (is_strategy m.made.steps) → Stands name (strategy_of m.made.steps) m.stand → IsInOrder name m
-in_order name m named accepted s =
-    record { named = named; shown = s.goes.named; strategy = s.goes.same; accepted = accepted; on_steps = s.goes.on_steps; done = s.goes.done; stable = s.goes.stable; entered = s.goes.entered; at_rest = s.at_rest }
+  came_adds : (found : Option ModelService) (spec : TemplateSpec) (refusal : Option Refusal) → known spec.name ≡ None → template_refusal spec ≡ refusal → HasCome known found (AddTemplate spec) (adds_unless refusal spec).change
+  came_adds found spec None new e = record { order = record { named = refl; accepted = e; bound = refl }; new = new }
+  came_adds found spec (Some refusal) new e = tt
 
-leaves_there : (command : Command) (m : ModelService) (r : Result Acted Refusal) → IsInOrder (subject_of command) m → Leads (Stands (subject_of command) (strategy_of m.made.steps)) r → Leaves command (Some m) (rules r).change
-leaves_there command m (Ok a) o s = in_order (subject_of command) (after (Some m) command a.course.stand a.course.effects) o.named o.accepted s
-leaves_there command m (Err refusal) o s = tt
+  came_template : (found : Option ModelService) (spec : TemplateSpec) (there : Option Template) → known spec.name ≡ there → HasCome known found (AddTemplate spec) (rule_template there spec).change
+  came_template found spec None e = came_adds found spec (template_refusal spec) e refl
+  came_template found spec (Some t) e = tt
 
-is_accepted : (ok : Bool) → first_that_holds ((not ok, BadStrategy) ∷ []) ≡ None → IsTrue ok
-is_accepted true h = refl
-is_accepted false h = cc h
+  pub came : (found : Option ModelService) (now : ℕ) (command : Command) → OrderIf known (subject_of command) found → HasCome known found command (ruling known (option_map course_of found) now command).change
+  came found now (AddTemplate spec) o = came_template found spec (known spec.name) refl
+  came found now (AddService spec) o = came_to_service found now (AddService spec) o
+  came found now (Start name version) o = came_to_service found now (Start name version) o
+  came found now (Promote name) o = came_to_service found now (Promote name) o
+  came found now (PromoteFull name) o = came_to_service found now (PromoteFull name) o
+  came found now (Abort name) o = came_to_service found now (Abort name) o
+  came found now (Retry name) o = came_to_service found now (Retry name) o
+  came found now (Tick name) o = came_to_service found now (Tick name) o
+  came found now (Report report) o = came_to_service found now (Report report) o
 
-leaves_new : (spec : ServiceSpec) (now : ℕ) (o : Option Refusal) → strategy_refusal spec.steps ≡ o → Leaves (AddService spec) None (rules (unless o (leads (new_service spec now)))).change
-leaves_new spec now None accepted = record {
-  named = refl;
-  shown = refl;
-  strategy = refl;
-  accepted = is_accepted (is_strategy spec.steps) accepted;
-  on_steps = omega arith;
-  done = sym ((Decides-eqb (length spec.steps) (length spec.steps)).1 refl);
-  stable = λ h. refl;
-  entered = omega arith;
-  at_rest = refl;
-}
-leaves_new spec now (Some refusal) refused = tt
+-- The desk.
 
-leaves : (found : Option ModelService) (now : ℕ) (command : Command) → ((m : ModelService) → found ≡ Some m → IsInOrder (subject_of command) m) → Leaves command found (ruling (option_map course_of found) now command).change
-leaves None now (AddService spec) known = leaves_new spec now (strategy_refusal spec.steps) refl
-leaves None now (Start name version) known = tt
-leaves None now (Promote name) known = tt
-leaves (Some m) now command known =
-    let o = known m refl in
+pub inserted : {A : Type 0} (m : FinMap (slice_cmp nat_cmp) A) (name : List ℕ) (a : A) (q : List ℕ) → get (insert m name a) q ≡ cond (bytes_eq q name) (Some a) (get m q)
+inserted m name a q = get-insert nat_list_cmp_total m name a q ∙ ap (λ b. cond b (Some a) (get m q)) (is_eq-slice_cmp q name)
+
+-- what is found after an insertion is what was inserted, or was there
+pub found_inserted : {A : Type 0} (P : List ℕ → A → Type 0) (m : FinMap (slice_cmp nat_cmp) A) (name : List ℕ) (a : A) → P name a → ((q : List ℕ) (x : A) → get m q ≡ Some x → P q x) → (q : List ℕ) (x : A) → get (insert m name a) q ≡ Some x → P q x
+found_inserted {A} P m name a new old q x e =
+    elim (bytes_eq q name)
+    as (λ b. bytes_eq q name ≡ b → ◌≡◌ {A = Option A} (cond b (Some a) (get m q)) (Some x) → P q x) [
+      | true ↦ λ b f. let same : q ≡ name = (bytes_eq-Decides q name).0 b in subst (λ (n : List ℕ). P n x) (sym same) (subst (P name) (some_same a x f) new)
+      | false ↦ λ b f. old q x f
+    ] refl (sym (inserted m name a q) ∙ e)
+
+-- a template of a new name leaves the others
+keeps_known : (m : FinMap (slice_cmp nat_cmp) Template) (name : List ℕ) (t : Template) → get m name ≡ None → KeepsKnown (get m) (get (insert m name t))
+keeps_known m name t new q u e =
+    inserted m name t q
+    ∙ elim (bytes_eq q name)
+    as (λ b. bytes_eq q name ≡ b → ◌≡◌ {A = Option Template} (cond b (Some t) (get m q)) (Some u)) [
+      | true ↦ λ b.
+          let gone : ◌≡◌ {A = Option Template} None (Some u) = sym new ∙ ap (get m) (sym ((bytes_eq-Decides q name).0 b)) ∙ e in
+          cc gone
+      | false ↦ λ b. e
+    ] refl
+
+order_kept : (known other : Templates) (name : List ℕ) (s : ModelService) → KeepsKnown known other → IsInOrder known name s → IsInOrder other name s
+order_kept known other name s keeps o =
+    let same = stays_same known other s.made keeps o.accepted in
+    record {
+      named = o.named;
+      shown = o.shown;
+      strategy = o.strategy ∙ same.0;
+      accepted = same.1;
+      numbered = o.numbered;
+      runs = o.runs;
+      measured = o.measured;
+      parts = o.parts;
+    }
+
+pub templates_bound : (desk : Desk) → AreInOrder desk → AreBound (get desk.templates)
+templates_bound desk o name t e = (o.templates name t e).bound
+
+pub order_of : (desk : Desk) → AreInOrder desk → (name : List ℕ) → OrderIf (get desk.templates) name (get desk.services name)
+order_of desk o name = by (get desk.services name) refl
+  where
+    by : (found : Option ModelService) → get desk.services name ≡ found → OrderIf (get desk.templates) name found
+    by None e = tt
+    by (Some s) e = o.services name s e
+
+becomes_order : (known : Templates) (found : Option ModelService) (command : Command) (c : Course) → HasCome known found command (Becomes c) → IsInOrder known (subject_of command) (after found command c.stand c.effects)
+becomes_order known None command c h = h.order
+becomes_order known (Some m) command c h = h.order
+
+order_after : (desk : Desk) (command : Command) (x : Change) → AreInOrder desk → HasCome (get desk.templates) (get desk.services (subject_of command)) command x → AreInOrder (desk_after desk command x)
+order_after desk command Nothing o h = o
+order_after desk command (Adds t) o h =
     let name = subject_of command in
-    leaves_there command m (act_passed command (course_of m) now) o
-    (leads_passed name (strategy_of m.made.steps) command (course_of m) now (record {
-      goes = record { named = o.shown; same = o.strategy; on_steps = o.on_steps; done = o.done; stable = o.stable; entered = o.entered };
-      at_rest = o.at_rest;
-    }))
-
-some_service : (a b : ModelService) → ◌≡◌ {A = Option ModelService} (Some a) (Some b) → a ≡ b
-some_service a b h = cc h
-
-picked : (name q : List ℕ) (s m : ModelService) (o : Option ModelService) (b : Bool) → bytes_eq q name ≡ b → cond b (Some m) o ≡ Some s → IsInOrder name m → (o ≡ Some s → IsInOrder q s) → IsInOrder q s
-picked name q s m o true e found one others =
-    subst (IsInOrder q) (some_service m s found) (subst (λ (n : List ℕ). IsInOrder n m) (sym ((bytes_eq-Decides q name).0 e)) one)
-picked name q s m o false e found one others = others found
-
-in_order_after : (desk : Desk) (command : Command) (change : Change) → AreInOrder desk → Leaves command (get desk.services (subject_of command)) change → AreInOrder (desk_after desk command change)
-in_order_after desk command Nothing all one = all
-in_order_after desk command (Becomes c) all one = λ q s found.
+    let added : HasAdded (get desk.templates) name t = added_of (get desk.services name) h in
+    record {
+      templates = found_inserted IsTemplate desk.templates name t added.order o.templates;
+      services = λ q s e. order_kept (get desk.templates) (get (insert desk.templates name t)) q s (keeps_known desk.templates name t added.new) (o.services q s e);
+    }
+  where
+    added_of : (found : Option ModelService) → HasCome (get desk.templates) found command (Adds t) → HasAdded (get desk.templates) (subject_of command) t
+    added_of None h = h
+    added_of (Some m) h = h
+order_after desk command (Becomes c) o h =
     let name = subject_of command in
-    let m : ModelService = after (get desk.services name) command c.stand c.effects in
-    picked name q s m (get desk.services q) (bytes_eq q name) refl
-    (sym (get-insert nat_list_cmp_total desk.services name m q ∙ ap (λ b. cond b (Some m) (get desk.services q)) (is_eq-slice_cmp q name)) ∙ found)
-    one (all q s)
+    record {
+      templates = o.templates;
+      services = found_inserted (IsInOrder (get desk.templates)) desk.services name (after (get desk.services name) command c.stand c.effects) (becomes_order (get desk.templates) (get desk.services name) command c h) o.services;
+    }
 
-pub stay_in_order : StayInOrder
-stay_in_order desk [] all = all
-stay_in_order desk (x ∷ xs) all =
-    stay_in_order (apply desk x.0 x.1).desk xs (in_order_after desk x.1 (ruling_on desk x.0 x.1).change all (leaves (get desk.services (subject_of x.1)) x.0 x.1 (all (subject_of x.1))))
+pub came_on : WatchesAlike → ActingKeepsParts → NewPartsAreUnbroken → (desk : Desk) (now : ℕ) (command : Command) → AreInOrder desk → HasCome (get desk.templates) (get desk.services (subject_of command)) command (ruling_on desk now command).change
+came_on alike acting adding desk now command o = came alike acting adding (get desk.templates) (templates_bound desk o) (get desk.services (subject_of command)) now command (order_of desk o (subject_of command))
 
-pub none_first : AreInOrder no_desk
-none_first name s found = let h : ◌≡◌ {A = Option ModelService} None (Some s) = sym (get-empty (slice_cmp nat_cmp) name) ∙ found in cc h
+pub order_applied : WatchesAlike → ActingKeepsParts → NewPartsAreUnbroken → (desk : Desk) (now : ℕ) (command : Command) → AreInOrder desk → AreInOrder (apply desk now command).desk
+order_applied alike acting adding desk now command o = order_after desk command (ruling_on desk now command).change o (came_on alike acting adding desk now command o)
+
+pub stay_in_order : WatchesAlike → ActingKeepsParts → NewPartsAreUnbroken → StayInOrder
+stay_in_order alike acting adding desk [] o = o
+stay_in_order alike acting adding desk (x ∷ xs) o = stay_in_order alike acting adding (apply desk x.0 x.1).desk xs (order_applied alike acting adding desk x.0 x.1 o)
+
+pub no_desk_in_order : AreInOrder no_desk
+no_desk_in_order =
+    record {
+      templates = λ q t e. let gone : ◌≡◌ {A = Option Template} None (Some t) = sym (get-empty (slice_cmp nat_cmp) q) ∙ e in cc gone;
+      services = λ q s e. let gone : ◌≡◌ {A = Option ModelService} None (Some s) = sym (get-empty (slice_cmp nat_cmp) q) ∙ e in cc gone;
+    }

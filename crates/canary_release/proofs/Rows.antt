@@ -1,28 +1,31 @@
--- Worked rows of the small machine, over its maps.
+-- Worked rows of the small machine: whole services, and single rules.
 use Rattle.std.proofs.Common.{◌≡◌, ℕ, ◌+◌, List, [], ◌∷◌, ◌++◌, true, refl}
-use Rattle.std.specs.Prelude.{codes, pos, Some, None, replicate}
+use Rattle.std.specs.Prelude.{false, codes, pos, Some, None, replicate}
 use Rattle.std.specs.Fmt.{digits}
-use Rattle.std.specs.FinMap.{get}
 use Rattle.canary_condition.specs.declared.outcome.Value.TheVariants.{Whole}
 use Rattle.canary_condition.specs.declared.outcome.Outcome.TheVariants.{Result}
 use Rattle.canary_condition.specs.declared.outcome.Phase.TheVariants.{Successful}
 use Rattle.canary_metric.specs.Counts.{counts, with_one_more}
-use Rattle.canary_plan.specs.declared.plan.Step.TheVariants.{SetWeight, Pause}
+use Rattle.canary_plan.specs.Plans.{Templates, bound_metric}
+use Rattle.canary_plan.specs.declared.step.Step.TheVariants.{SetWeight, Pause}
 use Rattle.canary_plan.specs.declared.command.Command.{Command}
-use Rattle.canary_plan.specs.declared.command.Command.TheVariants.{Start, Promote}
-use Rattle.canary_plan.specs.declared.line.LineEvent.TheVariants.{Created, Started, WeightEntered, PauseEntered, Promoted, Finished}
+use Rattle.canary_plan.specs.declared.command.Command.TheVariants.{Start, Promote, Abort}
+use Rattle.canary_plan.specs.declared.line.LineEvent.TheVariants.{Created, Started, WeightEntered, PauseEntered, Promoted, Finished, BackgroundOpened, Ended, Aborted as AbortedLine}
 use Rattle.canary_plan.specs.declared.refusal.Refusal.TheVariants.{AlreadyStable, NotInProgress, NotPaused}
-use Rattle.canary_release.specs.declared.service.State.TheVariants.{InProgress, Done}
-use Rattle.canary_release.specs.declared.service.Stand.{Stand}
+use Rattle.canary_release.specs.declared.stand.State.TheVariants.{InProgress, Aborted, Done}
+use Rattle.canary_release.specs.declared.stand.Stand.{Stand}
 use Rattle.canary_release.specs.declared.effect.Opening.{Opening}
 use Rattle.canary_release.specs.declared.effect.Recorded.{Recorded}
 use Rattle.canary_release.specs.declared.effect.Effect.TheVariants.{Opened, Measured, Closed}
 use Rattle.canary_release.specs.Pasts.{no_past, grows_by, watched}
+use Rattle.canary_release.specs.Watching.{no_runs}
 use Rattle.canary_release.specs.Services.{weight}
+use Rattle.canary_release.specs.Courses.{Course}
 use Rattle.canary_release.specs.Commands.{start_refusal, promote_refusal}
 use Rattle.canary_release.specs.Desks.{machine, no_desk, new_stand}
-use Rattle.canary_release.proofs.Stories.{b, ok, no, web, v1, v2, v3, add, two_pauses, told}
-use Rattle.canary_release.proofs.Worlds.{replies_from_nothing, service_from_nothing}
+use Rattle.canary_release.specs.Shapes.{kept_course}
+use Rattle.canary_release.proofs.Stories.{service_after, b, ok, no, web, v1, v2, v3, m, add, background, background_setup, two_pauses, every, metric, report, result, told}
+use Rattle.canary_release.proofs.Worlds.{replies_from_nothing, service_then}
 
 -- A release from pause to pause, and to its end.
 
@@ -46,16 +49,19 @@ unfolding digits
 release_replies = replies_from_nothing to_end _ refl
 
 -- the service at its second pause, with its whole history
-paused_service : get (machine no_desk to_second_pause).desk.services web ≡ Some (record {
-  made = record { name = web; version = v1; steps = two_pauses };
+paused_service : service_after to_second_pause web ≡ Some (record {
+  made = record { name = web; version = v1; steps = two_pauses; background = None };
   stand = record {
     name = web;
-    strategy = record { steps = two_pauses };
+    strategy = record { steps = two_pauses; background = None; step_metrics = replicate 4 []; background_metrics = [] };
     stable = v1;
     version = v2;
     state = InProgress;
     step = 3;
     entered = b + 2;
+    step_hold = false;
+    background_hold = false;
+    background = false;
     last = b + 2;
   };
   past = told (
@@ -69,23 +75,26 @@ paused_service : get (machine no_desk to_second_pause).desk.services web ≡ Som
       ∷ []
       );
 })
-paused_service = service_from_nothing to_second_pause web _ refl
+paused_service = service_then (λ found. found) to_second_pause web _ refl
 
 -- Moments that fall: a request is judged at the service's last moment, where that is later.
 
 abbrev falling : List (ℕ × Command)
-falling = (b + 9, add web (SetWeight 20 ∷ Pause ∷ [])) ∷ (b + 3, Start web v2) ∷ (b + 12, Promote web) ∷ (b, Start web v3) ∷ []
+falling = (b + 9, add web (SetWeight 20 ∷ Pause None ∷ [])) ∷ (b + 3, Start web v2) ∷ (b + 12, Promote web) ∷ (b, Start web v3) ∷ []
 
-falling_service : get (machine no_desk falling).desk.services web ≡ Some (record {
-  made = record { name = web; version = v1; steps = SetWeight 20 ∷ Pause ∷ [] };
+falling_service : service_after falling web ≡ Some (record {
+  made = record { name = web; version = v1; steps = SetWeight 20 ∷ Pause None ∷ []; background = None };
   stand = record {
     name = web;
-    strategy = record { steps = SetWeight 20 ∷ Pause ∷ [] };
+    strategy = record { steps = SetWeight 20 ∷ Pause None ∷ []; background = None; step_metrics = replicate 2 []; background_metrics = [] };
     stable = v2;
     version = v3;
     state = InProgress;
     step = 1;
     entered = b + 12;
+    step_hold = false;
+    background_hold = false;
+    background = false;
     last = b + 12;
   };
   past = told (
@@ -101,7 +110,7 @@ falling_service : get (machine no_desk falling).desk.services web ≡ Some (reco
       ∷ []
       );
 })
-falling_service = service_from_nothing falling web _ refl
+falling_service = service_then (λ found. found) falling web _ refl
 
 -- A service without steps, one with weights alone, and one that begins with a pause.
 
@@ -109,7 +118,7 @@ abbrev without_pauses : List (ℕ × Command)
 without_pauses =
     (b, add web []) ∷ (b, Start web v2)
     ∷ (b, add (codes "api") (SetWeight 5 ∷ SetWeight 100 ∷ [])) ∷ (b, Start (codes "api") v2)
-    ∷ (b, add (codes "db") (Pause ∷ SetWeight 7 ∷ [])) ∷ (b, Start (codes "db") v2) ∷ (b, Promote (codes "db"))
+    ∷ (b, add (codes "db") (Pause None ∷ SetWeight 7 ∷ [])) ∷ (b, Start (codes "db") v2) ∷ (b, Promote (codes "db"))
     ∷ []
 
 without_pauses_replies : (machine no_desk without_pauses).replies ≡
@@ -129,16 +138,19 @@ without_pauses_replies = replies_from_nothing without_pauses _ refl
 abbrev weights_alone : List (ℕ × Command)
 weights_alone = (b, add web (SetWeight 5 ∷ SetWeight 100 ∷ [])) ∷ (b + 4, Start web v2) ∷ []
 
-weights_service : get (machine no_desk weights_alone).desk.services web ≡ Some (record {
-  made = record { name = web; version = v1; steps = SetWeight 5 ∷ SetWeight 100 ∷ [] };
+weights_service : service_after weights_alone web ≡ Some (record {
+  made = record { name = web; version = v1; steps = SetWeight 5 ∷ SetWeight 100 ∷ []; background = None };
   stand = record {
     name = web;
-    strategy = record { steps = SetWeight 5 ∷ SetWeight 100 ∷ [] };
+    strategy = record { steps = SetWeight 5 ∷ SetWeight 100 ∷ []; background = None; step_metrics = replicate 2 []; background_metrics = [] };
     stable = v2;
     version = v2;
     state = Done;
     step = 2;
     entered = b + 4;
+    step_hold = false;
+    background_hold = false;
+    background = false;
     last = b + 4;
   };
   past = told (
@@ -150,28 +162,31 @@ weights_service : get (machine no_desk weights_alone).desk.services web ≡ Some
       ∷ []
       );
 })
-weights_service = service_from_nothing weights_alone web _ refl
+weights_service = service_then (λ found. found) weights_alone web _ refl
 
 -- A command that is refused passes no time, and one on another service changes nothing here.
 
 abbrev refused_late : List (ℕ × Command)
 refused_late =
-    (b, add web (Pause ∷ Pause ∷ [])) ∷ (b, Start web v2)
+    (b, add web (Pause None ∷ Pause None ∷ [])) ∷ (b, Start web v2)
     ∷ (b + 50, Start web v3)
     ∷ (b + 60, add (codes "api") []) ∷ (b + 70, Start (codes "api") v3)
     ∷ (b + 10, Promote web)
     ∷ []
 
-refused_late_service : get (machine no_desk refused_late).desk.services web ≡ Some (record {
-  made = record { name = web; version = v1; steps = Pause ∷ Pause ∷ [] };
+refused_late_service : service_after refused_late web ≡ Some (record {
+  made = record { name = web; version = v1; steps = Pause None ∷ Pause None ∷ []; background = None };
   stand = record {
     name = web;
-    strategy = record { steps = Pause ∷ Pause ∷ [] };
+    strategy = record { steps = Pause None ∷ Pause None ∷ []; background = None; step_metrics = replicate 2 []; background_metrics = [] };
     stable = v1;
     version = v2;
     state = InProgress;
     step = 1;
     entered = b + 10;
+    step_hold = false;
+    background_hold = false;
+    background = false;
     last = b + 10;
   };
   past = told (
@@ -183,56 +198,36 @@ refused_late_service : get (machine no_desk refused_late).desk.services web ≡ 
       ∷ []
       );
 })
-refused_late_service = service_from_nothing refused_late web _ refl
-
--- Strategies at their limits, and refusals in their order.
-
-abbrev limits : List (ℕ × Command)
-limits =
-    (b, add web (SetWeight 101 ∷ []))
-    ∷ (b, add web (replicate 65 Pause))
-    ∷ (b, Start web v2)
-    ∷ (b, Promote web)
-    ∷ (b, add web (replicate 63 Pause ++ SetWeight 100 ∷ []))
-    ∷ (b, add web (SetWeight 101 ∷ []))
-    ∷ []
-
-limits_replies : (machine no_desk limits).replies ≡
-    no (codes "{\"code\":\"bad-strategy\"}")
-    ∷ no (codes "{\"code\":\"bad-strategy\"}")
-    ∷ no (codes "{\"code\":\"unknown-service\"}")
-    ∷ no (codes "{\"code\":\"unknown-service\"}")
-    ∷ ok (codes "{\"code\":\"ok\",\"service\":\"web\",\"status\":\"Healthy\",\"step\":64,\"weight\":100}")
-    ∷ no (codes "{\"code\":\"service-exists\"}")
-    ∷ []
-unfolding digits
-limits_replies = replies_from_nothing limits _ refl
+refused_late_service = service_then (λ found. found) refused_late web _ refl
 
 -- A new service entered its last step, and was judged last, at the moment of its command.
 
 abbrev late : List (ℕ × Command)
 late = (b + 7, add web two_pauses) ∷ []
 
-new_service_of : get (machine no_desk late).desk.services web ≡ Some (record {
-  made = record { name = web; version = v1; steps = two_pauses };
+new_service_of : service_after late web ≡ Some (record {
+  made = record { name = web; version = v1; steps = two_pauses; background = None };
   stand = record {
     name = web;
-    strategy = record { steps = two_pauses };
+    strategy = record { steps = two_pauses; background = None; step_metrics = replicate 4 []; background_metrics = [] };
     stable = v1;
     version = v1;
     state = Done;
     step = 4;
     entered = b + 7;
+    step_hold = false;
+    background_hold = false;
+    background = false;
     last = b + 7;
   };
   past = told (record { moment = b + 7; event = Created v1 } ∷ []);
 })
-new_service_of = service_from_nothing late web _ refl
+new_service_of = service_then (λ found. found) late web _ refl
 
 -- Two weights in a row are passed at once, and the later one counts.
 
 abbrev two_weights : List (ℕ × Command)
-two_weights = (b, add web (SetWeight 5 ∷ SetWeight 40 ∷ Pause ∷ [])) ∷ (b + 3, Start web v2) ∷ []
+two_weights = (b, add web (SetWeight 5 ∷ SetWeight 40 ∷ Pause None ∷ [])) ∷ (b + 3, Start web v2) ∷ []
 
 two_weights_replies : (machine no_desk two_weights).replies ≡
     ok (codes "{\"code\":\"ok\",\"service\":\"web\",\"status\":\"Healthy\",\"step\":3,\"weight\":100}")
@@ -241,32 +236,83 @@ two_weights_replies : (machine no_desk two_weights).replies ≡
 unfolding digits
 two_weights_replies = replies_from_nothing two_weights _ refl
 
+-- A service with a run of the background, measured once, and ended by an abort.
+
+abbrev good_at_first : Recorded
+good_at_first = record { run = 1; metric = 0; ordinal = 1; taken = b + 5; outcome = Result (Whole (pos 7)); phase = Successful }
+
+abbrev measured_once : List (ℕ × Command)
+measured_once = background_setup ++ ((b + 5, report (result m 1 (b + 5) 7 refl)) ∷ (b + 9, Abort web) ∷ [])
+
+measured_service : service_after measured_once web ≡ Some (record {
+  made = record { name = web; version = v1; steps = SetWeight 20 ∷ Pause None ∷ []; background = background (codes "errs") 0 };
+  stand = record {
+    name = web;
+    strategy = record { steps = SetWeight 20 ∷ Pause None ∷ []; background = background (codes "errs") 0; step_metrics = replicate 2 []; background_metrics = bound_metric [] (every (metric m) 60) ∷ [] };
+    stable = v1;
+    version = v2;
+    state = Aborted;
+    step = 1;
+    entered = b;
+    step_hold = false;
+    background_hold = false;
+    background = true;
+    last = b + 9;
+  };
+  past = record {
+    runs = record {
+      number = 1;
+      step = None;
+      started = b;
+      closed = Some (record { run = 1; at = b + 9; outside = true; verdict = Successful });
+      lists = (good_at_first ∷ []) ∷ [];
+    } ∷ [];
+    measurements = good_at_first ∷ [];
+    history = record { moment = b; event = Created v1 }
+        ∷ record { moment = b; event = Started v2 }
+        ∷ record { moment = b; event = BackgroundOpened 1 }
+        ∷ record { moment = b; event = WeightEntered 0 20 }
+        ∷ record { moment = b; event = PauseEntered 1 }
+        ∷ record { moment = b + 9; event = AbortedLine }
+        ∷ record { moment = b + 9; event = Ended 1 Successful }
+        ∷ [];
+  };
+})
+measured_service = service_then (λ found. found) measured_once web _ refl
+
 -- The weight is that of step 0 at step 0, and none is set before it.
 
+abbrev no_templates : Templates
+no_templates name = None
+
+-- with no runs
+abbrev standing : Stand → Course
+standing s = kept_course (record { stand = s; runs = no_runs })
+
 of_two_pauses : Stand
-of_two_pauses = new_stand (record { name = web; version = v1; steps = two_pauses }) b
+of_two_pauses = new_stand no_templates (record { name = web; version = v1; steps = two_pauses; background = None }) b
 
 weight_at_first_step : weight (record of_two_pauses { state = InProgress; step = 0 }) ≡ 20
 unfolding of_two_pauses
 weight_at_first_step = refl
 
-weight_before_any : weight (record (new_stand (record { name = web; version = v1; steps = Pause ∷ SetWeight 20 ∷ [] }) b) { state = InProgress; step = 0 }) ≡ 0
+weight_before_any : weight (record (new_stand no_templates (record { name = web; version = v1; steps = Pause None ∷ SetWeight 20 ∷ []; background = None }) b) { state = InProgress; step = 0 }) ≡ 0
 weight_before_any = refl
 
 -- A start is refused with the stable version, and not with the version that the service shows.
 
-start_with_stable : start_refusal (record of_two_pauses { version = v2 }) v1 ≡ Some AlreadyStable
+start_with_stable : start_refusal (standing (record of_two_pauses { version = v2 })) v1 ≡ Some AlreadyStable
 unfolding of_two_pauses
 start_with_stable = refl
 
-start_with_shown : start_refusal (record of_two_pauses { version = v2 }) v2 ≡ None
+start_with_shown : start_refusal (standing (record of_two_pauses { version = v2 })) v2 ≡ None
 unfolding of_two_pauses
 start_with_shown = refl
 
 -- A promotion is refused where the release is done, and then where it is not at a pause.
 
 at_weight : Stand
-at_weight = record (new_stand (record { name = web; version = v1; steps = two_pauses }) b) { state = InProgress; step = 2 }
+at_weight = record (new_stand no_templates (record { name = web; version = v1; steps = two_pauses; background = None }) b) { state = InProgress; step = 2 }
 
 not_paused : promote_refusal at_weight ≡ Some NotPaused
 unfolding at_weight

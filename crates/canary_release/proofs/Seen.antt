@@ -8,16 +8,19 @@ use Rattle.std.proofs.lemmas.Map.Text.{is_eq-slice_cmp}
 use Rattle.std.proofs.lemmas.Slice.Eq.{bytes_eq-Decides}
 use Rattle.std.specs.FinMap.{get, insert, get-insert}
 use Rattle.canary_plan.specs.declared.command.Command.{Command}
-use Rattle.canary_plan.specs.declared.command.Command.TheVariants.{Service, Start, Promote}
+use Rattle.canary_plan.specs.declared.command.Command.TheVariants.{Template, Service, Start, Promote, PromoteFull, Abort, Retry, Tick, Report}
+use Rattle.canary_plan.specs.declared.template_spec.TemplateSpec.{TemplateSpec}
+use Rattle.canary_plan.specs.declared.template.Template.{Template as Known}
 use Rattle.canary_plan.specs.declared.refusal.Refusal.{Refusal}
-use Rattle.canary_plan.specs.Plans.{strategy_refusal}
+use Rattle.canary_plan.specs.Plans.{Templates}
+use Rattle.canary_plan.specs.PlanRefusals.{template_refusal, strategy_refusal}
 use Rattle.canary_plan.specs.Commands.{subject_of}
 use Rattle.canary_release.specs.declared.service.ServiceParts.{ServiceParts}
 use Rattle.canary_release.specs.Pasts.{no_past}
 use Rattle.canary_release.specs.Courses.{Course, Watch}
 use Rattle.canary_release.specs.Commands.{Acted, unless, leads}
-use Rattle.canary_release.specs.Desks.{ModelService, Desk, Change, rules, after, desk_after, course_of, act_new, act_passed, new_service, ruling, ruling_on, watch_of}
-use Rattle.canary_release.specs.Desks.Change.{Nothing, Becomes}
+use Rattle.canary_release.specs.Desks.{ModelService, Desk, Change, rules, after, desk_after, course_of, act_new, act_passed, new_service, adds_unless, rule_template, rule_service, ruling, ruling_on, watch_of}
+use Rattle.canary_release.specs.Desks.Change.{Nothing, Adds, Becomes}
 use Rattle.canary_release.specs.Shapes.{shape, kept_after, said, kept_by, seen, KeepsWhatIsSeen}
 use Rattle.canary_release.proofs.Watches.{KeepsIf, acted_passed}
 
@@ -28,6 +31,7 @@ kept_is_seen m command c same = λ i. record { stand = c.stand; runs = sym same 
 -- a change of the service as it was found brings what is kept of it afterwards
 abbrev Fits : Option ModelService → Command → Change → Type 0
 Fits found command Nothing = Unit {0}
+Fits found command (Adds t) = Unit {0}
 Fits found command (Becomes c) = shape (after found command c.stand c.effects) ≡ kept_after c
 
 abbrev HasWatch : Watch → Result Acted Refusal → Type 0
@@ -50,14 +54,39 @@ unless_new : (r : Option Refusal) (a : Acted) → a.course.watch ≡ watch_of no
 unless_new None a k = k
 unless_new (Some refusal) a k = tt
 
-new_watch : (command : Command) (now : ℕ) → HasWatch (watch_of no_past) (act_new command now)
-new_watch (Service spec) now = unless_new (strategy_refusal spec.steps) (leads (new_service spec now)) refl
-new_watch (Start name version) now = tt
-new_watch (Promote name) now = tt
+new_watch : (known : Templates) (command : Command) (now : ℕ) → HasWatch (watch_of no_past) (act_new known command now)
+new_watch known (Service spec) now = unless_new (strategy_refusal known spec) (leads (new_service known spec now)) refl
+new_watch known (Template spec) now = tt
+new_watch known (Start name version) now = tt
+new_watch known (Promote name) now = tt
+new_watch known (PromoteFull name) now = tt
+new_watch known (Abort name) now = tt
+new_watch known (Retry name) now = tt
+new_watch known (Tick name) now = tt
+new_watch known (Report report) now = tt
 
-pub fits : (found : Option ModelService) (now : ℕ) (command : Command) → Fits found command (ruling (option_map course_of found) now command).change
-fits None now command = fits_new command (act_new command now) (new_watch command now)
-fits (Some m) now command = fits_old m command (act_passed command (course_of m) now) (kept_watch_of (course_of m) (act_passed command (course_of m) now) (acted_passed command (course_of m) now))
+fits_service : (known : Templates) (found : Option ModelService) (now : ℕ) (command : Command) → Fits found command (rule_service known (option_map course_of found) now command).change
+fits_service known None now command = fits_new command (act_new known command now) (new_watch known command now)
+fits_service known (Some m) now command = fits_old m command (act_passed command (course_of m) now) (kept_watch_of (course_of m) (act_passed command (course_of m) now) (acted_passed command (course_of m) now))
+
+fits_adds : (found : Option ModelService) (command : Command) (refusal : Option Refusal) (spec : TemplateSpec) → Fits found command (adds_unless refusal spec).change
+fits_adds found command None spec = tt
+fits_adds found command (Some refusal) spec = tt
+
+fits_template : (found : Option ModelService) (command : Command) (there : Option Known) (spec : TemplateSpec) → Fits found command (rule_template there spec).change
+fits_template found command None spec = fits_adds found command (template_refusal spec) spec
+fits_template found command (Some t) spec = tt
+
+pub fits : (known : Templates) (found : Option ModelService) (now : ℕ) (command : Command) → Fits found command (ruling known (option_map course_of found) now command).change
+fits known found now (Template spec) = fits_template found (Template spec) (known spec.name) spec
+fits known found now (Service spec) = fits_service known found now (Service spec)
+fits known found now (Start name version) = fits_service known found now (Start name version)
+fits known found now (Promote name) = fits_service known found now (Promote name)
+fits known found now (PromoteFull name) = fits_service known found now (PromoteFull name)
+fits known found now (Abort name) = fits_service known found now (Abort name)
+fits known found now (Retry name) = fits_service known found now (Retry name)
+fits known found now (Tick name) = fits_service known found now (Tick name)
+fits known found now (Report report) = fits_service known found now (Report report)
 
 bytes_same : (name : List ℕ) → bytes_eq name name ≡ true
 bytes_same name = (bytes_eq-Decides name name).1 refl
@@ -70,8 +99,9 @@ found_there desk command m = get-insert nat_list_cmp_total desk.services (subjec
 
 seen_after : (desk : Desk) (command : Command) (x : Change) (s : ServiceParts) → Fits (get desk.services (subject_of command)) command x → kept_by (said x) ≡ Some s → seen (desk_after desk command x) (subject_of command) ≡ Some s
 seen_after desk command Nothing s fit brings = cc brings
+seen_after desk command (Adds t) s fit brings = cc brings
 seen_after desk command (Becomes c) s fit brings =
     ap (option_map shape) (found_there desk command (after (get desk.services (subject_of command)) command c.stand c.effects)) ∙ ap (λ (k : ServiceParts). Some k) fit ∙ brings
 
 pub keeps_what_is_seen : KeepsWhatIsSeen
-keeps_what_is_seen desk now command s brings = seen_after desk command (ruling_on desk now command).change s (fits (get desk.services (subject_of command)) now command) brings
+keeps_what_is_seen desk now command s brings = seen_after desk command (ruling_on desk now command).change s (fits (get desk.templates) (get desk.services (subject_of command)) now command) brings

@@ -1,47 +1,92 @@
 -- What each command does to a service that was passed to t, and why it is refused.
-use Rattle.std.specs.Prelude.{ℕ, ◌+◌, ◌&&◌, not, Bool, true, false, List, [], ◌∷◌, Option, Some, None, Result, Ok, Err}
+use Rattle.std.specs.Prelude.{ℕ, ◌+◌, ◌-◌, ◌&&◌, nat_lt, not, Bool, true, false, if◌then◌else◌, List, [], ◌∷◌, length, Option, Some, None, Result, Ok, Err}
 use Rattle.std.specs.Str.{bytes_eq}
+use Rattle.canary_plan.specs.declared.report.Entry.{Entry}
 use Rattle.canary_plan.specs.declared.command.Command.{Command}
-use Rattle.canary_plan.specs.declared.command.Command.TheVariants.{Service as AddService, Start, Promote}
+use Rattle.canary_plan.specs.declared.command.Command.TheVariants.{Template as AddTemplate, Service as AddService, Start, Promote, PromoteFull, Abort, Retry, Tick, Report}
 use Rattle.canary_plan.specs.declared.line.LineEvent.{LineEvent}
-use Rattle.canary_plan.specs.declared.line.LineEvent.TheVariants.{Started, Promoted}
+use Rattle.canary_plan.specs.declared.line.LineEvent.TheVariants.{Started, Retried, Promoted, PromotedFull, Aborted as AbortLine}
 use Rattle.canary_plan.specs.declared.refusal.Refusal.{Refusal}
-use Rattle.canary_plan.specs.declared.refusal.Refusal.TheVariants.{ServiceExists, InProgress as ReleaseInProgress, AlreadyStable, NotInProgress, NotPaused}
+use Rattle.canary_plan.specs.declared.refusal.Refusal.TheVariants.{ServiceExists, InProgress as GoesOn, AlreadyStable, NotInProgress, NotPaused, NotAborted, RunsSpent}
 use Rattle.canary_plan.specs.Refusals.{first_that_holds}
-use Rattle.canary_release.specs.declared.service.State.TheVariants.{InProgress}
-use Rattle.canary_release.specs.declared.service.Status.{Status}
-use Rattle.canary_release.specs.declared.service.Status.TheVariants.{Progressing}
-use Rattle.canary_release.specs.declared.service.Stand.{Stand}
-use Rattle.canary_release.specs.Services.{is_going, is_done, status}
-use Rattle.canary_release.specs.Courses.{Course, with_stand, tell}
-use Rattle.canary_release.specs.Entering.{enter}
-use Rattle.canary_release.specs.Replies.{service_text}
+use Rattle.canary_release.specs.declared.stand.State.TheVariants.{InProgress}
+use Rattle.canary_release.specs.declared.stand.Status.{Status}
+use Rattle.canary_release.specs.declared.stand.Status.TheVariants.{Healthy, Degraded, Paused, Progressing}
+use Rattle.canary_release.specs.declared.stand.Stand.{Stand}
+use Rattle.canary_release.specs.declared.runs.OpenRun.{OpenRun}
+use Rattle.canary_release.specs.declared.runs.Runs.{Runs}
+use Rattle.canary_release.specs.Services.{is_going, is_aborted, is_done, status}
+use Rattle.canary_release.specs.Courses.{Course, with_stand, tell, runs_now, open_run_now}
+use Rattle.canary_release.specs.Entering.{enter, abort, without_holds}
+use Rattle.canary_release.specs.Replies.{service_text, report_text}
+use Rattle.canary_release.specs.Reports.{report_refusal, report_on, reported_on}
+
+-- Why a command is refused.
+
+-- fewer than 66 run numbers are left
+abbrev pub is_spent : Runs → Bool
+is_spent w = nat_lt (1000000 - w.count) 66
 
 abbrev pub is_progressing : Status → Bool
 is_progressing Progressing = true
-is_progressing shown = false
+is_progressing Healthy = false
+is_progressing Degraded = false
+is_progressing Paused = false
 
-abbrev pub start_refusal : Stand → List ℕ → Option Refusal
-start_refusal s version = first_that_holds ((is_going s.state, ReleaseInProgress) ∷ (is_done s.state && bytes_eq version s.stable, AlreadyStable) ∷ [])
+abbrev pub start_refusal : Course → List ℕ → Option Refusal
+start_refusal c version =
+    let s = c.stand in
+    first_that_holds (
+    (is_going s.state, GoesOn)
+    ∷ (is_done s.state && bytes_eq version s.stable, AlreadyStable)
+    ∷ (is_spent (runs_now c), RunsSpent)
+    ∷ []
+    )
+
+abbrev pub retry_refusal : Course → Option Refusal
+retry_refusal c = first_that_holds ((not (is_aborted c.stand.state), NotAborted) ∷ (is_spent (runs_now c), RunsSpent) ∷ [])
 
 abbrev pub promote_refusal : Stand → Option Refusal
 promote_refusal s = first_that_holds ((not (is_going s.state), NotInProgress) ∷ (is_progressing (status s), NotPaused) ∷ [])
 
--- an attempt with that version is in progress
+-- of PromoteFull and Abort
+abbrev pub progress_refusal : Stand → Option Refusal
+progress_refusal s = first_that_holds ((not (is_going s.state), NotInProgress) ∷ [])
+
+-- What it does.
+
+-- an attempt with that version is in progress, with no holds and no background run yet
 abbrev pub begun : Course → List ℕ → Course
-begun c version = with_stand c (record c.stand { version = version; state = InProgress })
+begun c version = with_stand c (record (without_holds c.stand) { version = version; state = InProgress; background = false })
 
 -- an attempt with that version, from that step
 abbrev pub begin : Course → ℕ → List ℕ → LineEvent → ℕ → Course
 begin c t version event i = enter (tell (begun c version) t event) i t
 
--- an attempt with a new version, from step 0
-abbrev pub start : Course → ℕ → List ℕ → Course
-start c t version = begin c t version (Started version) 0
+-- a start is at step 0, or for the stable version after an abort at the end
+abbrev pub started_at : Stand → List ℕ → ℕ
+started_at s version = if is_aborted s.state && bytes_eq version s.stable then length s.strategy.steps else 0
 
--- from a pause to the next step
+abbrev pub start : Course → ℕ → List ℕ → Course
+start c t version = begin c t version (Started version) (started_at c.stand version)
+
+abbrev pub retry : Course → ℕ → Course
+retry c t = begin c t c.stand.version (Retried c.stand.version) 0
+
+-- a promotion leads with the step hold to the next step, else with the background hold to the same anew, else from a pause to the next
+abbrev pub promoted_to : Stand → ℕ
+promoted_to s = if s.step_hold then s.step + 1 else (if s.background_hold then s.step else s.step + 1)
+
 abbrev pub promote : Course → ℕ → Course
-promote c t = enter (tell c t Promoted) (c.stand.step + 1) t
+promote c t = enter (tell (with_stand c (without_holds c.stand)) t Promoted) (promoted_to c.stand) t
+
+abbrev pub promote_full : Course → ℕ → Course
+promote_full c t = enter (tell c t PromotedFull) (length c.stand.strategy.steps) t
+
+abbrev pub abort_by_command : Course → ℕ → Course
+abort_by_command c t = abort (tell c t AbortLine) t
+
+-- The table.
 
 -- where a command leads, and the text that shows how the service stands then
 pub record Acted : Type 0 where
@@ -56,8 +101,22 @@ abbrev pub unless : Option Refusal → Acted → Result Acted Refusal
 unless None a = Ok a
 unless (Some refusal) a = Err refusal
 
--- where a command leads a service that was passed to t, or why it is refused
+-- a report shows its entries' phases and the run's verdict, too
+abbrev pub reports : Course → OpenRun → List Entry → ℕ → Acted
+reports c r entries t = record { course = report_on c r entries t; shows = report_text (reported_on c r entries) }
+
+abbrev pub reports_if : Course → Option OpenRun → List Entry → ℕ → Acted
+reports_if c None entries t = leads c
+reports_if c (Some r) entries t = reports c r entries t
+
+-- where a command leads a service that was passed to t, or why it is refused; a Template names no service, and never comes here
 abbrev pub act : Command → Course → ℕ → Result Acted Refusal
-act (AddService spec) c t = Err ServiceExists
-act (Start name version) c t = unless (start_refusal c.stand version) (leads (start c t version))
+act (Start name version) c t = unless (start_refusal c version) (leads (start c t version))
 act (Promote name) c t = unless (promote_refusal c.stand) (leads (promote c t))
+act (PromoteFull name) c t = unless (progress_refusal c.stand) (leads (promote_full c t))
+act (Abort name) c t = unless (progress_refusal c.stand) (leads (abort_by_command c t))
+act (Retry name) c t = unless (retry_refusal c) (leads (retry c t))
+act (Tick name) c t = Ok (leads c)
+act (Report report) c t = let r = open_run_now c report.run in unless (report_refusal c t report.run report.entries r) (reports_if c r report.entries t)
+act (AddService spec) c t = Err ServiceExists
+act (AddTemplate spec) c t = Err ServiceExists

@@ -1,10 +1,18 @@
 -- A service as it changes: how it stands, the effects so far, and its watch.
-use Rattle.std.specs.Prelude.{ℕ, List, [], ◌∷◌, ◌++◌}
+use Rattle.std.specs.Prelude.{ℕ, ◌+◌, ◌==◌, Bool, true, List, [], ◌∷◌, ◌++◌, length, find, Option, unwrap_or}
+use Rattle.std.specs.List.{zip}
+use Rattle.canary_condition.specs.declared.outcome.Phase.{Phase}
+use Rattle.canary_metric.specs.Metrics.{MetricValue}
+use Rattle.canary_metric.specs.Verdicts.{verdict_of_counts}
+use Rattle.canary_plan.specs.declared.strategy.CheckedStrategy.{CheckedStrategy}
 use Rattle.canary_plan.specs.declared.line.LineEvent.{LineEvent}
+use Rattle.canary_plan.specs.declared.line.LineEvent.TheVariants.{Ended}
+use Rattle.canary_plan.specs.Plans.{metrics_at}
 use Rattle.canary_release.specs.declared.effect.Effect.{Effect}
-use Rattle.canary_release.specs.declared.effect.Effect.TheVariants.{Told}
-use Rattle.canary_release.specs.declared.service.Stand.{Stand}
-use Rattle.canary_release.specs.declared.service.Runs.{Runs}
+use Rattle.canary_release.specs.declared.effect.Effect.TheVariants.{Told, Opened, Closed}
+use Rattle.canary_release.specs.declared.stand.Stand.{Stand}
+use Rattle.canary_release.specs.declared.runs.OpenRun.{OpenRun}
+use Rattle.canary_release.specs.declared.runs.Runs.{Runs}
 
 -- what is watched of a service's runs, after the effects of a course
 abbrev pub Watch : Type 0
@@ -33,3 +41,42 @@ tell c at event = happen c (Told (record { moment = at; event = event }))
 -- its runs, as they are now
 abbrev pub runs_now : Course → Runs
 runs_now c = c.watch c.effects
+
+abbrev pub has_number : ℕ → OpenRun → Bool
+has_number number r = r.number == number
+
+-- the open run of that number, if there is one
+abbrev pub open_run_now : Course → ℕ → Option OpenRun
+open_run_now c number = find (has_number number) (runs_now c).open_runs
+
+-- the metrics of a run
+abbrev pub run_metrics : CheckedStrategy → Option ℕ → List MetricValue
+run_metrics strategy step = unwrap_or (metrics_at strategy step) []
+
+-- the verdict of an open run, ended from outside or not
+abbrev pub run_verdict : CheckedStrategy → Bool → OpenRun → Phase
+run_verdict strategy outside r = verdict_of_counts outside (zip (run_metrics strategy r.step) r.tallies)
+
+-- the number of the next run
+abbrev pub next_run : Course → ℕ
+next_run c = (runs_now c).count + 1
+
+-- the next run is opened
+abbrev pub open_run : Course → Option ℕ → ℕ → Course
+open_run c step at = happen c (Opened (record { run = next_run c; step = step; started = at; metrics = length (run_metrics c.stand.strategy step) }))
+
+-- a run is closed at its verdict
+abbrev pub close_run : Course → OpenRun → ℕ → Bool → Course
+close_run c r at outside = happen c (Closed (record { run = r.number; at = at; outside = outside; verdict = run_verdict c.stand.strategy outside r }))
+
+-- a run is ended from outside
+abbrev pub end_run : ℕ → Course → OpenRun → Course
+end_run at c r = tell (close_run c r at true) at (Ended r.number (run_verdict c.stand.strategy true r))
+
+abbrev pub end_runs : ℕ → Course → List OpenRun → Course
+end_runs at c [] = c
+end_runs at c (r ∷ rs) = end_runs at (end_run at c r) rs
+
+-- the open runs are ended from outside, in the order of their numbers
+abbrev pub end_open_runs : Course → ℕ → Course
+end_open_runs c at = end_runs at c (runs_now c).open_runs

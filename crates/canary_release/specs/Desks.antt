@@ -1,25 +1,28 @@
 -- The desk, one command, and the small machine.
-use Rattle.std.specs.Prelude.{ℕ, List, [], ◌∷◌, length, Option, Some, None, option_map, Result, Ok, Err}
+use Rattle.std.specs.Prelude.{ℕ, List, [], ◌∷◌, length, Option, Some, None, option_map, false, Result, Ok, Err}
 use Rattle.std.specs.Ordering.{nat_cmp}
 use Rattle.std.specs.Cmp.Lexicographic.{slice_cmp}
 use Rattle.std.specs.FinMap.{FinMap, get, insert, empty}
-use Rattle.canary_plan.specs.declared.plan.ServiceSpec.{ServiceSpec}
+use Rattle.canary_plan.specs.declared.service.ServiceSpec.{ServiceSpec}
+use Rattle.canary_plan.specs.declared.template_spec.TemplateSpec.{TemplateSpec}
+use Rattle.canary_plan.specs.declared.template.Template.{Template}
 use Rattle.canary_plan.specs.declared.command.Command.{Command}
-use Rattle.canary_plan.specs.declared.command.Command.TheVariants.{Service as AddService}
+use Rattle.canary_plan.specs.declared.command.Command.TheVariants.{Template as AddTemplate, Service as AddService}
 use Rattle.canary_plan.specs.declared.line.LineEvent.TheVariants.{Created}
 use Rattle.canary_plan.specs.declared.refusal.Refusal.{Refusal}
-use Rattle.canary_plan.specs.declared.refusal.Refusal.TheVariants.{UnknownService}
-use Rattle.canary_plan.specs.Plans.{strategy_of, strategy_refusal}
+use Rattle.canary_plan.specs.declared.refusal.Refusal.TheVariants.{UnknownService, TemplateExists}
+use Rattle.canary_plan.specs.Plans.{Templates, template_of, strategy_of}
+use Rattle.canary_plan.specs.PlanRefusals.{template_refusal, strategy_refusal}
 use Rattle.canary_plan.specs.Commands.{subject_of}
 use Rattle.canary_release.specs.declared.effect.Effect.{Effect}
 use Rattle.canary_release.specs.declared.reply.Reply.{Reply}
-use Rattle.canary_release.specs.declared.service.State.TheVariants.{Done}
-use Rattle.canary_release.specs.declared.service.Stand.{Stand}
+use Rattle.canary_release.specs.declared.stand.State.TheVariants.{Done}
+use Rattle.canary_release.specs.declared.stand.Stand.{Stand}
 use Rattle.canary_release.specs.Pasts.{Past, no_past, grows_by, watched}
 use Rattle.canary_release.specs.Courses.{Course, Watch, course_from, tell}
 use Rattle.canary_release.specs.Passing.{pass, judged_at}
 use Rattle.canary_release.specs.Commands.{Acted, leads, unless, act}
-use Rattle.canary_release.specs.Replies.{accepted, refused}
+use Rattle.canary_release.specs.Replies.{template_text, accepted, refused}
 
 -- a service of the model: the command that made it, how it stands, and its whole past
 pub record ModelService : Type 0 where
@@ -38,6 +41,7 @@ course_of m = course_from m.stand (watch_of m.past)
 -- what a command does to the desk
 pub data Change : Type 0 where
   Nothing : Change
+  Adds : (t : Template) → Change
   Becomes : (c : Course) → Change
 
 -- what a command does and answers
@@ -45,10 +49,13 @@ pub record Ruling : Type 0 where
   pub change : Change
   pub reply : Reply
 
+abbrev pub refuses : Refusal → Ruling
+refuses refusal = record { change = Nothing; reply = refused refusal }
+
 -- a refusal changes nothing; else the service becomes what the command leads to, and is shown
 abbrev pub rules : Result Acted Refusal → Ruling
 rules (Ok a) = record { change = Becomes a.course; reply = accepted (a.shows a.course.stand) }
-rules (Err refusal) = record { change = Nothing; reply = refused refusal }
+rules (Err refusal) = refuses refusal
 
 -- passed to t, where it is not refused
 abbrev pub passed_on : Result Acted Refusal → ℕ → Result Acted Refusal
@@ -62,44 +69,61 @@ act_passed command c now =
     passed_on (act command (pass c now) t) t
 
 -- a new service is done: its version is the stable one, and it stands after its last step
-abbrev pub new_stand : ServiceSpec → ℕ → Stand
-new_stand spec now =
+abbrev pub new_stand : Templates → ServiceSpec → ℕ → Stand
+new_stand known spec now =
     record {
       name = spec.name;
-      strategy = strategy_of spec.steps;
+      strategy = strategy_of known spec;
       stable = spec.version;
       version = spec.version;
       state = Done;
       step = length spec.steps;
       entered = now;
+      step_hold = false;
+      background_hold = false;
+      background = false;
       last = now;
     }
 
--- a new service has no past but the line that tells of it
-abbrev pub new_service : ServiceSpec → ℕ → Course
-new_service spec now = tell (course_from (new_stand spec now) (watch_of no_past)) now (Created spec.version)
+abbrev pub new_service : Templates → ServiceSpec → ℕ → Course
+new_service known spec now = tell (course_from (new_stand known spec now) (watch_of no_past)) now (Created spec.version)
 
 -- a command where no service of its name is there
-abbrev pub act_new : Command → ℕ → Result Acted Refusal
-act_new (AddService spec) now = unless (strategy_refusal spec.steps) (leads (new_service spec now))
-act_new command now = Err UnknownService
+abbrev pub act_new : Templates → Command → ℕ → Result Acted Refusal
+act_new known (AddService spec) now = unless (strategy_refusal known spec) (leads (new_service known spec now))
+act_new known command now = Err UnknownService
 
--- what a command does and answers, from the service that it names, which may be there
-abbrev pub ruling : Option Course → ℕ → Command → Ruling
-ruling None now command = rules (act_new command now)
-ruling (Some c) now command = rules (act_passed command c now)
+abbrev pub adds_unless : Option Refusal → TemplateSpec → Ruling
+adds_unless None spec = record { change = Adds (template_of spec); reply = accepted (template_text spec.name) }
+adds_unless (Some refusal) spec = refuses refusal
 
--- the services by name
+-- a template is added, where none of its name is there
+abbrev pub rule_template : Option Template → TemplateSpec → Ruling
+rule_template None spec = adds_unless (template_refusal spec) spec
+rule_template (Some t) spec = refuses TemplateExists
+
+-- a command on a service, which may be there
+abbrev pub rule_service : Templates → Option Course → ℕ → Command → Ruling
+rule_service known None now command = rules (act_new known command now)
+rule_service known (Some c) now command = rules (act_passed command c now)
+
+-- what a command does and answers, from the templates that are known and the service that it names
+abbrev pub ruling : Templates → Option Course → ℕ → Command → Ruling
+ruling known found now (AddTemplate spec) = rule_template (known spec.name) spec
+ruling known found now command = rule_service known found now command
+
+-- the templates and the services, by name
 pub record Desk : Type 0 where
+  pub templates : FinMap (slice_cmp nat_cmp) Template
   pub services : FinMap (slice_cmp nat_cmp) ModelService
 
 abbrev pub no_desk : Desk
-no_desk = record { services = empty }
+no_desk = record { templates = empty; services = empty }
 
 -- the command that makes a service that is new; only a Service command does
 abbrev pub made_by : Command → Stand → ServiceSpec
 made_by (AddService spec) s = spec
-made_by command s = record { name = s.name; version = s.version; steps = s.strategy.steps }
+made_by command s = record { name = s.name; version = s.version; steps = s.strategy.steps; background = s.strategy.background }
 
 -- a service before a change: as it is, or a new one with no past
 abbrev pub before : Option ModelService → Command → Stand → ModelService
@@ -121,6 +145,7 @@ with_service desk command s effects =
 -- the desk after a change that a command brings
 abbrev pub desk_after : Desk → Command → Change → Desk
 desk_after desk command Nothing = desk
+desk_after desk command (Adds t) = record desk { templates = insert desk.templates (subject_of command) t }
 desk_after desk command (Becomes c) = with_service desk command c.stand c.effects
 
 pub record Applied : Type 0 where
@@ -128,7 +153,7 @@ pub record Applied : Type 0 where
   pub reply : Reply
 
 abbrev pub ruling_on : Desk → ℕ → Command → Ruling
-ruling_on desk now command = ruling (option_map course_of (get desk.services (subject_of command))) now command
+ruling_on desk now command = ruling (get desk.templates) (option_map course_of (get desk.services (subject_of command))) now command
 
 -- one command at its moment
 abbrev pub apply : Desk → ℕ → Command → Applied

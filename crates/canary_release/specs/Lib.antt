@@ -4,9 +4,15 @@ pub mod Services
 pub mod Courses
 pub mod Entering
 pub mod Passing
-pub mod Commands
+pub mod Reports
 pub mod Replies
+pub mod Commands
 pub mod Desks
 pub mod Shapes
+pub mod Parts
 pub mod Laws
 pub mod Order
+pub mod Sound
+pub mod PartsLaws
+pub mod Recording
+pub mod Reporting

@@ -1,27 +1,71 @@
 -- What holds of each service that commands have made.
-use Rattle.std.specs.Prelude.{◌≡◌, ℕ, ◌≤◌, ◌==◌, IsTrue, true, false, List, length, Some}
+use Rattle.std.specs.Prelude.{◌≡◌, ℕ, suc, ◌≤◌, ◌==◌, nat_lt, ◌&&◌, IsTrue, false, Bool, List, [], ◌∷◌, length, filter, Some, None}
 use Rattle.std.specs.FinMap.{get}
+use Rattle.std.specs.List.{AllByRecursion, list_all, list_any}
+use Rattle.canary_metric.specs.Metrics.{MetricValue}
+use Rattle.canary_plan.specs.declared.template.Template.{Template}
 use Rattle.canary_plan.specs.declared.command.Command.{Command}
-use Rattle.canary_plan.specs.Plans.{strategy_of, is_strategy}
-use Rattle.canary_release.specs.Services.{is_done, IsOnSteps}
-use Rattle.canary_release.specs.Passing.{next_move, is_by}
+use Rattle.canary_plan.specs.Plans.{Templates, template_of, strategy_of, metrics_at}
+use Rattle.canary_plan.specs.PlanRefusals.{template_refusal, strategy_refusal}
+use Rattle.canary_release.specs.declared.effect.Recorded.{Recorded}
+use Rattle.canary_release.specs.Pasts.{Run}
+use Rattle.canary_release.specs.Parts.{is_broken}
 use Rattle.canary_release.specs.Desks.{ModelService, Desk, machine}
+use Rattle.canary_release.specs.Shapes.{shape}
 
--- a service under a name: the name is its command's and its own, and its strategy is its command's, which is accepted; it stands on a step, or after the last exactly where it is done, and then its version is the stable one; it entered there no later than it was judged last; and no move was left undone then
-pub record IsInOrder (name : List ℕ) (s : ModelService) : Type 0 where
+-- runs are numbered from 1 on, the first of these having this number
+abbrev pub AreNumbered : ℕ → List Run → Type 0
+AreNumbered n [] = Unit {0}
+AreNumbered n (r ∷ rs) = (r.number ≡ n) × AreNumbered (suc n) rs
+
+-- measurement k of a list has ordinal k, and is of this metric of the run
+abbrev pub AreOrdered : ℕ → ℕ → ℕ → List Recorded → Type 0
+AreOrdered run metric n [] = Unit {0}
+AreOrdered run metric n (x ∷ xs) = (x.run ≡ run) × (x.metric ≡ metric) × (x.ordinal ≡ n) × AreOrdered run metric (suc n) xs
+
+-- the lists of a run, of which the first is that of this metric: in order, no longer than 1,000,000, and among all measurements in the same order
+abbrev pub is_of : ℕ → ℕ → Recorded → Bool
+is_of run metric x = x.run == run && x.metric == metric
+
+abbrev pub AreLists : List Recorded → ℕ → ℕ → List (List Recorded) → Type 0
+AreLists all run metric [] = Unit {0}
+AreLists all run metric (list ∷ lists) = AreOrdered run metric 1 list × (length list ≤ 1000000) × (list ≡ filter (is_of run metric) all) × AreLists all run (suc metric) lists
+
+-- a run has a list for each metric of its analysis, which there is
+pub record IsRun (s : ModelService) (r : Run) : Type 0 where
+  pub metrics : List MetricValue
+  pub analysis : metrics_at s.stand.strategy r.step ≡ Some metrics
+  pub one_each : length r.lists ≡ length metrics
+  pub lists : AreLists s.past.measurements r.number 0 r.lists
+
+-- a measurement is of this run, and of a metric of it
+abbrev pub is_measured_by : Recorded → Run → Bool
+is_measured_by x r = x.run == r.number && nat_lt x.metric (length r.lists)
+
+abbrev pub is_of_some : List Run → Recorded → Bool
+is_of_some runs x = list_any (is_measured_by x) runs
+
+-- a service under a name: the name is its command's and its own; its strategy is its command's, which these templates accept; its runs are numbered from 1, each with the lists of an analysis; each measurement is of one of them; and its parts are accepted
+pub record IsInOrder (known : Templates) (name : List ℕ) (s : ModelService) : Type 0 where
   pub named : s.made.name ≡ name
   pub shown : s.stand.name ≡ name
-  pub strategy : s.stand.strategy ≡ strategy_of s.made.steps
-  pub accepted : IsTrue (is_strategy s.made.steps)
-  pub on_steps : IsOnSteps s.stand
-  pub done : is_done s.stand.state ≡ (s.stand.step == length s.stand.strategy.steps)
-  pub stable : is_done s.stand.state ≡ true → s.stand.stable ≡ s.stand.version
-  pub entered : s.stand.entered ≤ s.stand.last
-  pub at_rest : is_by s.stand.last (next_move s.stand) ≡ false
+  pub strategy : s.stand.strategy ≡ strategy_of known s.made
+  pub accepted : strategy_refusal known s.made ≡ None
+  pub numbered : AreNumbered 1 s.past.runs
+  pub runs : AllByRecursion (IsRun s) s.past.runs
+  pub measured : IsTrue (list_all (is_of_some s.past.runs) s.past.measurements)
+  pub parts : is_broken (shape s) ≡ false
 
-abbrev pub AreInOrder : Desk → Type 0
-AreInOrder desk = (name : List ℕ) (s : ModelService) → get desk.services name ≡ Some s → IsInOrder name s
+-- a template under a name: it is its command's, which is accepted
+pub record IsTemplate (name : List ℕ) (t : Template) : Type 0 where
+  pub named : t.spec.name ≡ name
+  pub accepted : template_refusal t.spec ≡ None
+  pub bound : t ≡ template_of t.spec
 
--- the law: the machine keeps services in order
+pub record AreInOrder (desk : Desk) : Type 0 where
+  pub templates : (name : List ℕ) (t : Template) → get desk.templates name ≡ Some t → IsTemplate name t
+  pub services : (name : List ℕ) (s : ModelService) → get desk.services name ≡ Some s → IsInOrder (get desk.templates) name s
+
+-- the law: the machine keeps a desk in order
 abbrev pub StayInOrder : Type 0
 StayInOrder = (desk : Desk) (xs : List (ℕ × Command)) → AreInOrder desk → AreInOrder (machine desk xs).desk

@@ -1,20 +1,23 @@
 -- Passing time: a chain of moves.
-use Rattle.std.specs.Prelude.{◌≡◌, ℕ, zero, suc, ◌+◌, ◌-◌, ◌≤◌, nat_le, Bool, true, false, IsTrue, if◌then◌else◌, length, Option, Some, None, max}
-use Rattle.canary_plan.specs.declared.plan.Step.{Step}
-use Rattle.canary_plan.specs.declared.plan.Step.TheVariants.{SetWeight}
-use Rattle.canary_release.specs.declared.service.Stand.{Stand}
-use Rattle.canary_release.specs.Services.{is_going, step_of}
+use Rattle.std.specs.Prelude.{◌≡◌, ℕ, zero, suc, ◌+◌, ◌-◌, ◌≤◌, nat_le, ◌&&◌, not, Bool, true, false, IsTrue, if◌then◌else◌, length, Option, Some, None, max}
+use Rattle.canary_plan.specs.declared.step.Step.{Step}
+use Rattle.canary_plan.specs.declared.step.Step.TheVariants.{SetWeight, Pause, Analysis}
+use Rattle.canary_release.specs.declared.stand.Stand.{Stand}
+use Rattle.canary_release.specs.Services.{is_going, is_held, step_of}
 use Rattle.canary_release.specs.Courses.{Course, with_stand}
 use Rattle.canary_release.specs.Entering.{enter}
 
--- only a release in progress moves
+-- in progress and not held: only then a release moves
 abbrev pub is_free : Stand → Bool
-is_free s = is_going s.state
+is_free s = is_going s.state && not (is_held s)
 
 -- the moment at which a step that was entered at one moves by time, or none
 abbrev pub leaves_at : Option Step → ℕ → Option ℕ
 leaves_at (Some (SetWeight percent)) entered = Some entered
-leaves_at step entered = None
+leaves_at (Some (Pause (Some seconds))) entered = Some (entered + seconds)
+leaves_at (Some (Pause None)) entered = None
+leaves_at (Some (Analysis names)) entered = None
+leaves_at None entered = None
 
 -- a move at moment e: the next step is entered when the present one leaves
 abbrev pub Moves : Course → ℕ → Course → Type 0
@@ -42,7 +45,9 @@ Passes c t passed =
     let at = judged_at c.stand t in
     (n : ℕ) × (end' : Course) × Chain n at c end' × IsLongest at c n × (passed ≡ with_last end' at)
 
--- the moment of the next move, or none; from here on, the same is computed
+-- The same, computed.
+
+-- the moment of the next move, or none
 abbrev pub next_move : Stand → Option ℕ
 next_move s = if is_free s then leaves_at (step_of s) s.entered else None
 
@@ -77,3 +82,7 @@ pass c t =
 -- the law that joins them: there is a longest chain, its end is the computed one, and no other passes
 abbrev pub PassesAsComputed : Type 0
 PassesAsComputed = (c : Course) (t : ℕ) → Passes c t (pass c t) × ((p : Course) → Passes c t p → p ≡ pass c t)
+
+-- the law of time: passing in two steps is passing in one, effects and all
+abbrev pub PassesInSteps : Type 0
+PassesInSteps = (c : Course) (t u : ℕ) → t ≤ u → pass (pass c t) u ≡ pass c u

@@ -1,25 +1,39 @@
 //! Decisions: what a command answers, and what it changes.
-ghost use Rattle.std.specs.Prelude.{◌≡◌, ◌+◌, ◌≤◌, length, Ok, Err, Some, None, IfOk, IfErr, option_map};
+ghost use Rattle.std.specs.Prelude.{◌≡◌, Ok, Err, false, IfOk, option_map};
 ghost use Rattle.std.specs.Option.{option_copied};
-ghost use Rattle.canary_plan.specs.Commands.{subject_of};
-ghost use Rattle.canary_release.specs.Services.{IsOnSteps};
-ghost use Rattle.canary_release.specs.Commands.{start_refusal, promote_refusal, start, promote, leads, unless, act};
-ghost use Rattle.canary_release.specs.Desks.{Desk, rules, new_stand, new_service, act_new, act_passed, ruling};
-ghost use Rattle.canary_release.specs.Shapes.{seen, whole, kept_course, acted_as, decided, IsStep};
+ghost use Rattle.std.specs.FinMap.{get};
+ghost use Rattle.canary_plan.specs.declared.command.Command.TheVariants as command_of;
+ghost use Rattle.canary_plan.specs.Plans.{strategy_of};
+ghost use Rattle.canary_plan.specs.PlanRefusals.{template_refusal};
+ghost use Rattle.canary_plan.specs.Commands.{subject_of, names_looked_up};
+ghost use Rattle.canary_release.specs.Desks.{Desk, rules, refuses, new_stand, new_service};
+ghost use Rattle.canary_release.specs.Desks.{act_new, act_passed, rule_template, rule_service};
+ghost use Rattle.canary_release.specs.Desks.{adds_unless, ruling};
+ghost use Rattle.canary_release.specs.Parts.{is_broken};
+ghost use Rattle.canary_release.specs.Laws.{Agree};
+ghost use Rattle.canary_release.specs.Shapes.{seen, whole, kept_course, kept_after};
+ghost use Rattle.canary_release.specs.Shapes.{led_as, acted_as, decided, IsStep};
 
-use crate::course::Draft;
+use crate::commands::{self, Led};
+use crate::draft::Draft;
 use crate::effect::{Effect, copy_effects};
 use crate::laws;
 use crate::reply::Reply;
-use crate::service::{Runs, Service, ServiceParts, Stand, State};
+use crate::runs::Runs;
+use crate::service::{Service, ServiceParts};
+use crate::stand::{Stand, State};
 use canary_base::error::Memory;
 use canary_base::lists::Listed;
 use canary_base::moments::Moment;
-use canary_base::names::Label;
 use canary_plan::command::Command;
+use canary_plan::fault::{BindFault, CheckFault};
 use canary_plan::line::LineEvent;
-use canary_plan::plan::{CheckFault, ServiceSpec, Step, Strategy};
 use canary_plan::refusal::Refusal;
+use canary_plan::service::ServiceSpec;
+use canary_plan::strategy::Strategy;
+use canary_plan::template::Template;
+use canary_plan::template_spec::TemplateSpec;
+use canary_plan::templates::Templates;
 use std::alloc::Global;
 
 /// What a command does to the desk.
@@ -27,6 +41,8 @@ use std::alloc::Global;
 pub enum DeskChange {
     /// It changes nothing.
     Nothing,
+    /// This template is added.
+    Template(Template),
     /// The service that it names becomes this one, with these effects, in order.
     Service {
         service: Service,
@@ -41,6 +57,7 @@ impl DeskChange {
     {
         Ok(match self {
             DeskChange::Nothing => DeskChange::Nothing,
+            DeskChange::Template(template) => DeskChange::Template(template.copy(alloc)?),
             DeskChange::Service { service, effects } => DeskChange::Service {
                 service: service.copy(alloc)?,
                 effects: copy_effects(alloc, effects.as_slice())?,
@@ -69,53 +86,124 @@ impl Decision {
 }
 
 /// Decides a command at a moment: one step of the small machine, on every desk that has this
-/// service, or none, under the name that the command names. A service is judged at the later of
-/// the moment and its last one. A refusal is a reply of status 422, and changes nothing.
+/// service, or none, under the name that the command names, and that agrees with these templates on
+/// the names that the command looks up. A service is judged at the later of the moment and its last
+/// one. A refusal is a reply of status 422, and changes nothing.
 ///
 /// # Errors
 /// `Memory`.
 pub fn decide(
     alloc: Global,
+    templates: &Templates,
     service: Option<&Service>,
     now: Moment,
     command: &Command,
 ) -> Result<Decision, Memory>
-    ensures { IfOk result (λ d. (desk : Desk) → option_copied service.entry ≡ seen desk (subject_of command.now) → IsStep desk now command.now d) }
+    ensures { IfOk result (λ d. (desk : Desk)
+        → Agree (get templates.now) (get desk.templates) (names_looked_up command.now)
+        → option_copied service.entry ≡ seen desk (subject_of command.now)
+        → IsStep desk now command.now d) }
 {
     laws::watching();
-    let acted = act_on(alloc, service, now, command)?;
-    say(alloc, acted)
+    rule(alloc, templates, service, now, command)
 }
 
-// Where the command leads, or why it is refused, from the service alone.
-fn act_on(
+// What the command does and answers, from the templates and the service alone.
+fn rule(
     alloc: Global,
+    templates: &Templates,
     service: Option<&Service>,
     now: Moment,
     command: &Command,
-) -> Result<Result<Draft, Refusal>, Memory>
-    ensures acted { IfOk result (λ acted. rules (acted_as acted) ≡ ruling (option_map kept_course (option_copied service.entry)) now command.now) }
-    ensures on_steps { IfOk result (λ acted. IfOk acted (λ draft. IsOnSteps draft.stand)) }
+) -> Result<Decision, Memory>
+    ensures { IfOk result (λ d. d
+        ≡ decided
+        (ruling (get templates.now)
+        (option_map kept_course (option_copied service.entry)) now command.now)) }
+{
+    match command.template() {
+        Some(spec) => rule_template(alloc, templates, spec),
+        None => rule_service(alloc, templates, service, now, command),
+    }
+}
+
+// A template is added, where none of its name is there.
+fn rule_template(
+    alloc: Global,
+    templates: &Templates,
+    spec: &TemplateSpec,
+) -> Result<Decision, Memory>
+    ensures { IfOk result (λ d. d
+        ≡ decided (rule_template (get templates.now spec.now.name) spec.now)) }
+{
+    match templates.get(spec.name) {
+        Some(_) => refuse(alloc, Refusal::TemplateExists),
+        None => add_template(alloc, spec),
+    }
+}
+
+fn add_template(alloc: Global, spec: &TemplateSpec) -> Result<Decision, Memory>
+    ensures { IfOk result (λ d. d ≡ decided (adds_unless (template_refusal spec.now) spec.now)) }
+{
+    match Template::bind(alloc, spec) {
+        Ok(template) => Ok(Decision {
+            reply: Reply::names_template(alloc, spec.name)?,
+            change: DeskChange::Template(template),
+        }),
+        Err(BindFault::Refused(refusal)) => refuse(alloc, refusal),
+        Err(BindFault::Memory) => Err(Memory),
+    }
+}
+
+// A command on a service, which may be there.
+fn rule_service(
+    alloc: Global,
+    templates: &Templates,
+    service: Option<&Service>,
+    now: Moment,
+    command: &Command,
+) -> Result<Decision, Memory>
+    ensures { IfOk result (λ d. d
+        ≡ decided
+        (rule_service (get templates.now)
+        (option_map kept_course (option_copied service.entry)) now command.now)) }
+{
+    let acted = act_on(alloc, templates, service, now, command)?;
+    say(alloc, acted)
+}
+
+fn act_on(
+    alloc: Global,
+    templates: &Templates,
+    service: Option<&Service>,
+    now: Moment,
+    command: &Command,
+) -> Result<Result<Led, Refusal>, Memory>
+    ensures acted { IfOk result (λ acted. rules (acted_as acted)
+        ≡ rule_service (get templates.now)
+        (option_map kept_course (option_copied service.entry)) now command.now) }
+    ensures unbroken { IfOk result
+        (λ acted. IfOk acted (λ led. is_broken (kept_after (whole led.draft)) ≡ false)) }
 {
     match service {
         Some(service) => act_passed(alloc, service, now, command),
-        None => act_new(alloc, now, command),
+        None => act_new(alloc, templates, now, command),
     }
 }
 
 // A refusal changes nothing; else the service becomes what the command leads to, and is shown.
-fn say(alloc: Global, acted: Result<Draft, Refusal>) -> Result<Decision, Memory>
-    requires { IfOk acted (λ draft. IsOnSteps draft.stand) }
+fn say(alloc: Global, acted: Result<Led, Refusal>) -> Result<Decision, Memory>
+    requires { IfOk acted (λ led. is_broken (kept_after (whole led.draft)) ≡ false) }
     ensures { IfOk result (λ d. d ≡ decided (rules (acted_as acted))) }
 {
     match acted {
-        Ok(draft) => show(alloc, draft),
+        Ok(led) => show(alloc, led),
         Err(refusal) => refuse(alloc, refusal),
     }
 }
 
 fn refuse(alloc: Global, refusal: Refusal) -> Result<Decision, Memory>
-    ensures { IfOk result (λ d. d ≡ decided (rules (Err refusal))) }
+    ensures { IfOk result (λ d. d ≡ decided (refuses refusal)) }
 {
     Ok(Decision {
         reply: Reply::refuses(alloc, refusal)?,
@@ -123,12 +211,12 @@ fn refuse(alloc: Global, refusal: Refusal) -> Result<Decision, Memory>
     })
 }
 
-fn show(alloc: Global, draft: Draft) -> Result<Decision, Memory>
-    requires { IsOnSteps draft.stand }
-    ensures { IfOk result (λ d. d ≡ decided (rules (Ok (leads (whole draft))))) }
+fn show(alloc: Global, led: Led) -> Result<Decision, Memory>
+    requires { is_broken (kept_after (whole led.draft)) ≡ false }
+    ensures { IfOk result (λ d. d ≡ decided (rules (Ok (led_as led)))) }
 {
-    let reply = Reply::shows(alloc, &draft.stand)?;
-    let (parts, effects) = draft.end();
+    let reply = led.reply(alloc)?;
+    let (parts, effects) = led.draft.end();
     Ok(Decision {
         reply,
         change: DeskChange::Service {
@@ -144,104 +232,66 @@ fn act_passed(
     service: &Service,
     now: Moment,
     command: &Command,
-) -> Result<Result<Draft, Refusal>, Memory>
-    ensures acted { IfOk result (λ acted. acted_as acted ≡ act_passed command.now (kept_course service.now) now) }
-    ensures on_steps { IfOk result (λ acted. IfOk acted (λ draft. IsOnSteps draft.stand)) }
+) -> Result<Result<Led, Refusal>, Memory>
+    ensures acted { IfOk result (λ acted. acted_as acted
+        ≡ act_passed command.now (kept_course service.now) now) }
+    ensures unbroken { IfOk result
+        (λ acted. IfOk acted (λ led. is_broken (kept_after (whole led.draft)) ≡ false)) }
 {
-    let draft = Draft::of(alloc, service.parts())?;
-    let at = draft.judged_at(now);
-    let passed = draft.pass(now)?;
-    match act(passed, at, command)? {
-        Ok(led) => Ok(Ok(led.pass(at)?)),
+    laws::parts();
+    service.has_checked_strategy();
+    act_within(alloc, service, now, command)
+}
+
+fn act_within(
+    alloc: Global,
+    service: &Service,
+    now: Moment,
+    command: &Command,
+) -> Result<Result<Led, Refusal>, Memory>
+    ensures { IfOk result (λ acted. acted_as acted
+        ≡ act_passed command.now (kept_course service.now) now) }
+{
+    let at = service.parts().stand.judged_at(now);
+    let passed = service.passed_draft(alloc, now)?;
+    match commands::act(alloc, passed, at, command)? {
+        Ok(led) => Ok(Ok(led.pass(alloc, at)?)),
         Err(refusal) => Ok(Err(refusal)),
-    }
-}
-
-// Where a command leads a service that was passed to a moment.
-fn act(draft: Draft, at: Moment, command: &Command) -> Result<Result<Draft, Refusal>, Memory>
-    ensures acted { IfOk result (λ acted. acted_as acted ≡ act command.now (whole draft) at) }
-    ensures on_steps { IfOk result (λ acted. IfOk acted (λ draft. IsOnSteps draft.stand)) }
-{
-    match command {
-        Command::Service(_) => Ok(Err(Refusal::ServiceExists)),
-        Command::Start { version, .. } => start(draft, at, *version),
-        Command::Promote { .. } => promote(draft, at),
-    }
-}
-
-// Begins an attempt with that version at the first step.
-fn start(draft: Draft, at: Moment, version: Label) -> Result<Result<Draft, Refusal>, Memory>
-    ensures acted { IfOk result (λ acted. acted_as acted ≡ unless (start_refusal draft.stand version) (leads (start (whole draft) at version))) }
-    ensures on_steps { IfOk result (λ acted. IfOk acted (λ draft. IsOnSteps draft.stand)) }
-{
-    if let Some(refusal) = start_refusal(&draft.stand, version) {
-        return Ok(Err(refusal));
-    }
-    let begun = draft.begun(version);
-    let told = begun.tell(at, LineEvent::Started { version })?;
-    Ok(Ok(told.enter(0, at)?))
-}
-
-fn start_refusal(stand: &Stand, version: Label) -> Option<Refusal>
-    ensures { result ≡ start_refusal stand.now version }
-{
-    match stand.state {
-        State::InProgress => Some(Refusal::InProgress),
-        State::Done if version == stand.stable => Some(Refusal::AlreadyStable),
-        State::Done => None,
-    }
-}
-
-// From a pause to the next step.
-fn promote(draft: Draft, at: Moment) -> Result<Result<Draft, Refusal>, Memory>
-    ensures acted { IfOk result (λ acted. acted_as acted ≡ unless (promote_refusal draft.stand) (leads (promote (whole draft) at))) }
-    ensures on_steps { IfOk result (λ acted. IfOk acted (λ draft. IsOnSteps draft.stand)) }
-{
-    match promoted_step(&draft.stand) {
-        Ok(step) => {
-            let told = draft.tell(at, LineEvent::Promoted)?;
-            Ok(Ok(told.enter(step, at)?))
-        }
-        Err(refusal) => Ok(Err(refusal)),
-    }
-}
-
-// The step to which a promotion leads, or why it is refused.
-fn promoted_step(stand: &Stand) -> Result<u32, Refusal>
-    ensures ok { IfOk result (λ step. (promote_refusal stand.now ≡ None) × (step ≡ stand.now.step + 1) × (step ≤ length stand.now.strategy.steps)) }
-    ensures err { IfErr result (λ refusal. promote_refusal stand.now ≡ Some refusal) }
-{
-    if stand.state == State::Done {
-        return Err(Refusal::NotInProgress);
-    }
-    let steps = stand.strategy.steps();
-    if stand.step as usize >= steps.len() {
-        return Err(Refusal::NotPaused);
-    }
-    match steps[stand.step as usize] {
-        Step::Pause => Ok(stand.step + 1),
-        Step::SetWeight(_) => Err(Refusal::NotPaused),
     }
 }
 
 // A command where no service of its name is there.
-fn act_new(alloc: Global, now: Moment, command: &Command) -> Result<Result<Draft, Refusal>, Memory>
-    ensures acted { IfOk result (λ acted. acted_as acted ≡ act_new command.now now) }
-    ensures on_steps { IfOk result (λ acted. IfOk acted (λ draft. IsOnSteps draft.stand)) }
+fn act_new(
+    alloc: Global,
+    templates: &Templates,
+    now: Moment,
+    command: &Command,
+) -> Result<Result<Led, Refusal>, Memory>
+    ensures acted { IfOk result (λ acted. acted_as acted
+        ≡ act_new (get templates.now) command.now now) }
+    ensures unbroken { IfOk result
+        (λ acted. IfOk acted (λ led. is_broken (kept_after (whole led.draft)) ≡ false)) }
 {
-    match command {
-        Command::Service(spec) => add(alloc, spec, now),
-        Command::Start { .. } | Command::Promote { .. } => Ok(Err(Refusal::UnknownService)),
+    match command.service() {
+        Some(spec) => add(alloc, templates, spec, now),
+        None => Ok(Err(Refusal::UnknownService)),
     }
 }
 
 // A new service, if its strategy is accepted.
-fn add(alloc: Global, spec: &ServiceSpec, now: Moment) -> Result<Result<Draft, Refusal>, Memory>
-    ensures acted { IfOk result (λ acted. acted_as acted ≡ act_new (Command.Service spec.now) now) }
-    ensures on_steps { IfOk result (λ acted. IfOk acted (λ draft. IsOnSteps draft.stand)) }
+fn add(
+    alloc: Global,
+    templates: &Templates,
+    spec: &ServiceSpec,
+    now: Moment,
+) -> Result<Result<Led, Refusal>, Memory>
+    ensures acted { IfOk result (λ acted. acted_as acted
+        ≡ act_new (get templates.now) (command_of.Service spec.now) now) }
+    ensures unbroken { IfOk result
+        (λ acted. IfOk acted (λ led. is_broken (kept_after (whole led.draft)) ≡ false)) }
 {
-    match Strategy::check(alloc, &spec.steps) {
-        Ok(strategy) => Ok(Ok(new_service(alloc, spec, strategy, now)?)),
+    match Strategy::check(alloc, spec, templates) {
+        Ok(strategy) => Ok(Ok(Led::to(new_service(alloc, templates, spec, strategy, now)?))),
         Err(CheckFault::Refused(refusal)) => Ok(Err(refusal)),
         Err(CheckFault::Memory) => Err(Memory),
     }
@@ -250,17 +300,33 @@ fn add(alloc: Global, spec: &ServiceSpec, now: Moment) -> Result<Result<Draft, R
 // A new service has no past but the line that tells of it.
 fn new_service(
     alloc: Global,
+    templates: &Templates,
     spec: &ServiceSpec,
     strategy: Strategy,
     now: Moment,
 ) -> Result<Draft, Memory>
-    requires { strategy.steps ≡ spec.now.steps }
-    ensures new { IfOk result (λ draft. whole draft ≡ new_service spec.now now) }
-    ensures on_steps { IfOk result (λ draft. IsOnSteps draft.stand) }
+    requires { strategy ≡ strategy_of (get templates.now) spec.now }
+    ensures new { IfOk result (λ draft. whole draft
+        ≡ new_service (get templates.now) spec.now now) }
+    ensures unbroken { IfOk result (λ draft. is_broken (kept_after (whole draft)) ≡ false) }
+{
+    laws::parts();
+    new_draft(alloc, templates, spec, strategy, now)
+}
+
+fn new_draft(
+    alloc: Global,
+    templates: &Templates,
+    spec: &ServiceSpec,
+    strategy: Strategy,
+    now: Moment,
+) -> Result<Draft, Memory>
+    requires { strategy ≡ strategy_of (get templates.now) spec.now }
+    ensures { IfOk result (λ draft. whole draft ≡ new_service (get templates.now) spec.now now) }
 {
     laws::watching();
     let parts = ServiceParts {
-        stand: new_stand(spec, strategy, now),
+        stand: new_stand(templates, spec, strategy, now),
         runs: Runs::new(alloc),
     };
     let version = spec.version;
@@ -268,9 +334,9 @@ fn new_service(
 }
 
 // A new service is done: its version is the stable one.
-fn new_stand(spec: &ServiceSpec, strategy: Strategy, now: Moment) -> Stand
-    requires { strategy.steps ≡ spec.now.steps }
-    ensures { result ≡ new_stand spec.now now }
+fn new_stand(templates: &Templates, spec: &ServiceSpec, strategy: Strategy, now: Moment) -> Stand
+    requires { strategy ≡ strategy_of (get templates.now) spec.now }
+    ensures { result ≡ new_stand (get templates.now) spec.now now }
 {
     let step = strategy.steps().len() as u32;
     Stand {
@@ -281,6 +347,9 @@ fn new_stand(spec: &ServiceSpec, strategy: Strategy, now: Moment) -> Stand
         state: State::Done,
         step,
         entered: now,
+        step_hold: false,
+        background_hold: false,
+        background: false,
         last: now,
     }
 }

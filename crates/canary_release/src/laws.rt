@@ -1,9 +1,13 @@
 //! Laws over the definitions alone.
-ghost use Rattle.canary_release.specs.Passing.{PassesAsComputed};
-ghost use Rattle.canary_release.specs.Laws.{WatchesAlike, RefusalsLeaveTheDesk};
-ghost use Rattle.canary_release.specs.Desks.{no_desk};
+ghost use Rattle.canary_release.specs.Laws.{WatchesAlike, RefusalsLeaveTheDesk, LooksOnlyAt};
+ghost use Rattle.canary_release.specs.Laws.{AreIndependent, TicksOnlyPassTime};
+ghost use Rattle.canary_release.specs.Passing.{PassesAsComputed, PassesInSteps};
 ghost use Rattle.canary_release.specs.Shapes.{KeepsWhatIsSeen};
+ghost use Rattle.canary_release.specs.Desks.{no_desk};
 ghost use Rattle.canary_release.specs.Order.{AreInOrder, StayInOrder};
+ghost use Rattle.canary_release.specs.PartsLaws.{PassingKeepsParts, ActingKeepsParts};
+ghost use Rattle.canary_release.specs.PartsLaws.{NewPartsAreUnbroken};
+ghost use Rattle.canary_release.specs.Sound.{AreSound, StaySound};
 
 use canary_metric::laws;
 
@@ -31,11 +35,57 @@ pub fn refusals()
     ensures { RefusalsLeaveTheDesk }
 {}
 
-/// The machine keeps each service in order: it stands under the name of the command that made it,
-/// with that command's strategy, which is accepted; it is done exactly where it stands after the
-/// last step; it entered its step no later than it was judged last, and no move was left undone
-/// then. An empty desk is in order.
-pub fn services_in_order()
-    ensures none { AreInOrder no_desk }
-    ensures machine { StayInOrder }
+/// Time in two steps is time in one: a service that passes to a moment and then to a later one ends
+/// as one that passes to the later, and the same happened on the way.
+pub fn time()
+    ensures { PassesInSteps }
 {}
+
+/// A ruling looks only at the templates that its command looks up: by templates that agree on these
+/// names, a command does and answers the same.
+pub fn templates_looked_up()
+    ensures { LooksOnlyAt }
+{}
+
+/// A service depends on the templates and on the commands that name it alone: two desks that agree
+/// on the templates and on the service, and two lists of commands of which the same, in the same
+/// order and at the same moments, are Templates or name the service, lead to the same service, with
+/// its runs, measurements and history, and to the same replies to the commands that name it.
+pub fn independence()
+    ensures { AreIndependent }
+{}
+
+/// A Tick only passes time: where no later command on the service has an earlier moment, a Tick put
+/// into a list of commands, or left out, changes no reply but its own, no template and no other
+/// service; and the service, passed to any moment from the Tick's on, is the same.
+pub fn ticks()
+    ensures { TicksOnlyPassTime }
+{}
+
+/// The machine keeps parts accepted: as time passes, after a command that is accepted, and of a new
+/// service.
+pub fn parts()
+    ensures passing { PassingKeepsParts }
+    ensures acting { ActingKeepsParts }
+    ensures adding { NewPartsAreUnbroken }
+{}
+
+/// An empty desk is in order, and the machine keeps a desk in order.
+pub fn in_order()
+    ensures empty { AreInOrder no_desk }
+    ensures keeping { StayInOrder }
+{
+    watching();
+    parts();
+}
+
+/// An empty desk is sound, and the machine keeps a desk in order sound: each verdict is that of its
+/// run's recorded measurements, each judged by its metric's conditions; and a run is closed exactly
+/// where its verdict is not Running.
+pub fn sound()
+    ensures empty { AreSound no_desk }
+    ensures keeping { StaySound }
+{
+    watching();
+    parts();
+}

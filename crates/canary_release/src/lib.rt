@@ -5,9 +5,18 @@
 //! chain of moves; and the machine keeps each service in order.
 #![tactic(auto)]
 
-pub mod course;
+mod commands;
 pub mod decide;
+mod draft;
 pub mod effect;
+mod entering;
+mod journal;
 pub mod laws;
+pub mod parts;
+mod passing;
 pub mod reply;
+mod report;
+mod report_reply;
+pub mod runs;
 pub mod service;
+pub mod stand;

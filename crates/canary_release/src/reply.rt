@@ -1,10 +1,14 @@
 //! Replies to settled requests.
-ghost use Rattle.std.specs.Prelude.{◌≡◌, IfOk};
-ghost use Rattle.canary_release.specs.Replies.{status_code, service_text, accepted, refused};
+ghost use Rattle.std.specs.Prelude.{◌≡◌, IfOk, string_bytes};
+ghost use Rattle.canary_release.specs.Replies.{status_code, service_text, template_text};
+ghost use Rattle.canary_release.specs.Replies.{accepted, refused, refusal_text};
+ghost use Rattle.canary_release.specs.Replies.{code_alone, code_at, code_at_with};
 
-use crate::service::Stand;
+use crate::stand::Stand;
 use canary_base::error::Memory;
-use canary_base::lists::Text;
+use canary_base::lists::{Listed, Text};
+use canary_base::names::Name;
+use canary_condition::outcome::Phase;
 use canary_plan::refusal::Refusal;
 use std::alloc::Global;
 
@@ -50,32 +54,120 @@ impl Reply {
         })
     }
 
+    /// The reply that accepts a command, with that body.
+    pub(crate) fn accepts(body: String) -> Reply
+        ensures { result ≡ accepted (string_bytes body) }
+    {
+        Reply {
+            status: ReplyStatus::Accepted,
+            body: Text::of(body),
+        }
+    }
+
     /// The reply that shows how a service stands.
     pub(crate) fn shows(alloc: Global, stand: &Stand) -> Result<Reply, Memory>
         ensures { IfOk result (λ reply. reply ≡ accepted (service_text stand.now)) }
     {
-        let name = stand.name;
-        let status = stand.status().text();
-        let step = stand.step;
-        let weight = stand.weight();
-        let body = format!(in alloc;
-            "{{\"code\":\"ok\",\"service\":\"{name}\",\"status\":\"{status}\",\"step\":{step},\"weight\":{weight}}}"
-        )?;
-        Ok(Reply {
-            status: ReplyStatus::Accepted,
-            body: Text::of(body),
-        })
+        Ok(Reply::accepts(service_body(alloc, stand)?))
+    }
+
+    /// The reply that names a template that was added.
+    pub(crate) fn names_template(alloc: Global, name: Name) -> Result<Reply, Memory>
+        ensures { IfOk result (λ reply. reply ≡ accepted (template_text name)) }
+    {
+        Ok(Reply::accepts(template_body(alloc, name)?))
     }
 
     /// The reply that refuses a command.
     pub(crate) fn refuses(alloc: Global, refusal: Refusal) -> Result<Reply, Memory>
         ensures { IfOk result (λ reply. reply ≡ refused refusal) }
     {
-        let code = refusal.code();
-        let body = format!(in alloc; "{{\"code\":\"{code}\"}}")?;
+        let body = refusal_body(alloc, refusal)?;
         Ok(Reply {
             status: ReplyStatus::Refused,
             body: Text::of(body),
+        })
+    }
+}
+
+fn service_body(alloc: Global, stand: &Stand) -> Result<String, Memory>
+    ensures { IfOk result (λ body. string_bytes body ≡ service_text stand.now) }
+{
+    let name = stand.name;
+    let status = stand.status().text();
+    let step = stand.step;
+    let weight = stand.weight();
+    Ok(format!(in alloc;
+        "{{\"code\":\"ok\",\"service\":\"{name}\",\"status\":\"{status}\",\"step\":{step},\"weight\":{weight}}}"
+    )?)
+}
+
+fn template_body(alloc: Global, name: Name) -> Result<String, Memory>
+    ensures { IfOk result (λ body. string_bytes body ≡ template_text name) }
+{
+    Ok(format!(in alloc; "{{\"code\":\"ok\",\"template\":\"{name}\"}}")?)
+}
+
+// The code, and where a refusal has a place, that too.
+fn refusal_body(alloc: Global, refusal: Refusal) -> Result<String, Memory>
+    ensures { IfOk result (λ body. string_bytes body ≡ refusal_text refusal) }
+{
+    match refusal {
+        Refusal::UnknownMetric { at }
+        | Refusal::RepeatedMetric { at }
+        | Refusal::MetricClosed { at }
+        | Refusal::AlreadyRecorded { at }
+        | Refusal::Spent { at }
+        | Refusal::Future { at } => code_at(alloc, at, refusal.code()),
+        Refusal::OutOfTurn { at, expected } => {
+            code_at_with(alloc, at, refusal.code(), "expected", u64::from(expected))
+        }
+        Refusal::TooEarly { at, due } => code_at_with(alloc, at, refusal.code(), "due", due),
+        _ => code_alone(alloc, refusal.code()),
+    }
+}
+
+fn code_alone(alloc: Global, code: &str) -> Result<String, Memory>
+    ensures { IfOk result (λ body. string_bytes body ≡ code_alone code.now) }
+{
+    Ok(format!(in alloc; "{{\"code\":\"{code}\"}}")?)
+}
+
+fn code_at(alloc: Global, at: u32, code: &str) -> Result<String, Memory>
+    ensures { IfOk result (λ body. string_bytes body ≡ code_at at code.now) }
+{
+    Ok(format!(in alloc; "{{\"at\":{at},\"code\":\"{code}\"}}")?)
+}
+
+fn code_at_with(
+    alloc: Global,
+    at: u32,
+    code: &str,
+    key: &str,
+    number: u64,
+) -> Result<String, Memory>
+    ensures { IfOk result (λ body. string_bytes body ≡ code_at_with at code.now key.now number) }
+{
+    Ok(format!(in alloc; "{{\"at\":{at},\"code\":\"{code}\",\"{key}\":{number}}}")?)
+}
+
+/// What a report adds to its reply: the phases of its entries, its run, and the run's verdict.
+#[derive(Drop)]
+pub struct Reported {
+    pub phases: Listed<Phase>,
+    pub run: u32,
+    pub verdict: Phase,
+}
+
+impl Reported {
+    /// A copy of it, or `Memory`.
+    pub fn copy(&self, alloc: Global) -> Result<Reported, Memory>
+        ensures { IfOk result (λ copy. copy ≡ self.now) }
+    {
+        Ok(Reported {
+            phases: self.phases.copy(alloc)?,
+            run: self.run,
+            verdict: self.verdict,
         })
     }
 }

@@ -1,7 +1,11 @@
+use Rattle.std.proofs.Common.{◌≡◌, ap, ◌∙◌}
+use Rattle.std.specs.FinMap.{get}
+use Rattle.canary_release.specs.Courses.{Course}
+use Rattle.canary_release.specs.Parts.{is_broken}
+use Rattle.canary_release.specs.Shapes.{kept_after}
 use Rattle.std.proofs.lemmas.Result.{IfOk-weaker}
-use Rattle.canary_release.proofs.Steps.{new_told}
 use Rattle.canary_release.proofs.decide.new_service.Goals as goal
 
-pub returns-clause-new : goal.returns-clause-new
-returns-clause-new c =
-    IfOk-weaker c.tell.result _ _ (λ d e. new_told c.watching.ensures c.args.spec.now c.args.now c.new_stand.result c.new.result _ _ c.new_stand.ensures c.new.ensures c.in_ok-of.ensures e) c.tell.ensures.told
+pub returns-clause-unbroken : goal.returns-clause-unbroken
+returns-clause-unbroken c =
+    IfOk-weaker c.new_draft.result _ _ (λ d e. ap (λ (x : Course). is_broken (kept_after x)) e ∙ c.parts.ensures.adding (get c.args.templates.now) c.args.spec.now c.args.now) c.new_draft.ensures

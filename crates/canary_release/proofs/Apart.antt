@@ -1,0 +1,191 @@
+-- Commands on one service, and those on others.
+use Rattle.std.proofs.Common.{◌≡◌, ℕ, List, [], ◌∷◌, Bool, true, false, refl, ap, sym, ◌∙◌, subst}
+use Rattle.std.specs.Prelude.{cond, filter, Option, Some, None, Result, Ok, Err, option_map, ◌||◌}
+use Rattle.std.specs.List.{zip}
+use Rattle.std.specs.Ordering.{nat_cmp, eq_by_cmp}
+use Rattle.std.specs.Cmp.Lexicographic.{slice_cmp, nat_list_cmp_total}
+use Rattle.std.specs.Str.{bytes_eq}
+use Rattle.std.proofs.lemmas.Map.Text.{is_eq-slice_cmp}
+use Rattle.std.proofs.lemmas.Slice.Eq.{bytes_eq-Decides}
+use Rattle.std.specs.FinMap.{get, insert, get-insert}
+use Rattle.canary_plan.specs.declared.command.Command.{Command}
+use Rattle.canary_plan.specs.declared.command.Command.TheVariants.{Template, Service, Start, Promote, PromoteFull, Abort, Retry, Tick, Report}
+use Rattle.canary_plan.specs.declared.template_spec.TemplateSpec.{TemplateSpec}
+use Rattle.canary_plan.specs.declared.template.Template.{Template as Known}
+use Rattle.canary_plan.specs.declared.refusal.Refusal.{Refusal}
+use Rattle.canary_plan.specs.Plans.{Templates}
+use Rattle.canary_plan.specs.PlanRefusals.{template_refusal}
+use Rattle.canary_plan.specs.Commands.{subject_of}
+use Rattle.canary_release.specs.declared.reply.Reply.{Reply}
+use Rattle.canary_release.specs.Courses.{Course}
+use Rattle.canary_release.specs.Commands.{Acted}
+use Rattle.canary_release.specs.Desks.{ModelService, Desk, Change, Ruling, rules, after, desk_after, course_of, act_new, act_passed, adds_unless, rule_template, rule_service, ruling, ruling_on, apply, machine}
+use Rattle.canary_release.specs.Desks.Change.{Nothing, Adds, Becomes}
+use Rattle.canary_release.specs.Laws.{is_on, concerns, concerning, is_reply_on, replies_on, AgreeOn, AreIndependent}
+
+-- What a command changes.
+
+-- no service
+abbrev pub ChangesNoService : Change → Type 0
+ChangesNoService Nothing = Unit {0}
+ChangesNoService (Adds t) = Unit {0}
+ChangesNoService (Becomes c) = ⊥
+
+-- no template
+abbrev pub ChangesNoTemplate : Change → Type 0
+ChangesNoTemplate Nothing = Unit {0}
+ChangesNoTemplate (Adds t) = ⊥
+ChangesNoTemplate (Becomes c) = Unit {0}
+
+adds_no_service : (refusal : Option Refusal) (spec : TemplateSpec) → ChangesNoService (adds_unless refusal spec).change
+adds_no_service None spec = tt
+adds_no_service (Some refusal) spec = tt
+
+pub template_changes : (found : Option Known) (spec : TemplateSpec) → ChangesNoService (rule_template found spec).change
+template_changes None spec = adds_no_service (template_refusal spec) spec
+template_changes (Some t) spec = tt
+
+rules_change : (r : Result Acted Refusal) → ChangesNoTemplate (rules r).change
+rules_change (Ok a) = tt
+rules_change (Err refusal) = tt
+
+pub service_changes : (known : Templates) (found : Option Course) (now : ℕ) (command : Command) → ChangesNoTemplate (rule_service known found now command).change
+service_changes known None now command = rules_change (act_new known command now)
+service_changes known (Some c) now command = rules_change (act_passed command c now)
+
+pub changes_on : (desk : Desk) (now : ℕ) (command : Command) → ChangesNoTemplate (rule_service (get desk.templates) (option_map course_of (get desk.services (subject_of command))) now command).change
+changes_on desk now command = service_changes (get desk.templates) (option_map course_of (get desk.services (subject_of command))) now command
+
+-- What is found after a change.
+
+-- of the service at that name, after one was put under another name or the same
+pub put_at : (desk : Desk) (command : Command) (m : ModelService) (name : List ℕ) → get (insert desk.services (subject_of command) m) name ≡ cond (bytes_eq name (subject_of command)) (Some m) (get desk.services name)
+put_at desk command m name = get-insert nat_list_cmp_total desk.services (subject_of command) m name ∙ ap (λ b. cond b (Some m) (get desk.services name)) (is_eq-slice_cmp name (subject_of command))
+
+pub template_at : (desk : Desk) (command : Command) (t : Known) (name : List ℕ) → get (insert desk.templates (subject_of command) t) name ≡ cond (eq_by_cmp (slice_cmp nat_cmp) name (subject_of command)) (Some t) (get desk.templates name)
+template_at desk command t name = get-insert nat_list_cmp_total desk.templates (subject_of command) t name
+
+-- the same change of the service leaves desks that agree on it in agreement
+same_there : (name : List ℕ) (desk other : Desk) (command : Command) (x : Change) → AgreeOn name desk other → get desk.services (subject_of command) ≡ get other.services (subject_of command) → AgreeOn name (desk_after desk command x) (desk_after other command x)
+same_there name desk other command Nothing h there = h
+same_there name desk other command (Adds t) h there =
+    record {
+      templates = λ n. template_at desk command t n ∙ ap (cond (eq_by_cmp (slice_cmp nat_cmp) n (subject_of command)) (Some t)) (h.templates n) ∙ sym (template_at other command t n);
+      service = h.service;
+    }
+same_there name desk other command (Becomes c) h there =
+    record {
+      templates = h.templates;
+      service = put_at desk command (after (get desk.services (subject_of command)) command c.stand c.effects) name
+          ∙ (λ i. cond (bytes_eq name (subject_of command)) (Some (after (there i) command c.stand c.effects)) (h.service i))
+          ∙ sym (put_at other command (after (get other.services (subject_of command)) command c.stand c.effects) name);
+    }
+
+-- and so does a change of the templates
+same_added : (name : List ℕ) (desk other : Desk) (command : Command) (x : Change) → ChangesNoService x → AgreeOn name desk other → AgreeOn name (desk_after desk command x) (desk_after other command x)
+same_added name desk other command Nothing none h = h
+same_added name desk other command (Adds t) none h =
+    record {
+      templates = λ n. template_at desk command t n ∙ ap (cond (eq_by_cmp (slice_cmp nat_cmp) n (subject_of command)) (Some t)) (h.templates n) ∙ sym (template_at other command t n);
+      service = h.service;
+    }
+same_added name desk other command (Becomes c) none h = absurd none
+
+-- a change of another service leaves this one
+left_alone : (name : List ℕ) (desk other : Desk) (command : Command) (x : Change) → ChangesNoTemplate x → bytes_eq name (subject_of command) ≡ false → AgreeOn name desk other → AgreeOn name (desk_after desk command x) other
+left_alone name desk other command Nothing none apart h = h
+left_alone name desk other command (Adds t) none apart h = absurd none
+left_alone name desk other command (Becomes c) none apart h =
+    let m : ModelService = after (get desk.services (subject_of command)) command c.stand c.effects in
+    record {
+      templates = h.templates;
+      service = put_at desk command m name ∙ ap (λ b. cond b (Some m) (get desk.services name)) apart ∙ h.service;
+    }
+
+-- One command.
+
+named_so : (name : List ℕ) (command : Command) → bytes_eq name (subject_of command) ≡ true → name ≡ subject_of command
+named_so name command e = (bytes_eq-Decides name (subject_of command)).0 e
+
+-- the rulings are the same, and so the desks agree afterwards
+abbrev pub StepsAlike : List ℕ → Desk → Desk → ℕ → Command → Type 0
+StepsAlike name desk other now command = ((apply desk now command).reply ≡ (apply other now command).reply) × AgreeOn name (apply desk now command).desk (apply other now command).desk
+
+on_it : (name : List ℕ) (desk other : Desk) (now : ℕ) (command : Command) → AgreeOn name desk other → bytes_eq name (subject_of command) ≡ true → StepsAlike name desk other now command
+on_it name desk other now command h e =
+    let there : get desk.services (subject_of command) ≡ get other.services (subject_of command) = subst (λ n. get desk.services n ≡ get other.services n) (named_so name command e) h.service in
+    let same : ruling_on desk now command ≡ ruling_on other now command = λ i. ruling (λ n. h.templates n i) (option_map course_of (there i)) now command in (
+      ap (λ (r : Ruling). r.reply) same,
+      subst (λ (r : Ruling). AgreeOn name (desk_after desk command (ruling_on desk now command).change) (desk_after other command r.change)) same (same_there name desk other command (ruling_on desk now command).change h there),
+    )
+
+adds_it : (name : List ℕ) (desk other : Desk) (now : ℕ) (spec : TemplateSpec) → AgreeOn name desk other → StepsAlike name desk other now (Template spec)
+adds_it name desk other now spec h =
+    let same : rule_template (get desk.templates spec.name) spec ≡ rule_template (get other.templates spec.name) spec = ap (λ o. rule_template o spec) (h.templates spec.name) in (
+      ap (λ (r : Ruling). r.reply) same,
+      subst (λ (r : Ruling). AgreeOn name (desk_after desk (Template spec) (rule_template (get desk.templates spec.name) spec).change) (desk_after other (Template spec) r.change)) same
+          (same_added name desk other (Template spec) (rule_template (get desk.templates spec.name) spec).change (template_changes (get desk.templates spec.name) spec) h),
+    )
+
+pub steps_alike : (name : List ℕ) (desk other : Desk) (now : ℕ) (command : Command) → AgreeOn name desk other → concerns name (now, command) ≡ true → StepsAlike name desk other now command
+steps_alike name desk other now (Template spec) h e = adds_it name desk other now spec h
+steps_alike name desk other now (Service spec) h e = on_it name desk other now (Service spec) h e
+steps_alike name desk other now (Start service version) h e = on_it name desk other now (Start service version) h e
+steps_alike name desk other now (Promote service) h e = on_it name desk other now (Promote service) h e
+steps_alike name desk other now (PromoteFull service) h e = on_it name desk other now (PromoteFull service) h e
+steps_alike name desk other now (Abort service) h e = on_it name desk other now (Abort service) h e
+steps_alike name desk other now (Retry service) h e = on_it name desk other now (Retry service) h e
+steps_alike name desk other now (Tick service) h e = on_it name desk other now (Tick service) h e
+steps_alike name desk other now (Report report) h e = on_it name desk other now (Report report) h e
+
+leaves_it : (name : List ℕ) (desk other : Desk) (now : ℕ) (command : Command) → ChangesNoTemplate (ruling_on desk now command).change → bytes_eq name (subject_of command) ≡ false → AgreeOn name desk other → AgreeOn name (apply desk now command).desk other
+leaves_it name desk other now command none apart h = left_alone name desk other command (ruling_on desk now command).change none apart h
+
+pub leaves_service : (name : List ℕ) (desk other : Desk) (now : ℕ) (command : Command) → AgreeOn name desk other → concerns name (now, command) ≡ false → AgreeOn name (apply desk now command).desk other
+leaves_service name desk other now (Template spec) h e = cc e
+leaves_service name desk other now (Service spec) h e = leaves_it name desk other now (Service spec) (changes_on desk now (Service spec)) e h
+leaves_service name desk other now (Start service version) h e = leaves_it name desk other now (Start service version) (changes_on desk now (Start service version)) e h
+leaves_service name desk other now (Promote service) h e = leaves_it name desk other now (Promote service) (changes_on desk now (Promote service)) e h
+leaves_service name desk other now (PromoteFull service) h e = leaves_it name desk other now (PromoteFull service) (changes_on desk now (PromoteFull service)) e h
+leaves_service name desk other now (Abort service) h e = leaves_it name desk other now (Abort service) (changes_on desk now (Abort service)) e h
+leaves_service name desk other now (Retry service) h e = leaves_it name desk other now (Retry service) (changes_on desk now (Retry service)) e h
+leaves_service name desk other now (Tick service) h e = leaves_it name desk other now (Tick service) (changes_on desk now (Tick service)) e h
+leaves_service name desk other now (Report report) h e = leaves_it name desk other now (Report report) (changes_on desk now (Report report)) e h
+
+-- All commands.
+
+is_not_on : (b o : Bool) → (b || o) ≡ false → o ≡ false
+is_not_on true o e = cc e
+is_not_on false o e = e
+
+-- the machine on the commands that concern the service does the same to it
+abbrev DoesAlike : List ℕ → Desk → Desk → List (ℕ × Command) → List (ℕ × Command) → Type 0
+DoesAlike name desk other xs ys = AgreeOn name (machine desk xs).desk (machine other ys).desk × (replies_on name desk xs ≡ replies_on name other ys)
+
+with_reply : (name : List ℕ) (x : ℕ × Command) (r s : Reply) (ps qs : List ((ℕ × Command) × Reply)) → r ≡ s → filter (is_reply_on name) ps ≡ filter (is_reply_on name) qs → filter (is_reply_on name) ((x, r) ∷ ps) ≡ filter (is_reply_on name) ((x, s) ∷ qs)
+with_reply name x r s ps qs e h = λ i. cond (is_on name x.1) ((x, e i) ∷ h i) (h i)
+
+alone : (name : List ℕ) (desk other : Desk) (xs : List (ℕ × Command)) → AgreeOn name desk other → DoesAlike name desk other xs (concerning name xs)
+alone name desk other [] h = (h, refl)
+alone name desk other (x ∷ xs) h =
+    elim (concerns name x)
+    as (λ b. concerns name x ≡ b → DoesAlike name desk other (x ∷ xs) (cond b (x ∷ concerning name xs) (concerning name xs))) [
+      | true ↦ λ e.
+          let step = steps_alike name desk other x.0 x.1 h e in
+          let rest = alone name (apply desk x.0 x.1).desk (apply other x.0 x.1).desk xs step.1 in
+          (rest.0, with_reply name x (apply desk x.0 x.1).reply (apply other x.0 x.1).reply (zip xs (machine (apply desk x.0 x.1).desk xs).replies) (zip (concerning name xs) (machine (apply other x.0 x.1).desk (concerning name xs)).replies) step.0 rest.1)
+      | false ↦ λ e.
+          let rest = alone name (apply desk x.0 x.1).desk other xs (leaves_service name desk other x.0 x.1 h e) in
+          let p : (ℕ × Command) × Reply = (x, (apply desk x.0 x.1).reply) in
+          let ps = zip xs (machine (apply desk x.0 x.1).desk xs).replies in
+          (rest.0, ap (λ b. cond b (p ∷ filter (is_reply_on name) ps) (filter (is_reply_on name) ps)) (is_not_on _ (is_on name x.1) e) ∙ rest.1)
+    ] refl
+
+agree_over : (name : List ℕ) (a b c : Desk) → AgreeOn name a c → AgreeOn name b c → AgreeOn name a b
+agree_over name a b c h k = record { templates = λ n. h.templates n ∙ sym (k.templates n); service = h.service ∙ sym k.service }
+
+pub are_independent : AreIndependent
+are_independent name desk other xs ys h same =
+    let first = alone name desk other xs h in
+    let second : DoesAlike name other other ys (concerning name xs) = subst (DoesAlike name other other ys) (sym same) (alone name other other ys (record { templates = λ n. refl; service = refl })) in
+    (agree_over name (machine desk xs).desk (machine other ys).desk (machine other (concerning name xs)).desk first.0 second.0, first.1 ∙ sym second.1)

@@ -1,0 +1,202 @@
+-- A course with one effect more before its own: every rule leads it where it leads the course, and says the same.
+use Rattle.std.proofs.Common.{◌≡◌, ℕ, zero, suc, ◌+◌, ◌-◌, List, [], ◌∷◌, refl, ap, sym, ◌∙◌, subst}
+use Rattle.std.specs.Prelude.{true, false, if◌then◌else◌, Option, Some, None, Result, Ok, Err, ◌==◌, length, map, find, slice_get}
+use Rattle.canary_condition.specs.declared.outcome.Phase.{Phase}
+use Rattle.canary_condition.specs.declared.outcome.Phase.TheVariants.{Pending, Running, Successful, Inconclusive, Error, Failed}
+use Rattle.canary_metric.specs.MetricPhases.{is_completed}
+use Rattle.canary_plan.specs.declared.step.Step.{Step}
+use Rattle.canary_plan.specs.declared.step.Step.TheVariants.{SetWeight, Pause, Analysis}
+use Rattle.canary_plan.specs.declared.report.Entry.{Entry}
+use Rattle.canary_plan.specs.declared.command.Command.{Command}
+use Rattle.canary_plan.specs.declared.command.Command.TheVariants.{Template, Service, Start, Promote, PromoteFull, Abort, Retry, Tick, Report}
+use Rattle.canary_plan.specs.declared.line.LineEvent.TheVariants.{Started, Retried, Promoted, PromotedFull, Completed, AbortedBy, BackgroundHeld, Finished, Aborted as AbortLine}
+use Rattle.canary_plan.specs.declared.refusal.Refusal.{Refusal}
+use Rattle.canary_release.specs.declared.effect.Recorded.{Recorded}
+use Rattle.canary_release.specs.declared.effect.Effect.{Effect}
+use Rattle.canary_release.specs.declared.effect.Effect.TheVariants.{Measured}
+use Rattle.canary_release.specs.declared.reply.Reported.{Reported}
+use Rattle.canary_release.specs.declared.runs.OpenRun.{OpenRun}
+use Rattle.canary_release.specs.declared.runs.Runs.{Runs}
+use Rattle.canary_release.specs.declared.stand.Stand.{Stand}
+use Rattle.canary_release.specs.declared.stand.State.TheVariants.{Aborted}
+use Rattle.canary_release.specs.Courses.{Course, Watch, with_stand, happen, tell, runs_now, has_number, open_run_now, run_metrics, run_verdict, close_run, end_run, end_runs, end_open_runs}
+use Rattle.canary_release.specs.Entering.{begins_background, begin_background, open_background, done, finish, show_step, enter, abort, without_holds}
+use Rattle.canary_release.specs.Passing.{next_move, is_by, move_at, chain_end, with_last, pass, judged_at}
+use Rattle.canary_release.specs.Reports.{brought, record_all, report_refusal, consequence, complete, assess_run, assess, report_on, verdict_if, reported_on}
+use Rattle.canary_release.specs.Replies.{report_text}
+use Rattle.canary_release.specs.Commands.{Acted, unless, leads, begun, started_at, start, promoted_to, retry, promote, promote_full, abort_by_command, start_refusal, retry_refusal, promote_refusal, progress_refusal, reports_if, act}
+use Rattle.canary_release.specs.Desks.{passed_on, act_passed}
+use Rattle.canary_release.proofs.Watches.{background, recorded, moved, passed, acted, KeepsIf}
+
+-- with that effect before its own, and a watch that sees it
+abbrev pub behind : Watch → Effect → Course → Course
+behind w x c = record { stand = c.stand; effects = x ∷ c.effects; watch = w }
+
+-- a watch after one effect
+abbrev pub once_seen : Watch → Effect → Watch
+once_seen w x xs = w (x ∷ xs)
+
+-- what the course watches is what the watch shows after the effect
+abbrev pub Follows : Watch → Effect → Course → Type 0
+Follows w x c = c.watch ≡ once_seen w x
+
+-- a statement on courses is shown on those whose watch is the one after the effect
+by_watch : (w : Watch) (x : Effect) (P : Course → Type 0) → ((s : Stand) (xs : List Effect) → P (record { stand = s; effects = xs; watch = once_seen w x })) → (c : Course) → Follows w x c → P c
+by_watch w x P h c p = subst (λ (v : Watch). P (record { stand = c.stand; effects = c.effects; watch = v })) (sym p) (h c.stand c.effects)
+
+runs_behind : (w : Watch) (x : Effect) (c : Course) → Follows w x c → runs_now (behind w x c) ≡ runs_now c
+runs_behind w x c p = ap (λ (v : Watch). v c.effects) (sym p)
+
+ended_behind : (w : Watch) (x : Effect) (at : ℕ) (c : Course) (rs : List OpenRun) → end_runs at (behind w x c) rs ≡ behind w x (end_runs at c rs)
+ended_behind w x at c [] = refl
+ended_behind w x at c (r ∷ rs) = ended_behind w x at (end_run at c r) rs
+
+ended_open_behind : (w : Watch) (x : Effect) (c : Course) (at : ℕ) → Follows w x c → end_open_runs (behind w x c) at ≡ behind w x (end_open_runs c at)
+ended_open_behind w x c at p = ap (λ (r : Runs). end_runs at (behind w x c) r.open_runs) (runs_behind w x c p) ∙ ended_behind w x at c (runs_now c).open_runs
+
+finish_behind : (w : Watch) (x : Effect) (c : Course) (at : ℕ) → Follows w x c → finish (behind w x c) at ≡ behind w x (finish c at)
+finish_behind w x c at p = ap (λ (d : Course). tell (with_stand d (done d.stand)) at (Finished d.stand.version)) (ended_open_behind w x c at p)
+
+background_behind : (w : Watch) (x : Effect) (c : Course) (i at : ℕ) → Follows w x c → open_background (behind w x c) i at ≡ behind w x (open_background c i at)
+background_behind w x c i at p =
+    elim (begins_background c.stand.strategy.background i c.stand.background)
+    as (λ b. (let d : Course = (if b then begin_background (behind w x c) at else behind w x c) in d) ≡ behind w x (if b then begin_background c at else c))
+    [ true ↦ by_watch w x (λ d. begin_background (behind w x d) at ≡ behind w x (begin_background d at)) (λ s xs. refl) c p | false ↦ refl ]
+
+show_behind : (w : Watch) (x : Effect) (c : Course) (s : Option Step) (i at : ℕ) → Follows w x c → show_step (behind w x c) s i at ≡ behind w x (show_step c s i at)
+show_behind w x c (Some (SetWeight percent)) i at p = refl
+show_behind w x c (Some (Pause None)) i at p = refl
+show_behind w x c (Some (Pause (Some seconds))) i at p = refl
+show_behind w x c (Some (Analysis names)) i at p = by_watch w x (λ d. show_step (behind w x d) (Some (Analysis names)) i at ≡ behind w x (show_step d (Some (Analysis names)) i at)) (λ s xs. refl) c p
+show_behind w x c None i at p = refl
+
+enter_behind : (w : Watch) (x : Effect) (c : Course) (i at : ℕ) → Follows w x c → enter (behind w x c) i at ≡ behind w x (enter c i at)
+enter_behind w x c i at p =
+    let there : Course = with_stand c (record c.stand { step = i; entered = at }) in
+    let step : Option Step = slice_get c.stand.strategy.steps i in
+    elim (i == length c.stand.strategy.steps)
+    as (λ b. (let d : Course = (if b then finish (behind w x there) at else show_step (open_background (behind w x there) i at) step i at) in d) ≡ behind w x (if b then finish there at else show_step (open_background there i at) step i at))
+    [ true ↦ finish_behind w x there at p | false ↦ ap (λ (d : Course). show_step d step i at) (background_behind w x there i at p) ∙ show_behind w x (open_background there i at) step i at (background there i at ∙ p) ]
+
+move_behind : (w : Watch) (x : Effect) (c : Course) (o : Option ℕ) → Follows w x c → move_at (behind w x c) o ≡ behind w x (move_at c o)
+move_behind w x c None p = refl
+move_behind w x c (Some e) p = enter_behind w x c (c.stand.step + 1) e p
+
+chain_behind : (w : Watch) (x : Effect) (n t : ℕ) (c : Course) → Follows w x c → chain_end n t (behind w x c) ≡ behind w x (chain_end n t c)
+chain_behind w x zero t c p = refl
+chain_behind w x (suc n) t c p =
+    let move : Option ℕ = next_move c.stand in
+    elim (is_by t move)
+    as (λ b. elim b [ true ↦ chain_end n t (move_at (behind w x c) move) | false ↦ behind w x c ] ≡ behind w x (elim b [ true ↦ chain_end n t (move_at c move) | false ↦ c ]))
+    [ true ↦ ap (chain_end n t) (move_behind w x c move p) ∙ chain_behind w x n t (move_at c move) (moved c move ∙ p) | false ↦ refl ]
+
+pub pass_behind : (w : Watch) (x : Effect) (c : Course) (t : ℕ) → Follows w x c → pass (behind w x c) t ≡ behind w x (pass c t)
+pass_behind w x c t p = ap (λ (d : Course). with_last d (judged_at c.stand t)) (chain_behind w x (length c.stand.strategy.steps - c.stand.step) (judged_at c.stand t) c p)
+
+abort_behind : (w : Watch) (x : Effect) (c : Course) (at : ℕ) → Follows w x c → abort (behind w x c) at ≡ behind w x (abort c at)
+abort_behind w x c at p = ended_open_behind w x (with_stand c (record (without_holds c.stand) { state = Aborted })) at p
+
+-- Reports.
+
+record_behind : (w : Watch) (x : Effect) (c : Course) (rs : List Recorded) → record_all (behind w x c) rs ≡ behind w x (record_all c rs)
+record_behind w x c [] = refl
+record_behind w x c (r ∷ rs) = record_behind w x (happen c (Measured r)) rs
+
+consequence_behind : (w : Watch) (x : Effect) (c : Course) (run : ℕ) (step : Option ℕ) (v : Phase) (t : ℕ) → Follows w x c → consequence (behind w x c) run step v t ≡ behind w x (consequence c run step v t)
+consequence_behind w x c run step Failed t p = abort_behind w x (tell c t (AbortedBy run)) t p
+consequence_behind w x c run step Error t p = abort_behind w x (tell c t (AbortedBy run)) t p
+consequence_behind w x c run (Some i) Inconclusive t p = refl
+consequence_behind w x c run None Inconclusive t p = ended_open_behind w x (tell (with_stand c (record c.stand { background_hold = true })) t BackgroundHeld) t p
+consequence_behind w x c run (Some i) Successful t p = enter_behind w x c (c.stand.step + 1) t p
+consequence_behind w x c run None Successful t p = refl
+consequence_behind w x c run step Pending t p = refl
+consequence_behind w x c run step Running t p = refl
+
+assess_run_behind : (w : Watch) (x : Effect) (c : Course) (r : OpenRun) (t : ℕ) → Follows w x c → assess_run (behind w x c) r t ≡ behind w x (assess_run c r t)
+assess_run_behind w x c r t p =
+    let v = run_verdict c.stand.strategy false r in
+    elim (is_completed v)
+    as (λ b. (let d : Course = (if b then complete (behind w x c) r v t else behind w x c) in d) ≡ behind w x (if b then complete c r v t else c))
+    [ true ↦ consequence_behind w x (tell (close_run c r t false) t (Completed r.number v)) r.number r.step v t p | false ↦ refl ]
+
+assess_behind : (w : Watch) (x : Effect) (c : Course) (r : Option OpenRun) (t : ℕ) → Follows w x c → assess (behind w x c) r t ≡ behind w x (assess c r t)
+assess_behind w x c None t p = refl
+assess_behind w x c (Some r) t p = assess_run_behind w x c r t p
+
+report_behind : (w : Watch) (x : Effect) (c : Course) (r : OpenRun) (es : List Entry) (t : ℕ) → Follows w x c → report_on (behind w x c) r es t ≡ behind w x (report_on c r es t)
+report_behind w x c r es t p =
+    let xs = brought (run_metrics c.stand.strategy r.step) r es in
+    let all : Course = record_all c xs in
+    let q : Follows w x all = recorded c xs ∙ p in
+    ap (λ (d : Course). assess d (open_run_now d r.number) t) (record_behind w x c xs)
+    ∙ ap (λ (k : Runs). assess (behind w x all) (find (has_number r.number) k.open_runs) t) (runs_behind w x all q)
+    ∙ assess_behind w x all (open_run_now all r.number) t q
+
+reported_behind : (w : Watch) (x : Effect) (c : Course) (r : OpenRun) (es : List Entry) → Follows w x c → reported_on (behind w x c) r es ≡ reported_on c r es
+reported_behind w x c r es p =
+    let xs = brought (run_metrics c.stand.strategy r.step) r es in
+    let all : Course = record_all c xs in
+    let q : Follows w x all = recorded c xs ∙ p in
+    ap (λ (d : Course). (let told : Reported = record { phases = map (λ (y : Recorded). y.phase) xs; run = r.number; verdict = verdict_if d (open_run_now d r.number) } in told)) (record_behind w x c xs)
+    ∙ ap (λ (k : Runs). (let told : Reported = record { phases = map (λ (y : Recorded). y.phase) xs; run = r.number; verdict = verdict_if (behind w x all) (find (has_number r.number) k.open_runs) } in told)) (runs_behind w x all q)
+
+-- Commands.
+
+abbrev pub acted_behind : Watch → Effect → Acted → Acted
+acted_behind w x a = record a { course = behind w x a.course }
+
+abbrev pub result_behind : Watch → Effect → Result Acted Refusal → Result Acted Refusal
+result_behind w x (Ok a) = Ok (acted_behind w x a)
+result_behind w x (Err refusal) = Err refusal
+
+unless_behind : (w : Watch) (x : Effect) (r s : Option Refusal) (a d : Acted) → r ≡ s → a ≡ acted_behind w x d → unless r a ≡ result_behind w x (unless s d)
+unless_behind w x r s a d e h = (λ i. unless (e i) (h i)) ∙ elim s as (λ o. unless o (acted_behind w x d) ≡ result_behind w x (unless o d)) [ None ↦ refl | Some refusal ↦ refl ]
+
+reports_behind : (w : Watch) (x : Effect) (c : Course) (r : Option OpenRun) (es : List Entry) (t : ℕ) → Follows w x c → reports_if (behind w x c) r es t ≡ acted_behind w x (reports_if c r es t)
+reports_behind w x c None es t p = refl
+reports_behind w x c (Some r) es t p = λ i. record { course = report_behind w x c r es t p i; shows = report_text (reported_behind w x c r es p i) }
+
+led : (w : Watch) (x : Effect) (c d : Course) → c ≡ behind w x d → leads c ≡ acted_behind w x (leads d)
+led w x c d e = ap leads e
+
+act_behind : (w : Watch) (x : Effect) (command : Command) (c : Course) (t : ℕ) → Follows w x c → act command (behind w x c) t ≡ result_behind w x (act command c t)
+act_behind w x (Start name version) c t p =
+    unless_behind w x (start_refusal (behind w x c) version) (start_refusal c version) (leads (start (behind w x c) t version)) (leads (start c t version))
+    (by_watch w x (λ d. start_refusal (behind w x d) version ≡ start_refusal d version) (λ s xs. refl) c p)
+    (led w x (start (behind w x c) t version) (start c t version) (enter_behind w x (tell (begun c version) t (Started version)) (started_at c.stand version) t p))
+act_behind w x (Promote name) c t p =
+    unless_behind w x (promote_refusal c.stand) (promote_refusal c.stand) (leads (promote (behind w x c) t)) (leads (promote c t)) refl
+    (led w x (promote (behind w x c) t) (promote c t) (enter_behind w x (tell (with_stand c (without_holds c.stand)) t Promoted) (promoted_to c.stand) t p))
+act_behind w x (PromoteFull name) c t p =
+    unless_behind w x (progress_refusal c.stand) (progress_refusal c.stand) (leads (promote_full (behind w x c) t)) (leads (promote_full c t)) refl
+    (led w x (promote_full (behind w x c) t) (promote_full c t) (enter_behind w x (tell c t PromotedFull) (length c.stand.strategy.steps) t p))
+act_behind w x (Abort name) c t p =
+    unless_behind w x (progress_refusal c.stand) (progress_refusal c.stand) (leads (abort_by_command (behind w x c) t)) (leads (abort_by_command c t)) refl
+    (led w x (abort_by_command (behind w x c) t) (abort_by_command c t) (abort_behind w x (tell c t AbortLine) t p))
+act_behind w x (Retry name) c t p =
+    unless_behind w x (retry_refusal (behind w x c)) (retry_refusal c) (leads (retry (behind w x c) t)) (leads (retry c t))
+    (by_watch w x (λ d. retry_refusal (behind w x d) ≡ retry_refusal d) (λ s xs. refl) c p)
+    (led w x (retry (behind w x c) t) (retry c t) (enter_behind w x (tell (begun c c.stand.version) t (Retried c.stand.version)) 0 t p))
+act_behind w x (Tick name) c t p = refl
+act_behind w x (Report report) c t p =
+    let found : open_run_now (behind w x c) report.run ≡ open_run_now c report.run = ap (λ (k : Runs). find (has_number report.run) k.open_runs) (runs_behind w x c p) in
+    let refused : report_refusal (behind w x c) t report.run report.entries (open_run_now c report.run) ≡ report_refusal c t report.run report.entries (open_run_now c report.run) =
+    by_watch w x (λ d. report_refusal (behind w x d) t report.run report.entries (open_run_now c report.run) ≡ report_refusal d t report.run report.entries (open_run_now c report.run)) (λ s xs. refl) c p in
+    unless_behind w x (report_refusal (behind w x c) t report.run report.entries (open_run_now (behind w x c) report.run)) (report_refusal c t report.run report.entries (open_run_now c report.run))
+    (reports_if (behind w x c) (open_run_now (behind w x c) report.run) report.entries t) (reports_if c (open_run_now c report.run) report.entries t)
+    (ap (report_refusal (behind w x c) t report.run report.entries) found ∙ refused)
+    (ap (λ o. reports_if (behind w x c) o report.entries t) found ∙ reports_behind w x c (open_run_now c report.run) report.entries t p)
+act_behind w x (Service spec) c t p = refl
+act_behind w x (Template spec) c t p = refl
+
+passed_on_behind : (w : Watch) (x : Effect) (c : Course) (r : Result Acted Refusal) (t : ℕ) → Follows w x c → KeepsIf c r → passed_on (result_behind w x r) t ≡ result_behind w x (passed_on r t)
+passed_on_behind w x c (Ok a) t p k = λ i. Ok (record a { course = pass_behind w x a.course t (k ∙ p) i })
+passed_on_behind w x c (Err refusal) t p k = refl
+
+pub act_passed_behind : (w : Watch) (x : Effect) (command : Command) (c : Course) (now : ℕ) → Follows w x c → act_passed command (behind w x c) now ≡ result_behind w x (act_passed command c now)
+act_passed_behind w x command c now p =
+    let t = judged_at c.stand now in
+    let q : Follows w x (pass c now) = passed c now ∙ p in
+    ap (λ (d : Course). passed_on (act command d t) t) (pass_behind w x c now p)
+    ∙ ap (λ (r : Result Acted Refusal). passed_on r t) (act_behind w x command (pass c now) t q)
+    ∙ passed_on_behind w x (pass c now) (act command (pass c now) t) t q (acted command (pass c now) t)

@@ -1,0 +1,42 @@
+-- Causes in groups: one holds in the list exactly where one holds in a group.
+use Rattle.std.proofs.Common.{◌≡◌, refl, ap, ◌∙◌, Bool, true, false, ◌||◌, List, [], ◌∷◌, ◌++◌}
+use Rattle.std.specs.List.{list_any}
+use Rattle.std.proofs.lemmas.List.Folds.{list_any-append}
+
+abbrev pub some_of : List Bool → Bool
+some_of bs = list_any (λ (b : Bool). b) bs
+
+-- four
+pub some_of_four : (a b c d : Bool) → some_of (a ∷ b ∷ c ∷ d ∷ []) ≡ (a || (b || (c || d)))
+some_of_four true b c d = refl
+some_of_four false true c d = refl
+some_of_four false false true d = refl
+some_of_four false false false true = refl
+some_of_four false false false false = refl
+
+pub some_of_five : (a b c d e : Bool) → some_of (a ∷ b ∷ c ∷ d ∷ e ∷ []) ≡ (a || (b || (c || (d || e))))
+some_of_five true b c d e = refl
+some_of_five false b c d e = some_of_four b c d e
+
+-- the second group asked after the third
+pub later_first : (p q r s : Bool) → (p || (q || (r || s))) ≡ (p || (r || (q || s)))
+later_first true q r s = refl
+later_first false true true s = refl
+later_first false true false s = refl
+later_first false false true s = refl
+later_first false false false s = refl
+
+pub four_groups : (ps qs rs ts : List Bool) → some_of (ps ++ (qs ++ (rs ++ ts))) ≡ (some_of ps || (some_of qs || (some_of rs || some_of ts)))
+four_groups ps qs rs ts =
+    list_any-append (λ (b : Bool). b) ps (qs ++ (rs ++ ts))
+    ∙ ap (λ x. some_of ps || x) (list_any-append (λ (b : Bool). b) qs (rs ++ ts) ∙ ap (λ x. some_of qs || x) (list_any-append (λ (b : Bool). b) rs ts))
+
+-- the seventeen causes, in the groups in which they are asked
+pub in_groups : (a1 a2 a3 a4 b1 b2 b3 b4 c1 c2 c3 c4 d1 d2 d3 d4 d5 : Bool) → some_of (a1 ∷ a2 ∷ a3 ∷ a4 ∷ b1 ∷ b2 ∷ b3 ∷ b4 ∷ c1 ∷ c2 ∷ c3 ∷ c4 ∷ d1 ∷ d2 ∷ d3 ∷ d4 ∷ d5 ∷ []) ≡ ((a1 || (a2 || (a3 || a4))) || ((c1 || (c2 || (c3 || c4))) || ((b1 || (b2 || (b3 || b4))) || (d1 || (d2 || (d3 || (d4 || d5)))))))
+in_groups a1 a2 a3 a4 b1 b2 b3 b4 c1 c2 c3 c4 d1 d2 d3 d4 d5 =
+    four_groups (a1 ∷ a2 ∷ a3 ∷ a4 ∷ []) (b1 ∷ b2 ∷ b3 ∷ b4 ∷ []) (c1 ∷ c2 ∷ c3 ∷ c4 ∷ []) (d1 ∷ d2 ∷ d3 ∷ d4 ∷ d5 ∷ [])
+    ∙ ap (λ x. x || (some_of (b1 ∷ b2 ∷ b3 ∷ b4 ∷ []) || (some_of (c1 ∷ c2 ∷ c3 ∷ c4 ∷ []) || some_of (d1 ∷ d2 ∷ d3 ∷ d4 ∷ d5 ∷ [])))) (some_of_four a1 a2 a3 a4)
+    ∙ ap (λ x. (a1 || (a2 || (a3 || a4))) || (x || (some_of (c1 ∷ c2 ∷ c3 ∷ c4 ∷ []) || some_of (d1 ∷ d2 ∷ d3 ∷ d4 ∷ d5 ∷ [])))) (some_of_four b1 b2 b3 b4)
+    ∙ ap (λ x. (a1 || (a2 || (a3 || a4))) || ((b1 || (b2 || (b3 || b4))) || (x || some_of (d1 ∷ d2 ∷ d3 ∷ d4 ∷ d5 ∷ [])))) (some_of_four c1 c2 c3 c4)
+    ∙ ap (λ x. (a1 || (a2 || (a3 || a4))) || ((b1 || (b2 || (b3 || b4))) || ((c1 || (c2 || (c3 || c4))) || x))) (some_of_five d1 d2 d3 d4 d5)
+    ∙ later_first (a1 || (a2 || (a3 || a4))) (b1 || (b2 || (b3 || b4))) (c1 || (c2 || (c3 || c4))) (d1 || (d2 || (d3 || (d4 || d5))))

@@ -1,0 +1,160 @@
+-- Which effects may happen to a service of which this is watched, and that every course brings such effects alone.
+use Rattle.std.proofs.Common.{◌≡◌, ℕ, ◌+◌, ◌≤◌, List, [], ◌∷◌, ◌++◌, length, Bool, true, false, refl, ap, sym, ◌∙◌, subst, arith}
+use Rattle.std.specs.Prelude.{◌==◌, cond, if◌then◌else◌, Some, slice_get, map, filter}
+use Rattle.std.specs.List.{AllByRecursion, find}
+use Rattle.canary_condition.specs.Phases.{phase_of}
+use Rattle.canary_metric.specs.Metrics.{MetricValue}
+use Rattle.canary_metric.specs.Counts.{Counts, size}
+use Rattle.canary_metric.specs.MetricPhases.{is_completed}
+use Rattle.canary_plan.specs.declared.strategy.CheckedStrategy.{CheckedStrategy}
+use Rattle.canary_plan.specs.Plans.{metrics_at}
+use Rattle.canary_release.specs.declared.effect.Opening.{Opening}
+use Rattle.canary_release.specs.declared.effect.Recorded.{Recorded}
+use Rattle.canary_release.specs.declared.effect.Closing.{Closing}
+use Rattle.canary_release.specs.declared.effect.Effect.{Effect}
+use Rattle.canary_release.specs.declared.effect.Effect.TheVariants.{Told, Opened, Measured, Closed}
+use Rattle.canary_release.specs.declared.runs.OpenRun.{OpenRun}
+use Rattle.canary_release.specs.declared.runs.Runs.{Runs}
+use Rattle.canary_release.specs.declared.stand.Stand.{Stand}
+use Rattle.canary_release.specs.Pasts.{change_at}
+use Rattle.canary_release.specs.Watching.{opened_now, counted, counted_in, is_other, happens, after_all}
+use Rattle.canary_release.specs.Courses.{Course, with_stand, happen, runs_now, has_number, run_metrics, run_verdict}
+use Rattle.canary_release.proofs.OrderingBasics.{other_number, each, each_and_more, each_mapped, each_filtered}
+
+-- a run that is opened has the next number, and lists for the metrics of its analysis
+pub record Opens (st : CheckedStrategy) (w : Runs) (x : Opening) : Type 0 where
+  pub number : x.run ≡ w.count + 1
+  pub metrics : List MetricValue
+  pub analysis : metrics_at st x.step ≡ Some metrics
+  pub one_each : x.metrics ≡ length metrics
+
+-- a measurement is of an open run and of a metric of it, and the next of that metric
+pub record Measures (st : CheckedStrategy) (w : Runs) (x : Recorded) : Type 0 where
+  pub run : OpenRun
+  pub found : find (has_number x.run) w.open_runs ≡ Some run
+  pub metric : MetricValue
+  pub is_metric : slice_get (run_metrics st run.step) x.metric ≡ Some metric
+  pub tally : Counts
+  pub is_tally : slice_get run.tallies x.metric ≡ Some tally
+  pub next : x.ordinal ≡ size tally + 1
+  pub room : size tally + 1 ≤ 1000000
+  pub judged : x.phase ≡ phase_of metric.success metric.failure x.outcome
+
+-- a run that is closed is open, and is closed at its verdict, a completed phase
+pub record Closes (st : CheckedStrategy) (w : Runs) (x : Closing) : Type 0 where
+  pub run : OpenRun
+  pub found : find (has_number x.run) w.open_runs ≡ Some run
+  pub verdict : x.verdict ≡ run_verdict st x.outside run
+  pub completed : is_completed x.verdict ≡ true
+
+abbrev pub Allowed : CheckedStrategy → Runs → Effect → Type 0
+Allowed st w (Told line) = Unit {0}
+Allowed st w (Opened x) = Opens st w x
+Allowed st w (Measured x) = Measures st w x
+Allowed st w (Closed x) = Closes st w x
+
+abbrev pub AreAllowed : CheckedStrategy → Runs → List Effect → Type 0
+AreAllowed st w [] = Unit {0}
+AreAllowed st w (x ∷ xs) = Allowed st w x × AreAllowed st (happens w x) xs
+
+one_more_allowed : (st : CheckedStrategy) (w : Runs) (xs : List Effect) (x : Effect) → AreAllowed st w xs → Allowed st (after_all w xs) x → AreAllowed st w (xs ++ x ∷ [])
+one_more_allowed st w [] x h a = (a, tt)
+one_more_allowed st w (y ∷ xs) x h a = (h.0, one_more_allowed st (happens w y) xs x h.1 a)
+
+one_more_happens : (w : Runs) (xs : List Effect) (x : Effect) → after_all w (xs ++ x ∷ []) ≡ happens (after_all w xs) x
+one_more_happens w [] x = refl
+one_more_happens w (y ∷ xs) x = one_more_happens (happens w y) xs x
+
+-- Open runs have different numbers, none above the number of runs.
+
+abbrev pub AreDistinct : List OpenRun → Type 0
+AreDistinct [] = Unit {0}
+AreDistinct (r ∷ rs) = AllByRecursion (λ (q : OpenRun). (q.number == r.number) ≡ false) rs × AreDistinct rs
+
+abbrev pub IsAtMost : ℕ → OpenRun → Type 0
+IsAtMost n r = r.number ≤ n
+
+pub record IsNumbered (w : Runs) : Type 0 where
+  pub most : AllByRecursion (IsAtMost w.count) w.open_runs
+  pub distinct : AreDistinct w.open_runs
+
+distinct_and_more : (rs : List OpenRun) (x : OpenRun) → AllByRecursion (λ (q : OpenRun). (x.number == q.number) ≡ false) rs → AreDistinct rs → AreDistinct (rs ++ x ∷ [])
+distinct_and_more [] x h d = (tt, tt)
+distinct_and_more (r ∷ rs) x h d = (each_and_more (λ (q : OpenRun). (q.number == r.number) ≡ false) rs x d.0 h.0, distinct_and_more rs x h.1 d.1)
+
+same_distinct : (f : OpenRun → OpenRun) → ((r : OpenRun) → (f r).number ≡ r.number) → (rs : List OpenRun) → AreDistinct rs → AreDistinct (map f rs)
+same_distinct f same [] d = tt
+same_distinct f same (r ∷ rs) d =
+    (each_mapped (λ (q : OpenRun). (q.number == r.number) ≡ false) (λ (q : OpenRun). (q.number == (f r).number) ≡ false) f (λ q e. (λ i. same q i == same r i) ∙ e) rs d.0, same_distinct f same rs d.1)
+
+filtered_distinct : (test : OpenRun → Bool) (rs : List OpenRun) → AreDistinct rs → AreDistinct (filter test rs)
+filtered_distinct test [] d = tt
+filtered_distinct test (r ∷ rs) d =
+    let rest = filtered_distinct test rs d.1 in
+    elim (test r)
+    as (λ b. AreDistinct (cond b (r ∷ filter test rs) (filter test rs)))
+    [ true ↦ (each_filtered (λ (q : OpenRun). (q.number == r.number) ≡ false) test rs d.0, rest) | false ↦ rest ]
+
+pub counted_number : (x : Recorded) (r : OpenRun) → (counted_in x r).number ≡ r.number
+counted_number x r =
+    elim (r.number == x.run)
+    as (λ b. (let q : OpenRun = (if b then record r { tallies = change_at x.metric (counted x) r.tallies } else r) in q).number ≡ r.number)
+    [ true ↦ refl | false ↦ refl ]
+
+higher : (n : ℕ) (r : OpenRun) → IsAtMost n r → IsAtMost (n + 1) r
+higher n r h = omega arith
+
+numbered_after : (st : CheckedStrategy) (w : Runs) (x : Effect) → Allowed st w x → IsNumbered w → IsNumbered (happens w x)
+numbered_after st w (Told line) a n = n
+numbered_after st w (Opened x) a n =
+    let is : x.run ≡ w.count + 1 = a.number in
+    let new : IsAtMost (w.count + 1) (opened_now x) = omega (arith, is) in
+    record {
+      most = each_and_more (IsAtMost (w.count + 1)) w.open_runs (opened_now x) (each (IsAtMost w.count) (IsAtMost (w.count + 1)) (higher w.count) w.open_runs n.most) new;
+      distinct = distinct_and_more w.open_runs (opened_now x) (each (IsAtMost w.count) (λ (q : OpenRun). (x.run == q.number) ≡ false) (λ q h. other_number x.run q.number (λ same. omega (arith, is, h, same))) w.open_runs n.most) n.distinct;
+    }
+numbered_after st w (Measured x) a n =
+    record {
+      most = each_mapped (IsAtMost w.count) (IsAtMost w.count) (counted_in x) (λ r h. rw (counted_number x r) h) w.open_runs n.most;
+      distinct = same_distinct (counted_in x) (counted_number x) w.open_runs n.distinct;
+    }
+numbered_after st w (Closed x) a n =
+    record {
+      most = each_filtered (IsAtMost w.count) (is_other x.run) w.open_runs n.most;
+      distinct = filtered_distinct (is_other x.run) w.open_runs n.distinct;
+    }
+
+numbered_after_all : (st : CheckedStrategy) (w : Runs) (xs : List Effect) → AreAllowed st w xs → IsNumbered w → IsNumbered (after_all w xs)
+numbered_after_all st w [] h n = n
+numbered_after_all st w (x ∷ xs) h n = numbered_after_all st (happens w x) xs h.1 (numbered_after st w x h.0 n)
+
+-- A course of a service that stood so, and of which this was watched: the same strategy and name, and allowed effects.
+pub record IsFollowing (s : Stand) (w : Runs) (c : Course) : Type 0 where
+  pub strategy : c.stand.strategy ≡ s.strategy
+  pub name : c.stand.name ≡ s.name
+  pub watch : c.watch ≡ after_all w
+  pub allowed : AreAllowed s.strategy w c.effects
+
+module _ (s : Stand) (w : Runs) where
+  pub now_is : (c : Course) → IsFollowing s w c → runs_now c ≡ after_all w c.effects
+  now_is c f = λ i. f.watch i c.effects
+
+  pub numbered_now : IsNumbered w → (c : Course) → IsFollowing s w c → IsNumbered (runs_now c)
+  numbered_now n c f = subst IsNumbered (sym (now_is c f)) (numbered_after_all s.strategy w c.effects f.allowed n)
+
+  -- one more effect that is allowed
+  pub follows_on : (c : Course) (x : Effect) → IsFollowing s w c → Allowed s.strategy (runs_now c) x → IsFollowing s w (happen c x)
+  follows_on c x f a =
+      record {
+        strategy = f.strategy;
+        name = f.name;
+        watch = f.watch;
+        allowed = one_more_allowed s.strategy w c.effects x f.allowed (subst (λ (v : Runs). Allowed s.strategy v x) (now_is c f) a);
+      }
+
+  pub now_after : (c : Course) (x : Effect) → IsFollowing s w c → runs_now (happen c x) ≡ happens (runs_now c) x
+  now_after c x f = (λ i. f.watch i (c.effects ++ x ∷ [])) ∙ one_more_happens w c.effects x ∙ ap (λ (v : Runs). happens v x) (sym (now_is c f))
+
+  -- standing otherwise, with the same strategy and name
+  pub stands_on : (c : Course) (d : Stand) → IsFollowing s w c → d.strategy ≡ c.stand.strategy → d.name ≡ c.stand.name → IsFollowing s w (with_stand c d)
+  stands_on c d f same named = record { strategy = same ∙ f.strategy; name = named ∙ f.name; watch = f.watch; allowed = f.allowed }

@@ -1,0 +1,214 @@
+-- Templates never change under a name, so a service's strategy stays what its command asked for, and stays accepted.
+use Rattle.std.proofs.Common.{◌≡◌, ℕ, zero, suc, List, [], ◌∷◌, ◌++◌, length, Bool, true, false, refl, ap, sym, ◌∙◌, arith, true≢false}
+use Rattle.std.specs.Prelude.{◌==◌, ◌&&◌, ◌||◌, nat_lt, nat_le, not, if◌then◌else◌, IsTrue, Option, Some, None, map, is_none}
+use Rattle.std.specs.List.{AllByRecursion, list_any, list_all, filter_map}
+use Rattle.std.proofs.lemmas.Bool.Decides.{nat_tests}
+use Rattle.canary_metric.specs.Metrics.{MetricValue, effective_count}
+use Rattle.canary_metric.specs.Settings.{count_that_stands}
+use Rattle.canary_plan.specs.declared.step.Step.{Step}
+use Rattle.canary_plan.specs.declared.step.Step.TheVariants.{SetWeight, Pause, Analysis}
+use Rattle.canary_plan.specs.declared.service.Background.{Background}
+use Rattle.canary_plan.specs.declared.service.ServiceSpec.{ServiceSpec}
+use Rattle.canary_plan.specs.declared.template_spec.MetricSpec.{MetricSpec}
+use Rattle.canary_plan.specs.declared.template.Template.{Template}
+use Rattle.canary_plan.specs.declared.strategy.CheckedStrategy.{CheckedStrategy}
+use Rattle.canary_plan.specs.declared.refusal.Refusal.{Refusal}
+use Rattle.canary_plan.specs.declared.refusal.Refusal.TheVariants.{DuplicateMetric, UnknownTemplate, EndlessMetric, BadStrategy}
+use Rattle.canary_plan.specs.Plans.{Templates, template_of, bound_metric, metrics_in, metrics_named, step_metrics, background_metrics, strategy_of, has_weight_in_range, are_metrics_of_run, fit_steps, fits_background, is_count, have_counts, is_accepted}
+use Rattle.canary_plan.specs.Refusals.{first_that_holds}
+use Rattle.canary_plan.specs.PlanRefusals.{has_duplicate, has_unknown, repeats_metric, is_endless, is_misfit, is_bad_strategy, names_of_step, names_of_background, step_analyses, analyses, strategy_refusal}
+use Rattle.canary_release.specs.Laws.{Agree}
+use Rattle.canary_release.proofs.OrderingBasics.{neither, none_passes, row_false}
+
+all_left : {X : Type 0} (P : X → Type 0) (xs ys : List X) → AllByRecursion P (xs ++ ys) → AllByRecursion P xs
+all_left P [] ys h = tt
+all_left P (x ∷ xs) ys h = (h.0, all_left P xs ys h.1)
+
+all_right : {X : Type 0} (P : X → Type 0) (xs ys : List X) → AllByRecursion P (xs ++ ys) → AllByRecursion P ys
+all_right P [] ys h = h
+all_right P (x ∷ xs) ys h = all_right P xs ys h.1
+
+any_alike : {X : Type 0} (P : X → Type 0) (f g : X → Bool) → ((x : X) → P x → f x ≡ g x) → (xs : List X) → AllByRecursion P xs → list_any f xs ≡ list_any g xs
+any_alike P f g same [] h = refl
+any_alike P f g same (x ∷ xs) h = λ i. same x h.0 i || any_alike P f g same xs h.1 i
+
+-- Where the templates agree on the names, all that is looked up agrees.
+
+named : (known other : Templates) (names : List (List ℕ)) → Agree known other names → metrics_named known names ≡ metrics_named other names
+named known other [] h = refl
+named known other (n ∷ ns) h = λ i. metrics_in (h.0 i) ++ named known other ns h.1 i
+
+unknown : (known other : Templates) (names : List (List ℕ)) → Agree known other names → has_unknown known names ≡ has_unknown other names
+unknown known other names h = any_alike (λ name. known name ≡ other name) (λ name. is_none (known name)) (λ name. is_none (other name)) (λ name e i. is_none (e i)) names h
+
+repeats : (known other : Templates) (names : List (List ℕ)) → Agree known other names → repeats_metric known names ≡ repeats_metric other names
+repeats known other names h = ap (λ (ms : List MetricValue). has_duplicate (map (λ (m : MetricValue). m.name) ms)) (named known other names h)
+
+endless : (known other : Templates) (names : List (List ℕ)) → Agree known other names → is_endless known names ≡ is_endless other names
+endless known other names h = ap (λ (ms : List MetricValue). list_any (λ (m : MetricValue). is_none (effective_count m)) ms) (named known other names h)
+
+misfit : (known other : Templates) (names : List (List ℕ)) → Agree known other names → is_misfit known names ≡ is_misfit other names
+misfit known other names h = ap (λ (ms : List MetricValue). nat_lt (length names) 1 || (nat_lt 8 (length names) || not (are_metrics_of_run ms))) (named known other names h)
+
+pub refusal_same : (known other : Templates) (spec : ServiceSpec) → AllByRecursion (Agree known other) (analyses spec) → strategy_refusal known spec ≡ strategy_refusal other spec
+refusal_same known other spec h =
+    let all = analyses spec in
+    let steps = step_analyses spec in
+    let in_steps = all_left (Agree known other) steps (names_of_background spec.background) h in
+    let a = any_alike (Agree known other) (repeats_metric known) (repeats_metric other) (repeats known other) all h in
+    let b = any_alike (Agree known other) (has_unknown known) (has_unknown other) (unknown known other) all h in
+    let c = any_alike (Agree known other) (is_endless known) (is_endless other) (endless known other) steps in_steps in
+    let d = any_alike (Agree known other) (is_misfit known) (is_misfit other) (misfit known other) all h in
+    λ i. first_that_holds ((a i, DuplicateMetric) ∷ (b i, UnknownTemplate) ∷ (c i, EndlessMetric) ∷ (nat_lt 64 (length spec.steps) || (not (list_all has_weight_in_range spec.steps) || d i), BadStrategy) ∷ [])
+
+steps_same : (known other : Templates) (steps : List Step) → AllByRecursion (Agree known other) (filter_map names_of_step steps) → map (step_metrics known) steps ≡ map (step_metrics other) steps
+steps_same known other [] h = refl
+steps_same known other (SetWeight percent ∷ steps) h = ap (λ (ms : List (List MetricValue)). [] ∷ ms) (steps_same known other steps h)
+steps_same known other (Pause seconds ∷ steps) h = ap (λ (ms : List (List MetricValue)). [] ∷ ms) (steps_same known other steps h)
+steps_same known other (Analysis names ∷ steps) h = λ i. named known other names h.0 i ∷ steps_same known other steps h.1 i
+
+background_same : (known other : Templates) (b : Option Background) → AllByRecursion (Agree known other) (names_of_background b) → background_metrics known b ≡ background_metrics other b
+background_same known other None h = refl
+background_same known other (Some b) h = named known other b.templates h.0
+
+pub strategy_same : (known other : Templates) (spec : ServiceSpec) → AllByRecursion (Agree known other) (analyses spec) → strategy_of known spec ≡ strategy_of other spec
+strategy_same known other spec h =
+    let steps = steps_same known other spec.steps (all_left (Agree known other) (step_analyses spec) (names_of_background spec.background) h) in
+    let background = background_same known other spec.background (all_right (Agree known other) (step_analyses spec) (names_of_background spec.background) h) in
+    λ i. record { steps = spec.steps; background = spec.background; step_metrics = steps i; background_metrics = background i }
+
+-- What a strategy that isn't refused is.
+
+pub record NotRefused (known : Templates) (spec : ServiceSpec) : Type 0 where
+  pub known_all : list_any (has_unknown known) (analyses spec) ≡ false
+  pub fits : is_bad_strategy known spec ≡ false
+
+pub not_refused : (known : Templates) (spec : ServiceSpec) → strategy_refusal known spec ≡ None → NotRefused known spec
+not_refused known spec none =
+    let rows3 : List (Bool × Refusal) = (is_bad_strategy known spec, BadStrategy) ∷ [] in
+    let rows2 : List (Bool × Refusal) = (list_any (is_endless known) (step_analyses spec), EndlessMetric) ∷ rows3 in
+    let rows1 : List (Bool × Refusal) = (list_any (has_unknown known) (analyses spec), UnknownTemplate) ∷ rows2 in
+    let h0 = row_false (list_any (repeats_metric known) (analyses spec)) DuplicateMetric rows1 none in
+    let h1 = row_false (list_any (has_unknown known) (analyses spec)) UnknownTemplate rows2 h0.1 in
+    let h2 = row_false (list_any (is_endless known) (step_analyses spec)) EndlessMetric rows3 h1.1 in
+    let h3 = row_false (is_bad_strategy known spec) BadStrategy [] h2.1 in
+    record { known_all = h1.0; fits = h3.0 }
+
+-- Templates that keep what is known agree with it on the names of a service that isn't refused.
+
+abbrev pub KeepsKnown : Templates → Templates → Type 0
+KeepsKnown known other = (name : List ℕ) (t : Template) → known name ≡ Some t → other name ≡ Some t
+
+agree_at : (known other : Templates) (name : List ℕ) → KeepsKnown known other → is_none (known name) ≡ false → known name ≡ other name
+agree_at known other name keeps e = by (known name) refl e
+  where
+    by : (o : Option Template) → known name ≡ o → is_none o ≡ false → known name ≡ other name
+    by None is none = absurd (true≢false none)
+    by (Some t) is none = is ∙ sym (keeps name t is)
+
+agree_on : (known other : Templates) → KeepsKnown known other → (names : List (List ℕ)) → AllByRecursion (λ name. is_none (known name) ≡ false) names → Agree known other names
+agree_on known other keeps [] h = tt
+agree_on known other keeps (name ∷ names) h = (agree_at known other name keeps h.0, agree_on known other keeps names h.1)
+
+agree_all : (known other : Templates) → KeepsKnown known other → (all : List (List (List ℕ))) → list_any (has_unknown known) all ≡ false → AllByRecursion (Agree known other) all
+agree_all known other keeps [] e = tt
+agree_all known other keeps (names ∷ all) e =
+    let h = neither (has_unknown known names) (list_any (has_unknown known) all) e in
+    (agree_on known other keeps names (none_passes (λ name. is_none (known name)) names h.0), agree_all known other keeps all h.1)
+
+pub stays_same : (known other : Templates) (spec : ServiceSpec) → KeepsKnown known other → strategy_refusal known spec ≡ None → (strategy_of known spec ≡ strategy_of other spec) × (strategy_refusal other spec ≡ None)
+stays_same known other spec keeps none =
+    let agree = agree_all known other keeps (analyses spec) (not_refused known spec none).known_all in
+    (strategy_same known other spec agree, sym (refusal_same known other spec agree) ∙ none)
+
+-- Its strategy is accepted.
+
+abbrev pub AreBound : Templates → Type 0
+AreBound known = (name : List ℕ) (t : Template) → known name ≡ Some t → t ≡ template_of t.spec
+
+and_both : (a b : Bool) → a ≡ true → b ≡ true → (a && b) ≡ true
+and_both a b e f = ap (λ x. x && b) e ∙ f
+
+not_false : (a : Bool) → not a ≡ false → a ≡ true
+not_false true e = refl
+not_false false e = absurd (true≢false e)
+
+all_append : {X : Type 0} (test : X → Bool) (xs ys : List X) → list_all test xs ≡ true → list_all test ys ≡ true → list_all test (xs ++ ys) ≡ true
+all_append test [] ys h k = k
+all_append test (x ∷ xs) ys h k =
+    elim (test x)
+    as (λ b. (b && list_all test xs) ≡ true → (b && list_all test (xs ++ ys)) ≡ true) [
+      | true ↦ λ e. all_append test xs ys e k
+      | false ↦ λ e. absurd (true≢false (sym e))
+    ] h
+
+stands : (o : Option ℕ) → is_count (count_that_stands o) ≡ true
+stands None = refl
+stands (Some n) = at_zero n
+  where
+    at_zero : (n : ℕ) → is_count (if n == 0 then None else Some n) ≡ true
+    at_zero zero = refl
+    at_zero (suc n) = grind (arith, nat_tests)
+
+bound_counts : (dry_run : List (List ℕ)) (ms : List MetricSpec) → have_counts (map (bound_metric dry_run) ms) ≡ true
+bound_counts dry_run [] = refl
+bound_counts dry_run (m ∷ ms) = and_both (is_count (count_that_stands m.count)) (have_counts (map (bound_metric dry_run) ms)) (stands m.count) (bound_counts dry_run ms)
+
+template_counts : (known : Templates) → AreBound known → (name : List ℕ) → have_counts (metrics_in (known name)) ≡ true
+template_counts known bound name = by (known name) refl
+  where
+    by : (o : Option Template) → known name ≡ o → have_counts (metrics_in o) ≡ true
+    by None e = refl
+    by (Some t) e = ap (λ (x : Template). have_counts x.metrics) (bound name t e) ∙ bound_counts t.spec.dry_run t.spec.metrics
+
+named_counts : (known : Templates) → AreBound known → (names : List (List ℕ)) → have_counts (metrics_named known names) ≡ true
+named_counts known bound [] = refl
+named_counts known bound (name ∷ names) = all_append (λ (m : MetricValue). is_count m.count) (metrics_in (known name)) (metrics_named known names) (template_counts known bound name) (named_counts known bound names)
+
+steps_counts : (known : Templates) → AreBound known → (steps : List Step) → list_all have_counts (map (step_metrics known) steps) ≡ true
+steps_counts known bound [] = refl
+steps_counts known bound (SetWeight percent ∷ steps) = steps_counts known bound steps
+steps_counts known bound (Pause seconds ∷ steps) = steps_counts known bound steps
+steps_counts known bound (Analysis names ∷ steps) = and_both (have_counts (metrics_named known names)) (list_all have_counts (map (step_metrics known) steps)) (named_counts known bound names) (steps_counts known bound steps)
+
+background_counts : (known : Templates) → AreBound known → (b : Option Background) → have_counts (background_metrics known b) ≡ true
+background_counts known bound None = refl
+background_counts known bound (Some b) = named_counts known bound b.templates
+
+-- an analysis that is no misfit has 1 to 32 metrics
+fitting : (known : Templates) (names : List (List ℕ)) → is_misfit known names ≡ false → are_metrics_of_run (metrics_named known names) ≡ true
+fitting known names e =
+    let one = neither (nat_lt (length names) 1) (nat_lt 8 (length names) || not (are_metrics_of_run (metrics_named known names))) e in
+    let two = neither (nat_lt 8 (length names)) (not (are_metrics_of_run (metrics_named known names))) one.1 in
+    not_false (are_metrics_of_run (metrics_named known names)) two.1
+
+steps_fit : (known : Templates) (steps : List Step) → AllByRecursion (λ names. is_misfit known names ≡ false) (filter_map names_of_step steps) → fit_steps steps (map (step_metrics known) steps) ≡ true
+steps_fit known [] h = refl
+steps_fit known (SetWeight percent ∷ steps) h = steps_fit known steps h
+steps_fit known (Pause seconds ∷ steps) h = steps_fit known steps h
+steps_fit known (Analysis names ∷ steps) h = and_both (are_metrics_of_run (metrics_named known names)) (fit_steps steps (map (step_metrics known) steps)) (fitting known names h.0) (steps_fit known steps h.1)
+
+background_fits : (known : Templates) (b : Option Background) → AllByRecursion (λ names. is_misfit known names ≡ false) (names_of_background b) → fits_background b (background_metrics known b) ≡ true
+background_fits known None h = refl
+background_fits known (Some b) h = fitting known b.templates h.0
+
+at_most : (n : ℕ) → nat_lt 64 n ≡ false → nat_le n 64 ≡ true
+at_most n e = grind (arith, nat_tests, e)
+
+pub strategy_accepted : (known : Templates) (spec : ServiceSpec) → AreBound known → strategy_refusal known spec ≡ None → IsTrue (is_accepted (strategy_of known spec))
+strategy_accepted known spec bound none =
+    let n = not_refused known spec none in
+    let one = neither (nat_lt 64 (length spec.steps)) (not (list_all has_weight_in_range spec.steps) || list_any (is_misfit known) (analyses spec)) n.fits in
+    let two = neither (not (list_all has_weight_in_range spec.steps)) (list_any (is_misfit known) (analyses spec)) one.1 in
+    let fit = none_passes (is_misfit known) (analyses spec) two.1 in
+    let s : CheckedStrategy = strategy_of known spec in
+    let a = at_most (length spec.steps) one.0 in
+    let b = not_false (list_all has_weight_in_range spec.steps) two.0 in
+    let c = steps_fit known spec.steps (all_left (λ names. is_misfit known names ≡ false) (step_analyses spec) (names_of_background spec.background) fit) in
+    let d = background_fits known spec.background (all_right (λ names. is_misfit known names ≡ false) (step_analyses spec) (names_of_background spec.background) fit) in
+    let e = steps_counts known bound spec.steps in
+    let f = background_counts known bound spec.background in
+    six (nat_le (length s.steps) 64) (list_all has_weight_in_range s.steps) (fit_steps s.steps s.step_metrics) (fits_background s.background s.background_metrics) (list_all have_counts s.step_metrics) (have_counts s.background_metrics) a b c d e f
+  where
+    six : (a b c d e f : Bool) → a ≡ true → b ≡ true → c ≡ true → d ≡ true → e ≡ true → f ≡ true → (a && (b && (c && (d && (e && f))))) ≡ true
+    six a b c d e f ha hb hc hd he hf = and_both a _ ha (and_both b _ hb (and_both c _ hc (and_both d _ hd (and_both e f he hf))))

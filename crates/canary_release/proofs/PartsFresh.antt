@@ -1,0 +1,154 @@
+-- A run that is opened has a tally for each metric, and is not judged.
+use Rattle.std.proofs.Common.{◌≡◌, ℕ, zero, suc, ◌≤◌, List, [], ◌∷◌, length, refl, ap, ◌∙◌, arith, subst}
+use Rattle.std.specs.Prelude.{Bool, true, false, cond, not, ◌&&◌, ◌||◌, ◌==◌, nat_lt, nat_le, if◌then◌else◌, IsTrue, map, replicate, slice_get, Option, Some, None}
+use Rattle.std.specs.List.{list_any, list_all, zip}
+use Rattle.std.proofs.lemmas.Bool.Decides.{nat_tests}
+use Rattle.canary_condition.specs.declared.outcome.Phase.{Phase}
+use Rattle.canary_condition.specs.declared.outcome.Phase.TheVariants.{Pending, Running}
+use Rattle.canary_metric.specs.Metrics.{MetricValue, count_or_one}
+use Rattle.canary_metric.specs.Counts.{Counts, counts}
+use Rattle.canary_metric.specs.MetricPhases.{is_reached, phase_of_counts, is_completed}
+use Rattle.canary_metric.specs.Verdicts.{Watched, watched_phase, judging, is_bad, is_closing, are_completed, worst_of, verdict_of_counts}
+use Rattle.canary_plan.specs.declared.step.Step.{Step}
+use Rattle.canary_plan.specs.declared.step.Step.TheVariants.{Analysis}
+use Rattle.canary_plan.specs.declared.service.Background.{Background}
+use Rattle.canary_plan.specs.declared.strategy.CheckedStrategy.{CheckedStrategy}
+use Rattle.canary_plan.specs.Plans.{metrics_at, has_weight_in_range, are_metrics_of_run, fits_step, fit_steps, fits_background, is_count, have_counts, is_accepted}
+use Rattle.canary_release.specs.declared.runs.OpenRun.{OpenRun}
+use Rattle.canary_release.specs.Watching.{opened_now}
+use Rattle.canary_release.specs.Courses.{run_metrics, run_verdict}
+use Rattle.canary_release.specs.Parts.{is_unfit}
+
+-- no measurements
+abbrev nothing : Counts
+nothing = counts []
+
+unreached : (o interval : Option ℕ) → is_count o ≡ true → is_reached (count_or_one o interval) 0 ≡ false
+unreached (Some n) interval h = grind (arith, nat_tests)
+unreached None None h = refl
+unreached None (Some d) h = refl
+
+none_below : (n : ℕ) → nat_lt n 0 ≡ false
+none_below n = grind (arith, nat_tests)
+
+-- a metric with no measurements is pending
+pending : (m : MetricValue) → is_count m.count ≡ true → phase_of_counts m nothing false ≡ Pending
+pending m h = rw (none_below m.failure_limit, none_below m.inconclusive_limit, none_below m.consecutive_error_limit, unreached m.count m.interval h) refl
+
+pub and_left : (a b : Bool) → (a && b) ≡ true → a ≡ true
+and_left true b h = refl
+and_left false b h = cc h
+
+pub and_right : (a b : Bool) → (a && b) ≡ true → b ≡ true
+and_right true b h = h
+and_right false b h = cc h
+
+-- metrics with no measurements
+abbrev unmeasured : List MetricValue → List Watched
+unmeasured ms = zip ms (replicate (length ms) nothing)
+
+none_bad : (ms : List MetricValue) → have_counts ms ≡ true → list_any (λ w. is_bad (watched_phase false w)) (judging (unmeasured ms)) ≡ false
+none_bad [] h = refl
+none_bad (m ∷ ms) h =
+    let rest = none_bad ms (and_right (is_count m.count) (have_counts ms) h) in
+    let first = pending m (and_left (is_count m.count) (have_counts ms) h) in
+    elim m.dry_run as (λ b. list_any (λ w. is_bad (watched_phase false w)) (cond (not b) ((m, nothing) ∷ judging (unmeasured ms)) (judging (unmeasured ms))) ≡ false)
+    [ true ↦ rest | false ↦ ap (λ p. is_bad p || list_any (λ w. is_bad (watched_phase false w)) (judging (unmeasured ms))) first ∙ rest ]
+
+some_incomplete : (ms : List MetricValue) → 1 ≤ length ms → have_counts ms ≡ true → are_completed (unmeasured ms) ≡ false
+some_incomplete [] some h = absurd (omega arith)
+some_incomplete (m ∷ ms) some h = ap (λ p. is_completed p && are_completed (unmeasured ms)) (pending m (and_left (is_count m.count) (have_counts ms) h))
+
+undecided : (closing completed : Bool) (p : Bool → Phase) → closing ≡ false → completed ≡ false → (if closing || completed then p closing else Running) ≡ Running
+undecided closing completed p g h = rw (g, h) refl
+
+running : (ms : List MetricValue) → 1 ≤ length ms → have_counts ms ≡ true → verdict_of_counts false (unmeasured ms) ≡ Running
+running ms some h = undecided (is_closing false (unmeasured ms)) (are_completed (unmeasured ms)) (λ b. worst_of (map (watched_phase b) (judging (unmeasured ms)))) (none_bad ms h) (some_incomplete ms some h)
+
+-- the metrics of an analysis of an accepted strategy
+pub record HasMetrics (s : CheckedStrategy) (step : Option ℕ) : Type 0 where
+  pub metrics : List MetricValue
+  pub found : metrics_at s step ≡ Some metrics
+  pub some : 1 ≤ length metrics
+  pub counted : have_counts metrics ≡ true
+
+-- a run that is opened with the metrics of its analysis
+abbrev pub new_run : CheckedStrategy → ℕ → Option ℕ → ℕ → OpenRun
+new_run s number step at = opened_now (record { run = number; step = step; started = at; metrics = length (run_metrics s step) })
+
+length-copies : {X : Type 0} (n : ℕ) (x : X) → length (replicate n x) ≡ n
+length-copies zero x = refl
+length-copies (suc n) x = ap suc (length-copies n x)
+
+same : (n : ℕ) → (n == n) ≡ true
+same n = grind (arith, nat_tests)
+
+pub new_fits : (s : CheckedStrategy) (number : ℕ) (step : Option ℕ) (at : ℕ) → HasMetrics s step → is_unfit (metrics_at s step) (new_run s number step at).tallies ≡ false
+new_fits s number step at has = rw has.found (rw (length-copies (length has.metrics) nothing) (ap not (same (length has.metrics))))
+
+pub new_is_open : (s : CheckedStrategy) (number : ℕ) (step : Option ℕ) (at : ℕ) → HasMetrics s step → is_completed (run_verdict s false (new_run s number step at)) ≡ false
+new_is_open s number step at has = rw has.found (ap is_completed (running has.metrics has.some has.counted))
+
+at_least_one : (ms : List MetricValue) → are_metrics_of_run ms ≡ true → 1 ≤ length ms
+at_least_one ms h = let one = and_left (nat_le 1 (length ms)) (nat_le (length ms) 32) h in grind (arith, nat_tests)
+
+-- what an accepted strategy is
+pub record Accepted (s : CheckedStrategy) : Type 0 where
+  pub short : length s.steps ≤ 64
+  pub steps : fit_steps s.steps s.step_metrics ≡ true
+  pub background : fits_background s.background s.background_metrics ≡ true
+  pub step_counts : list_all have_counts s.step_metrics ≡ true
+  pub background_counts : have_counts s.background_metrics ≡ true
+
+up_to : (a b : ℕ) → nat_le a b ≡ true → a ≤ b
+up_to a b h = grind (arith, nat_tests)
+
+pub accepted : (s : CheckedStrategy) → IsTrue (is_accepted s) → Accepted s
+accepted s h =
+    let last : Bool = list_all have_counts s.step_metrics && have_counts s.background_metrics in
+    let a = and_right (nat_le (length s.steps) 64) (list_all has_weight_in_range s.steps && (fit_steps s.steps s.step_metrics && (fits_background s.background s.background_metrics && last))) h in
+    let b = and_right (list_all has_weight_in_range s.steps) (fit_steps s.steps s.step_metrics && (fits_background s.background s.background_metrics && last)) a in
+    let d = and_right (fit_steps s.steps s.step_metrics) (fits_background s.background s.background_metrics && last) b in
+    let e = and_right (fits_background s.background s.background_metrics) last d in
+    record {
+      short = up_to (length s.steps) 64 (and_left (nat_le (length s.steps) 64) (list_all has_weight_in_range s.steps && (fit_steps s.steps s.step_metrics && (fits_background s.background s.background_metrics && last))) h);
+      steps = and_left (fit_steps s.steps s.step_metrics) (fits_background s.background s.background_metrics && last) b;
+      background = and_left (fits_background s.background s.background_metrics) last d;
+      step_counts = and_left (list_all have_counts s.step_metrics) (have_counts s.background_metrics) e;
+      background_counts = and_right (list_all have_counts s.step_metrics) (have_counts s.background_metrics) e;
+    }
+
+pub background_metrics : (s : CheckedStrategy) (b : Background) → Accepted s → s.background ≡ Some b → HasMetrics s None
+background_metrics s b a e =
+    record {
+      metrics = s.background_metrics;
+      found = rw e refl;
+      some = at_least_one s.background_metrics (rw e at a.background);
+      counted = a.background_counts;
+    }
+
+pub record Listed (steps : List Step) (lists : List (List MetricValue)) (i : ℕ) : Type 0 where
+  pub metrics : List MetricValue
+  pub found : slice_get lists i ≡ Some metrics
+  pub some : 1 ≤ length metrics
+  pub counted : have_counts metrics ≡ true
+
+listed : (steps : List Step) (lists : List (List MetricValue)) (i : ℕ) (names : List (List ℕ)) → fit_steps steps lists ≡ true → list_all have_counts lists ≡ true → slice_get steps i ≡ Some (Analysis names) → Listed steps lists i
+listed [] lists i names f g h = cc h
+listed (s ∷ ss) [] i names f g h = cc f
+listed (s ∷ ss) (ms ∷ rest) zero names f g h =
+    let is : s ≡ Analysis names = cc h in
+    record {
+      metrics = ms;
+      found = refl;
+      some = at_least_one ms (subst (λ x. fits_step x ms ≡ true) is (and_left (fits_step s ms) (fit_steps ss rest) f));
+      counted = and_left (have_counts ms) (list_all have_counts rest) g;
+    }
+listed (s ∷ ss) (ms ∷ rest) (suc i) names f g h =
+    let l = listed ss rest i names (and_right (fits_step s ms) (fit_steps ss rest) f) (and_right (have_counts ms) (list_all have_counts rest) g) h in
+    record { metrics = l.metrics; found = l.found; some = l.some; counted = l.counted }
+
+pub step_metrics : (s : CheckedStrategy) (i : ℕ) (names : List (List ℕ)) → Accepted s → slice_get s.steps i ≡ Some (Analysis names) → HasMetrics s (Some i)
+step_metrics s i names a e =
+    let l = listed s.steps s.step_metrics i names a.steps a.step_counts e in
+    record { metrics = l.metrics; found = rw e l.found; some = l.some; counted = l.counted }

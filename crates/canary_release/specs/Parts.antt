@@ -1,0 +1,98 @@
+-- Which parts make no service.
+use Rattle.std.specs.Prelude.{◌≡◌, ℕ, ◌+◌, ◌-◌, ◌==◌, nat_lt, ◌&&◌, ◌||◌, not, Bool, true, false, if◌then◌else◌, List, [], ◌∷◌, length, filter, Option, Some, None, is_some, is_none, Result, Ok, Err}
+use Rattle.std.specs.List.{list_any}
+use Rattle.canary_metric.specs.Metrics.{MetricValue}
+use Rattle.canary_metric.specs.Counts.{Counts}
+use Rattle.canary_metric.specs.MetricPhases.{is_completed}
+use Rattle.canary_plan.specs.Plans.{metrics_at}
+use Rattle.canary_release.specs.declared.stand.Stand.{Stand}
+use Rattle.canary_release.specs.declared.runs.OpenRun.{OpenRun}
+use Rattle.canary_release.specs.declared.service.ServiceParts.{ServiceParts}
+use Rattle.canary_release.specs.declared.parts.PartsFault.{PartsFault}
+use Rattle.canary_release.specs.declared.parts.PartsFault.TheVariants.{Broken}
+use Rattle.canary_release.specs.Services.{is_going, is_done, is_held}
+use Rattle.canary_release.specs.Courses.{has_number, run_verdict}
+use Rattle.canary_release.specs.Passing.{next_move, is_by}
+
+abbrev pub one_if : Bool → ℕ
+one_if b = if b then 1 else 0
+
+abbrev pub is_background_run : OpenRun → Bool
+is_background_run r = is_none r.step
+
+abbrev pub is_step_run : OpenRun → Bool
+is_step_run r = is_some r.step
+
+abbrev pub has_background_run : ServiceParts → Bool
+has_background_run s = list_any is_background_run s.runs.open_runs
+
+-- one if the background run wasn't started in this attempt, and a spare one if it wasn't, is open or is held
+abbrev pub background_wanted : ServiceParts → ℕ
+background_wanted s = one_if (not s.stand.background) + one_if (not s.stand.background || (has_background_run s || s.stand.background_hold))
+
+-- the run numbers that the present attempt may still take: one for each step after the present one, and those of the background
+abbrev pub runs_wanted : ServiceParts → ℕ
+runs_wanted s = (length s.stand.strategy.steps - (s.stand.step + 1)) + (if is_some s.stand.strategy.background then background_wanted s else 0)
+
+-- the step is above the end, or at the end in another state than done, or below it in done
+abbrev pub is_misplaced : Stand → Bool
+is_misplaced s = let n = length s.strategy.steps in nat_lt n s.step || (if s.step == n then not (is_done s.state) else is_done s.state)
+
+abbrev pub is_misnumbered : ℕ → OpenRun → Bool
+is_misnumbered count r = r.number == 0 || nat_lt count r.number
+
+abbrev pub repeats_number : List OpenRun → Bool
+repeats_number [] = false
+repeats_number (r ∷ rs) = list_any (has_number r.number) rs || repeats_number rs
+
+abbrev pub is_unfit : Option (List MetricValue) → List Counts → Bool
+is_unfit None tallies = true
+is_unfit (Some ms) tallies = not (length ms == length tallies)
+
+-- its tallies aren't one for each metric
+abbrev pub has_wrong_tallies : Stand → OpenRun → Bool
+has_wrong_tallies s r = is_unfit (metrics_at s.strategy r.step) r.tallies
+
+abbrev pub is_elsewhere : Stand → Option ℕ → Bool
+is_elsewhere s None = false
+is_elsewhere s (Some i) = not (i == s.step) || (is_none (metrics_at s.strategy (Some i)) || is_held s)
+
+-- a step run elsewhere than at its own analysis step, or while held
+abbrev pub is_astray : Stand → OpenRun → Bool
+is_astray s r = is_elsewhere s r.step
+
+-- its verdict isn't Running
+abbrev pub is_judged : Stand → OpenRun → Bool
+is_judged s r = is_completed (run_verdict s.strategy false r)
+
+-- the parts make no service: some cause holds
+abbrev pub is_broken : ServiceParts → Bool
+is_broken s =
+    let stand = s.stand in
+    let going = is_going stand.state in
+    let runs = s.runs.open_runs in
+    list_any (λ (b : Bool). b) (
+    is_misplaced stand
+    ∷ nat_lt stand.last stand.entered
+    ∷ nat_lt 1000000 s.runs.count
+    ∷ (going && nat_lt (1000000 - s.runs.count) (runs_wanted s))
+    ∷ list_any (is_misnumbered s.runs.count) runs
+    ∷ repeats_number runs
+    ∷ list_any (has_wrong_tallies stand) runs
+    ∷ (not going && nat_lt 0 (length runs))
+    ∷ nat_lt 1 (length (filter is_background_run runs))
+    ∷ nat_lt 1 (length (filter is_step_run runs))
+    ∷ list_any (is_astray stand) runs
+    ∷ (has_background_run s && (not stand.background || stand.background_hold))
+    ∷ (is_held stand && not going)
+    ∷ (stand.background && is_none stand.strategy.background)
+    ∷ (stand.background_hold && not stand.background)
+    ∷ list_any (is_judged stand) runs
+    ∷ is_by stand.last (next_move stand)
+    ∷ []
+    )
+
+-- parts are a service exactly where no cause holds
+abbrev pub IsAccepted : ServiceParts → Result ServiceParts PartsFault → Type 0
+IsAccepted parts (Ok service) = (is_broken parts ≡ false) × (service ≡ parts)
+IsAccepted parts (Err Broken) = is_broken parts ≡ true

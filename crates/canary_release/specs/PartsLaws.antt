@@ -1,0 +1,23 @@
+-- The machine keeps parts accepted.
+use Rattle.std.specs.Prelude.{◌≡◌, ℕ, false, IsTrue, Ok}
+use Rattle.canary_plan.specs.declared.service.ServiceSpec.{ServiceSpec}
+use Rattle.canary_plan.specs.declared.command.Command.{Command}
+use Rattle.canary_plan.specs.Plans.{Templates, is_accepted}
+use Rattle.canary_release.specs.declared.service.ServiceParts.{ServiceParts}
+use Rattle.canary_release.specs.Passing.{pass}
+use Rattle.canary_release.specs.Commands.{Acted}
+use Rattle.canary_release.specs.Desks.{act_passed, new_service}
+use Rattle.canary_release.specs.Shapes.{kept_course, kept_after}
+use Rattle.canary_release.specs.Parts.{is_broken}
+
+-- parts stay unbroken as time passes
+abbrev pub PassingKeepsParts : Type 0
+PassingKeepsParts = (s : ServiceParts) (t : ℕ) → IsTrue (is_accepted s.stand.strategy) → is_broken s ≡ false → is_broken (kept_after (pass (kept_course s) t)) ≡ false
+
+-- a command that is accepted leads unbroken parts to unbroken parts, with the same strategy
+abbrev pub ActingKeepsParts : Type 0
+ActingKeepsParts = (command : Command) (s : ServiceParts) (now : ℕ) (a : Acted) → IsTrue (is_accepted s.stand.strategy) → is_broken s ≡ false → act_passed command (kept_course s) now ≡ Ok a → (is_broken (kept_after a.course) ≡ false) × (a.course.stand.strategy ≡ s.stand.strategy)
+
+-- a new service's parts are unbroken
+abbrev pub NewPartsAreUnbroken : Type 0
+NewPartsAreUnbroken = (known : Templates) (spec : ServiceSpec) (now : ℕ) → is_broken (kept_after (new_service known spec now)) ≡ false

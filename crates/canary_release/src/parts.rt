@@ -1,0 +1,303 @@
+//! Parts that make a service, and those that make none.
+ghost use Rattle.std.specs.Prelude.{◌≡◌, ◌-◌, ◌≤◌, true, ◌||◌, ◌&&◌, not, nat_lt, length, filter};
+ghost use Rattle.std.specs.Prelude.{is_none, is_some};
+ghost use Rattle.std.specs.List.{list_any};
+ghost use Rattle.canary_metric.specs.MetricPhases.{is_completed};
+ghost use Rattle.canary_release.specs.Courses.{has_number};
+ghost use Rattle.canary_release.specs.Passing.{next_move, is_by};
+ghost use Rattle.canary_release.specs.Services.{is_going, is_done, is_held};
+ghost use Rattle.canary_release.specs.Parts.{IsAccepted, is_broken, is_misplaced, runs_wanted};
+ghost use Rattle.canary_release.specs.Parts.{background_wanted, is_misnumbered};
+ghost use Rattle.canary_release.specs.Parts.{repeats_number, has_wrong_tallies, is_astray};
+ghost use Rattle.canary_release.specs.Parts.{is_judged, is_background_run, is_step_run};
+ghost use Rattle.canary_release.specs.Parts.{has_background_run};
+
+use crate::runs::OpenRun;
+use crate::service::{Service, ServiceParts};
+use crate::stand::{Stand, State};
+use canary_condition::outcome::Phase;
+use std::error::Error;
+use std::fmt;
+
+// The most runs that a service may have.
+const MOST_RUNS: u32 = 1_000_000;
+
+/// Why parts make no service.
+#[derive(Clone, Copy, Debug, PartialEq, Eq)]
+pub enum PartsFault {
+    /// No service can stand so: its step is out of place, a run is out of place or number, a hold or
+    /// a background run is where there can be none, or something is left undone that is due.
+    Broken,
+}
+
+impl fmt::Display for PartsFault {
+    fn fmt<W: fmt::Write>(&self, f: &mut fmt::Formatter<W>) -> fmt::Result {
+        match self {
+            PartsFault::Broken => f.write_str("the parts make no service"),
+        }
+    }
+}
+
+impl Error for PartsFault {}
+
+impl Service {
+    /// The service that is made of these parts, which takes no memory.
+    ///
+    /// # Errors
+    /// `Broken` where no service can stand so.
+    pub fn from_parts(parts: ServiceParts) -> Result<Service, PartsFault>
+        ensures { IsAccepted parts result }
+    {
+        if is_broken(&parts) {
+            return Err(PartsFault::Broken);
+        }
+        Ok(Service::of(parts))
+    }
+}
+
+/// Whether the parts make no service: some cause holds.
+#[tactic(auto, using(crate::proofs::Broken::in_groups))]
+pub fn is_broken(parts: &ServiceParts) -> bool
+    ensures { result ≡ is_broken parts.now }
+{
+    is_behind(parts) || has_stray_run(parts) || has_bad_runs(parts) || has_bad_mark(parts)
+}
+
+// A step or an entry out of place, or runs beyond their limit.
+fn is_behind(parts: &ServiceParts) -> bool
+    ensures { result ≡ (is_misplaced parts.now.stand || (nat_lt parts.now.stand.last parts.now.stand.entered
+        || (nat_lt 1000000 parts.now.runs.count
+        || (is_going parts.now.stand.state && nat_lt (1000000 - parts.now.runs.count) (runs_wanted parts.now))))) }
+{
+    is_misplaced(&parts.stand)
+        || is_entered_late(&parts.stand)
+        || parts.runs.count > MOST_RUNS
+        || lacks_runs(parts)
+}
+
+// Open runs out of number, with wrong tallies, or where no release is going on.
+fn has_bad_runs(parts: &ServiceParts) -> bool
+    ensures { result ≡ (list_any (is_misnumbered parts.now.runs.count) parts.now.runs.open_runs
+        || (repeats_number parts.now.runs.open_runs
+        || (list_any (has_wrong_tallies parts.now.stand) parts.now.runs.open_runs
+        || (not (is_going parts.now.stand.state) && nat_lt 0 (length parts.now.runs.open_runs))))) }
+{
+    let runs = parts.runs.open_runs.as_slice();
+    some_is_misnumbered(parts.runs.count, runs)
+        || repeats_number(runs)
+        || some_has_wrong_tallies(&parts.stand, runs)
+        || is_left_open(&parts.stand, runs)
+}
+
+// More than one run of a kind, a run of a step astray, or a background run where there is none.
+fn has_stray_run(parts: &ServiceParts) -> bool
+    ensures { result ≡ (nat_lt 1 (length (filter is_background_run parts.now.runs.open_runs))
+        || (nat_lt 1 (length (filter is_step_run parts.now.runs.open_runs))
+        || (list_any (is_astray parts.now.stand) parts.now.runs.open_runs
+        || (has_background_run parts.now && (not parts.now.stand.background || parts.now.stand.background_hold))))) }
+{
+    let runs = parts.runs.open_runs.as_slice();
+    repeats_background(runs)
+        || repeats_step(runs)
+        || some_is_astray(&parts.stand, runs)
+        || has_stray_background(parts)
+}
+
+// A hold or a background analysis where there is none, a run whose verdict is due, or a step that
+// has been left by time.
+fn has_bad_mark(parts: &ServiceParts) -> bool
+    ensures { result ≡ ((is_held parts.now.stand && not (is_going parts.now.stand.state))
+        || ((parts.now.stand.background && is_none parts.now.stand.strategy.background)
+        || ((parts.now.stand.background_hold && not parts.now.stand.background)
+        || (list_any (is_judged parts.now.stand) parts.now.runs.open_runs
+        || is_by parts.now.stand.last (next_move parts.now.stand))))) }
+{
+    let stand = &parts.stand;
+    has_stray_hold(stand)
+        || lacks_background(stand)
+        || has_stray_background_hold(stand)
+        || some_is_judged(stand, parts.runs.open_runs.as_slice())
+        || has_move_due(stand)
+}
+
+fn is_misplaced(stand: &Stand) -> bool
+    ensures { result ≡ is_misplaced stand.now }
+{
+    let steps = stand.strategy.steps().len();
+    let step = stand.step as usize;
+    if step > steps {
+        return true;
+    }
+    (step == steps) != (stand.state == State::Done)
+}
+
+fn is_entered_late(stand: &Stand) -> bool
+    ensures { result ≡ nat_lt stand.now.last stand.now.entered }
+{
+    stand.last < stand.entered
+}
+
+// Fewer numbers of runs are left than the present attempt may still take.
+fn lacks_runs(parts: &ServiceParts) -> bool
+    ensures { result ≡ (is_going parts.now.stand.state && nat_lt (1000000 - parts.now.runs.count) (runs_wanted parts.now)) }
+{
+    if parts.stand.state != State::InProgress {
+        return false;
+    }
+    (MOST_RUNS.saturating_sub(parts.runs.count) as usize) < runs_wanted(parts)
+}
+
+fn runs_wanted(parts: &ServiceParts) -> usize
+    requires { is_going parts.now.stand.state ≡ true }
+    ensures { result ≡ runs_wanted parts.now }
+{
+    let steps = parts.stand.strategy.steps().len();
+    let later = steps.saturating_sub(parts.stand.step as usize + 1);
+    if parts.stand.strategy.background().is_some() {
+        later + background_wanted(parts)
+    } else {
+        later
+    }
+}
+
+fn background_wanted(parts: &ServiceParts) -> usize
+    ensures value { result ≡ background_wanted parts.now }
+    ensures limit { result ≤ 2 }
+{
+    if !parts.stand.background {
+        return 2;
+    }
+    if parts.stand.background_hold || has_background_run(parts.runs.open_runs.as_slice()) {
+        return 1;
+    }
+    0
+}
+
+fn has_background_run(runs: &[OpenRun]) -> bool
+    ensures { result ≡ list_any is_background_run runs.now }
+{
+    runs.iter().any(|run| run.step.is_none())
+}
+
+fn some_is_misnumbered(count: u32, runs: &[OpenRun]) -> bool
+    ensures { result ≡ list_any (is_misnumbered count) runs.now }
+{
+    runs.iter().any(|run| run.number == 0 || run.number > count)
+}
+
+// Whether two of the runs have one number.
+fn repeats_number(runs: &[OpenRun]) -> bool
+    ensures { result ≡ repeats_number runs.now }
+{
+    match runs {
+        [] => false,
+        [run, later @ ..] => some_has_number(run.number, later) || repeats_number(later),
+    }
+}
+
+fn some_has_number(number: u32, runs: &[OpenRun]) -> bool
+    ensures { result ≡ list_any (has_number number) runs.now }
+{
+    runs.iter().any(|run| run.number == number)
+}
+
+fn some_has_wrong_tallies(stand: &Stand, runs: &[OpenRun]) -> bool
+    ensures { result ≡ list_any (has_wrong_tallies stand.now) runs.now }
+{
+    runs.iter().any(|run| has_wrong_tallies(stand, run))
+}
+
+fn has_wrong_tallies(stand: &Stand, run: &OpenRun) -> bool
+    ensures { result ≡ has_wrong_tallies stand.now run.now }
+{
+    match stand.strategy.metrics(run.step) {
+        Some(metrics) => metrics.len() != run.tallies.as_slice().len(),
+        None => true,
+    }
+}
+
+// Runs are open, and no release is in progress.
+fn is_left_open(stand: &Stand, runs: &[OpenRun]) -> bool
+    ensures { result ≡ (not (is_going stand.now.state) && nat_lt 0 (length runs.now)) }
+{
+    stand.state != State::InProgress && runs.len() > 0
+}
+
+fn repeats_background(runs: &[OpenRun]) -> bool
+    ensures { result ≡ nat_lt 1 (length (filter is_background_run runs.now)) }
+{
+    runs.iter().filter(|run| run.step.is_none()).count() > 1
+}
+
+fn repeats_step(runs: &[OpenRun]) -> bool
+    ensures { result ≡ nat_lt 1 (length (filter is_step_run runs.now)) }
+{
+    runs.iter().filter(|run| run.step.is_some()).count() > 1
+}
+
+fn some_is_astray(stand: &Stand, runs: &[OpenRun]) -> bool
+    ensures { result ≡ list_any (is_astray stand.now) runs.now }
+{
+    runs.iter().any(|run| is_astray(stand, run))
+}
+
+fn is_astray(stand: &Stand, run: &OpenRun) -> bool
+    ensures { result ≡ is_astray stand.now run.now }
+{
+    let Some(step) = run.step else {
+        return false;
+    };
+    step != stand.step || stand.strategy.metrics(Some(step)).is_none() || stand.is_held()
+}
+
+// The background run is open that was not begun, or that is held.
+fn has_stray_background(parts: &ServiceParts) -> bool
+    ensures { result ≡ (has_background_run parts.now && (not parts.now.stand.background || parts.now.stand.background_hold)) }
+{
+    has_background_run(parts.runs.open_runs.as_slice())
+        && (!parts.stand.background || parts.stand.background_hold)
+}
+
+fn has_stray_hold(stand: &Stand) -> bool
+    ensures { result ≡ (is_held stand.now && not (is_going stand.now.state)) }
+{
+    stand.is_held() && stand.state != State::InProgress
+}
+
+// The background run was opened that the strategy does not have.
+fn lacks_background(stand: &Stand) -> bool
+    ensures { result ≡ (stand.now.background && is_none stand.now.strategy.background) }
+{
+    stand.background && stand.strategy.background().is_none()
+}
+
+fn has_stray_background_hold(stand: &Stand) -> bool
+    ensures { result ≡ (stand.now.background_hold && not stand.now.background) }
+{
+    stand.background_hold && !stand.background
+}
+
+fn some_is_judged(stand: &Stand, runs: &[OpenRun]) -> bool
+    ensures { result ≡ list_any (is_judged stand.now) runs.now }
+{
+    runs.iter().any(|run| is_judged(stand, run))
+}
+
+fn is_judged(stand: &Stand, run: &OpenRun) -> bool
+    ensures { result ≡ is_judged stand.now run.now }
+{
+    is_completed(stand.run_verdict(false, run))
+}
+
+fn is_completed(phase: Phase) -> bool
+    ensures { result ≡ is_completed phase }
+{
+    !matches!(phase, Phase::Pending | Phase::Running)
+}
+
+// The present step has been left by time.
+fn has_move_due(stand: &Stand) -> bool
+    ensures { result ≡ is_by stand.now.last (next_move stand.now) }
+{
+    stand.next_move_by(stand.last).is_some()
+}
