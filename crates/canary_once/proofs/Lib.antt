@@ -1,6 +1,7 @@
 pub mod Events
 pub mod Runs
 pub mod LogLemmas
+pub mod TemplateLemmas
 pub mod Worlds
 pub mod Rows
 pub mod Lawful

@@ -12,6 +12,7 @@ use Rattle.std.proofs.lemmas.Bool.Decides.{Decides-eqb}
 use Rattle.std.proofs.lemmas.List.{take_more}
 use Rattle.canary_plan.specs.declared.command.Command.{Command}
 use Rattle.canary_plan.specs.Commands.{subject_of}
+use Rattle.canary_plan.specs.declared.template.Template.{Template}
 use Rattle.canary_release.specs.declared.decide.DeskChange.{DeskChange}
 use Rattle.canary_release.specs.declared.decide.DeskChange.TheVariants as change
 use Rattle.canary_release.specs.declared.effect.Effect.{Effect}
@@ -21,7 +22,7 @@ use Rattle.canary_release.specs.Shapes.{shape, said, changed, seen, kept_by, Kee
 use Rattle.canary_once.specs.declared.book.Settlement.{Settlement}
 use Rattle.canary_once.specs.declared.book.Receipt.{Receipt}
 use Rattle.canary_once.specs.Contents.{Contents, no_contents, with_settlement, count_of, receipt_at, IsSettling}
-use Rattle.canary_once.specs.Logs.{with_settlements, AreSettling, seen_after}
+use Rattle.canary_once.specs.Logs.{with_settlements, AreSettling, seen_after, template_after}
 use Rattle.canary_once.proofs.Events.{list_at, got, one_longer}
 
 pub with_settlements-push : (c : Contents) (log : List Settlement) (x : Settlement) → with_settlements c (log ++ x ∷ []) ≡ with_settlement (with_settlements c log) x
@@ -100,9 +101,17 @@ seen_there law desk now command s effects name false e is after_it = seen_else d
 
 seen-step : KeepsWhatIsSeen → (c : Contents) (x : Settlement) (d : DeskChange) → x.change ≡ d → IsSettling c x → (name : List ℕ) → seen (changed c.desk x.receipt.command d) name ≡ seen_after (seen c.desk name) (subject_of x.receipt.command) d name
 seen-step law c x change.Nothing is sound name = refl
+seen-step law c x (change.Template t) is sound name = refl
 seen-step law c x (change.Service s effects) is sound name =
     let step = sound.step.1 in
     seen_there law c.desk sound.step.0 x.receipt.command s effects name (bytes_eq name (subject_of x.receipt.command)) refl (sym is ∙ step.change) (ap (changed c.desk x.receipt.command) (sym is) ∙ step.desk_after)
+
+-- the template of a name after a step
+template-step : (desk : Desk) (command : Command) (d : DeskChange) (name : List ℕ) → get (changed desk command d).templates name ≡ template_after (get desk.templates name) (subject_of command) d name
+template-step desk command change.Nothing name = refl
+template-step desk command (change.Template t) name =
+    get-insert nat_list_cmp_total desk.templates (subject_of command) t name ∙ ap (λ b. cond b (Some t) (get desk.templates name)) (is_eq-slice_cmp name (subject_of command))
+template-step desk command (change.Service s effects) name = refl
 
 -- the contents with one more settlement of a log
 so_far : (log : List Settlement) (i : ℕ) (x : Settlement) → i < length log → x ≡ get_or log i x → with_settlements no_contents (take (i + 1) log) ≡ with_settlement (with_settlements no_contents (take i log)) x
@@ -144,7 +153,13 @@ if_or false v rest = refl
 
 changed_or : (found : Option ServiceParts) (subject : List ℕ) (d : DeskChange) (name : List ℕ) → seen_after found subject d name ≡ option_or (seen_after None subject d name) found
 changed_or found subject change.Nothing name = refl
+changed_or found subject (change.Template t) name = refl
 changed_or found subject (change.Service s effects) name = if_or (bytes_eq name subject) s found
+
+template_or : (found : Option Template) (subject : List ℕ) (d : DeskChange) (name : List ℕ) → template_after found subject d name ≡ option_or (template_after None subject d name) found
+template_or found subject change.Nothing name = refl
+template_or found subject (change.Template t) name = if_or (bytes_eq name subject) t found
+template_or found subject (change.Service s effects) name = refl
 
 newest_committed : (log : List Settlement) (left : ℕ) (x : Settlement) → 0 < left → left ≤ length log → x ≡ get_or log (left - 1) x → with_settlements no_contents (take left log) ≡ with_settlement (with_settlements no_contents (take (left - 1) log)) x
 newest_committed log left x some within at =
@@ -176,6 +191,18 @@ seen_from_end law log left x name o p sound some within at says is same =
     ∙ sym (ap (λ (c : Contents). seen c.desk name) (newest_committed log left x some within at))
     ∙ same
 
+pub template_from_end : (log : List Settlement) (left : ℕ) (x : Settlement) (name : List ℕ) (o p : Option Template) → 0 < left → left ≤ length log → x ≡ get_or log (left - 1) x
+    → o ≡ template_after None (subject_of x.receipt.command) x.change name → o ≡ p
+    → get (with_settlements no_contents (take left log)).desk.templates name ≡ get (with_settlements no_contents log).desk.templates name
+    → option_or p (get (with_settlements no_contents (take (left - 1) log)).desk.templates name) ≡ get (with_settlements no_contents log).desk.templates name
+template_from_end log left x name o p some within at says is same =
+    let before = with_settlements no_contents (take (left - 1) log) in
+    ap (λ (found : Option Template). option_or found (get before.desk.templates name)) (sym is ∙ says)
+    ∙ sym (template_or (get before.desk.templates name) (subject_of x.receipt.command) x.change name)
+    ∙ sym (template-step before.desk x.receipt.command x.change name)
+    ∙ sym (ap (λ (c : Contents). get c.desk.templates name) (newest_committed log left x some within at))
+    ∙ same
+
 pub no_receipt_left : (log : List Settlement) (left : ℕ) (q : List ℕ) (n : ℕ) → left ≤ 0 → receipt_at (with_settlements no_contents (take left log)) q n ≡ receipt_at (with_settlements no_contents log) q n → None ≡ receipt_at (with_settlements no_contents log) q n
 no_receipt_left log left q n gone same =
     let zero_left : 0 ≡ left = omega arith in
@@ -185,3 +212,8 @@ pub none_seen_left : (log : List Settlement) (left : ℕ) (name : List ℕ) → 
 none_seen_left log left name gone same =
     let zero_left : 0 ≡ left = omega arith in
     none_seen name ∙ ap (λ i. seen (with_settlements no_contents (take i log)).desk name) zero_left ∙ same
+
+pub no_template_left : (log : List Settlement) (left : ℕ) (name : List ℕ) → left ≤ 0 → get (with_settlements no_contents (take left log)).desk.templates name ≡ get (with_settlements no_contents log).desk.templates name → None ≡ get (with_settlements no_contents log).desk.templates name
+no_template_left log left name gone same =
+    let zero_left : 0 ≡ left = omega arith in
+    sym (get-empty (slice_cmp nat_cmp) name) ∙ ap (λ i. get (with_settlements no_contents (take i log)).desk.templates name) zero_left ∙ same

@@ -2,11 +2,12 @@
 use Rattle.std.proofs.Common.{◌≡◌, ℕ, ◌+◌, List, [], ◌∷◌, refl}
 use Rattle.std.specs.Prelude.{codes, map}
 use Rattle.std.specs.Fmt.{digits}
+use Rattle.canary_plan.specs.declared.step.Step.TheVariants.{Analysis}
 use Rattle.canary_plan.specs.declared.command.Command.{Command}
 use Rattle.canary_plan.specs.declared.command.Command.TheVariants.{Start, Promote}
 use Rattle.canary_release.specs.declared.reply.Reply.{Reply}
 use Rattle.canary_release.specs.declared.reply.ReplyStatus.TheVariants.{Conflict}
-use Rattle.canary_release.proofs.Stories.{b, ok, no, web, v2, v3, add, two_pauses}
+use Rattle.canary_release.proofs.Stories.{b, ok, no, web, v2, v3, m, add, two_pauses, metric, template}
 use Rattle.canary_once.specs.declared.book.Receipt.{Receipt}
 use Rattle.canary_once.specs.declared.event.Event.{Event}
 use Rattle.canary_once.specs.declared.event.Event.TheVariants as event
@@ -91,3 +92,25 @@ two_callers_replies : answers_of no_contents two_callers ≡
     ∷ []
 unfolding digits
 two_callers_replies = replies_from_nothing two_callers _ refl
+
+-- A template is there for the requests behind it, and a refusal from before it stands.
+
+abbrev with_analysis : Command
+with_analysis = add web (Analysis (codes "t" ∷ []) ∷ [])
+
+abbrev templates_in_turn : List Event
+templates_in_turn =
+    ops 1 b with_analysis
+    ∷ ops 2 (b + 1) (template (codes "t") (metric m ∷ []) [] refl)
+    ∷ ops 1 (b + 2) with_analysis
+    ∷ ops 3 (b + 3) with_analysis
+    ∷ []
+
+templates_in_turn_replies : answers_of no_contents templates_in_turn ≡
+    no (codes "{\"code\":\"unknown-template\"}")
+    ∷ ok (codes "{\"code\":\"ok\",\"template\":\"t\"}")
+    ∷ no (codes "{\"code\":\"unknown-template\"}")
+    ∷ ok (codes "{\"code\":\"ok\",\"service\":\"web\",\"status\":\"Healthy\",\"step\":1,\"weight\":100}")
+    ∷ []
+unfolding digits
+templates_in_turn_replies = replies_from_nothing templates_in_turn _ refl

@@ -2,7 +2,10 @@
 use Rattle.std.specs.Prelude.{◌≡◌, ℕ, ◌+◌, ◌-◌, List, [], ◌∷◌, ◌++◌, length, Option, Some, unwrap_or, slice_get}
 use Rattle.std.specs.Ordering.{nat_cmp}
 use Rattle.std.specs.Cmp.Lexicographic.{slice_cmp}
-use Rattle.std.specs.FinMap.{FinMap, get, insert, empty}
+use Rattle.std.specs.List.{list_any}
+use Rattle.std.specs.Str.{bytes_eq}
+use Rattle.std.specs.FinMap.{FinMap, get, insert, retain_keys, empty}
+use Rattle.canary_plan.specs.declared.template.Template.{Template}
 use Rattle.canary_release.specs.Desks.{Desk, no_desk}
 use Rattle.canary_release.specs.Shapes.{changed, IsStep}
 use Rattle.canary_once.specs.declared.book.Receipt.{Receipt}
@@ -26,6 +29,10 @@ count_of c caller = length (receipts_of c caller)
 -- the receipt under a caller's number, from 1 on
 abbrev pub receipt_at : Contents → List ℕ → ℕ → Option Receipt
 receipt_at c caller number = slice_get (receipts_of c caller) (number - 1)
+
+-- the templates that have one of these names
+abbrev pub templates_named : Contents → List (List ℕ) → FinMap (slice_cmp nat_cmp) Template
+templates_named c names = retain_keys c.desk.templates (λ name. list_any (bytes_eq name) names)
 
 -- each receipt stays as it was
 abbrev pub KeepsReceipts : Contents → Contents → Type 0

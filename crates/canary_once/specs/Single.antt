@@ -2,11 +2,12 @@
 use Rattle.std.specs.Prelude.{◌≡◌, ℕ, ◌+◌, ◌==◌, nat_lt, Bool, if◌then◌else◌, List, [], ◌∷◌, Result, IfOk, IfErr, OnErr}
 use Rattle.canary_plan.specs.declared.command.Command.{Command}
 use Rattle.canary_release.specs.declared.reply.Reply.{Reply}
+use Rattle.canary_release.specs.declared.decide.Decision.{Decision}
 use Rattle.canary_release.specs.Desks.{apply}
+use Rattle.canary_release.specs.Shapes.{IsStep}
 use Rattle.canary_once.specs.declared.book.BookFault.{BookFault}
 use Rattle.canary_once.specs.declared.event.Request.{Request}
 use Rattle.canary_once.specs.declared.event.Event.{Event}
-use Rattle.canary_once.specs.declared.event.Event.TheVariants as event
 use Rattle.canary_once.specs.declared.event.Answer.{Answer}
 use Rattle.canary_once.specs.declared.event.Answer.TheVariants.{Replied, Unavailable}
 use Rattle.canary_once.specs.Contents.{Contents, count_of, receipt_at, with_receipt, KeepsReceipts}
@@ -59,5 +60,13 @@ pub record RepliesBy (reply : Contents → Reply) (next : Contents → Contents)
   pub intact : new.is_intact → old.is_intact
   pub ok : new.is_intact → IfOk given (λ r. (r ≡ reply old.contents) × (new.contents ≡ next old.contents))
   pub err : new.is_intact → OnErr given (new.contents ≡ old.contents)
+  pub sure : new.is_sure ≡ old.is_sure
+  pub fault : IfErr given (IsFault old.is_sure)
+
+-- and as a command was decided at its moment, by one step of the machine on these contents, which stay, or failed
+pub record DecidesOn (moment : ℕ) (command : Command) (old new : BookState) (given : Result Decision BookFault) : Type 0 where
+  pub intact : new.is_intact → old.is_intact
+  pub same : new.is_intact → new.contents ≡ old.contents
+  pub step : new.is_intact → IfOk given (λ d. IsStep old.contents.desk moment command d)
   pub sure : new.is_sure ≡ old.is_sure
   pub fault : IfErr given (IsFault old.is_sure)

@@ -5,6 +5,7 @@ use canary_base::error::Memory;
 use canary_base::names::Name;
 use canary_base::numbers::Number;
 use canary_plan::command::Command;
+use canary_plan::templates::Templates;
 use canary_release::decide::DeskChange;
 use canary_release::reply::Reply;
 use canary_release::service::Service;
@@ -77,7 +78,7 @@ impl From<Memory> for BookFault {
 
 /// A register of settled requests, and the desk that they made.
 pub trait Book {
-    ghost use Rattle.canary_once.specs.Contents.{count_of, receipt_at, IsSettling};
+    ghost use Rattle.canary_once.specs.Contents.{count_of, receipt_at, templates_named, IsSettling};
     ghost use Rattle.canary_once.specs.Books.{BookState, Finds, Commits};
     ghost use Rattle.canary_release.specs.Shapes.{seen};
 
@@ -91,6 +92,11 @@ pub trait Book {
     /// The receipt under a caller's number.
     fn receipt(&mut self, caller: &Name, number: Number) -> Result<Option<Receipt>, BookFault>
         ensures { Finds (λ c. receipt_at c caller.now number)
+            (state self.old) (state self.new) result };
+
+    /// The templates that have one of these names.
+    fn templates(&mut self, names: &[Name]) -> Result<Templates, BookFault>
+        ensures { Finds (λ c. templates_named c names.now)
             (state self.old) (state self.new) result };
 
     /// A service.

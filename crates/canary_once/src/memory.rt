@@ -1,18 +1,21 @@
 //! A book in memory: the plain program that other books are compared with.
-ghost use Rattle.std.specs.Prelude.{◌≡◌, ◌==◌, ◌&&◌, [], ◌∷◌, ◌++◌, Some, OnOk, OnErr, IfErr};
+ghost use Rattle.std.specs.Prelude.{◌≡◌, ◌==◌, ◌&&◌, [], ◌∷◌, ◌++◌, Some, OnOk, OnErr, IfOk, IfErr};
 ghost use Rattle.std.specs.Prelude.{if◌then◌else◌};
 ghost use Rattle.std.specs.Str.{bytes_eq};
 ghost use Rattle.std.specs.Option.{option_copied};
+ghost use Rattle.std.specs.FinMap.{get};
 ghost use Rattle.canary_plan.specs.Commands.{subject_of};
 ghost use Rattle.canary_release.specs.Shapes.{seen};
-ghost use Rattle.canary_once.specs.Contents.{no_contents, count_of, receipt_at};
+ghost use Rattle.canary_once.specs.Contents.{no_contents, count_of, receipt_at, templates_named};
 ghost use Rattle.canary_once.specs.Books.{IsEmptyAndSure};
-ghost use Rattle.canary_once.specs.Logs.{with_settlements, AreSettling, seen_after};
+ghost use Rattle.canary_once.specs.Logs.{with_settlements, AreSettling, seen_after, template_after};
 
 use crate::book::{Book, BookFault, Receipt, Settlement};
 use canary_base::error::Memory;
 use canary_base::names::Name;
 use canary_base::numbers::Number;
+use canary_plan::template::Template;
+use canary_plan::templates::Templates;
 use canary_release::decide::DeskChange;
 use canary_release::laws;
 use canary_release::service::Service;
@@ -30,9 +33,13 @@ impl Model for MemoryBook {
     ghost use Rattle.std.specs.Prelude.{List};
     ghost use Rattle.canary_once.specs.Contents.{no_contents};
     ghost use Rattle.canary_once.specs.Logs.{AreSettling};
+    ghost use Rattle.std.specs.Coded.{coded_list};
     ghost use Rattle.canary_once.specs.declared.book.Settlement.{Settlement};
+    ghost use Rattle.canary_once.specs.contracts.book.Settlement.{the_row};
 
     ghost Value = { List Settlement };
+
+    ghost coded = { coded_list the_row.coded };
 
     ghost view = { λ b. b.log.items };
 
@@ -71,6 +78,10 @@ impl Book for MemoryBook {
             Some(receipt) => Ok(Some(receipt.copy(self.alloc)?)),
             None => Ok(None),
         }
+    }
+
+    fn templates(&mut self, names: &[Name]) -> Result<Templates, BookFault> {
+        Ok(templates_in(self.alloc, self.log.as_slice(), names)?)
     }
 
     fn service(&mut self, name: &Name) -> Result<Option<Service>, BookFault> {
@@ -142,6 +153,55 @@ fn receipt_under<'a>(settlement: &'a Settlement, caller: &Name, number: u32) -> 
     }
 }
 
+// The templates of these names, each as the newest settlement of it left it.
+#[tactic(auto, using(crate::proofs::TemplateLemmas::none_named))]
+fn templates_in(alloc: Global, log: &[Settlement], names: &[Name]) -> Result<Templates, Memory>
+    ensures { IfOk result (λ found.
+        found ≡ templates_named (with_settlements no_contents log.now) names.now) }
+{
+    let mut found = Templates::new(alloc);
+    for name in names {
+        if let Some(template) = template_in(log, name) {
+            found.insert(*name, template.copy(alloc)?)?;
+        }
+    }
+    Ok(found)
+}
+
+// The template of that name, which is looked for from the newest settlement on.
+fn template_in<'a>(log: &'a [Settlement], name: &Name) -> Option<&'a Template>
+    ensures { option_copied result
+        ≡ get (with_settlements no_contents log.now).desk.templates name.now }
+{
+    let mut left = log.len();
+    while left > 0 {
+        left -= 1;
+        if let Some(template) = template_by(&log[left], name) {
+            return Some(template);
+        }
+    }
+    None
+}
+
+// The template of that name, if the settlement added one.
+fn template_by<'a>(settlement: &'a Settlement, name: &Name) -> Option<&'a Template>
+    ensures { option_copied result
+        ≡ template_after None (subject_of settlement.now.receipt.command)
+        settlement.now.change name.now }
+{
+    match &settlement.change {
+        DeskChange::Template(template) => {
+            if *name == settlement.receipt.command.subject() {
+                Some(template)
+            } else {
+                None
+            }
+        }
+        DeskChange::Nothing => None,
+        DeskChange::Service { .. } => None,
+    }
+}
+
 // The service of that name, as the newest settlement of it left it.
 fn service_in<'a>(log: &'a [Settlement], name: &Name) -> Option<&'a Service>
     requires { AreSettling no_contents log.now }
@@ -173,5 +233,6 @@ fn service_by<'a>(settlement: &'a Settlement, name: &Name) -> Option<&'a Service
             }
         }
         DeskChange::Nothing => None,
+        DeskChange::Template(_) => None,
     }
 }

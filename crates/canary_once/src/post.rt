@@ -3,7 +3,7 @@ ghost use Rattle.std.specs.Prelude.{◌≡◌, ◌+◌, IfOk};
 ghost use Rattle.canary_once.specs.Contents.{count_of};
 ghost use Rattle.canary_once.specs.Answers.{reused_reply, ahead_reply, repeat_reply};
 ghost use Rattle.canary_once.specs.Single.{request_of, reply_to, after_one, new_reply, settle};
-ghost use Rattle.canary_once.specs.Single.{IsAnsweredBy, RepliesBy};
+ghost use Rattle.canary_once.specs.Single.{IsAnsweredBy, RepliesBy, DecidesOn};
 
 use crate::book::{Book, BookFault, Receipt, Settlement};
 use crate::event::{Answer, Event};
@@ -13,7 +13,7 @@ use canary_base::moments::Moment;
 use canary_base::names::Name;
 use canary_base::numbers::Number;
 use canary_plan::command::Command;
-use canary_release::decide::decide;
+use canary_release::decide::{Decision, decide};
 use canary_release::reply::{Reply, ReplyStatus};
 use std::alloc::Global;
 
@@ -76,9 +76,7 @@ fn settle_new<B: Book>(
         in RepliesBy (λ c. new_reply c r) (λ c. settle c r)
         (B.state book.old) (B.state book.new) result }
 {
-    let subject = command.subject();
-    let service = book.service(&subject)?;
-    let decision = decide(alloc, service.as_ref(), moment, command)?;
+    let decision = decide_on(alloc, book, moment, command)?;
     let reply = decision.reply.copy(alloc)?;
     let settlement = Settlement {
         caller,
@@ -91,6 +89,21 @@ fn settle_new<B: Book>(
     };
     book.commit(settlement)?;
     Ok(reply)
+}
+
+// Decides a command by the service that it names and the templates that it looks up.
+fn decide_on<B: Book>(
+    alloc: Global,
+    book: &mut B,
+    moment: Moment,
+    command: &Command,
+) -> Result<Decision, BookFault>
+    ensures { DecidesOn moment command.now (B.state book.old) (B.state book.new) result }
+{
+    let names = command.names_looked_up(alloc)?;
+    let templates = book.templates(names.as_slice())?;
+    let service = book.service(&command.subject())?;
+    Ok(decide(alloc, &templates, service.as_ref(), moment, command)?)
 }
 
 // The reply of the receipt, if it is of the same command.
