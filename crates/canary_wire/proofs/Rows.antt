@@ -1,6 +1,6 @@
 -- Worked rows of the wire, computed on the definitions.
 use Rattle.std.proofs.Common.{◌≡◌, ℕ, List, [], ◌∷◌, true, false, refl, arith}
-use Rattle.std.specs.Prelude.{codes, Ok, Err}
+use Rattle.std.specs.Prelude.{codes, None, Ok, Err}
 use Rattle.std.specs.Fmt.{digits}
 use Rattle.std.specs.Str.{is_utf8, chars}
 use lib.Utf8.{encode}
@@ -9,7 +9,7 @@ use Rattle.httparse.specs.Grammar.{trim_ows}
 use Rattle.http1.specs.Text.{eq_ignore_case}
 use Rattle.http1.specs.Fields.{elements}
 use Rattle.serde_json.proofs.OnLiterals.{serde_json_on_literals}
-use Rattle.canary_plan.specs.declared.plan.Step.TheVariants.{SetWeight, Pause}
+use Rattle.canary_plan.specs.declared.step.Step.TheVariants.{SetWeight, Pause}
 use Rattle.canary_plan.specs.declared.command.Command.TheVariants.{Service, Start, Promote}
 use Rattle.canary_release.specs.declared.reply.ReplyStatus.TheVariants.{Accepted}
 use Rattle.canary_once.specs.declared.event.Answer.TheVariants.{Replied}
@@ -34,7 +34,7 @@ unfolding serde_json_on_literals is_utf8 chars reading_of_kind start_in
 starts_in_other_words = refl
 
 registers : body_reading (codes "{\"service\":{\"manifest\":{\"metadata\":{\"name\":\"web\"},\"spec\":{\"strategy\":{\"canary\":{\"steps\":[{\"setWeight\":20},{\"pause\":{}},{\"setWeight\":50},{\"pause\":{}}]}}}},\"version\":\"v1\"}}")
-    ≡ readable (Service (record { name = codes "web"; version = codes "v1"; steps = SetWeight 20 ∷ Pause ∷ SetWeight 50 ∷ Pause ∷ [] }))
+    ≡ readable (Service (record { name = codes "web"; version = codes "v1"; steps = SetWeight 20 ∷ Pause None ∷ SetWeight 50 ∷ Pause None ∷ []; background = None }))
 unfolding serde_json_on_literals is_utf8 chars reading_of_kind service_in step_in is_unsupported_step is_unsupported_rollout
 registers = refl
 

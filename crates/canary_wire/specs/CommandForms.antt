@@ -1,7 +1,7 @@
 -- Commands as JSON (RFC 8259).
 use Rattle.std.specs.Prelude.{ℕ, List, Bool, false, ◌==◌, Option, Some, None, option_map, option_and_then, unwrap_or, codes, if◌then◌else◌}
 use Rattle.std.specs.Str.{is_utf8, bytes_eq}
-use Rattle.canary_plan.specs.declared.plan.Step.{Step}
+use Rattle.canary_plan.specs.declared.step.Step.{Step}
 use Rattle.canary_plan.specs.declared.command.Command.{Command}
 use Rattle.canary_plan.specs.declared.command.Command.TheVariants.{Service, Start, Promote}
 use Rattle.serde_json.specs.Data.{Data, Members, no_members, member}
@@ -33,7 +33,7 @@ in_object_of count value form = if is_object_of count value then form else None
 -- ---- commands
 
 abbrev pub service_with : List ℕ → List Step → List ℕ → Command
-service_with name steps version = Service (record { name = name; version = version; steps = steps })
+service_with name steps version = Service (record { name = name; version = version; steps = steps; background = None })
 
 abbrev pub start_with : List ℕ → List ℕ → Command
 start_with service version = Start service version

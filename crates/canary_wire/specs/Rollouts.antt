@@ -1,8 +1,8 @@
 -- Rollout manifests of Argo Rollouts.
 use Rattle.std.specs.Prelude.{ℕ, List, [], Bool, true, false, not, ◌&&◌, ◌||◌, Option, Some, None, option_map, is_some, is_none, unwrap_or, codes, if◌then◌else◌}
 use Rattle.std.specs.Str.{bytes_eq}
-use Rattle.canary_plan.specs.declared.plan.Step.{Step}
-use Rattle.canary_plan.specs.declared.plan.Step.TheVariants.{SetWeight, Pause}
+use Rattle.canary_plan.specs.declared.step.Step.{Step}
+use Rattle.canary_plan.specs.declared.step.Step.TheVariants.{SetWeight, Pause}
 use Rattle.serde_json.specs.Data.{Data, Members, no_members, member}
 use Rattle.serde_json.specs.Find.{as_object}
 use Rattle.canary_wire.specs.ManifestForms.{unless_null, member_of, in_member, in_member_or, has, name_in, number_up_to, list_of, is_true, is_other_text, is_no_empty_list, some_item}
@@ -14,7 +14,7 @@ rollout_name manifest = in_member (codes "metadata") (in_member (codes "name") n
 
 -- an object; a duration is not read yet
 abbrev pub pause_in : Data → Option Step
-pause_in pause = if is_some (as_object pause) && is_none (member_of (codes "duration") pause) then Some Pause else None
+pause_in pause = if is_some (as_object pause) && is_none (member_of (codes "duration") pause) then Some (Pause None) else None
 
 -- exactly one of the three is there; an analysis is not read yet
 abbrev pub only_step : Option Data → Option Data → Option Data → Option Step

@@ -21,7 +21,7 @@ use crate::form::{label_in, member_of, name_in};
 use crate::rollout::{is_unsupported_rollout, rollout_name, rollout_steps};
 use canary_base::names::{Label, Name};
 use canary_plan::command::Command;
-use canary_plan::plan::ServiceSpec;
+use canary_plan::service::ServiceSpec;
 use serde_json::Value;
 use std::alloc::{AllocFailed, Global};
 use thiserror::Error;
@@ -151,6 +151,7 @@ fn service_in(alloc: Global, value: &Value) -> Result<Command, WireFault>
         name,
         version,
         steps,
+        background: None,
     }))
 }
 

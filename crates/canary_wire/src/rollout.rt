@@ -13,7 +13,7 @@ use crate::command::WireFault;
 use crate::form::{is_no_empty_list, is_other_text, is_true, member_of, name_in, number_up_to};
 use canary_base::lists::Listed;
 use canary_base::names::Name;
-use canary_plan::plan::Step;
+use canary_plan::step::Step;
 use serde_json::{Map, Value};
 use std::alloc::Global;
 
@@ -92,7 +92,7 @@ fn pause_in(pause: &Value) -> Option<Step>
     ensures { result ≡ pause_in (view pause.now) }
 {
     if pause.is_object() && member_of(pause, "duration").is_none() {
-        Some(Step::Pause)
+        Some(Step::Pause(None))
     } else {
         None
     }
