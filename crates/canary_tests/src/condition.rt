@@ -3,6 +3,7 @@
 use crate::rows::split;
 use canary_base::lists::Text;
 use canary_condition::condition::{Condition, ConditionFault, Verdict3};
+use canary_condition::explanation::{Expected, Explained, Why, explain};
 use canary_condition::measurement::measure;
 use canary_condition::outcome::{FailureText, Outcome, Phase, Value};
 use std::alloc::{AllocError, Global};
@@ -183,6 +184,97 @@ fn keeps_the_order_of_the_faults(rt: HostRuntime) -> Result<(), Fail> {
     Ok(())
 }
 
+// A text, the byte where it stops being a condition, and why.
+const STOPS: &str = " => 0 term
+result > => 8 operand
+result >   => 10 operand
+result > 0.5 => 10 no-token
+(result > 1 => 11 sign-or-close
+result => 6 item-or-comparison
+result > 1 1 => 11 sign-or-end
+result[x] > 1 => 7 no-token
+result[result] > 1 => 7 index
+result[1 > 1 => 9 close-item
+result 1 => 7 item-or-comparison
+1 => 1 comparison
+1 > result > => 11 item-sign-or-end
+(1 > result => 11 item-sign-or-close
+(1 > result[0] => 14 sign-or-close
+result > 1) => 10 sign-or-end
+not => 3 term
+result > 1 and ) => 15 term
+result > 1 || 2 @ => 16 no-token
+result > 9223372036854775808 => 9 number-range
+result 1 > 9223372036854775808 => 11 number-range";
+
+fn word_of(why: Why) -> &'static str {
+    match why {
+        Why::TooLong => "too-long",
+        Why::NoToken => "no-token",
+        Why::NumberRange => "number-range",
+        Why::TooDeep => "too-deep",
+        Why::Syntax(expected) => word_of_expected(expected),
+    }
+}
+
+fn word_of_expected(expected: Expected) -> &'static str {
+    match expected {
+        Expected::Term => "term",
+        Expected::Operand => "operand",
+        Expected::Comparison => "comparison",
+        Expected::ItemOrComparison => "item-or-comparison",
+        Expected::Index => "index",
+        Expected::CloseItem => "close-item",
+        Expected::SignOrEnd => "sign-or-end",
+        Expected::SignOrClose => "sign-or-close",
+        Expected::ItemSignOrEnd => "item-sign-or-end",
+        Expected::ItemSignOrClose => "item-sign-or-close",
+    }
+}
+
+// Whether a text is explained by this byte and this word, and refused by the fault that belongs to
+// them.
+fn stops_at(alloc: Global, text: &str, want: &str) -> Result<bool, Fail> {
+    let (at, word) = want.split_once(' ').ok_or("a byte and a word")?;
+    let Explained { at: byte, why } = explain(text).ok_or("no condition")?;
+    let explained = byte == at.parse::<u32>()? && word_of(why) == word;
+    Ok(explained && is_refused(alloc, text, why.fault()))
+}
+
+fn is_refused(alloc: Global, text: &str, want: ConditionFault) -> bool {
+    match Condition::parse(alloc, text) {
+        Ok(_) => false,
+        Err(fault) => fault == want || fault == ConditionFault::Memory,
+    }
+}
+
+// The same of a text in so many round brackets.
+fn stops_deep(alloc: Global, depth: usize, text: &str, want: &str) -> Result<bool, Fail> {
+    let deep = in_brackets(alloc, "", depth, text)?;
+    stops_at(alloc, deep.as_str(), want)
+}
+
+// The same of so many blanks.
+fn stops_blank(alloc: Global, count: usize, want: &str) -> Result<bool, Fail> {
+    let blanks = " ".repeat(alloc, count)?;
+    stops_at(alloc, blanks.as_str(), want)
+}
+
+#[test]
+fn explains_each_fault(rt: HostRuntime) -> Result<(), Fail> {
+    let alloc = rt.alloc();
+    for row in STOPS.lines() {
+        let (text, want) = split(row)?;
+        assert!(rt; stops_at(alloc, text, want)?, "{row}");
+    }
+    assert!(rt; stops_deep(alloc, 33, "result>0", "32 too-deep")?);
+    assert!(rt; stops_deep(alloc, 32, "result>", "39 operand")?);
+    assert!(rt; stops_blank(alloc, 1025, "1024 too-long")?);
+    assert!(rt; stops_blank(alloc, 1024, "1024 term")?);
+    assert!(rt; explain("not (result[1] > -5 or 1 == result)").is_none());
+    Ok(())
+}
+
 // The condition of a text, or none for an empty one.
 fn condition_of(alloc: Global, text: &str) -> Result<Option<Condition>, ConditionFault> {
     if text.is_empty() {
@@ -202,17 +294,7 @@ fn phase_of(
     let success = condition_of(alloc, success)?;
     let failure = condition_of(alloc, failure)?;
     let phase = measure(success.as_ref(), failure.as_ref(), &Outcome::Result(value));
-    Ok(word_of(phase))
-}
-
-fn word_of(phase: Phase) -> &'static str {
-    match phase {
-        Phase::Successful => "Successful",
-        Phase::Failed => "Failed",
-        Phase::Inconclusive => "Inconclusive",
-        Phase::Error => "Error",
-        _ => "no phase of a measurement",
-    }
+    Ok(phase.text())
 }
 
 // A success condition, a failure condition, a result and its phase.
@@ -323,5 +405,38 @@ fn reads_what_it_writes(rt: HostRuntime) -> Result<(), Fail> {
     for text in RESULTS.split('|') {
         assert!(rt; is_written_again(rt.alloc(), text)?, "{text}");
     }
+    Ok(())
+}
+
+// Each phase's word, with its number in a store.
+const PHASES: &str = "Pending => none
+Running => 0
+Successful => 1
+Inconclusive => 2
+Error => 3
+Failed => 4";
+
+// Whether a phase is written by this word and this number, and read from both.
+fn is_phase(alloc: Global, word: &str, number: &str) -> Result<bool, Fail> {
+    let phase = Phase::read(word).ok_or("a phase")?;
+    let words = format!(in alloc; "{phase}")?;
+    let want = number.parse::<u8>().ok();
+    Ok(
+        words.as_str() == word
+            && phase.number() == want
+            && want.is_none_or(|number| Phase::of_number(number) == Some(phase)),
+    )
+}
+
+#[test]
+fn writes_phases(rt: HostRuntime) -> Result<(), Fail> {
+    for row in PHASES.lines() {
+        let (word, number) = split(row)?;
+        assert!(rt; is_phase(rt.alloc(), word, number)?, "{row}");
+    }
+    for word in "|running|Failed |Success".split('|') {
+        assert!(rt; Phase::read(word).is_none(), "{word}");
+    }
+    assert!(rt; Phase::of_number(5).is_none());
     Ok(())
 }

@@ -4,11 +4,17 @@
 #![tactic(auto)]
 
 #[cfg(test)]
+mod asked;
+#[cfg(test)]
 mod base;
 #[cfg(test)]
 mod cli;
 #[cfg(test)]
+mod command;
+#[cfg(test)]
 mod condition;
+#[cfg(test)]
+mod line;
 #[cfg(test)]
 mod metric;
 #[cfg(test)]

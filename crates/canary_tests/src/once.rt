@@ -3,10 +3,12 @@
 //! one request is answered so, and it is sent again.
 ghost use Rattle.std.specs.Prelude.{◌≡◌};
 
+use crate::asked::{B, body, command, moment};
 use crate::rows::{says, split};
-use canary_base::lists::{Listed, Text};
+use canary_base::error::Memory;
+use canary_base::lists::Text;
 use canary_base::moments::{LAST_MOMENT, Moment};
-use canary_base::names::{Label, Name};
+use canary_base::names::Name;
 use canary_base::numbers::Number;
 use canary_once::book::{Book, BookFault, Receipt, Settlement};
 use canary_once::clock::{Clock, StepClock};
@@ -14,8 +16,7 @@ use canary_once::event::{Answer, Event, Request};
 use canary_once::memory::MemoryBook;
 use canary_once::post::post;
 use canary_once::run::run;
-use canary_plan::command::Command;
-use canary_plan::plan::{ServiceSpec, Step};
+use canary_plan::templates::Templates;
 use canary_release::decide::DeskChange;
 use canary_release::reply::{Reply, ReplyStatus};
 use canary_release::service::Service;
@@ -33,27 +34,7 @@ macro_rules! again {
     };
 }
 
-/// 2026-01-01T00:00:00Z
-const B: u64 = 1_767_225_600;
-
-const TWO_PAUSES: [Step; 4] = [
-    Step::SetWeight(20),
-    Step::Pause,
-    Step::SetWeight(50),
-    Step::Pause,
-];
-
-const ONE_PAUSE: [Step; 1] = [Step::Pause];
-
-const TOO_HEAVY: [Step; 2] = [Step::SetWeight(100), Step::SetWeight(101)];
-
-const TOO_MANY: [Step; 65] = [Step::Pause; 65];
-
-const WEIGHTS: [Step; 64] = [Step::SetWeight(7); 64];
-
-const TWO_WEIGHTS: [Step; 2] = [Step::SetWeight(5), Step::SetWeight(100)];
-
-const HEALTHY: &str = r#"{"code":"ok","service":"web","status":"Healthy","step":4,"weight":100}"#;
+const HEALTHY: &str = r#"{"code":"ok","service":"web","status":"Healthy","step":2,"weight":100}"#;
 
 const UNKNOWN: &str = r#"{"code":"unknown-service"}"#;
 
@@ -61,108 +42,223 @@ const NO_MEMORY: &str = r#"{"code":"no-memory"}"#;
 
 const STORAGE: &str = r#"{"code":"storage"}"#;
 
-/// Requests of the caller ops: their number, the seconds after B, what is asked of the service web,
-/// and the answer's status and body. A doubled promotion acts once.
+/// Requests: the caller, its number, the seconds after B, and what is asked of the service web, then
+/// the status of the answer (200 where none stands) and what its body stands for. A doubled promotion
+/// acts once, a number ahead and another command under an old number change nothing, and each kept
+/// reply comes again.
 const DOUBLED: &str =
-    r#"1 0 add two => 200 => {"code":"ok","service":"web","status":"Healthy","step":4,"weight":100}
-2 1 start v2 => 200 => {"code":"ok","service":"web","status":"Paused","step":1,"weight":20}
-3 2 promote it => 200 => {"code":"ok","service":"web","status":"Paused","step":3,"weight":50}
-3 3 promote it => 200 => {"code":"ok","service":"web","status":"Paused","step":3,"weight":50}
-5 4 promote it => 409 => {"code":"ahead","expected":4}
-3 5 start v3 => 409 => {"code":"reused"}
-2 6 start v2 => 200 => {"code":"ok","service":"web","status":"Paused","step":1,"weight":20}
-4 7 promote it => 200 => {"code":"ok","service":"web","status":"Healthy","step":4,"weight":100}
-5 8 promote it => 422 => {"code":"not-in-progress"}
-5 9 promote it => 422 => {"code":"not-in-progress"}"#;
+    r#"ops 1 0 service v1 setWeight:20 pause setWeight:50 pause => [web Healthy 4 100]
+ops 2 1 start v2 => [web Paused 1 20]
+ops 3 2 promote => [web Paused 3 50]
+ops 3 3 promote => [web Paused 3 50]
+ops 5 4 promote => 409 {"code":"ahead","expected":4}
+ops 4 5 tick => [web Paused 3 50]
+ops 5 6 promote => [web Healthy 4 100]
+ops 3 7 abort => 409 reused
+ops 2 8 start v2 => [web Paused 1 20]
+ops 6 9 promote => 422 not-in-progress
+ops 6 10 promote => 422 not-in-progress"#;
 
-/// Refusals, and moments that fall.
-const FALLING: &str = r#"1 0 promote it => 422 => {"code":"unknown-service"}
-2 1 add heavy => 422 => {"code":"bad-strategy"}
-3 2 add many => 422 => {"code":"bad-strategy"}
-4 9 add one => 200 => {"code":"ok","service":"web","status":"Healthy","step":1,"weight":100}
-5 4 add many => 422 => {"code":"service-exists"}
-6 3 start v1 => 422 => {"code":"already-stable"}
-7 0 start v2 => 200 => {"code":"ok","service":"web","status":"Paused","step":0,"weight":0}
-8 2 start v3 => 422 => {"code":"in-progress"}
-9 1 promote it => 200 => {"code":"ok","service":"web","status":"Healthy","step":1,"weight":100}"#;
+/// A service whose background analysis has the template errs, and its release.
+const WITH_BACKGROUND: &str =
+    "ops 2 0 service v1 setWeight:20 pause background:errs => [web Healthy 2 100]
+ops 3 0 start v2 => [web Paused 1 20]";
 
-/// A service without steps.
-const STEPLESS: &str =
-    r#"1 0 add none => 200 => {"code":"ok","service":"web","status":"Healthy","step":0,"weight":100}
-2 1 start v2 => 200 => {"code":"ok","service":"web","status":"Healthy","step":0,"weight":100}"#;
+/// A service with an analysis of the template t as its second step, and its release.
+const WITH_ANALYSIS: &str =
+    "ops 2 0 service v1 setWeight:10 analysis:t setWeight:60 pause => [web Healthy 4 100]
+ops 3 0 start v2 => [web Progressing 1 10]";
 
-/// Releases that go by themselves to their end: one start tells of each step.
-const WHOLE: &str =
-    r#"1 0 add weights => 200 => {"code":"ok","service":"web","status":"Healthy","step":64,"weight":100}
-2 1 start v2 => 200 => {"code":"ok","service":"web","status":"Healthy","step":64,"weight":100}
-3 1 start v2 => 422 => {"code":"already-stable"}"#;
+/// Releases that a background run judges, each in a book of its own; `background` stands for the rows
+/// above. Five errors abort, and those between which a result came do not; a run is reported to in
+/// turn, in time, and once; an inconclusive run holds, and its promotion enters the step anew.
+const BACKGROUND: &str = r#"ops 1 0 template errs m,interval=60 => [errs]
+background
+agent 1 0 report 1 m:1:0:!down => [web Paused 1 20 | 1 Error | Running]
+agent 2 60 report 1 m:2:60:!down => [web Paused 1 20 | 1 Error | Running]
+agent 3 120 report 1 m:3:120:!down => [web Paused 1 20 | 1 Error | Running]
+agent 4 180 report 1 m:4:180:!down => [web Paused 1 20 | 1 Error | Running]
+agent 5 240 report 1 m:5:240:!down => [web Degraded 1 0 | 1 Error | Error]
 
-const WHOLE_IN_TWO: &str =
-    r#"1 0 add weight => 200 => {"code":"ok","service":"web","status":"Healthy","step":2,"weight":100}
-2 1 start v2 => 200 => {"code":"ok","service":"web","status":"Healthy","step":2,"weight":100}"#;
+ops 1 0 template errs m,interval=60 => [errs]
+background
+agent 1 0 report 1 m:1:0:5 => [web Paused 1 20 | 1 Successful | Running]
+agent 2 0 report 1 m:3:0:5 => 422 {"at":0,"code":"out-of-turn","expected":2}
+agent 3 0 report 1 m:1:0:!down => 422 {"at":0,"code":"recorded"}
+agent 4 59 report 1 m:2:59:5 => 422 {"at":0,"code":"too-early","due":1767225660}
+agent 5 60 report 1 m:2:61:5 => 422 {"at":0,"code":"future"}
+agent 6 60 report 1 m:2:60:5 => [web Paused 1 20 | 1 Successful | Running]
+agent 2 60 report 1 m:3:0:5 => 422 {"at":0,"code":"out-of-turn","expected":2}
+
+ops 1 0 template errs m,success=result>10,failure=result<5 => [errs]
+background
+agent 1 0 report 1 m:1:0:7 => [web Paused 1 20 | 1 Inconclusive | Inconclusive]
+ops 4 0 promote => [web Paused 1 20]
+ops 5 0 promote => [web Healthy 2 100]"#;
+
+/// A release whose background run has eight errors, and a result after four of them.
+const UNBROKEN: &str = "ops 1 0 template errs m,interval=60 => [errs]
+background
+agent 1 0 report 1 m:1:0:!down => [web Paused 1 20 | 1 Error | Running]
+agent 2 60 report 1 m:2:60:!down => [web Paused 1 20 | 1 Error | Running]
+agent 3 120 report 1 m:3:120:!down => [web Paused 1 20 | 1 Error | Running]
+agent 4 180 report 1 m:4:180:!down => [web Paused 1 20 | 1 Error | Running]
+agent 5 240 report 1 m:5:240:1 => [web Paused 1 20 | 1 Successful | Running]
+agent 6 300 report 1 m:6:300:!down => [web Paused 1 20 | 1 Error | Running]
+agent 7 360 report 1 m:7:360:!down => [web Paused 1 20 | 1 Error | Running]
+agent 8 420 report 1 m:8:420:!down => [web Paused 1 20 | 1 Error | Running]
+agent 9 480 report 1 m:9:480:!down => [web Paused 1 20 | 1 Error | Running]";
+
+/// Releases that the run of a step judges; `analysis` stands for the rows above.
+const ANALYSES: &str = r#"ops 1 0 template t m,success=result>10,failure=result<5 => [t]
+analysis
+agent 1 0 report 1 m:1:0:7 => [web Paused 1 10 | 1 Inconclusive | Inconclusive]
+ops 4 0 promote => [web Paused 3 60]
+
+ops 1 0 template t m,success=result>1,failure=result<9 => [t]
+analysis
+agent 1 0 report 1 m:1:0:5 => [web Degraded 1 0 | 1 Failed | Failed]
+ops 4 0 retry => [web Progressing 1 10]
+agent 2 0 report 2 m:1:0:5 => [web Degraded 1 0 | 2 Failed | Failed]
+
+ops 1 0 template t m,success=result==0,count=3,interval=10,failureLimit=1 => [t]
+analysis
+agent 1 0 report 1 m:1:0:0 => [web Progressing 1 10 | 1 Successful | Running]
+agent 2 10 report 1 m:2:10:1 => [web Progressing 1 10 | 1 Failed | Running]
+agent 3 20 report 1 m:3:20:0 => [web Paused 3 60 | 1 Successful | Successful]
+
+ops 1 0 template t m,success=result==0,count=3,interval=10,failureLimit=1 => [t]
+analysis
+agent 1 0 report 1 m:1:0:1 => [web Progressing 1 10 | 1 Failed | Running]
+agent 2 10 report 1 m:2:10:1 => [web Degraded 1 0 | 1 Failed | Failed]
+
+ops 1 0 template t a,success=result>10,failure=result<5 b,success=result==0 => [t]
+analysis
+agent 1 0 report 1 a:1:0:7 c:1:0:1 => 422 {"at":1,"code":"unknown-metric"}
+agent 2 0 report 1 a:1:0:7 b:1:0:1 => [web Degraded 1 0 | 1 Inconclusive Failed | Failed]
+
+ops 1 0 template t d,success=result==0 e dryRun:d => [t]
+analysis
+agent 1 0 report 1 d:1:0:1 e:1:0:1 => [web Paused 3 60 | 1 Failed Successful | Successful]
+
+ops 1 0 template t d,success=result==0 dryRun:d => [t]
+analysis
+agent 1 0 report 1 d:1:0:1 => [web Paused 3 60 | 1 Failed | Successful]
+
+ops 1 0 template t m,success=result>10,failure=result<5 => [t]
+analysis
+ops 4 0 promote => 422 not-paused
+ops 5 0 promoteFull => [web Healthy 4 100]
+agent 1 0 report 1 m:1:0:7 => 422 run-closed
+agent 2 0 report 2 m:1:0:7 => 422 unknown-run"#;
+
+/// Releases without a run: pauses that end by themselves, aborts, and refusals; and moments that fall.
+const RELEASES: &str = "ops 1 0 service v1 pause:300 pause => [web Healthy 2 100]
+ops 2 0 start v2 => [web Paused 0 0]
+ops 3 299 tick => [web Paused 0 0]
+ops 4 300 tick => [web Paused 1 0]
+
+ops 1 0 service v1 pause:300 pause => [web Healthy 2 100]
+ops 2 0 start v2 => [web Paused 0 0]
+ops 3 301 tick => [web Paused 1 0]
+
+ops 1 0 service v1 setWeight:20 pause setWeight:50 pause => [web Healthy 4 100]
+ops 2 1 start v2 => [web Paused 1 20]
+ops 3 2 start v3 => 422 in-progress
+ops 4 2 abort => [web Degraded 1 0]
+ops 5 2 abort => 422 not-in-progress
+ops 6 2 retry => [web Paused 1 20]
+ops 7 2 retry => 422 not-aborted
+ops 8 2 abort => [web Degraded 1 0]
+ops 9 2 start v1 => [web Healthy 4 100]
+ops 10 2 start v1 => 422 already-stable
+
+ops 1 0 service v1 => [web Healthy 0 100]
+ops 2 1 start v2 => [web Healthy 0 100]
+
+ops 1 0 promote => 422 unknown-service
+ops 2 1 service v1 setWeight:100 setWeight:101 => 422 bad-strategy
+ops 3 2 service v1 65*pause => 422 bad-strategy
+ops 4 9 service v1 64*setWeight:7 => [web Healthy 64 100]
+ops 5 4 service v1 65*pause => 422 service-exists
+ops 6 0 start v2 => [web Healthy 64 100]
+ops 7 1 start v2 => 422 already-stable";
+
+/// Why templates and services are refused, in order; and measurements that no run takes.
+const REFUSALS: &str = r#"ops 1 0 template t m,success=result> => 422 bad-condition
+ops 2 0 template t m n,success=result>1,failure=result> => 422 bad-condition
+ops 3 0 template t m,count=2 => 422 interval-needed
+ops 4 0 template t m m => 422 duplicate-metric
+ops 5 0 template t m dryRun:n => 422 bad-dry-run
+ops 6 0 template t m,interval=60 => [t]
+ops 7 0 template t m => 422 template-exists
+ops 8 0 service v1 analysis:u => 422 unknown-template
+ops 9 0 service v1 analysis:t => 422 endless-metric
+ops 10 0 service v1 pause background:u => 422 unknown-template
+ops 11 0 service v1 pause background:t => [web Healthy 1 100]
+
+ops 1 0 template t a b,count=2,interval=10 => [t]
+analysis
+agent 1 0 report 1 a:1:0:5 => [web Progressing 1 10 | 1 Successful | Running]
+agent 2 0 report 1 b:1:0:5 b:2:0:5 => 422 {"at":1,"code":"repeated-metric"}
+agent 3 10 report 1 a:2:10:5 => 422 {"at":0,"code":"metric-closed"}
+agent 4 10 report 1 b:1:0:5 => [web Progressing 1 10 | 1 Successful | Running]"#;
+
+/// Conditions on lists, errors that abort from a step, a background run that ends well, and a pause
+/// of no seconds.
+const OTHERS: &str = "ops 1 0 template t m,success=result[2]>0 => [t]
+analysis
+agent 1 0 report 1 m:1:0:[1;2] => [web Progressing 1 10 | 1 Error | Running]
+
+ops 1 0 template t m,success=result[0]>0||result[9]>0 => [t]
+analysis
+agent 1 0 report 1 m:1:0:[1] => [web Paused 3 60 | 1 Successful | Successful]
+
+ops 1 0 template t m,success=result[9]>0||result[0]>0 => [t]
+analysis
+agent 1 0 report 1 m:1:0:[1] => [web Progressing 1 10 | 1 Error | Running]
+
+ops 1 0 template t m,count=9,interval=10 => [t]
+analysis
+agent 1 0 report 1 m:1:0:!down => [web Progressing 1 10 | 1 Error | Running]
+agent 2 10 report 1 m:2:10:!down => [web Progressing 1 10 | 1 Error | Running]
+agent 3 20 report 1 m:3:20:!down => [web Progressing 1 10 | 1 Error | Running]
+agent 4 30 report 1 m:4:30:!down => [web Progressing 1 10 | 1 Error | Running]
+agent 5 40 report 1 m:5:40:!down => [web Degraded 1 0 | 1 Error | Error]
+
+ops 1 0 template errs m => [errs]
+background
+agent 1 0 report 1 m:1:0:5 => [web Paused 1 20 | 1 Successful | Successful]
+agent 2 10 report 1 m:2:10:5 => 422 run-closed
+ops 4 20 promote => [web Healthy 2 100]
+
+ops 1 0 service v1 pause:0 pause => [web Healthy 2 100]
+ops 2 0 start v2 => [web Paused 1 0]";
+
+/// Moments that fall.
+const FALLING: &str = "ops 1 9 service v1 pause => [web Healthy 1 100]
+ops 2 0 start v2 => [web Paused 0 0]
+ops 3 1 promote => [web Healthy 1 100]";
 
 /// The first request and its answer.
-const FIRST: &str =
-    r#"1 0 add two => 200 => {"code":"ok","service":"web","status":"Healthy","step":4,"weight":100}"#;
+const FIRST: &str = "ops 1 0 service v1 setWeight:20 pause => [web Healthy 2 100]";
 
-/// The steps of that name.
-fn steps_of(name: &str) -> &'static [Step] {
-    if name == "two" {
-        return &TWO_PAUSES;
-    }
-    if name == "one" {
-        return &ONE_PAUSE;
-    }
-    if name == "heavy" {
-        return &TOO_HEAVY;
-    }
-    if name == "many" {
-        return &TOO_MANY;
-    }
-    if name == "weights" {
-        return &WEIGHTS;
-    }
-    if name == "weight" {
-        return &TWO_WEIGHTS;
-    }
-    &[]
-}
+const ASKED: &str = "ops 1 0 service v1 setWeight:20 pause";
 
-fn added(alloc: Global, service: Name, steps: &str) -> Option<Command> {
-    let steps = Listed::of(Vec::from_slice(alloc, steps_of(steps)).ok()?);
-    let version = Label::read("v1".as_bytes())?;
-    Some(Command::Service(ServiceSpec {
-        name: service,
-        version,
-        steps,
-    }))
-}
-
-/// What is asked: `add STEPS`, `start VERSION` or `promote it`.
-fn command(alloc: Global, asked: &str) -> Option<Command> {
-    let (kind, of) = asked.split_once(' ')?;
-    let service = Name::read("web".as_bytes())?;
-    if kind == "add" {
-        return added(alloc, service, of);
-    }
-    if kind == "promote" {
-        return Some(Command::Promote { service });
-    }
-    let version = Label::read(of.as_bytes())?;
-    Some(Command::Start { service, version })
-}
+const ADDED: &str = "service v1 setWeight:20 pause";
 
 fn ops() -> Option<Name> {
     Name::read("ops".as_bytes())
 }
 
 fn request(alloc: Global, asked: &str) -> Option<Request> {
+    let (caller, asked) = asked.split_once(' ')?;
     let (number, asked) = asked.split_once(' ')?;
     let (after, asked) = asked.split_once(' ')?;
     Some(Request {
-        moment: Moment::new(B.checked_add(after.parse().ok()?)?)?,
-        caller: ops()?,
-        number: Number::new(number.parse().ok()?)?,
+        moment: moment(after)?,
+        caller: Name::read(caller.as_bytes())?,
+        number: Number::read(number.as_bytes())?,
         command: command(alloc, asked)?,
     })
 }
@@ -178,42 +274,139 @@ fn settled<B: Book>(book: &mut B) -> Option<u32> {
     book.settled(&ops()?).ok()
 }
 
-/// Sends a row, and once more where it was answered 503 or not at all: then nothing was settled.
-/// Whether it was sent twice.
-fn send<B: Book>(rt: &impl Abort, alloc: Global, book: &mut B, row: &str) -> Result<bool, Fail> {
-    let (asked, told) = split(row)?;
-    let (status, body) = split(told)?;
-    let before = settled(book);
-    let (last, is_resent) = match answer(alloc, book, asked) {
-        Some(answer) if answer.status() != 503 => (answer, false),
-        _ => {
-            assert!(rt; settled(book) == before);
-            (answer(alloc, book, asked).ok_or("an answer")?, true)
-        }
-    };
-    assert_eq!(rt; last.body(), body);
-    assert_eq!(rt; last.status(), status.parse::<u16>()?, "{row}");
-    Ok(is_resent)
+/// The status of an answer and what its body stands for.
+fn told_of(told: &str) -> Result<(u16, &str), Fail> {
+    if told.starts_with("[") {
+        return Ok((200, told));
+    }
+    let (status, body) = told.split_once(' ').ok_or("a status")?;
+    Ok((status.parse()?, body))
 }
 
-/// Sends rows in order to a new book. No more than one allocation is refused, so no more than one row
-/// is sent twice.
-fn send_all(rt: &impl Abort, alloc: Global, rows: &str) -> Result<MemoryBook, Fail> {
-    let mut book = MemoryBook::new(alloc);
-    let mut was_resent = false;
-    for row in rows.lines() {
-        if send(rt, alloc, &mut book, row)? {
-            assert!(rt; !was_resent, "{row}");
-            was_resent = true;
+/// Whether the answer to a row is that of the row; none where it was answered 503 or not at all, for
+/// want of memory.
+fn is_answered<B: Book>(alloc: Global, book: &mut B, row: &str) -> Result<Option<bool>, Fail> {
+    let (asked, told) = split(row)?;
+    let (status, told) = told_of(told)?;
+    let body = body(alloc, told).ok_or(Memory)?;
+    match answer(alloc, book, asked) {
+        Some(answer) if answer.status() != 503 => {
+            Ok(Some(answer.status() == status && answer.body() == body.as_str()))
         }
+        _ => Ok(None),
     }
+}
+
+/// Sends a row, and once more where it was answered 503 or not at all: then nothing was settled.
+/// How many times more it was sent.
+fn send<B: Book>(rt: &impl Abort, alloc: Global, book: &mut B, row: &str) -> Result<u32, Fail> {
+    let before = settled(book);
+    if let Some(is_so) = is_answered(alloc, book, row)? {
+        assert!(rt; is_so, "{row}");
+        return Ok(0);
+    }
+    assert!(rt; settled(book) == before);
+    assert!(rt; is_answered(alloc, book, row)? == Some(true), "{row}");
+    Ok(1)
+}
+
+/// Sends rows in order. How many times more than once they were sent.
+fn send_all<B: Book>(
+    rt: &impl Abort,
+    alloc: Global,
+    book: &mut B,
+    rows: &str,
+) -> Result<u32, Fail> {
+    let mut again = 0u32;
+    for row in rows.lines() {
+        again = again.saturating_add(send(rt, alloc, book, row)?);
+    }
+    Ok(again)
+}
+
+/// The rows that a line of a story stands for.
+fn rows_of(line: &str) -> &str {
+    if line == "background" {
+        return WITH_BACKGROUND;
+    }
+    if line == "analysis" {
+        return WITH_ANALYSIS;
+    }
+    line
+}
+
+/// Sends what the lines of a story stand for to a new book. No more than one allocation is refused,
+/// so no more than one row is sent twice.
+fn send_story(rt: &impl Abort, alloc: Global, story: &str) -> Result<MemoryBook, Fail> {
+    let mut book = MemoryBook::new(alloc);
+    let again = send_lines(rt, alloc, &mut book, story)?;
+    assert!(rt; again <= 1, "{story}");
     Ok(book)
+}
+
+/// Sends what the lines of a story stand for. How many times more than once rows were sent.
+fn send_lines(
+    rt: &impl Abort,
+    alloc: Global,
+    book: &mut MemoryBook,
+    story: &str,
+) -> Result<u32, Fail> {
+    let mut again = 0u32;
+    for line in story.lines() {
+        again = again.saturating_add(send_all(rt, alloc, book, rows_of(line))?);
+    }
+    Ok(again)
+}
+
+/// Sends each story of a text, with an empty line between two, to a book of its own. How many times
+/// more than once rows were sent.
+fn send_stories(rt: &impl Abort, alloc: Global, stories: &str) -> Result<u32, Fail> {
+    let mut again = 0u32;
+    for story in stories.split("\n\n") {
+        let mut book = MemoryBook::new(alloc);
+        again = again.saturating_add(send_lines(rt, alloc, &mut book, story)?);
+    }
+    Ok(again)
 }
 
 #[test]
 fn a_doubled_promotion_acts_once(rt: HostRuntime) -> Result<(), Fail> {
-    let mut book = send_all(&rt, rt.alloc(), DOUBLED)?;
-    assert!(rt; settled(&mut book) == Some(5));
+    let mut book = send_story(&rt, rt.alloc(), DOUBLED)?;
+    assert!(rt; settled(&mut book) == Some(6));
+    Ok(())
+}
+
+#[test]
+fn stories(rt: HostRuntime) -> Result<(), Fail> {
+    let mut again = send_stories(&rt, rt.alloc(), BACKGROUND)?;
+    again = again.saturating_add(send_stories(&rt, rt.alloc(), ANALYSES)?);
+    again = again.saturating_add(send_stories(&rt, rt.alloc(), RELEASES)?);
+    assert!(rt; again <= 1);
+    Ok(())
+}
+
+#[test]
+fn refusals_and_others(rt: HostRuntime) -> Result<(), Fail> {
+    let mut again = send_stories(&rt, rt.alloc(), REFUSALS)?;
+    again = again.saturating_add(send_stories(&rt, rt.alloc(), OTHERS)?);
+    assert!(rt; again <= 1);
+    Ok(())
+}
+
+/// The measurements that are counted, the errors, and the last errors together of the only metric of
+/// the open run; none where memory was refused.
+fn counts(book: &mut MemoryBook) -> Option<(u32, u32, u32)> {
+    let web = Name::read("web".as_bytes())?;
+    let service = book.service(&web).ok()??;
+    let tally = service.open_runs().first()?.tallies.as_slice().first()?;
+    Some((tally.counted(), tally.errors(), tally.consecutive()))
+}
+
+#[test]
+fn a_result_ends_a_row_of_errors(rt: HostRuntime) -> Result<(), Fail> {
+    let mut book = send_story(&rt, rt.alloc(), UNBROKEN)?;
+    let found = counts(&mut book).or(counts(&mut book));
+    assert!(rt; found == Some((1, 8, 4)));
     Ok(())
 }
 
@@ -226,23 +419,29 @@ fn moments(book: &mut MemoryBook) -> Option<(u64, u64)> {
 }
 
 #[test]
-fn refusals_and_moments_that_fall(rt: HostRuntime) -> Result<(), Fail> {
-    let mut book = send_all(&rt, rt.alloc(), FALLING)?;
+fn moments_that_fall(rt: HostRuntime) -> Result<(), Fail> {
+    let mut book = send_story(&rt, rt.alloc(), FALLING)?;
     let found = moments(&mut book).or(moments(&mut book));
     assert!(rt; found == Some((B + 9, B + 9)));
     Ok(())
 }
 
-#[test]
-fn a_service_without_steps(rt: HostRuntime) -> Result<(), Fail> {
-    send_all(&rt, rt.alloc(), STEPLESS)?;
-    Ok(())
+/// How many metrics the template t of a book has, which is looked up twice with one that is not
+/// there; none where memory was refused.
+fn metrics_found(book: &mut MemoryBook) -> Option<usize> {
+    let t = Name::read("t".as_bytes())?;
+    let no = Name::read("no".as_bytes())?;
+    let found = book.templates(&[t, no, t]).ok()?;
+    if found.get(no).is_some() {
+        return None;
+    }
+    Some(found.get(t)?.metrics.as_slice().len())
 }
 
 #[test]
-fn releases_without_a_pause(rt: HostRuntime) -> Result<(), Fail> {
-    send_all(&rt, rt.alloc(), WHOLE)?;
-    send_all(&rt, rt.alloc(), WHOLE_IN_TWO)?;
+fn templates_are_looked_up(rt: HostRuntime) -> Result<(), Fail> {
+    let mut book = send_story(&rt, rt.alloc(), "ops 1 0 template t a b => [t]")?;
+    assert!(rt; metrics_found(&mut book).or(metrics_found(&mut book)) == Some(2));
     Ok(())
 }
 
@@ -254,7 +453,7 @@ fn promotions(alloc: Global) -> Option<Vec<Event>> {
             moment: Moment::new(B)?,
             caller: Name::read(caller.as_bytes())?,
             number: Number::new(1)?,
-            command: command(alloc, "promote it")?,
+            command: command(alloc, "promote")?,
         };
         events.push(Event::Request(request)).ok()?;
     }
@@ -289,6 +488,7 @@ fn one_failure_is_answered_once(rt: HostRuntime) -> Result<(), Fail> {
 enum Call {
     Settled,
     Receipt,
+    Templates,
     Service,
     Commit,
 }
@@ -327,6 +527,11 @@ impl Book for Faulty {
         self.book.receipt(caller, number)
     }
 
+    fn templates(&mut self, names: &[Name]) -> Result<Templates, BookFault> {
+        self.reach(Call::Templates)?;
+        self.book.templates(names)
+    }
+
     fn service(&mut self, name: &Name) -> Result<Option<Service>, BookFault> {
         self.reach(Call::Service)?;
         self.book.service(name)
@@ -362,7 +567,7 @@ fn is_refused(alloc: Global, book: &mut Faulty, call: Call) -> bool {
 }
 
 fn says_storage(alloc: Global, book: &mut Faulty) -> bool {
-    match answer(alloc, book, "1 0 add two") {
+    match answer(alloc, book, ASKED) {
         Some(answer) => answer.body() == STORAGE && answer.status() == 503,
         None => false,
     }
@@ -375,7 +580,7 @@ fn a_store_that_fails(rt: HostRuntime) -> Result<(), Fail> {
         book: MemoryBook::new(alloc),
         fails: None,
     };
-    for call in [Call::Settled, Call::Service, Call::Commit] {
+    for call in [Call::Settled, Call::Templates, Call::Service, Call::Commit] {
         assert!(rt; is_refused(alloc, &mut book, call));
         assert!(rt; settled(&mut book) == Some(0));
     }
@@ -387,7 +592,7 @@ fn a_store_that_fails(rt: HostRuntime) -> Result<(), Fail> {
 
 /// Whether a request and the answer to it copy; none where memory was refused.
 fn events_copy(alloc: Global) -> Option<bool> {
-    let event = Event::Request(request(alloc, "1 0 promote it")?);
+    let event = Event::Request(request(alloc, "ops 1 0 promote")?);
     let told = run(
         alloc,
         &mut MemoryBook::new(alloc),
@@ -413,7 +618,7 @@ fn late_clock() -> Option<StepClock> {
 
 /// Whether a request is answered so at the clock's next moment; none where memory was refused.
 fn posts(alloc: Global, book: &mut MemoryBook, clock: &mut StepClock) -> Option<bool> {
-    let asked = command(alloc, "add two")?;
+    let asked = command(alloc, ADDED)?;
     let told = post(alloc, book, clock.now(), ops()?, Number::new(1)?, &asked);
     if told.status() == 503 {
         return None;
@@ -423,7 +628,7 @@ fn posts(alloc: Global, book: &mut MemoryBook, clock: &mut StepClock) -> Option<
 
 /// Whether there is a receipt of that request, and it copies; none where memory was refused.
 fn has_receipt(alloc: Global, book: &mut MemoryBook) -> Option<bool> {
-    let asked = command(alloc, "add two")?;
+    let asked = command(alloc, ADDED)?;
     let receipt = book.receipt(&ops()?, Number::new(1)?).ok()??;
     let copy = receipt.copy(alloc).ok()?;
     Some(copy.command.is_same(&asked) && copy.reply.body.as_str() == HEALTHY)
@@ -451,7 +656,7 @@ fn settlement_copies(alloc: Global) -> Option<bool> {
         caller: ops()?,
         number: Number::new(1)?,
         receipt: Receipt {
-            command: command(alloc, "promote it")?,
+            command: command(alloc, "promote")?,
             reply: Reply {
                 status: ReplyStatus::Refused,
                 body: Text::of(String::from_str(alloc, UNKNOWN).ok()?),

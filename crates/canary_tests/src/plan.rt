@@ -1,81 +1,146 @@
-//! Worked strategies, codes of refusals, and copies with ample memory.
+//! Templates and strategies with ample memory, and the texts of faults. The worked refusals are
+//! computed on their definitions.
+ghost use Rattle.std.specs.Prelude.{◌≡◌, true, nat_lt, length, IfSome};
+
 use crate::rows::says;
-use canary_base::lists::Listed;
+use canary_base::durations::Seconds;
+use canary_base::lists::{Listed, Text};
 use canary_base::names::{Label, Name};
-use canary_plan::command::Command;
-use canary_plan::plan::{CheckFault, ServiceSpec, Step, Strategy};
+use canary_plan::fault::{BindFault, CheckFault};
 use canary_plan::refusal::Refusal;
+use canary_plan::service::{Background, ServiceSpec};
+use canary_plan::step::Step;
+use canary_plan::strategy::Strategy;
+use canary_plan::template::{BadCondition, ConditionKey, Template};
+use canary_plan::template_spec::{MetricSpec, TemplateSpec};
+use canary_plan::templates::Templates;
 use std::alloc::Global;
 use std::test::Fail;
 
-const TWO_PAUSES: [Step; 4] = [
-    Step::SetWeight(20),
-    Step::Pause,
-    Step::SetWeight(50),
-    Step::Pause,
-];
-
-fn listed(alloc: Global, steps: &[Step]) -> Option<Listed<Step>> {
-    Some(Listed::of(Vec::from_slice(alloc, steps).ok()?))
+// A condition that is asked for; none where memory was refused.
+fn condition(alloc: Global, text: &str) -> Option<Text>
+    ensures { IfSome result (λ text. nat_lt 0 (length text) ≡ true) }
+{
+    if text.is_empty() {
+        return None;
+    }
+    Some(Text::of(String::from_str(alloc, text).ok()?))
 }
 
-// Whether the steps are accepted, or refused as a bad strategy; none where memory was refused.
-fn is_accepted(alloc: Global, steps: &[Step]) -> Option<bool> {
-    match Strategy::check(alloc, &listed(alloc, steps)?) {
-        Ok(strategy) => Some(strategy.steps() == steps),
+// A metric that is measured each minute, with this condition of success.
+fn metric(alloc: Global, success: &str) -> Option<MetricSpec> {
+    let success = condition(alloc, success)?;
+    Some(MetricSpec {
+        name: Label::read("m".as_bytes())?,
+        success: Some(success),
+        failure: None,
+        interval: Seconds::new(60),
+        initial_delay: Seconds::new(0)?,
+        count: None,
+        failure_limit: 0,
+        inconclusive_limit: 0,
+        consecutive_error_limit: 4,
+    })
+}
+
+fn template(alloc: Global, success: &str) -> Option<TemplateSpec> {
+    let mut metrics = Vec::new(alloc);
+    metrics.push(metric(alloc, success)?).ok()?;
+    Some(TemplateSpec {
+        name: Name::read("errs".as_bytes())?,
+        metrics: Listed::of(metrics),
+        dry_run: Listed::of(Vec::new(alloc)),
+    })
+}
+
+// Whether a template with this condition is bound, or refused for it; none where memory was
+// refused.
+fn is_bound(alloc: Global, success: &str) -> Option<bool> {
+    match Template::bind(alloc, &template(alloc, success)?) {
+        Ok(template) => Some(template.metrics.as_slice().len() == 1),
+        Err(BindFault::Refused(Refusal::BadCondition)) => Some(false),
+        Err(_) => None,
+    }
+}
+
+// The condition that has no reading; none where memory was refused.
+fn bad_condition(alloc: Global, success: &str) -> Option<Option<BadCondition>> {
+    template(alloc, success)?.bad_condition(alloc).ok()
+}
+
+#[test]
+fn binds_templates(rt: HostRuntime) {
+    let alloc = rt.alloc();
+    let well = "result > 10";
+    let ill = "result >";
+    let bad = Some(BadCondition {
+        metric: 0,
+        key: ConditionKey::Success,
+    });
+    assert!(rt; is_bound(alloc, well).or(is_bound(alloc, well)) == Some(true));
+    assert!(rt; is_bound(alloc, ill).or(is_bound(alloc, ill)) == Some(false));
+    assert!(rt; bad_condition(alloc, well).or(bad_condition(alloc, well)) == Some(None));
+    assert!(rt; bad_condition(alloc, ill).or(bad_condition(alloc, ill)) == Some(bad));
+}
+
+fn copied_template(alloc: Global) -> Option<Template> {
+    let template = Template::bind(alloc, &template(alloc, "result > 10")?).ok()?;
+    template.copy(alloc).ok()
+}
+
+// The templates that are known: one, with one metric.
+fn known(alloc: Global) -> Option<Templates> {
+    let name = Name::read("errs".as_bytes())?;
+    let template = copied_template(alloc)?;
+    let mut known = Templates::new(alloc);
+    known.insert(name, template).ok()?;
+    Some(known)
+}
+
+// A service whose background analysis has that template.
+fn service(alloc: Global, percent: u32) -> Option<ServiceSpec> {
+    let name = Name::read("errs".as_bytes())?;
+    let steps = [Step::SetWeight(percent), Step::Pause(None)];
+    Some(ServiceSpec {
+        name: Name::read("web".as_bytes())?,
+        version: Label::read("v1".as_bytes())?,
+        steps: Listed::of(Vec::from_array(alloc, steps).ok()?),
+        background: Some(Background {
+            templates: Listed::of(Vec::from_slice(alloc, &[name]).ok()?),
+            starting_step: 0,
+        }),
+    })
+}
+
+fn checked(alloc: Global, percent: u32) -> Option<Result<Strategy, CheckFault>> {
+    let known = known(alloc)?;
+    let spec = service(alloc, percent)?.copy(alloc).ok()?;
+    Some(Strategy::check(alloc, &spec, &known))
+}
+
+// Whether a strategy with this weight is accepted, or refused for it; none where memory was
+// refused.
+fn is_accepted(alloc: Global, percent: u32) -> Option<bool> {
+    match checked(alloc, percent)? {
+        Ok(strategy) => Some(strategy.steps().len() == 2),
         Err(CheckFault::Refused(Refusal::BadStrategy)) => Some(false),
         Err(_) => None,
     }
 }
 
+// The number of metrics behind a copy of a strategy; none where memory was refused.
+fn copied(alloc: Global) -> Option<usize> {
+    let strategy = checked(alloc, 20)?.ok()?.copy().ok()?;
+    strategy.background()?;
+    Some(strategy.metrics(None)?.len())
+}
+
 #[test]
 fn checks_strategies(rt: HostRuntime) {
     let alloc = rt.alloc();
-    for steps in [
-        TWO_PAUSES.as_slice(),
-        &[Step::Pause; 64],
-        &[Step::SetWeight(100)],
-        &[],
-    ] {
-        let told = is_accepted(alloc, steps).or(is_accepted(alloc, steps));
-        assert!(rt; told == Some(true));
-    }
-    for steps in [[Step::Pause; 65].as_slice(), &[Step::SetWeight(101)]] {
-        let told = is_accepted(alloc, steps).or(is_accepted(alloc, steps));
-        assert!(rt; told == Some(false));
-    }
-}
-
-// Whether a strategy copies; none where memory was refused.
-fn strategy_copies(alloc: Global) -> Option<bool> {
-    let strategy = Strategy::check(alloc, &listed(alloc, &TWO_PAUSES)?).ok()?;
-    let copy = strategy.copy(alloc).ok()?;
-    Some(copy.steps() == TWO_PAUSES.as_slice())
-}
-
-fn added(alloc: Global) -> Option<Command> {
-    let name = Name::read("web".as_bytes())?;
-    let version = Label::read("v1".as_bytes())?;
-    let steps = listed(alloc, &TWO_PAUSES)?;
-    Some(Command::Service(ServiceSpec {
-        name,
-        version,
-        steps,
-    }))
-}
-
-// Whether a command that adds a service copies; none where memory was refused.
-fn command_copies(alloc: Global) -> Option<bool> {
-    let command = added(alloc)?;
-    let copy = command.copy(alloc).ok()?;
-    Some(copy.is_same(&command))
-}
-
-#[test]
-fn copies_plans(rt: HostRuntime) {
-    let alloc = rt.alloc();
-    assert!(rt; strategy_copies(alloc).or(strategy_copies(alloc)) == Some(true));
-    assert!(rt; command_copies(alloc).or(command_copies(alloc)) == Some(true));
+    assert!(rt; is_accepted(alloc, 100).or(is_accepted(alloc, 100)) == Some(true));
+    assert!(rt; is_accepted(alloc, 101).or(is_accepted(alloc, 101)) == Some(false));
+    assert!(rt; copied(alloc).or(copied(alloc)) == Some(1));
 }
 
 #[test]
@@ -90,5 +155,8 @@ fn prints_faults(rt: HostRuntime) -> Result<(), Fail> {
     let refused = CheckFault::Refused(Refusal::BadStrategy);
     assert!(rt; says(alloc, &refused, "the strategy is refused: bad-strategy")?);
     assert!(rt; says(alloc, &CheckFault::Memory, "out of memory")?);
+    let refused = BindFault::Refused(Refusal::BadCondition);
+    assert!(rt; says(alloc, &refused, "the template is refused: bad-condition")?);
+    assert!(rt; says(alloc, &BindFault::Memory, "out of memory")?);
     Ok(())
 }

@@ -9,6 +9,7 @@ use canary_base::names::Name;
 use canary_base::numbers::Number;
 use canary_once::book::{Book, BookFault, Receipt, Settlement};
 use canary_once::memory::MemoryBook;
+use canary_plan::templates::Templates;
 use canary_release::service::Service;
 use canary_wire::command::WireFault;
 use canary_wire::serve::{Ended, ServeFault, serve};
@@ -147,6 +148,10 @@ impl Book for Broken {
     }
 
     fn receipt(&mut self, _: &Name, _: Number) -> Result<Option<Receipt>, BookFault> {
+        Err(BookFault::Storage)
+    }
+
+    fn templates(&mut self, _: &[Name]) -> Result<Templates, BookFault> {
         Err(BookFault::Storage)
     }
 
