@@ -1,10 +1,12 @@
 //! Prints figures of this machine. `canary_bench SUBJECT ROUNDS` measures one subject, so many
-//! times over: `condition`, `metric` or `message`. With no words it prints nothing.
+//! times over: `condition`, `metric`, `machine` or `message`. With no words it prints nothing.
 #![tactic(auto)]
 
 mod condition;
+mod machine;
 mod message;
 mod metric;
+mod plans;
 
 use anyhow::{Context, Result, bail};
 use std::env;
@@ -23,6 +25,7 @@ fn main(rt: HostRuntime) -> Result<()> {
     match subject.as_str() {
         "condition" => condition::measure(&rt, rounds),
         "metric" => metric::measure(&rt, rounds),
+        "machine" => machine::measure(&rt, rounds),
         "message" => message::measure(&rt, rounds),
         other => bail!("no such subject: {other}"),
     }

@@ -1,0 +1,249 @@
+//! Microseconds that canary_release alone takes to decide a command or a report, by the size of the
+//! service's strategy: no register, and nothing is read or written.
+
+use crate::plans::{self, Size};
+use anyhow::{Context, Result};
+use canary_base::moments::Moment;
+use canary_plan::command::Command;
+use canary_plan::service::ServiceSpec;
+use canary_plan::strategy::Strategy;
+use canary_plan::templates::Templates;
+use canary_release::decide::{Decision, DeskChange, decide};
+use canary_release::reply::ReplyStatus;
+use canary_release::service::Service;
+use std::alloc::Global;
+use std::time::{Duration, Instant};
+
+// The quickest of so many batches counts.
+const BATCHES: u32 = 7;
+
+const REFUSED: &str = "out of memory, or refused";
+
+// How often each is decided, on a strategy of what size, and at which moment.
+#[derive(Clone, Copy)]
+struct Trial {
+    rounds: u32,
+    size: Size,
+    now: Moment,
+}
+
+// What a batch of calls took, and how many of them were accepted.
+#[derive(Clone, Copy)]
+struct Batch {
+    nanos: u64,
+    accepted: u32,
+}
+
+/// Decides each command that many times over, seven times, and prints a table of the quickest.
+pub fn measure(rt: &HostRuntime, rounds: u32) -> Result<()> {
+    println!(rt; "microseconds a call; * is refused")?;
+    print!(rt; "steps metrics     check   Service     Start      Tick")?;
+    println!(rt; "   Promote  Report 1  Report n   closing")?;
+    print_row(rt, rounds, 4, 0)?;
+    for steps in [1, 10, 64] {
+        print_row(rt, rounds, steps, 1)?;
+        print_row(rt, rounds, steps, 32)?;
+    }
+    Ok(())
+}
+
+fn print_row(rt: &HostRuntime, rounds: u32, steps: u32, metrics: u32) -> Result<()> {
+    let size = Size { steps, metrics };
+    let now = plans::begin().context(REFUSED)?;
+    let trial = &Trial { rounds, size, now };
+    let templates = plans::known(rt.alloc(), size).context(REFUSED)?;
+    print!(rt; "{steps:>5} {metrics:>7}")?;
+    print_check(rt, trial, &templates)?;
+    print_new(rt, trial, &templates)?;
+    println!(rt; "")?;
+    Ok(())
+}
+
+// The strategy is checked, which registering the service begins with.
+fn print_check(rt: &HostRuntime, trial: &Trial, templates: &Templates) -> Result<()> {
+    let spec = plans::service(rt.alloc(), trial.size).context(REFUSED)?;
+    let rounds = trial.rounds;
+    let mut least = u64::MAX;
+    let mut accepted = 0;
+    for _ in 0..BATCHES {
+        let start = Instant::now(rt)?;
+        accepted = check_often(rt.alloc(), rounds, templates, &spec);
+        least = least.min(nanos_of(start.elapsed(rt)?));
+    }
+    let nanos = least;
+    print_figure(rt, rounds, Batch { nanos, accepted })
+}
+
+// How many of so many checks accept the strategy.
+fn check_often(alloc: Global, rounds: u32, templates: &Templates, spec: &ServiceSpec) -> u32 {
+    let mut accepted = 0u32;
+    for _ in 0..rounds {
+        if Strategy::check(alloc, spec, templates).is_ok() {
+            accepted = accepted.saturating_add(1);
+        }
+    }
+    accepted
+}
+
+// Registering the service, and what follows on it.
+fn print_new(rt: &HostRuntime, trial: &Trial, templates: &Templates) -> Result<()> {
+    let register = plans::register(rt.alloc(), trial.size).context(REFUSED)?;
+    print_cell(rt, trial, templates, None, &register)?;
+    let service = after(rt.alloc(), trial.now, templates, None, &register).context(REFUSED)?;
+    print_start(rt, trial, templates, &service)
+}
+
+// Starting a release, and what follows on it.
+fn print_start(
+    rt: &HostRuntime,
+    trial: &Trial,
+    templates: &Templates,
+    service: &Service,
+) -> Result<()> {
+    let start = plans::start().context(REFUSED)?;
+    print_cell(rt, trial, templates, Some(service), &start)?;
+    let started = after(rt.alloc(), trial.now, templates, Some(service), &start);
+    let started = started.context(REFUSED)?;
+    print_started(rt, trial, templates, &started)
+}
+
+// What is decided at the first step at which the release stands.
+fn print_started(
+    rt: &HostRuntime,
+    trial: &Trial,
+    templates: &Templates,
+    service: &Service,
+) -> Result<()> {
+    let alloc = rt.alloc();
+    let all = trial.size.metrics.max(1);
+    print_given(rt, trial, templates, service, plans::tick())?;
+    print_promote(rt, trial, templates, service)?;
+    print_given(rt, trial, templates, service, plans::good_report(alloc, 1))?;
+    print_given(
+        rt,
+        trial,
+        templates,
+        service,
+        plans::good_report(alloc, all),
+    )?;
+    print_given(
+        rt,
+        trial,
+        templates,
+        service,
+        plans::doubtful_report(alloc, all),
+    )
+}
+
+// A promotion of the release as it is held by its run, or at its pause.
+fn print_promote(
+    rt: &HostRuntime,
+    trial: &Trial,
+    templates: &Templates,
+    service: &Service,
+) -> Result<()> {
+    match held(rt.alloc(), trial, templates, service) {
+        None => print_given(rt, trial, templates, service, plans::promote()),
+        Some(held) => print_given(rt, trial, templates, &held, plans::promote()),
+    }
+}
+
+fn held(alloc: Global, trial: &Trial, templates: &Templates, service: &Service) -> Option<Service> {
+    let report = plans::doubtful_report(alloc, trial.size.metrics)?;
+    after(alloc, trial.now, templates, Some(service), &report)
+}
+
+// The service as the command leaves it.
+fn after(
+    alloc: Global,
+    now: Moment,
+    templates: &Templates,
+    service: Option<&Service>,
+    command: &Command,
+) -> Option<Service> {
+    let Decision {
+        reply: _reply,
+        change,
+    } = decide(alloc, templates, service, now, command).ok()?;
+    match change {
+        DeskChange::Nothing => None,
+        DeskChange::Template(_) => None,
+        DeskChange::Service {
+            service,
+            effects: _effects,
+        } => Some(service),
+    }
+}
+
+fn print_given(
+    rt: &HostRuntime,
+    trial: &Trial,
+    templates: &Templates,
+    service: &Service,
+    command: Option<Command>,
+) -> Result<()> {
+    let command = command.context(REFUSED)?;
+    print_cell(rt, trial, templates, Some(service), &command)
+}
+
+fn print_cell(
+    rt: &HostRuntime,
+    trial: &Trial,
+    templates: &Templates,
+    service: Option<&Service>,
+    command: &Command,
+) -> Result<()> {
+    let rounds = trial.rounds;
+    let mut least = u64::MAX;
+    let mut accepted = 0;
+    for _ in 0..BATCHES {
+        let start = Instant::now(rt)?;
+        accepted = decide_often(rt.alloc(), trial, templates, service, command);
+        least = least.min(nanos_of(start.elapsed(rt)?));
+    }
+    let nanos = least;
+    print_figure(rt, rounds, Batch { nanos, accepted })
+}
+
+// How many of so many decisions accept the command.
+fn decide_often(
+    alloc: Global,
+    trial: &Trial,
+    templates: &Templates,
+    service: Option<&Service>,
+    command: &Command,
+) -> u32 {
+    let mut accepted = 0u32;
+    for _ in 0..trial.rounds {
+        if is_accepted(alloc, trial.now, templates, service, command) {
+            accepted = accepted.saturating_add(1);
+        }
+    }
+    accepted
+}
+
+fn is_accepted(
+    alloc: Global,
+    now: Moment,
+    templates: &Templates,
+    service: Option<&Service>,
+    command: &Command,
+) -> bool {
+    match decide(alloc, templates, service, now, command) {
+        Ok(decision) => decision.reply.status == ReplyStatus::Accepted,
+        Err(_) => false,
+    }
+}
+
+fn nanos_of(took: Duration) -> u64 {
+    u64::try_from(took.as_nanos()).unwrap_or(u64::MAX)
+}
+
+fn print_figure(rt: &HostRuntime, rounds: u32, batch: Batch) -> Result<()> {
+    let hundredths = batch.nanos / 10 / u64::from(rounds.max(1));
+    let whole = hundredths / 100;
+    let part = hundredths % 100;
+    let mark = if batch.accepted == rounds { ' ' } else { '*' };
+    print!(rt; "{whole:>6}.{part:02}{mark}")?;
+    Ok(())
+}
