@@ -22,8 +22,6 @@ mod once;
 #[cfg(test)]
 mod plan;
 #[cfg(test)]
-mod release;
-#[cfg(test)]
 mod rows;
 #[cfg(test)]
 mod wire_command;
