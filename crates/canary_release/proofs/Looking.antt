@@ -18,11 +18,11 @@ use Rattle.canary_release.specs.Commands.{unless, leads}
 use Rattle.canary_release.specs.Desks.{rules, rule_template, act_new, new_service, rule_service}
 use Rattle.canary_release.specs.Laws.{Agree, LooksOnlyAt}
 
-all_left : {X : Type 0} (P : X → Type 0) (xs ys : List X) → AllByRecursion P (xs ++ ys) → AllByRecursion P xs
+pub all_left : {X : Type 0} (P : X → Type 0) (xs ys : List X) → AllByRecursion P (xs ++ ys) → AllByRecursion P xs
 all_left P [] ys h = tt
 all_left P (x ∷ xs) ys h = (h.0, all_left P xs ys h.1)
 
-all_right : {X : Type 0} (P : X → Type 0) (xs ys : List X) → AllByRecursion P (xs ++ ys) → AllByRecursion P ys
+pub all_right : {X : Type 0} (P : X → Type 0) (xs ys : List X) → AllByRecursion P (xs ++ ys) → AllByRecursion P ys
 all_right P [] ys h = h
 all_right P (x ∷ xs) ys h = all_right P xs ys h.1
 
@@ -52,7 +52,7 @@ misfit : (known other : Templates) (names : List (List ℕ)) → Agree known oth
 misfit known other names h = ap (λ (ms : List MetricValue). nat_lt (length names) 1 || (nat_lt 8 (length names) || not (are_metrics_of_run ms))) (named known other names h)
 
 -- the refusal of a strategy
-refusal_alike : (known other : Templates) (spec : ServiceSpec) → AllByRecursion (Agree known other) (analyses spec) → strategy_refusal known spec ≡ strategy_refusal other spec
+pub refusal_alike : (known other : Templates) (spec : ServiceSpec) → AllByRecursion (Agree known other) (analyses spec) → strategy_refusal known spec ≡ strategy_refusal other spec
 refusal_alike known other spec h =
     let all = analyses spec in
     let steps = step_analyses spec in
@@ -74,7 +74,7 @@ background_alike : (known other : Templates) (b : Option Background) → AllByRe
 background_alike known other None h = refl
 background_alike known other (Some b) h = named known other b.templates h.0
 
-strategy_alike : (known other : Templates) (spec : ServiceSpec) → AllByRecursion (Agree known other) (analyses spec) → strategy_of known spec ≡ strategy_of other spec
+pub strategy_alike : (known other : Templates) (spec : ServiceSpec) → AllByRecursion (Agree known other) (analyses spec) → strategy_of known spec ≡ strategy_of other spec
 strategy_alike known other spec h =
     let steps = steps_alike known other spec.steps (all_left (Agree known other) (step_analyses spec) (names_of_background spec.background) h) in
     let background = background_alike known other spec.background (all_right (Agree known other) (step_analyses spec) (names_of_background spec.background) h) in

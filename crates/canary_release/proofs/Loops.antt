@@ -1,5 +1,5 @@
 -- The chain of moves, move after move.
-use Rattle.std.proofs.Common.{◌≡◌, ℕ, zero, suc, ◌+◌, ◌-◌, ◌≤◌, ◌<◌, length, true, false, refl, sym, ap, ◌∙◌, subst, arith}
+use Rattle.std.proofs.Common.{◌≡◌, ℕ, zero, suc, ◌+◌, ◌-◌, ◌<◌, length, true, false, refl, sym, ap, ◌∙◌, subst, arith}
 use Rattle.std.specs.Prelude.{if◌then◌else◌, nat_le, Option, Some, None}
 use Rattle.canary_release.specs.Courses.{Course}
 use Rattle.canary_release.specs.Passing.{next_move, is_by, move_by, move_at, chain_end, followed}

@@ -28,7 +28,7 @@ use Rattle.canary_release.specs.Watching.{after_all}
 use Rattle.canary_release.specs.Services.{is_going, is_held}
 use Rattle.canary_release.specs.Courses.{Course, Watch, course_from, runs_now, has_number}
 use Rattle.canary_release.specs.Commands.{Acted, unless, leads}
-use Rattle.canary_release.specs.Desks.{ModelService, Desk, no_desk, Change, course_of, watch_of, rules, act_passed, act_new, new_service, adds_unless, rule_template, rule_service, ruling, ruling_on, after, desk_after, apply, machine}
+use Rattle.canary_release.specs.Desks.{ModelService, Desk, no_desk, Change, course_of, watch_of, rules, act_passed, act_new, new_service, adds_unless, rule_template, rule_service, ruling, ruling_on, after, desk_after, apply}
 use Rattle.canary_release.specs.Desks.Change.{Nothing, Adds, Becomes}
 use Rattle.canary_release.specs.Shapes.{kept_course, kept_after, shape}
 use Rattle.canary_release.specs.Parts.{runs_wanted, is_misplaced, is_misnumbered, repeats_number, has_wrong_tallies, is_background_run, is_step_run, has_background_run, is_astray, is_judged, is_broken}

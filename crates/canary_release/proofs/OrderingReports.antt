@@ -17,7 +17,7 @@ use Rattle.canary_plan.specs.declared.line.LineEvent.TheVariants.{Started, Retri
 use Rattle.canary_plan.specs.declared.refusal.Refusal.{Refusal}
 use Rattle.canary_plan.specs.declared.refusal.Refusal.TheVariants.{RepeatedMetric, MetricClosed, AlreadyRecorded, OutOfTurn, Spent, Future, TooEarly}
 use Rattle.canary_plan.specs.Plans.{is_accepted}
-use Rattle.canary_plan.specs.Refusals.{first_that_holds, or_refusal}
+use Rattle.canary_plan.specs.Refusals.{or_refusal}
 use Rattle.canary_release.specs.declared.effect.Recorded.{Recorded}
 use Rattle.canary_release.specs.declared.effect.Effect.TheVariants.{Measured}
 use Rattle.canary_release.specs.declared.runs.OpenRun.{OpenRun}

@@ -3,7 +3,7 @@ use Rattle.std.proofs.Common.{◌≡◌, ℕ, zero, suc, List, [], ◌∷◌, �
 use Rattle.std.specs.Prelude.{◌==◌, ◌&&◌, ◌||◌, nat_lt, nat_le, not, if◌then◌else◌, IsTrue, Option, Some, None, map, is_none}
 use Rattle.std.specs.List.{AllByRecursion, list_any, list_all, filter_map}
 use Rattle.std.proofs.lemmas.Bool.Decides.{nat_tests}
-use Rattle.canary_metric.specs.Metrics.{MetricValue, effective_count}
+use Rattle.canary_metric.specs.Metrics.{MetricValue}
 use Rattle.canary_metric.specs.Settings.{count_that_stands}
 use Rattle.canary_plan.specs.declared.step.Step.{Step}
 use Rattle.canary_plan.specs.declared.step.Step.TheVariants.{SetWeight, Pause, Analysis}
@@ -15,67 +15,10 @@ use Rattle.canary_plan.specs.declared.strategy.CheckedStrategy.{CheckedStrategy}
 use Rattle.canary_plan.specs.declared.refusal.Refusal.{Refusal}
 use Rattle.canary_plan.specs.declared.refusal.Refusal.TheVariants.{DuplicateMetric, UnknownTemplate, EndlessMetric, BadStrategy}
 use Rattle.canary_plan.specs.Plans.{Templates, template_of, bound_metric, metrics_in, metrics_named, step_metrics, background_metrics, strategy_of, has_weight_in_range, are_metrics_of_run, fit_steps, fits_background, is_count, have_counts, is_accepted}
-use Rattle.canary_plan.specs.Refusals.{first_that_holds}
-use Rattle.canary_plan.specs.PlanRefusals.{has_duplicate, has_unknown, repeats_metric, is_endless, is_misfit, is_bad_strategy, names_of_step, names_of_background, step_analyses, analyses, strategy_refusal}
+use Rattle.canary_plan.specs.PlanRefusals.{has_unknown, repeats_metric, is_endless, is_misfit, is_bad_strategy, names_of_step, names_of_background, step_analyses, analyses, strategy_refusal}
 use Rattle.canary_release.specs.Laws.{Agree}
+use Rattle.canary_release.proofs.Looking.{all_left, all_right, refusal_alike, strategy_alike}
 use Rattle.canary_release.proofs.OrderingBasics.{neither, none_passes, row_false}
-
-all_left : {X : Type 0} (P : X → Type 0) (xs ys : List X) → AllByRecursion P (xs ++ ys) → AllByRecursion P xs
-all_left P [] ys h = tt
-all_left P (x ∷ xs) ys h = (h.0, all_left P xs ys h.1)
-
-all_right : {X : Type 0} (P : X → Type 0) (xs ys : List X) → AllByRecursion P (xs ++ ys) → AllByRecursion P ys
-all_right P [] ys h = h
-all_right P (x ∷ xs) ys h = all_right P xs ys h.1
-
-any_alike : {X : Type 0} (P : X → Type 0) (f g : X → Bool) → ((x : X) → P x → f x ≡ g x) → (xs : List X) → AllByRecursion P xs → list_any f xs ≡ list_any g xs
-any_alike P f g same [] h = refl
-any_alike P f g same (x ∷ xs) h = λ i. same x h.0 i || any_alike P f g same xs h.1 i
-
--- Where the templates agree on the names, all that is looked up agrees.
-
-named : (known other : Templates) (names : List (List ℕ)) → Agree known other names → metrics_named known names ≡ metrics_named other names
-named known other [] h = refl
-named known other (n ∷ ns) h = λ i. metrics_in (h.0 i) ++ named known other ns h.1 i
-
-unknown : (known other : Templates) (names : List (List ℕ)) → Agree known other names → has_unknown known names ≡ has_unknown other names
-unknown known other names h = any_alike (λ name. known name ≡ other name) (λ name. is_none (known name)) (λ name. is_none (other name)) (λ name e i. is_none (e i)) names h
-
-repeats : (known other : Templates) (names : List (List ℕ)) → Agree known other names → repeats_metric known names ≡ repeats_metric other names
-repeats known other names h = ap (λ (ms : List MetricValue). has_duplicate (map (λ (m : MetricValue). m.name) ms)) (named known other names h)
-
-endless : (known other : Templates) (names : List (List ℕ)) → Agree known other names → is_endless known names ≡ is_endless other names
-endless known other names h = ap (λ (ms : List MetricValue). list_any (λ (m : MetricValue). is_none (effective_count m)) ms) (named known other names h)
-
-misfit : (known other : Templates) (names : List (List ℕ)) → Agree known other names → is_misfit known names ≡ is_misfit other names
-misfit known other names h = ap (λ (ms : List MetricValue). nat_lt (length names) 1 || (nat_lt 8 (length names) || not (are_metrics_of_run ms))) (named known other names h)
-
-pub refusal_same : (known other : Templates) (spec : ServiceSpec) → AllByRecursion (Agree known other) (analyses spec) → strategy_refusal known spec ≡ strategy_refusal other spec
-refusal_same known other spec h =
-    let all = analyses spec in
-    let steps = step_analyses spec in
-    let in_steps = all_left (Agree known other) steps (names_of_background spec.background) h in
-    let a = any_alike (Agree known other) (repeats_metric known) (repeats_metric other) (repeats known other) all h in
-    let b = any_alike (Agree known other) (has_unknown known) (has_unknown other) (unknown known other) all h in
-    let c = any_alike (Agree known other) (is_endless known) (is_endless other) (endless known other) steps in_steps in
-    let d = any_alike (Agree known other) (is_misfit known) (is_misfit other) (misfit known other) all h in
-    λ i. first_that_holds ((a i, DuplicateMetric) ∷ (b i, UnknownTemplate) ∷ (c i, EndlessMetric) ∷ (nat_lt 64 (length spec.steps) || (not (list_all has_weight_in_range spec.steps) || d i), BadStrategy) ∷ [])
-
-steps_same : (known other : Templates) (steps : List Step) → AllByRecursion (Agree known other) (filter_map names_of_step steps) → map (step_metrics known) steps ≡ map (step_metrics other) steps
-steps_same known other [] h = refl
-steps_same known other (SetWeight percent ∷ steps) h = ap (λ (ms : List (List MetricValue)). [] ∷ ms) (steps_same known other steps h)
-steps_same known other (Pause seconds ∷ steps) h = ap (λ (ms : List (List MetricValue)). [] ∷ ms) (steps_same known other steps h)
-steps_same known other (Analysis names ∷ steps) h = λ i. named known other names h.0 i ∷ steps_same known other steps h.1 i
-
-background_same : (known other : Templates) (b : Option Background) → AllByRecursion (Agree known other) (names_of_background b) → background_metrics known b ≡ background_metrics other b
-background_same known other None h = refl
-background_same known other (Some b) h = named known other b.templates h.0
-
-pub strategy_same : (known other : Templates) (spec : ServiceSpec) → AllByRecursion (Agree known other) (analyses spec) → strategy_of known spec ≡ strategy_of other spec
-strategy_same known other spec h =
-    let steps = steps_same known other spec.steps (all_left (Agree known other) (step_analyses spec) (names_of_background spec.background) h) in
-    let background = background_same known other spec.background (all_right (Agree known other) (step_analyses spec) (names_of_background spec.background) h) in
-    λ i. record { steps = spec.steps; background = spec.background; step_metrics = steps i; background_metrics = background i }
 
 -- What a strategy that isn't refused is.
 
@@ -119,7 +62,7 @@ agree_all known other keeps (names ∷ all) e =
 pub stays_same : (known other : Templates) (spec : ServiceSpec) → KeepsKnown known other → strategy_refusal known spec ≡ None → (strategy_of known spec ≡ strategy_of other spec) × (strategy_refusal other spec ≡ None)
 stays_same known other spec keeps none =
     let agree = agree_all known other keeps (analyses spec) (not_refused known spec none).known_all in
-    (strategy_same known other spec agree, sym (refusal_same known other spec agree) ∙ none)
+    (strategy_alike known other spec agree, sym (refusal_alike known other spec agree) ∙ none)
 
 -- Its strategy is accepted.
 

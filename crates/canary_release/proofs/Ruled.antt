@@ -1,5 +1,5 @@
 -- What rules a command: a template beside the services, any other by its service.
-use Rattle.std.proofs.Common.{◌≡◌, ℕ, List, false, refl, sym}
+use Rattle.std.proofs.Common.{◌≡◌, ℕ, false, refl, sym}
 use Rattle.std.specs.Prelude.{Option, Some, None, Result, Ok, Err, IfOk, IsTrue}
 use Rattle.canary_plan.specs.declared.service.ServiceSpec.{ServiceSpec}
 use Rattle.canary_plan.specs.declared.template_spec.TemplateSpec.{TemplateSpec}

@@ -1,8 +1,7 @@
-use Rattle.std.proofs.Common.{rules, ◌≡◌, ◌∙◌}
+use Rattle.std.proofs.Common.{◌∙◌}
 use Rattle.std.specs.Prelude.{slice_get}
 use Rattle.std.proofs.lemmas.Result.{IfOk-weaker}
 use Rattle.canary_release.specs.Entering.{show_step}
-use Rattle.canary_release.specs.Shapes.{whole}
 use Rattle.canary_release.proofs.draft.Draft.enter_step.Goals as goal
 
 pub returns-clause-entered : goal.returns-clause-entered

@@ -1,5 +1,4 @@
-use Rattle.std.proofs.Common.{◌≡◌, sym, ◌∙◌}
-use Rattle.canary_release.specs.declared.service.Passed.{Passed}
+use Rattle.std.proofs.Common.{◌∙◌}
 use Rattle.canary_release.proofs.Steps.{ends_as}
 use Rattle.canary_release.proofs.service.Service.passed.Goals as goal
 
