@@ -323,9 +323,18 @@ fn report_body(alloc: Global, shown: &str, reported: &str) -> Option<String> {
     let (service, rest) = shown.split_once(' ')?;
     let (status, rest) = rest.split_once(' ')?;
     let (step, weight) = rest.split_once(' ')?;
-    format!(in alloc;
-        r#"{{"code":"ok","phases":[{phases}],"run":{run},"service":"{service}","status":"{status}","step":{step},"verdict":"{verdict}","weight":{weight}}}"#
-    ).ok()
+    let front = format!(in alloc;
+        r#"{{"code":"ok","phases":[{phases}],"run":{run},"service":"{service}","#
+    ).ok()?;
+    let back = format!(in alloc;
+        r#""status":"{status}","step":{step},"verdict":"{verdict}","weight":{weight}}}"#
+    ).ok()?;
+    joined(front, back).ok()
+}
+
+fn joined(mut front: String, back: String) -> Result<String, AllocError> {
+    front.push_str(back.as_str())?;
+    Ok(front)
 }
 
 fn phases_text(alloc: Global, phases: &str) -> Result<String, AllocError> {

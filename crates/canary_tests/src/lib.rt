@@ -22,6 +22,8 @@ mod once;
 #[cfg(test)]
 mod plan;
 #[cfg(test)]
+mod release;
+#[cfg(test)]
 mod rows;
 #[cfg(test)]
 mod wire_command;
