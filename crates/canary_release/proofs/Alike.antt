@@ -85,7 +85,7 @@ one_alike one p (Opened x) =
 one_alike one p (Measured x) =
     let going = mapped (measured_in x) (counted_in x) (run_alike one x) p.runs in
     λ i. record { count = same_length (measured_in x) p.runs i; open_runs = going i }
-one_alike one p (Closed x) = λ i. record { count = same_length (closed_in x) p.runs i; open_runs = others x p.runs i }
+one_alike one p (Closed x tallies) = λ i. record { count = same_length (closed_in x) p.runs i; open_runs = others x p.runs i }
 
 pub watches_alike : CountsOneMore → WatchesAlike
 watches_alike one p [] = refl

@@ -76,9 +76,9 @@ same_there name desk other command (Adds t) h there =
 same_there name desk other command (Becomes c) h there =
     record {
       templates = h.templates;
-      service = put_at desk command (after (get desk.services (subject_of command)) command c.stand c.effects) name
-          ∙ (λ i. cond (bytes_eq name (subject_of command)) (Some (after (there i) command c.stand c.effects)) (h.service i))
-          ∙ sym (put_at other command (after (get other.services (subject_of command)) command c.stand c.effects) name);
+      service = put_at desk command (after (get desk.services (subject_of command)) c.stand c.effects) name
+          ∙ (λ i. cond (bytes_eq name (subject_of command)) (Some (after (there i) c.stand c.effects)) (h.service i))
+          ∙ sym (put_at other command (after (get other.services (subject_of command)) c.stand c.effects) name);
     }
 
 -- and so does a change of the templates
@@ -96,7 +96,7 @@ left_alone : (name : List ℕ) (desk other : Desk) (command : Command) (x : Chan
 left_alone name desk other command Nothing none apart h = h
 left_alone name desk other command (Adds t) none apart h = absurd none
 left_alone name desk other command (Becomes c) none apart h =
-    let m : ModelService = after (get desk.services (subject_of command)) command c.stand c.effects in
+    let m : ModelService = after (get desk.services (subject_of command)) c.stand c.effects in
     record {
       templates = h.templates;
       service = put_at desk command m name ∙ ap (λ b. cond b (Some m) (get desk.services name)) apart ∙ h.service;

@@ -40,6 +40,8 @@ pub mod PartsActing
 pub mod OrderingTemplates
 pub mod Ordering
 pub mod Sounding
+pub mod Changing
+pub mod Quiet
 pub mod Ruled
 pub mod Broken
 pub mod RowsOfParts

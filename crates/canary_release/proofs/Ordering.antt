@@ -38,6 +38,7 @@ use Rattle.canary_release.specs.Laws.{WatchesAlike}
 use Rattle.canary_release.specs.Order.{IsRun, IsInOrder, IsTemplate, AreInOrder, StayInOrder}
 use Rattle.canary_release.proofs.Alike.{one_watch}
 use Rattle.canary_release.proofs.OrderingBasics.{neither, each, none_passes, some_same}
+use Rattle.canary_release.specs.Effects.{AreAllowed}
 use Rattle.canary_release.proofs.OrderingAllowed.{IsNumbered, AreDistinct, IsAtMost, IsFollowing}
 use Rattle.canary_release.proofs.OrderingReports.{follows}
 use Rattle.canary_release.proofs.OrderingPasts.{HasLists, IsOrdered, ordered_after_all}
@@ -110,7 +111,7 @@ past_ordered known name m o = record { numbered = o.numbered; runs = to_lists m 
 
 -- the change of a service that was found, and what came of it
 pub record HasBecome (known : Templates) (name : List ℕ) (m : ModelService) (command : Command) (c : Course) : Type 0 where
-  pub order : IsInOrder known name (after (Some m) command c.stand c.effects)
+  pub order : IsInOrder known name (after (Some m) c.stand c.effects)
   pub following : IsFollowing m.stand (watched m.past) c
 
 service_becomes : WatchesAlike → ActingKeepsParts → (known : Templates) → AreBound known → (name : List ℕ) (m : ModelService) (command : Command) (now : ℕ) (a : Acted) → IsInOrder known name m → act_passed command (course_of m) now ≡ Ok a → HasBecome known name m command a.course
@@ -133,14 +134,14 @@ service_becomes alike acting known bound name m command now a o e =
             strategy = f.strategy ∙ o.strategy;
             accepted = o.accepted;
             numbered = ordered.numbered;
-            runs = from_lists (after (Some m) command a.course.stand a.course.effects) grown.runs ordered.runs;
+            runs = from_lists (after (Some m) a.course.stand a.course.effects) grown.runs ordered.runs;
             measured = ordered.measured;
             parts = ap (λ (v : Runs). is_broken (record { stand = a.course.stand; runs = v })) (sym now_watched) ∙ unbroken;
           };
       following = f;
     }
 
-service_begins : NewPartsAreUnbroken → (known : Templates) (spec : ServiceSpec) (now : ℕ) → strategy_refusal known spec ≡ None → IsInOrder known spec.name (after None (AddService spec) (new_service known spec now).stand (new_service known spec now).effects)
+service_begins : NewPartsAreUnbroken → (known : Templates) (spec : ServiceSpec) (now : ℕ) → strategy_refusal known spec ≡ None → IsInOrder known spec.name (after None (new_service known spec now).stand (new_service known spec now).effects)
 service_begins adding known spec now none =
     record {
       named = refl;
@@ -159,10 +160,11 @@ abbrev pub OrderIf : Templates → List ℕ → Option ModelService → Type 0
 OrderIf known name None = Unit {0}
 OrderIf known name (Some m) = IsInOrder known name m
 
--- a new service has no runs
-pub record HasBegun (known : Templates) (name : List ℕ) (command : Command) (c : Course) : Type 0 where
-  pub order : IsInOrder known name (after None command c.stand c.effects)
+-- a new service has no runs, and what happened to it may happen
+pub record HasBegun (known : Templates) (name : List ℕ) (c : Course) : Type 0 where
+  pub order : IsInOrder known name (after None c.stand c.effects)
   pub no_runs : (grows_by no_past c.effects).runs ≡ []
+  pub allowed : AreAllowed c.stand.strategy (watched no_past) c.effects
 
 pub record HasAdded (known : Templates) (name : List ℕ) (t : Template) : Type 0 where
   pub order : IsTemplate name t
@@ -171,7 +173,7 @@ pub record HasAdded (known : Templates) (name : List ℕ) (t : Template) : Type 
 abbrev pub HasCome : Templates → Option ModelService → Command → Change → Type 0
 HasCome known found command Nothing = Unit {0}
 HasCome known found command (Adds t) = HasAdded known (subject_of command) t
-HasCome known None command (Becomes c) = HasBegun known (subject_of command) command c
+HasCome known None command (Becomes c) = HasBegun known (subject_of command) c
 HasCome known (Some m) command (Becomes c) = HasBecome known (subject_of command) m command c
 
 module _ (alike : WatchesAlike) (acting : ActingKeepsParts) (adding : NewPartsAreUnbroken) (known : Templates) (bound : AreBound known) where
@@ -180,7 +182,7 @@ module _ (alike : WatchesAlike) (acting : ActingKeepsParts) (adding : NewPartsAr
   came_old m command now o (Err refusal) e = tt
 
   came_new : (spec : ServiceSpec) (now : ℕ) (refusal : Option Refusal) → strategy_refusal known spec ≡ refusal → HasCome known None (AddService spec) (rules (unless refusal (leads (new_service known spec now)))).change
-  came_new spec now None e = record { order = service_begins adding known spec now e; no_runs = refl }
+  came_new spec now None e = record { order = service_begins adding known spec now e; no_runs = refl; allowed = (tt, tt) }
   came_new spec now (Some refusal) e = tt
 
   came_to_none : (command : Command) (now : ℕ) → HasCome known None command (rules (act_new known command now)).change
@@ -267,7 +269,7 @@ order_of desk o name = by (get desk.services name) refl
     by None e = tt
     by (Some s) e = o.services name s e
 
-becomes_order : (known : Templates) (found : Option ModelService) (command : Command) (c : Course) → HasCome known found command (Becomes c) → IsInOrder known (subject_of command) (after found command c.stand c.effects)
+becomes_order : (known : Templates) (found : Option ModelService) (command : Command) (c : Course) → HasCome known found command (Becomes c) → IsInOrder known (subject_of command) (after found c.stand c.effects)
 becomes_order known None command c h = h.order
 becomes_order known (Some m) command c h = h.order
 
@@ -288,7 +290,7 @@ order_after desk command (Becomes c) o h =
     let name = subject_of command in
     record {
       templates = o.templates;
-      services = found_inserted (IsInOrder (get desk.templates)) desk.services name (after (get desk.services name) command c.stand c.effects) (becomes_order (get desk.templates) (get desk.services name) command c h) o.services;
+      services = found_inserted (IsInOrder (get desk.templates)) desk.services name (after (get desk.services name) c.stand c.effects) (becomes_order (get desk.templates) (get desk.services name) command c h) o.services;
     }
 
 pub came_on : WatchesAlike → ActingKeepsParts → NewPartsAreUnbroken → (desk : Desk) (now : ℕ) (command : Command) → AreInOrder desk → HasCome (get desk.templates) (get desk.services (subject_of command)) command (ruling_on desk now command).change

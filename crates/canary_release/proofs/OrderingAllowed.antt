@@ -1,16 +1,9 @@
--- Which effects may happen to a service of which this is watched, and that every course brings such effects alone.
-use Rattle.std.proofs.Common.{◌≡◌, ℕ, ◌+◌, ◌≤◌, List, [], ◌∷◌, ◌++◌, length, Bool, true, false, refl, ap, sym, ◌∙◌, subst, arith}
-use Rattle.std.specs.Prelude.{◌==◌, cond, if◌then◌else◌, Some, slice_get, map, filter}
-use Rattle.std.specs.List.{AllByRecursion, find}
-use Rattle.canary_condition.specs.Phases.{phase_of}
-use Rattle.canary_metric.specs.Metrics.{MetricValue}
-use Rattle.canary_metric.specs.Counts.{Counts, size}
-use Rattle.canary_metric.specs.MetricPhases.{is_completed}
+-- Open runs after allowed effects, and courses that bring such effects alone.
+use Rattle.std.proofs.Common.{◌≡◌, ℕ, ◌+◌, ◌≤◌, List, [], ◌∷◌, ◌++◌, Bool, true, false, refl, ap, sym, ◌∙◌, subst, arith}
+use Rattle.std.specs.Prelude.{◌==◌, cond, if◌then◌else◌, map, filter}
+use Rattle.std.specs.List.{AllByRecursion}
 use Rattle.canary_plan.specs.declared.strategy.CheckedStrategy.{CheckedStrategy}
-use Rattle.canary_plan.specs.Plans.{metrics_at}
-use Rattle.canary_release.specs.declared.effect.Opening.{Opening}
 use Rattle.canary_release.specs.declared.effect.Recorded.{Recorded}
-use Rattle.canary_release.specs.declared.effect.Closing.{Closing}
 use Rattle.canary_release.specs.declared.effect.Effect.{Effect}
 use Rattle.canary_release.specs.declared.effect.Effect.TheVariants.{Told, Opened, Measured, Closed}
 use Rattle.canary_release.specs.declared.runs.OpenRun.{OpenRun}
@@ -18,44 +11,9 @@ use Rattle.canary_release.specs.declared.runs.Runs.{Runs}
 use Rattle.canary_release.specs.declared.stand.Stand.{Stand}
 use Rattle.canary_release.specs.Pasts.{change_at}
 use Rattle.canary_release.specs.Watching.{opened_now, counted, counted_in, is_other, happens, after_all}
-use Rattle.canary_release.specs.Courses.{Course, with_stand, happen, runs_now, has_number, run_metrics, run_verdict}
+use Rattle.canary_release.specs.Courses.{Course, with_stand, happen, runs_now}
+use Rattle.canary_release.specs.Effects.{Allowed, AreAllowed}
 use Rattle.canary_release.proofs.OrderingBasics.{other_number, each, each_and_more, each_mapped, each_filtered}
-
--- a run that is opened has the next number, and lists for the metrics of its analysis
-pub record Opens (st : CheckedStrategy) (w : Runs) (x : Opening) : Type 0 where
-  pub number : x.run ≡ w.count + 1
-  pub metrics : List MetricValue
-  pub analysis : metrics_at st x.step ≡ Some metrics
-  pub one_each : x.metrics ≡ length metrics
-
--- a measurement is of an open run and of a metric of it, and the next of that metric
-pub record Measures (st : CheckedStrategy) (w : Runs) (x : Recorded) : Type 0 where
-  pub run : OpenRun
-  pub found : find (has_number x.run) w.open_runs ≡ Some run
-  pub metric : MetricValue
-  pub is_metric : slice_get (run_metrics st run.step) x.metric ≡ Some metric
-  pub tally : Counts
-  pub is_tally : slice_get run.tallies x.metric ≡ Some tally
-  pub next : x.ordinal ≡ size tally + 1
-  pub room : size tally + 1 ≤ 1000000
-  pub judged : x.phase ≡ phase_of metric.success metric.failure x.outcome
-
--- a run that is closed is open, and is closed at its verdict, a completed phase
-pub record Closes (st : CheckedStrategy) (w : Runs) (x : Closing) : Type 0 where
-  pub run : OpenRun
-  pub found : find (has_number x.run) w.open_runs ≡ Some run
-  pub verdict : x.verdict ≡ run_verdict st x.outside run
-  pub completed : is_completed x.verdict ≡ true
-
-abbrev pub Allowed : CheckedStrategy → Runs → Effect → Type 0
-Allowed st w (Told line) = Unit {0}
-Allowed st w (Opened x) = Opens st w x
-Allowed st w (Measured x) = Measures st w x
-Allowed st w (Closed x) = Closes st w x
-
-abbrev pub AreAllowed : CheckedStrategy → Runs → List Effect → Type 0
-AreAllowed st w [] = Unit {0}
-AreAllowed st w (x ∷ xs) = Allowed st w x × AreAllowed st (happens w x) xs
 
 one_more_allowed : (st : CheckedStrategy) (w : Runs) (xs : List Effect) (x : Effect) → AreAllowed st w xs → Allowed st (after_all w xs) x → AreAllowed st w (xs ++ x ∷ [])
 one_more_allowed st w [] x h a = (a, tt)
@@ -118,7 +76,7 @@ numbered_after st w (Measured x) a n =
       most = each_mapped (IsAtMost w.count) (IsAtMost w.count) (counted_in x) (λ r h. rw (counted_number x r) h) w.open_runs n.most;
       distinct = same_distinct (counted_in x) (counted_number x) w.open_runs n.distinct;
     }
-numbered_after st w (Closed x) a n =
+numbered_after st w (Closed x tallies) a n =
     record {
       most = each_filtered (IsAtMost w.count) (is_other x.run) w.open_runs n.most;
       distinct = filtered_distinct (is_other x.run) w.open_runs n.distinct;

@@ -21,7 +21,7 @@ use Rattle.canary_release.specs.Courses.{has_number, run_metrics}
 use Rattle.canary_release.specs.Laws.{WatchesAlike}
 use Rattle.canary_release.specs.Order.{AreNumbered, AreOrdered, is_of, AreLists, is_measured_by, is_of_some}
 use Rattle.canary_release.proofs.OrderingBasics.{other_number, not_same, some_same, each, each_both, each_and_more, each_mapped}
-use Rattle.canary_release.proofs.OrderingAllowed.{Allowed, AreAllowed}
+use Rattle.canary_release.specs.Effects.{Allowed, AreAllowed}
 
 -- What is in order of a past, by itself.
 
@@ -362,7 +362,7 @@ ordered_after st p (Measured x) a o =
           (each_both (HasLists st p.measurements) (IsThatRun x.run a.run) (λ (r : Run). HasLists st all (measured_in x r)) (lists_more st p.measurements x a.run a.metric a.tally a.is_metric a.is_tally a.next a.room) p.runs o.runs that);
       measured = true_all (is_of_some (map (measured_in x) p.runs)) all (each_and_more (IsOfRun (map (measured_in x) p.runs)) p.measurements x old new);
     }
-ordered_after st p (Closed x) a o =
+ordered_after st p (Closed x tallies) a o =
     let alike : (y : Recorded) → is_of_some (map (closed_in x) p.runs) y ≡ is_of_some p.runs y =
     λ y. any_mapped (is_measured_by y) (is_measured_by y) (closed_in x) (λ r i. y.run == closed_number x r i && nat_lt y.metric (closed_length x r i)) p.runs in
     record {

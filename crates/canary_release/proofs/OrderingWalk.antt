@@ -101,7 +101,7 @@ module _ (s : Stand) (w : Runs) (accepted : IsTrue (is_accepted s.strategy)) (nu
   pub closed : (c : Course) (r : OpenRun) (at : ℕ) (outside : Bool) → IsFollowing s w c → find (has_number r.number) (runs_now c).open_runs ≡ Some r → is_completed (run_verdict c.stand.strategy outside r) ≡ true → IsFollowing s w (close_run c r at outside)
   closed c r at outside f found completed =
       let is : run_verdict c.stand.strategy outside r ≡ run_verdict s.strategy outside r = ap (λ (st : CheckedStrategy). run_verdict st outside r) f.strategy in
-      follows_on s w c (Closed (record { run = r.number; at = at; outside = outside; verdict = run_verdict c.stand.strategy outside r })) f (record { run = r; found = found; verdict = is; completed = completed })
+      follows_on s w c (Closed (record { run = r.number; at = at; outside = outside; verdict = run_verdict c.stand.strategy outside r }) r.tallies) f (record { run = r; found = found; verdict = is; completed = completed; last = refl })
 
   -- one after another of open runs with different numbers
   ended : (at : ℕ) (c : Course) (rs : List OpenRun) → IsFollowing s w c → AllByRecursion (λ (q : OpenRun). find (has_number q.number) (runs_now c).open_runs ≡ Some q) rs → AreDistinct rs → IsFollowing s w (end_runs at c rs)
@@ -113,7 +113,7 @@ module _ (s : Stand) (w : Runs) (accepted : IsTrue (is_accepted s.strategy)) (nu
       let f2 : IsFollowing s w two = told one at (Ended r.number (run_verdict c.stand.strategy true r)) f1 in
       let now : runs_now two ≡ record { count = (runs_now c).count; open_runs = filter (is_other r.number) (runs_now c).open_runs } =
       now_after s w one (Told (record { moment = at; event = Ended r.number (run_verdict c.stand.strategy true r) })) f1
-      ∙ now_after s w c (Closed (record { run = r.number; at = at; outside = true; verdict = run_verdict c.stand.strategy true r })) f in
+      ∙ now_after s w c (Closed (record { run = r.number; at = at; outside = true; verdict = run_verdict c.stand.strategy true r }) r.tallies) f in
       ended at two rs f2
       (each_both
       (λ (q : OpenRun). find (has_number q.number) (runs_now c).open_runs ≡ Some q)

@@ -163,7 +163,7 @@ completes t n c r v acc found steady entered f others =
     let o : OthersUnjudged r.number st w = subst (λ k. OthersUnjudged k st w) same others in
     let closed : Course = close_run c r t false in
     let b : Course = tell closed t (Completed r.number v) in
-    let runs : runs_now b ≡ without r.number w = told_runs closed t (Completed r.number v) steady ∙ happened_runs c (Closed (record { run = r.number; at = t; outside = false; verdict = run_verdict st.strategy false r })) steady in
+    let runs : runs_now b ≡ without r.number w = told_runs closed t (Completed r.number v) steady ∙ happened_runs c (Closed (record { run = r.number; at = t; outside = false; verdict = run_verdict st.strategy false r }) r.tallies) steady in
     let g : is_going st.state ≡ true = found_going (is_going st.state) (has_number r.number) w.open_runs r f.idle h in
     follows st.strategy t b r.number r.step v (record {
       accepted = acc;

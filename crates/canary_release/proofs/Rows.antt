@@ -336,5 +336,5 @@ one_open : watched (grows_by no_past (Opened run_of_two ∷ Measured good ∷ []
 }
 one_open = refl
 
-none_open : watched (grows_by no_past (Opened run_of_two ∷ Closed (record { run = 1; at = b + 9; outside = true; verdict = Successful }) ∷ [])) ≡ record { count = 1; open_runs = [] }
+none_open : watched (grows_by no_past (Opened run_of_two ∷ Closed (record { run = 1; at = b + 9; outside = true; verdict = Successful }) [] ∷ [])) ≡ record { count = 1; open_runs = [] }
 none_open = refl

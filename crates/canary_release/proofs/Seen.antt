@@ -25,24 +25,24 @@ use Rattle.canary_release.specs.Shapes.{shape, kept_after, said, kept_by, seen, 
 use Rattle.canary_release.proofs.Watches.{KeepsIf, acted_passed}
 
 -- a course with the watch of a service's past ends with what is kept of it afterwards
-pub kept_is_seen : (m : ModelService) (command : Command) (c : Course) → c.watch ≡ watch_of m.past → shape (after (Some m) command c.stand c.effects) ≡ kept_after c
+pub kept_is_seen : (m : ModelService) (command : Command) (c : Course) → c.watch ≡ watch_of m.past → shape (after (Some m) c.stand c.effects) ≡ kept_after c
 kept_is_seen m command c same = λ i. record { stand = c.stand; runs = sym same i c.effects }
 
 -- a change of the service as it was found brings what is kept of it afterwards
-abbrev Fits : Option ModelService → Command → Change → Type 0
-Fits found command Nothing = Unit {0}
-Fits found command (Adds t) = Unit {0}
-Fits found command (Becomes c) = shape (after found command c.stand c.effects) ≡ kept_after c
+abbrev Fits : Option ModelService → Change → Type 0
+Fits found Nothing = Unit {0}
+Fits found (Adds t) = Unit {0}
+Fits found (Becomes c) = shape (after found c.stand c.effects) ≡ kept_after c
 
 abbrev HasWatch : Watch → Result Acted Refusal → Type 0
 HasWatch w (Ok a) = a.course.watch ≡ w
 HasWatch w (Err refusal) = Unit {0}
 
-fits_old : (m : ModelService) (command : Command) (r : Result Acted Refusal) → HasWatch (watch_of m.past) r → Fits (Some m) command (rules r).change
+fits_old : (m : ModelService) (command : Command) (r : Result Acted Refusal) → HasWatch (watch_of m.past) r → Fits (Some m) (rules r).change
 fits_old m command (Ok a) same = kept_is_seen m command a.course same
 fits_old m command (Err refusal) same = tt
 
-fits_new : (command : Command) (r : Result Acted Refusal) → HasWatch (watch_of no_past) r → Fits None command (rules r).change
+fits_new : (command : Command) (r : Result Acted Refusal) → HasWatch (watch_of no_past) r → Fits None (rules r).change
 fits_new command (Ok a) same = λ i. record { stand = a.course.stand; runs = sym same i a.course.effects }
 fits_new command (Err refusal) same = tt
 
@@ -65,19 +65,19 @@ new_watch known (Retry name) now = tt
 new_watch known (Tick name) now = tt
 new_watch known (Report report) now = tt
 
-fits_service : (known : Templates) (found : Option ModelService) (now : ℕ) (command : Command) → Fits found command (rule_service known (option_map course_of found) now command).change
+fits_service : (known : Templates) (found : Option ModelService) (now : ℕ) (command : Command) → Fits found (rule_service known (option_map course_of found) now command).change
 fits_service known None now command = fits_new command (act_new known command now) (new_watch known command now)
 fits_service known (Some m) now command = fits_old m command (act_passed command (course_of m) now) (kept_watch_of (course_of m) (act_passed command (course_of m) now) (acted_passed command (course_of m) now))
 
-fits_adds : (found : Option ModelService) (command : Command) (refusal : Option Refusal) (spec : TemplateSpec) → Fits found command (adds_unless refusal spec).change
+fits_adds : (found : Option ModelService) (command : Command) (refusal : Option Refusal) (spec : TemplateSpec) → Fits found (adds_unless refusal spec).change
 fits_adds found command None spec = tt
 fits_adds found command (Some refusal) spec = tt
 
-fits_template : (found : Option ModelService) (command : Command) (there : Option Known) (spec : TemplateSpec) → Fits found command (rule_template there spec).change
+fits_template : (found : Option ModelService) (command : Command) (there : Option Known) (spec : TemplateSpec) → Fits found (rule_template there spec).change
 fits_template found command None spec = fits_adds found command (template_refusal spec) spec
 fits_template found command (Some t) spec = tt
 
-pub fits : (known : Templates) (found : Option ModelService) (now : ℕ) (command : Command) → Fits found command (ruling known (option_map course_of found) now command).change
+pub fits : (known : Templates) (found : Option ModelService) (now : ℕ) (command : Command) → Fits found (ruling known (option_map course_of found) now command).change
 fits known found now (Template spec) = fits_template found (Template spec) (known spec.name) spec
 fits known found now (Service spec) = fits_service known found now (Service spec)
 fits known found now (Start name version) = fits_service known found now (Start name version)
@@ -97,11 +97,11 @@ same_name name = is_eq-slice_cmp name name ∙ bytes_same name
 found_there : (desk : Desk) (command : Command) (m : ModelService) → get (insert desk.services (subject_of command) m) (subject_of command) ≡ Some m
 found_there desk command m = get-insert nat_list_cmp_total desk.services (subject_of command) m (subject_of command) ∙ ap (λ b. cond b (Some m) (get desk.services (subject_of command))) (same_name (subject_of command))
 
-seen_after : (desk : Desk) (command : Command) (x : Change) (s : ServiceParts) → Fits (get desk.services (subject_of command)) command x → kept_by (said x) ≡ Some s → seen (desk_after desk command x) (subject_of command) ≡ Some s
+seen_after : (desk : Desk) (command : Command) (x : Change) (s : ServiceParts) → Fits (get desk.services (subject_of command)) x → kept_by (said x) ≡ Some s → seen (desk_after desk command x) (subject_of command) ≡ Some s
 seen_after desk command Nothing s fit brings = cc brings
 seen_after desk command (Adds t) s fit brings = cc brings
 seen_after desk command (Becomes c) s fit brings =
-    ap (option_map shape) (found_there desk command (after (get desk.services (subject_of command)) command c.stand c.effects)) ∙ ap (λ (k : ServiceParts). Some k) fit ∙ brings
+    ap (option_map shape) (found_there desk command (after (get desk.services (subject_of command)) c.stand c.effects)) ∙ ap (λ (k : ServiceParts). Some k) fit ∙ brings
 
 pub keeps_what_is_seen : KeepsWhatIsSeen
 keeps_what_is_seen desk now command s brings = seen_after desk command (ruling_on desk now command).change s (fits (get desk.templates) (get desk.services (subject_of command)) now command) brings

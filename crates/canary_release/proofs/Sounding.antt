@@ -34,7 +34,7 @@ use Rattle.canary_release.specs.Laws.{WatchesAlike}
 use Rattle.canary_release.specs.Order.{AreInOrder}
 use Rattle.canary_release.specs.Sound.{IsJudgedBy, AreJudged, HasVerdict, IsSoundRun, AreSound, StaySound}
 use Rattle.canary_release.proofs.OrderingBasics.{neither, some_same, each, each_both, each_and_more, each_mapped, fold_completed}
-use Rattle.canary_release.proofs.OrderingAllowed.{Allowed, AreAllowed}
+use Rattle.canary_release.specs.Effects.{Allowed, AreAllowed}
 use Rattle.canary_release.proofs.OrderingPasts.{IsOrdered, IsThatRun, that_run, ordered_after, watched_then}
 use Rattle.canary_release.proofs.Ordering.{parts_say, past_ordered, OrderIf, HasCome, found_inserted, order_of, came_on, order_applied}
 
@@ -113,7 +113,7 @@ sound_after st p (Measured x) a o h =
     let that = that_run x.run 1 p.runs a.run o.numbered a.found in
     each_mapped (λ (r : Run). IsSoundSoFar st (measured_in x r)) (IsSoundSoFar st) (measured_in x) (λ r k. k) p.runs
     (each_both (IsSoundSoFar st) (IsThatRun x.run a.run) (λ (r : Run). IsSoundSoFar st (measured_in x r)) (sound_measured st x a.run a.metric a.is_metric a.judged) p.runs h that)
-sound_after st p (Closed x) a o h =
+sound_after st p (Closed x tallies) a o h =
     let that = that_run x.run 1 p.runs a.run o.numbered a.found in
     each_mapped (λ (r : Run). IsSoundSoFar st (closed_in x r)) (IsSoundSoFar st) (closed_in x) (λ r k. k) p.runs
     (each_both (IsSoundSoFar st) (IsThatRun x.run a.run) (λ (r : Run). IsSoundSoFar st (closed_in x r)) (sound_closed st x a.run a.verdict a.completed) p.runs h that)
@@ -163,10 +163,10 @@ abbrev SoundIf : Option ModelService → Type 0
 SoundIf None = Unit {0}
 SoundIf (Some s) = AllByRecursion (IsSoundRun s) s.past.runs
 
-sound_becomes : WatchesAlike → (known : Templates) (found : Option ModelService) (command : Command) (c : Course) → OrderIf known (subject_of command) found → SoundIf found → HasCome known found command (Becomes c) → AllByRecursion (IsSoundRun (after found command c.stand c.effects)) (after found command c.stand c.effects).past.runs
-sound_becomes alike known None command c o h came = subst (AllByRecursion (IsSoundRun (after None command c.stand c.effects))) (sym came.no_runs) tt
+sound_becomes : WatchesAlike → (known : Templates) (found : Option ModelService) (command : Command) (c : Course) → OrderIf known (subject_of command) found → SoundIf found → HasCome known found command (Becomes c) → AllByRecursion (IsSoundRun (after found c.stand c.effects)) (after found c.stand c.effects).past.runs
+sound_becomes alike known None command c o h came = subst (AllByRecursion (IsSoundRun (after None c.stand c.effects))) (sym came.no_runs) tt
 sound_becomes alike known (Some m) command c o h came =
-    let s : ModelService = after (Some m) command c.stand c.effects in
+    let s : ModelService = after (Some m) c.stand c.effects in
     let f = came.following in
     let so_far = each (IsSoundRun m) (IsSoundSoFar m.stand.strategy) (to_so_far m) m.past.runs h in
     let grown = sound_after_all alike m.stand.strategy m.past c.effects f.allowed (past_ordered known (subject_of command) m o) so_far in
@@ -186,7 +186,7 @@ sound_on alike desk command (Adds t) o h came = h
 sound_on alike desk command (Becomes c) o h came =
     let name = subject_of command in
     let found = get desk.services name in
-    found_inserted AreSoundRuns desk.services name (after found command c.stand c.effects) (sound_becomes alike (get desk.templates) found command c (order_of desk o name) (sound_of desk h name) came) h
+    found_inserted AreSoundRuns desk.services name (after found c.stand c.effects) (sound_becomes alike (get desk.templates) found command c (order_of desk o name) (sound_of desk h name) came) h
 
 pub stay_sound : WatchesAlike → ActingKeepsParts → NewPartsAreUnbroken → StaySound
 stay_sound alike acting adding desk [] o h = h

@@ -153,11 +153,11 @@ put_same t false m n ticked plain same h = h
 
 -- the same service is put on both desks
 put_both : (t : ℕ) (name : List ℕ) (ticked plain : Desk) (command : Command) (c d : Course) → AreApart t name ticked plain
-    → ◌≡◌ {A = ModelService} (after (get ticked.services (subject_of command)) command c.stand c.effects) (after (get plain.services (subject_of command)) command d.stand d.effects)
+    → ◌≡◌ {A = ModelService} (after (get ticked.services (subject_of command)) c.stand c.effects) (after (get plain.services (subject_of command)) d.stand d.effects)
     → AreApart t name (desk_after ticked command (Becomes c)) (desk_after plain command (Becomes d))
 put_both t name ticked plain command c d h same =
-    let m : ModelService = after (get ticked.services (subject_of command)) command c.stand c.effects in
-    let n : ModelService = after (get plain.services (subject_of command)) command d.stand d.effects in
+    let m : ModelService = after (get ticked.services (subject_of command)) c.stand c.effects in
+    let n : ModelService = after (get plain.services (subject_of command)) d.stand d.effects in
     let b = bytes_eq name (subject_of command) in
     record {
       templates = h.templates;
@@ -173,7 +173,7 @@ same_change : (t : ℕ) (name : List ℕ) (ticked plain : Desk) (command : Comma
     → AreApart t name (desk_after ticked command x) (desk_after plain command x)
 same_change t name ticked plain command Nothing none there h = h
 same_change t name ticked plain command (Adds k) none there h = absurd none
-same_change t name ticked plain command (Becomes c) none there h = put_both t name ticked plain command c c h (λ i. after (there i) command c.stand c.effects)
+same_change t name ticked plain command (Becomes c) none there h = put_both t name ticked plain command c c h (λ i. after (there i) c.stand c.effects)
 
 -- the same change, where no service is changed
 same_added : (t : ℕ) (name : List ℕ) (ticked plain : Desk) (command : Command) (x : Change) → ChangesNoService x → AreApart t name ticked plain → AreApart t name (desk_after ticked command x) (desk_after plain command x)
@@ -207,7 +207,7 @@ on_results t name ticked plain command m (Err refusal) h ticked_is plain_is = (r
 on_results t name ticked plain command m (Ok a) h ticked_is plain_is =
     let d : Course = behind_all (watch_of m.past) (effects_to t m) a.course in (
       ap (λ (c : Course). accepted (a.shows c.stand)) (sym (shape_behind (watch_of m.past) (effects_to t m) a.course)),
-      put_both t name ticked plain command a.course d h ((λ i. after (ticked_is i) command a.course.stand a.course.effects) ∙ sym (grown_behind t m a.course) ∙ (λ i. after (sym plain_is i) command d.stand d.effects)),
+      put_both t name ticked plain command a.course d h ((λ i. after (ticked_is i) a.course.stand a.course.effects) ∙ sym (grown_behind t m a.course) ∙ (λ i. after (sym plain_is i) d.stand d.effects)),
     )
 
 on_passed : (t : ℕ) (name : List ℕ) (ticked plain : Desk) (now : ℕ) (command : Command) → t ≤ now → AreApart t name ticked plain
@@ -279,8 +279,8 @@ tick_passes t c =
 
 ticked_there : (t : ℕ) (name : List ℕ) (desk : Desk) (m : ModelService) (c : Course) → get desk.services name ≡ Some m → c ≡ pass (course_of m) t → AreApart t name (desk_after desk (Tick name) (Becomes c)) desk
 ticked_there t name desk m c there is =
-    let k : ModelService = after (get desk.services name) (Tick name) c.stand c.effects in
-    let grew : k ≡ passed_to t m = (λ i. after (there i) (Tick name) c.stand c.effects) ∙ ap (λ (d : Course). grown m d.stand d.effects) is in
+    let k : ModelService = after (get desk.services name) c.stand c.effects in
+    let grew : k ≡ passed_to t m = (λ i. after (there i) c.stand c.effects) ∙ ap (λ (d : Course). grown m d.stand d.effects) is in
     record {
       templates = λ n. refl;
       others = λ q apart. put_at desk (Tick name) k q ∙ ap (λ b. cond b (Some k) (get desk.services q)) (is_other q name apart);

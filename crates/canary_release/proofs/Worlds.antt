@@ -26,7 +26,7 @@ changed_at f name a x = cond (eq_by_cmp (slice_cmp nat_cmp) x name) (Some a) (f 
 abbrev pub with_change : World → Command → Change → World
 with_change w command Nothing = w
 with_change w command (Adds t) = record w { known = changed_at w.known (subject_of command) t }
-with_change w command (Becomes c) = let s = after (w.services (subject_of command)) command c.stand c.effects in record w { services = changed_at w.services (subject_of command) s }
+with_change w command (Becomes c) = let s = after (w.services (subject_of command)) c.stand c.effects in record w { services = changed_at w.services (subject_of command) s }
 
 abbrev pub ruling_in : World → ℕ → Command → Ruling
 ruling_in w now command = ruling w.known (option_map course_of (w.services (subject_of command))) now command
@@ -50,7 +50,7 @@ change_lem desk command Nothing = refl
 change_lem desk command (Adds t) = λ i. record { known = λ q. get-insert nat_list_cmp_total desk.templates (subject_of command) t q i; services = get desk.services }
 change_lem desk command (Becomes c) =
     let name = subject_of command in
-    λ i. record { known = get desk.templates; services = λ q. get-insert nat_list_cmp_total desk.services name (after (get desk.services name) command c.stand c.effects) q i }
+    λ i. record { known = get desk.templates; services = λ q. get-insert nat_list_cmp_total desk.services name (after (get desk.services name) c.stand c.effects) q i }
 
 pub world-apply : (desk : Desk) (now : ℕ) (command : Command) → world_of (apply desk now command).desk ≡ world_after (world_of desk) now command
 world-apply desk now command = change_lem desk command (ruling_in (world_of desk) now command).change

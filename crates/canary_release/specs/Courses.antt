@@ -65,9 +65,9 @@ next_run c = (runs_now c).count + 1
 abbrev pub open_run : Course → Option ℕ → ℕ → Course
 open_run c step at = happen c (Opened (record { run = next_run c; step = step; started = at; metrics = length (run_metrics c.stand.strategy step) }))
 
--- a run is closed at its verdict
+-- a run is closed at its verdict, with its last tallies
 abbrev pub close_run : Course → OpenRun → ℕ → Bool → Course
-close_run c r at outside = happen c (Closed (record { run = r.number; at = at; outside = outside; verdict = run_verdict c.stand.strategy outside r }))
+close_run c r at outside = happen c (Closed (record { run = r.number; at = at; outside = outside; verdict = run_verdict c.stand.strategy outside r }) r.tallies)
 
 -- a run is ended from outside
 abbrev pub end_run : ℕ → Course → OpenRun → Course

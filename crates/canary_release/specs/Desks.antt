@@ -120,33 +120,30 @@ pub record Desk : Type 0 where
 abbrev pub no_desk : Desk
 no_desk = record { templates = empty; services = empty }
 
--- the command that makes a service that is new; only a Service command does
-abbrev pub made_by : Command → Stand → ServiceSpec
-made_by (AddService spec) s = spec
-made_by command s = record { name = s.name; version = s.version; steps = s.strategy.steps; background = s.strategy.background }
+-- the command that made a service that is new, by how it stands
+abbrev pub made_as : Stand → ServiceSpec
+made_as s = record { name = s.name; version = s.version; steps = s.strategy.steps; background = s.strategy.background }
 
 -- a service before a change: as it is, or a new one with no past
-abbrev pub before : Option ModelService → Command → Stand → ModelService
-before (Some m) command s = m
-before None command s = record { made = made_by command s; stand = s; past = no_past }
+abbrev pub before : Option ModelService → Stand → ModelService
+before (Some m) s = m
+before None s = record { made = made_as s; stand = s; past = no_past }
 
 -- after a change it stands so, and its past has grown by the effects
-abbrev pub after : Option ModelService → Command → Stand → List Effect → ModelService
-after found command s effects =
-    let m = before found command s in
+abbrev pub after : Option ModelService → Stand → List Effect → ModelService
+after found s effects =
+    let m = before found s in
     record m { stand = s; past = grows_by m.past effects }
 
--- the desk with a service changed
-abbrev pub with_service : Desk → Command → Stand → List Effect → Desk
-with_service desk command s effects =
-    let name = subject_of command in
-    record desk { services = insert desk.services name (after (get desk.services name) command s effects) }
+-- the desk with the service of that name changed
+abbrev pub with_service : Desk → List ℕ → Stand → List Effect → Desk
+with_service desk name s effects = record desk { services = insert desk.services name (after (get desk.services name) s effects) }
 
 -- the desk after a change that a command brings
 abbrev pub desk_after : Desk → Command → Change → Desk
 desk_after desk command Nothing = desk
 desk_after desk command (Adds t) = record desk { templates = insert desk.templates (subject_of command) t }
-desk_after desk command (Becomes c) = with_service desk command c.stand c.effects
+desk_after desk command (Becomes c) = with_service desk (subject_of command) c.stand c.effects
 
 pub record Applied : Type 0 where
   pub desk : Desk

@@ -16,3 +16,4 @@ pub mod Sound
 pub mod PartsLaws
 pub mod Recording
 pub mod Reporting
+pub mod Effects

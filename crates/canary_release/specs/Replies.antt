@@ -34,6 +34,7 @@ abbrev pub status_code : ReplyStatus → ℕ
 status_code reply_status.Accepted = 200
 status_code reply_status.Refused = 422
 status_code reply_status.Conflict = 409
+status_code reply_status.NotFound = 404
 
 abbrev pub accepted : List ℕ → Reply
 accepted body = record { status = reply_status.Accepted; body = body }

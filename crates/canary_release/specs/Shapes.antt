@@ -66,7 +66,7 @@ decided r = record { reply = r.reply; change = said r.change }
 abbrev pub changed : Desk → Command → DeskChange → Desk
 changed desk command Nothing = desk
 changed desk command (AddsTemplate t) = record desk { templates = insert desk.templates (subject_of command) t }
-changed desk command (Updates s effects) = with_service desk command s.stand effects
+changed desk command (Updates s effects) = with_service desk (subject_of command) s.stand effects
 
 -- what is kept of the service of that name, or none
 abbrev pub seen : Desk → List ℕ → Option ServiceParts

@@ -103,7 +103,13 @@ impl Draft {
 
     /// A run is closed at its verdict.
     #[tactic(auto, using(crate::proofs::Pushes::after_all_push))]
-    pub(crate) fn close(self, run: &OpenRun, at: Moment, outside: bool) -> Result<Draft, Memory>
+    pub(crate) fn close(
+        self,
+        alloc: Global,
+        run: &OpenRun,
+        at: Moment,
+        outside: bool,
+    ) -> Result<Draft, Memory>
         ensures closed { IfOk result (λ draft. whole draft
             ≡ close_run (whole self) run.now at outside) }
         ensures stand { IfOk result (λ draft. draft.stand ≡ self.stand) }
@@ -116,7 +122,7 @@ impl Draft {
             verdict: self.stand.run_verdict(outside, run),
         };
         let Draft { stand, watched } = self;
-        let watched = watched.closed(closing)?;
+        let watched = watched.closed(closing, run.tallies.copy(alloc)?)?;
         Ok(Draft { stand, watched })
     }
 

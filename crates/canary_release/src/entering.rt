@@ -20,13 +20,13 @@ use std::alloc::Global;
 
 impl Draft {
     // A run is ended from outside.
-    fn end_run(self, at: Moment, run: &OpenRun) -> Result<Draft, Memory>
+    fn end_run(self, alloc: Global, at: Moment, run: &OpenRun) -> Result<Draft, Memory>
         ensures ended { IfOk result (λ draft. whole draft ≡ end_run at (whole self) run.now) }
         ensures stand { IfOk result (λ draft. draft.stand ≡ self.stand) }
         ensures made { IfOk result (λ draft. runs_made draft ≡ runs_made self) }
     {
         let phase = self.stand.run_verdict(true, run);
-        let closed = self.close(run, at, true)?;
+        let closed = self.close(alloc, run, at, true)?;
         closed.tell(
             at,
             LineEvent::Ended {
@@ -43,17 +43,17 @@ impl Draft {
         ensures made { IfOk result (λ draft. runs_made draft ≡ runs_made self) }
     {
         let runs = self.runs().copy(alloc)?.open_runs;
-        self.end_runs(at, runs.as_slice())
+        self.end_runs(alloc, at, runs.as_slice())
     }
 
-    fn end_runs(self, at: Moment, runs: &[OpenRun]) -> Result<Draft, Memory>
+    fn end_runs(self, alloc: Global, at: Moment, runs: &[OpenRun]) -> Result<Draft, Memory>
         ensures ended { IfOk result (λ draft. whole draft ≡ end_runs at (whole self) runs.now) }
         ensures stand { IfOk result (λ draft. draft.stand ≡ self.stand) }
         ensures made { IfOk result (λ draft. runs_made draft ≡ runs_made self) }
     {
         let mut draft = self;
         for run in runs {
-            draft = draft.end_run(at, run)?;
+            draft = draft.end_run(alloc, at, run)?;
         }
         Ok(draft)
     }

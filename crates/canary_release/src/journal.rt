@@ -8,6 +8,7 @@ use crate::effect::{Closing, Effect, Opening, Recorded};
 use crate::runs::Runs;
 use canary_base::error::Memory;
 use canary_base::lists::Listed;
+use canary_metric::tally::Tally;
 use canary_plan::line::Line;
 use std::alloc::Global;
 use std::marker::Model;
@@ -111,15 +112,15 @@ impl Watched {
         Ok(Watched { journal, runs })
     }
 
-    /// A run is closed.
+    /// A run is closed, with its last tallies.
     #[tactic(auto, using(crate::proofs::Pushes::after_all_push))]
-    pub(crate) fn closed(self, closing: Closing) -> Result<Watched, Memory>
+    pub(crate) fn closed(self, closing: Closing, tallies: Listed<Tally>) -> Result<Watched, Memory>
         ensures { IfOk result (λ watched. watched
-            ≡ record self { effects = self.effects ++ effect.Closed closing ∷ [] }) }
+            ≡ record self { effects = self.effects ++ effect.Closed closing tallies ∷ [] }) }
     {
         let Watched { journal, runs } = self;
         let runs = runs.closed(&closing);
-        let journal = journal.with(Effect::Closed(closing))?;
+        let journal = journal.with(Effect::Closed { closing, tallies })?;
         Ok(Watched { journal, runs })
     }
 

@@ -8,6 +8,7 @@ ghost use Rattle.canary_release.specs.Order.{AreInOrder, StayInOrder};
 ghost use Rattle.canary_release.specs.PartsLaws.{PassingKeepsParts, ActingKeepsParts};
 ghost use Rattle.canary_release.specs.PartsLaws.{NewPartsAreUnbroken};
 ghost use Rattle.canary_release.specs.Sound.{AreSound, StaySound};
+ghost use Rattle.canary_release.specs.Effects.{CommandsChange, TimeMeasuresNothing};
 
 use canary_metric::laws;
 
@@ -89,3 +90,21 @@ pub fn sound()
     watching();
     parts();
 }
+
+/// What a command changes of a desk in order tells all that a store writes: a template, or a
+/// service with its strategy, is under the name that the command names; a run that is opened has
+/// the next number and the metrics of its analysis; a measurement is of an open run, the next of
+/// its metric, and judged by the metric's conditions; and a run that is closed is open, has its
+/// verdict, and comes with its last tallies.
+pub fn effects()
+    ensures { CommandsChange }
+{
+    watching();
+    parts();
+}
+
+/// As time passes, no measurement is recorded: of the effects that bring a service to a moment,
+/// none is a measurement.
+pub fn quiet()
+    ensures { TimeMeasuresNothing }
+{}

@@ -41,7 +41,9 @@ impl fmt::Display for PartsFault {
 impl Error for PartsFault {}
 
 impl Service {
-    /// The service that is made of these parts, which takes no memory.
+    /// The service that is made of these parts, which takes no memory. Its open runs stand in the
+    /// order given, and are ended in it: only of services that the desk made do they always stand
+    /// by number.
     ///
     /// # Errors
     /// `Broken` where no service can stand so.

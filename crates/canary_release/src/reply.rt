@@ -12,7 +12,7 @@ use canary_condition::outcome::Phase;
 use canary_plan::refusal::Refusal;
 use std::alloc::Global;
 
-/// What a reply says of its request.
+/// What a reply says of its request or query.
 #[derive(Clone, Copy, Debug, PartialEq, Eq)]
 pub enum ReplyStatus {
     /// The command was accepted.
@@ -21,10 +21,12 @@ pub enum ReplyStatus {
     Refused,
     /// The request conflicts with what is settled, which changes nothing.
     Conflict,
+    /// What a query asks for is not there.
+    NotFound,
 }
 
 impl ReplyStatus {
-    /// Its status code of HTTP (RFC 9110): 200, 422 or 409.
+    /// Its status code of HTTP (RFC 9110): 200, 422, 409 or 404.
     pub fn code(self) -> u16
         ensures { result ≡ status_code self }
     {
@@ -32,11 +34,12 @@ impl ReplyStatus {
             ReplyStatus::Accepted => 200,
             ReplyStatus::Refused => 422,
             ReplyStatus::Conflict => 409,
+            ReplyStatus::NotFound => 404,
         }
     }
 }
 
-/// A reply: what it says of its request, and a body of JSON. A command's is Accepted or Refused.
+/// A reply: what it says of its request or query, and a body of JSON. A command's is Accepted or Refused.
 #[derive(Drop)]
 pub struct Reply {
     pub status: ReplyStatus,

@@ -416,7 +416,7 @@ impl Draft {
     {
         let number = run.number;
         let step = run.step;
-        let closed = self.close(run, at, false)?;
+        let closed = self.close(alloc, run, at, false)?;
         let told = closed.tell(
             at,
             LineEvent::Completed {

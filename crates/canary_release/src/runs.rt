@@ -131,7 +131,8 @@ fn new_tallies(alloc: Global, metrics: u32) -> Result<Listed<Tally>, Memory>
     Ok(tallies)
 }
 
-/// What is kept of a service's runs: how many there are, and the open ones, by number.
+/// What is kept of a service's runs: how many there are, and the open ones, which stand by number
+/// in a service that the desk made.
 #[derive(Drop)]
 pub struct Runs {
     pub count: u32,
@@ -194,7 +195,7 @@ impl Runs {
 
     /// One run is no longer open.
     pub(crate) fn closed(self, closing: &Closing) -> Runs
-        ensures { result ≡ happens self (effect.Closed closing.now) }
+        ensures { result ≡ record self { open_runs = filter (is_other closing.now.run) self.open_runs } }
     {
         let Runs { count, open_runs } = self;
         let open_runs = without(open_runs, closing.run);

@@ -216,7 +216,8 @@ impl Service {
         self.parts.runs.count
     }
 
-    /// Its open runs, by number.
+    /// Its open runs: by number in a service that the desk made, and in the order given in one that
+    /// was made by `from_parts`.
     pub fn open_runs(&self) -> &[OpenRun]
         ensures value { result.now ≡ self.now.runs.open_runs }
     {
