@@ -1,0 +1,6 @@
+pub mod Regular
+pub mod Fitting
+pub mod Plain
+pub mod Backwards
+pub mod Canonicals
+pub mod Rows

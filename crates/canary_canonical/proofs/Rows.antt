@@ -1,0 +1,133 @@
+-- Worked texts, computed on the definitions, so that a wrong key or value in a definition does not check.
+use Rattle.std.proofs.Common.{◌≡◌, ℕ, pos, negsuc, List, [], ◌∷◌, Some, None, refl}
+use Rattle.std.specs.Prelude.{codes}
+use Rattle.std.specs.Fmt.{digits}
+use Rattle.json.proofs.OnLiterals.{json_on_literals}
+use Rattle.serde_json.proofs.OnLiterals.{serde_json_on_literals}
+use Rattle.canary_condition.specs.declared.outcome.Outcome.{Outcome}
+use Rattle.canary_condition.specs.declared.outcome.Outcome.TheVariants.{Result as Brought, Failure}
+use Rattle.canary_condition.specs.declared.outcome.Value.TheVariants.{Whole, List as ListResult}
+use Rattle.canary_plan.specs.declared.step.Step.TheVariants.{SetWeight, Pause, Analysis}
+use Rattle.canary_plan.specs.declared.template_spec.MetricSpec.{MetricSpec}
+use Rattle.canary_plan.specs.declared.report.Entry.{Entry}
+use Rattle.canary_plan.specs.declared.command.Command.TheVariants as command
+use Rattle.canary_canonical.specs.Texts.{metric_data, template_data, step_data, background_data, service_data, entry_data, report_data, start_data, command_data, command_text}
+use Rattle.canary_canonical.specs.Readings.{report_in, command_of_kind, no_command, command_of}
+
+abbrev web : List ℕ
+web = codes "web"
+
+-- Templates.
+
+abbrev metric : MetricSpec
+metric = record {
+  name = codes "m";
+  success = Some (codes "result == 0");
+  failure = None;
+  interval = Some 60;
+  initial_delay = 0;
+  count = None;
+  failure_limit = 0;
+  inconclusive_limit = 0;
+  consecutive_error_limit = 4;
+  within = refl;
+}
+
+template :
+    command_text (command.Template (record { name = codes "t"; metrics = metric ∷ []; dry_run = codes "m" ∷ []; within = refl }))
+    ≡ codes "{\"template\":{\"dryRun\":[\"m\"],\"metrics\":[{\"consecutiveErrorLimit\":4,\"count\":null,\"failureCondition\":null,\"failureLimit\":0,\"inconclusiveLimit\":0,\"initialDelay\":0,\"interval\":60,\"name\":\"m\",\"successCondition\":\"result == 0\"}],\"name\":\"t\"}}"
+unfolding json_on_literals digits command_text command_data template_data metric_data
+template = refl
+
+-- what is absent and what is written out change places
+other_metric : command_text (command.Template (record {
+  name = codes "t";
+  metrics = record metric { success = None; failure = Some (codes "result < 5"); interval = None; initial_delay = 5; count = Some 3; failure_limit = 1; inconclusive_limit = 2; within = refl } ∷ [];
+  dry_run = [];
+  within = refl;
+}))
+    ≡ codes "{\"template\":{\"dryRun\":[],\"metrics\":[{\"consecutiveErrorLimit\":4,\"count\":3,\"failureCondition\":\"result < 5\",\"failureLimit\":1,\"inconclusiveLimit\":2,\"initialDelay\":5,\"interval\":null,\"name\":\"m\",\"successCondition\":null}],\"name\":\"t\"}}"
+unfolding json_on_literals digits command_text command_data template_data metric_data
+other_metric = refl
+
+-- Services.
+
+service :
+    command_text (command.Service (record {
+      name = web;
+      version = codes "v1";
+      steps = SetWeight 20 ∷ Pause None ∷ Pause (Some 300) ∷ Analysis (codes "t" ∷ []) ∷ [];
+      background = Some (record { templates = codes "t" ∷ []; starting_step = 0 });
+    }))
+    ≡ codes "{\"service\":{\"analysis\":{\"startingStep\":0,\"templates\":[\"t\"]},\"name\":\"web\",\"steps\":[{\"setWeight\":20},{\"pause\":null},{\"pause\":300},{\"analysis\":[\"t\"]}],\"version\":\"v1\"}}"
+unfolding json_on_literals digits command_text command_data service_data background_data step_data
+service = refl
+
+no_background :
+    command_text (command.Service (record { name = web; version = codes "v1"; steps = Pause None ∷ []; background = None }))
+    ≡ codes "{\"service\":{\"analysis\":null,\"name\":\"web\",\"steps\":[{\"pause\":null}],\"version\":\"v1\"}}"
+unfolding json_on_literals digits command_text command_data service_data step_data
+no_background = refl
+
+-- What engineers ask for.
+
+start : command_text (command.Start web (codes "v2")) ≡ codes "{\"start\":{\"service\":\"web\",\"version\":\"v2\"}}"
+unfolding json_on_literals command_text command_data start_data
+start = refl
+
+promote : command_text (command.Promote web) ≡ codes "{\"promote\":{\"service\":\"web\"}}"
+unfolding json_on_literals command_text command_data
+promote = refl
+
+promote_full : command_text (command.PromoteFull web) ≡ codes "{\"promoteFull\":{\"service\":\"web\"}}"
+unfolding json_on_literals command_text command_data
+promote_full = refl
+
+abort : command_text (command.Abort web) ≡ codes "{\"abort\":{\"service\":\"web\"}}"
+unfolding json_on_literals command_text command_data
+abort = refl
+
+retry : command_text (command.Retry web) ≡ codes "{\"retry\":{\"service\":\"web\"}}"
+unfolding json_on_literals command_text command_data
+retry = refl
+
+tick : command_text (command.Tick web) ≡ codes "{\"tick\":{\"service\":\"web\"}}"
+unfolding json_on_literals command_text command_data
+tick = refl
+
+-- Reports.
+
+abbrev measurement : ℕ → Outcome → Entry
+measurement taken outcome = record { metric = codes "m"; ordinal = 1; taken = taken; outcome = outcome; within = refl }
+
+report :
+    command_text (command.Report (record {
+      service = web;
+      run = 2;
+      entries = measurement 1000 (Brought (Whole (negsuc 4))) ∷ measurement 1060 (Brought (ListResult (pos 1 ∷ pos 0 ∷ []))) ∷ measurement 1120 (Failure (codes "say \"no\"\n")) ∷ [];
+      within = refl;
+    }))
+    ≡ codes "{\"report\":{\"entries\":[{\"metric\":\"m\",\"ordinal\":1,\"result\":-5,\"taken\":1000},{\"metric\":\"m\",\"ordinal\":1,\"result\":[1,0],\"taken\":1060},{\"failure\":\"say \\\"no\\\"\\n\",\"metric\":\"m\",\"ordinal\":1,\"taken\":1120}],\"run\":2,\"service\":\"web\"}}"
+unfolding json_on_literals digits command_text command_data report_data entry_data
+report = refl
+
+-- What is read.
+
+tick_read : command_of (codes "{\"tick\":{\"service\":\"web\"}}") ≡ command.Tick web
+unfolding serde_json_on_literals command_of command_of_kind
+tick_read = refl
+
+-- a text with a space is read, and is not canonical
+spaced : command_of (codes "{\"tick\": {\"service\":\"web\"}}") ≡ command.Tick web
+unfolding serde_json_on_literals command_of command_of_kind
+spaced = refl
+
+-- an object of two members is no command
+two_kinds : command_of (codes "{\"abort\":{\"service\":\"web\"},\"tick\":{\"service\":\"web\"}}") ≡ no_command
+unfolding serde_json_on_literals command_of command_of_kind
+two_kinds = refl
+
+-- a limit that the type of a report promises
+too_great : command_of (codes "{\"report\":{\"entries\":[],\"run\":2,\"service\":\"web\"}}") ≡ no_command
+unfolding serde_json_on_literals command_of command_of_kind report_in
+too_great = refl

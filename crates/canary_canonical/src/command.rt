@@ -1,0 +1,74 @@
+//! Commands as a store keeps them: by their canonical text.
+ghost use Rattle.std.specs.Prelude.{◌≡◌, IfOk};
+ghost use Rattle.canary_plan.specs.Commands.{same_command};
+ghost use Rattle.canary_canonical.specs.Texts.{command_text};
+ghost use Rattle.canary_canonical.specs.Readings.{command_of, IsCanonical};
+
+use crate::writing;
+use canary_base::error::Memory;
+use canary_base::lists::Text;
+use canary_plan::command::Command;
+use canary_plan::laws;
+use std::alloc::Global;
+use std::marker::Model;
+
+/// A command, which contracts see as the command, and which holds its canonical text.
+#[derive(Drop)]
+pub struct CanonicalCommand {
+    text: Text,
+}
+
+impl Model for CanonicalCommand {
+    ghost use Rattle.canary_plan.specs.declared.command.Command.{Command};
+    ghost use Rattle.canary_canonical.specs.Readings.{command_of, IsCanonical};
+
+    ghost Value = { Command };
+
+    ghost view = { λ c. command_of c.text };
+
+    ghost invariant = { λ c. IsCanonical c.text };
+}
+
+impl CanonicalCommand {
+    /// The command by its text, or `Memory`.
+    pub fn of(alloc: Global, command: &Command) -> Result<CanonicalCommand, Memory>
+        ensures { IfOk result (λ canonical. canonical ≡ command.now) }
+    {
+        let text = writing::text(alloc, command)?;
+        Ok(CanonicalCommand { text })
+    }
+
+    /// The command with this text, which is known to be canonical: a store gives it back. The text
+    /// is not read.
+    pub fn known(text: Text) -> CanonicalCommand
+        requires { IsCanonical text }
+        ensures { result ≡ command_of text }
+    {
+        CanonicalCommand { text }
+    }
+
+    /// Its canonical text.
+    pub fn text(&self) -> &str
+        ensures value { result.now ≡ command_text self.now }
+        ensures read { command_of result.now ≡ self.now }
+    {
+        self.text.as_str()
+    }
+
+    /// A copy of it, or `Memory`.
+    pub fn copy(&self, alloc: Global) -> Result<CanonicalCommand, Memory>
+        ensures { IfOk result (λ copy. copy ≡ self.now) }
+    {
+        let text = self.text.copy(alloc)?;
+        Ok(CanonicalCommand { text })
+    }
+
+    /// Whether it is the same command, by the texts alone.
+    #[tactic(auto, using(crate::proofs::Canonicals::same_by_text))]
+    pub fn is_same(&self, other: &CanonicalCommand) -> bool
+        ensures { result ≡ same_command self.now other.now }
+    {
+        laws::same_commands();
+        self.text.as_str() == other.text.as_str()
+    }
+}

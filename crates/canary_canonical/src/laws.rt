@@ -1,0 +1,13 @@
+//! Laws over the definitions alone.
+ghost use Rattle.canary_canonical.specs.Laws.{ReadsBack, OneText};
+
+/// A command's canonical text is read as the command, where its numbers fit 64 bits, as those of
+/// each command of a program do.
+pub fn reads_back()
+    ensures { ReadsBack }
+{}
+
+/// Two such commands have one canonical text exactly where they are equal.
+pub fn one_text()
+    ensures { OneText }
+{}

@@ -1,0 +1,70 @@
+//! The parts of commands in JSON.
+ghost use Rattle.std.specs.Prelude.{◌≡◌, IfOk};
+ghost use Rattle.serde_json.specs.Data.{string};
+ghost use Rattle.serde_json.specs.View.{view};
+ghost use Rattle.canary_canonical.specs.Texts.{whole_data, data_or_null, list_data, only};
+
+use canary_base::durations::Seconds;
+use canary_base::lists::Text;
+use canary_base::names::Name;
+use serde_json::{Value, json};
+use std::alloc::{AllocError, Global};
+
+/// The number, or null.
+pub fn number_or_null(number: Option<u32>) -> Value
+    ensures { view result ≡ data_or_null whole_data number }
+{
+    match number {
+        Some(number) => Value::from(number),
+        None => Value::Null,
+    }
+}
+
+/// The duration in seconds, or null.
+pub fn seconds_or_null(duration: Option<Seconds>) -> Value
+    ensures { view result ≡ data_or_null whole_data duration }
+{
+    match duration {
+        Some(duration) => Value::from(duration.get()),
+        None => Value::Null,
+    }
+}
+
+/// The text, or null.
+pub fn text_or_null(alloc: Global, text: &Option<Text>) -> Result<Value, AllocError>
+    ensures { IfOk result (λ value. view value ≡ data_or_null string text.now) }
+{
+    match text {
+        Some(text) => Value::try_from_str(alloc, text.as_str()),
+        None => Ok(Value::Null),
+    }
+}
+
+/// An object of this member alone.
+pub fn only(alloc: Global, key: &str, value: Value) -> Result<Value, AllocError>
+    ensures { IfOk result (λ object. view object ≡ only key.now (view value)) }
+{
+    json!(in alloc; {key: value})
+}
+
+/// The texts, in order.
+pub fn texts(alloc: Global, texts: &[Text]) -> Result<Value, AllocError>
+    ensures { IfOk result (λ value. view value ≡ list_data string texts.now) }
+{
+    let mut values = Vec::new(alloc);
+    for text in texts {
+        values.push(Value::try_from_str(alloc, text.as_str())?)?;
+    }
+    Ok(Value::Array(values))
+}
+
+/// The names, in order.
+pub fn names(alloc: Global, names: &[Name]) -> Result<Value, AllocError>
+    ensures { IfOk result (λ value. view value ≡ list_data string names.now) }
+{
+    let mut values = Vec::new(alloc);
+    for name in names {
+        values.push(Value::try_from_str(alloc, name.as_str())?)?;
+    }
+    Ok(Value::Array(values))
+}

@@ -1,0 +1,85 @@
+//! Reports in JSON.
+ghost use Rattle.std.specs.Prelude.{◌≡◌, IfOk};
+ghost use Rattle.serde_json.specs.View.{view};
+ghost use Rattle.canary_canonical.specs.Texts.{signed_data, list_data, result_data};
+ghost use Rattle.canary_canonical.specs.Texts.{measured, failed, entry_data, report_data};
+
+use canary_condition::outcome::{FailureText, Outcome, Value as Measured};
+use canary_plan::report::{Entry, Report};
+use serde_json::{Value, json};
+use std::alloc::{AllocError, Global};
+
+/// The report in JSON.
+#[tactic(auto, unfolding(crate::specs::Texts::report_data))]
+pub fn report_value(alloc: Global, report: &Report) -> Result<Value, AllocError>
+    ensures { IfOk result (λ value. view value ≡ report_data report.now) }
+{
+    let entries = entry_values(alloc, report.entries.as_slice())?;
+    json!(in alloc; {"entries": entries, "run": report.run, "service": report.service.as_str()})
+}
+
+fn entry_values(alloc: Global, entries: &[Entry]) -> Result<Value, AllocError>
+    ensures { IfOk result (λ value. view value ≡ list_data entry_data entries.now) }
+{
+    let mut values = Vec::new(alloc);
+    for entry in entries {
+        values.push(entry_value(alloc, entry)?)?;
+    }
+    Ok(Value::Array(values))
+}
+
+#[tactic(auto, unfolding(crate::specs::Texts::entry_data))]
+fn entry_value(alloc: Global, entry: &Entry) -> Result<Value, AllocError>
+    ensures { IfOk result (λ value. view value ≡ entry_data entry.now) }
+{
+    match &entry.outcome {
+        Outcome::Result(result) => measured_value(alloc, entry, *result),
+        Outcome::Failure(text) => failed_value(alloc, entry, text),
+    }
+}
+
+// The entry, with this result.
+fn measured_value(alloc: Global, entry: &Entry, outcome: Measured) -> Result<Value, AllocError>
+    ensures { IfOk result (λ value. view value
+        ≡ measured entry.now.metric entry.now.ordinal entry.now.taken outcome) }
+{
+    let result = result_value(alloc, outcome)?;
+    json!(in alloc; {
+        "metric": entry.metric.as_str(),
+        "ordinal": entry.ordinal,
+        "result": result,
+        "taken": entry.taken.get()
+    })
+}
+
+// The entry, with this failure.
+fn failed_value(alloc: Global, entry: &Entry, text: &FailureText) -> Result<Value, AllocError>
+    ensures { IfOk result (λ value. view value
+        ≡ failed entry.now.metric entry.now.ordinal entry.now.taken text.now) }
+{
+    json!(in alloc; {
+        "failure": text.as_str(),
+        "metric": entry.metric.as_str(),
+        "ordinal": entry.ordinal,
+        "taken": entry.taken.get()
+    })
+}
+
+fn result_value(alloc: Global, outcome: Measured) -> Result<Value, AllocError>
+    ensures { IfOk result (λ value. view value ≡ result_data outcome) }
+{
+    match outcome {
+        Measured::Whole(number) => Ok(Value::from(number)),
+        Measured::List(numbers) => number_values(alloc, numbers.as_slice()),
+    }
+}
+
+fn number_values(alloc: Global, numbers: &[i64]) -> Result<Value, AllocError>
+    ensures { IfOk result (λ value. view value ≡ list_data signed_data numbers.now) }
+{
+    let mut values = Vec::new(alloc);
+    for number in numbers {
+        values.push(Value::from(*number))?;
+    }
+    Ok(Value::Array(values))
+}

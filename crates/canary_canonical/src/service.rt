@@ -1,0 +1,64 @@
+//! Services in JSON.
+ghost use Rattle.std.specs.Prelude.{◌≡◌, IfOk};
+ghost use Rattle.serde_json.specs.View.{view};
+ghost use Rattle.canary_canonical.specs.Texts.{data_or_null, list_data};
+ghost use Rattle.canary_canonical.specs.Texts.{step_data, background_data, service_data};
+
+use crate::parts::{names, only, seconds_or_null};
+use canary_plan::service::{Background, ServiceSpec};
+use canary_plan::step::Step;
+use serde_json::{Value, json};
+use std::alloc::{AllocError, Global};
+
+/// The service in JSON.
+#[tactic(auto, unfolding(crate::specs::Texts::service_data))]
+pub fn service_value(alloc: Global, service: &ServiceSpec) -> Result<Value, AllocError>
+    ensures { IfOk result (λ value. view value ≡ service_data service.now) }
+{
+    let background = background_or_null(alloc, &service.background)?;
+    let steps = step_values(alloc, service.steps.as_slice())?;
+    json!(in alloc; {
+        "analysis": background,
+        "name": service.name.as_str(),
+        "steps": steps,
+        "version": service.version.as_str()
+    })
+}
+
+fn background_or_null(alloc: Global, background: &Option<Background>) -> Result<Value, AllocError>
+    ensures { IfOk result (λ value. view value ≡ data_or_null background_data background.now) }
+{
+    match background {
+        Some(background) => background_value(alloc, background),
+        None => Ok(Value::Null),
+    }
+}
+
+#[tactic(auto, unfolding(crate::specs::Texts::background_data))]
+fn background_value(alloc: Global, background: &Background) -> Result<Value, AllocError>
+    ensures { IfOk result (λ value. view value ≡ background_data background.now) }
+{
+    let templates = names(alloc, background.templates.as_slice())?;
+    json!(in alloc; {"startingStep": background.starting_step, "templates": templates})
+}
+
+fn step_values(alloc: Global, steps: &[Step]) -> Result<Value, AllocError>
+    ensures { IfOk result (λ value. view value ≡ list_data step_data steps.now) }
+{
+    let mut values = Vec::new(alloc);
+    for step in steps {
+        values.push(step_value(alloc, step)?)?;
+    }
+    Ok(Value::Array(values))
+}
+
+#[tactic(auto, unfolding(crate::specs::Texts::step_data))]
+fn step_value(alloc: Global, step: &Step) -> Result<Value, AllocError>
+    ensures { IfOk result (λ value. view value ≡ step_data step.now) }
+{
+    match step {
+        Step::SetWeight(percent) => only(alloc, "setWeight", Value::from(*percent)),
+        Step::Pause(duration) => only(alloc, "pause", seconds_or_null(*duration)),
+        Step::Analysis(templates) => only(alloc, "analysis", names(alloc, templates.as_slice())?),
+    }
+}

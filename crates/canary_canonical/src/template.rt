@@ -1,0 +1,48 @@
+//! Templates in JSON.
+ghost use Rattle.std.specs.Prelude.{◌≡◌, IfOk};
+ghost use Rattle.serde_json.specs.View.{view};
+ghost use Rattle.canary_canonical.specs.Texts.{list_data, metric_data, template_data};
+
+use crate::parts::{number_or_null, seconds_or_null, text_or_null, texts};
+use canary_plan::template_spec::{MetricSpec, TemplateSpec};
+use serde_json::{Value, json};
+use std::alloc::{AllocError, Global};
+
+/// The template in JSON.
+#[tactic(auto, unfolding(crate::specs::Texts::template_data))]
+pub fn template_value(alloc: Global, template: &TemplateSpec) -> Result<Value, AllocError>
+    ensures { IfOk result (λ value. view value ≡ template_data template.now) }
+{
+    let dry_run = texts(alloc, template.dry_run.as_slice())?;
+    let metrics = metric_values(alloc, template.metrics.as_slice())?;
+    json!(in alloc; {"dryRun": dry_run, "metrics": metrics, "name": template.name.as_str()})
+}
+
+fn metric_values(alloc: Global, metrics: &[MetricSpec]) -> Result<Value, AllocError>
+    ensures { IfOk result (λ value. view value ≡ list_data metric_data metrics.now) }
+{
+    let mut values = Vec::new(alloc);
+    for metric in metrics {
+        values.push(metric_value(alloc, metric)?)?;
+    }
+    Ok(Value::Array(values))
+}
+
+#[tactic(auto, unfolding(crate::specs::Texts::metric_data))]
+fn metric_value(alloc: Global, metric: &MetricSpec) -> Result<Value, AllocError>
+    ensures { IfOk result (λ value. view value ≡ metric_data metric.now) }
+{
+    let success = text_or_null(alloc, &metric.success)?;
+    let failure = text_or_null(alloc, &metric.failure)?;
+    json!(in alloc; {
+        "consecutiveErrorLimit": metric.consecutive_error_limit,
+        "count": number_or_null(metric.count),
+        "failureCondition": failure,
+        "failureLimit": metric.failure_limit,
+        "inconclusiveLimit": metric.inconclusive_limit,
+        "initialDelay": metric.initial_delay.get(),
+        "interval": seconds_or_null(metric.interval),
+        "name": metric.name.as_str(),
+        "successCondition": success
+    })
+}
