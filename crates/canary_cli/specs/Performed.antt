@@ -55,9 +55,9 @@ pub record Standing : Type 0 where
   pub step : ℕ
   pub contents : Contents
 
--- nothing else writes its book, whose store can't fail
+-- nothing else writes its book, whose store is in memory and can't fail
 abbrev pub point_of : Standing → Point
-point_of s = point (TellsSteps s.at s.step) (record { contents = s.contents; is_intact = Unit {0}; is_sure = true })
+point_of s = point (TellsSteps s.at s.step) (record { contents = s.contents; is_intact = Unit {0}; is_in_memory = Unit {0}; is_sure = true })
 
 abbrev pub fresh : ℕ → ℕ → Standing
 fresh at step = record { at = at; step = step; contents = no_contents }

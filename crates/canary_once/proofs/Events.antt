@@ -12,6 +12,7 @@ use Rattle.canary_release.specs.declared.reply.Reply.{Reply}
 use Rattle.canary_release.specs.Desks.{Desk, apply, machine}
 use Rattle.canary_once.specs.declared.book.Receipt.{Receipt}
 use Rattle.canary_once.specs.declared.event.Request.{Request}
+use Rattle.canary_once.specs.declared.event.Query.{Query}
 use Rattle.canary_once.specs.declared.event.Event.{Event}
 use Rattle.canary_once.specs.declared.event.Event.TheVariants as event
 use Rattle.canary_once.specs.declared.event.Answer.{Answer}
@@ -28,6 +29,12 @@ machine-push desk (y ∷ ys) x = let rest = machine-push (apply desk y.0 y.1).de
 pub requests-push : (es : List Event) (r : Request) → requests_of (es ++ event.Request r ∷ []) ≡ requests_of es ++ r ∷ []
 requests-push [] r = refl
 requests-push (event.Request x ∷ es) r = ap (λ (rs : List Request). x ∷ rs) (requests-push es r)
+requests-push (event.Query moment query ∷ es) r = requests-push es r
+
+pub requests-skip : (es : List Event) (moment : ℕ) (query : Query) → requests_of (es ++ event.Query moment query ∷ []) ≡ requests_of es
+requests-skip [] moment query = refl
+requests-skip (event.Request x ∷ es) moment query = ap (λ (rs : List Request). x ∷ rs) (requests-skip es moment query)
+requests-skip (event.Query m q ∷ es) moment query = requests-skip es moment query
 
 -- one more request, new or not
 pub news-push : (c : Contents) (news : List Request) (rs : List Request) (r : Request) → news_after c news (rs ++ r ∷ []) ≡ (if is_new c (news_after c news rs) r then news_after c news rs ++ r ∷ [] else news_after c news rs)
@@ -109,12 +116,19 @@ after_is c before r =
     ∙ settled_more c before r (is_new c (news_of c before) r)
     ∙ ap (λ next. if r.number == next then settle (after c before) r else after c before) (next_is c before r.caller)
 
+-- a query changes nothing
+pub after_query : (c : Contents) (before : List Event) (moment : ℕ) (query : Query) → after c (before ++ event.Query moment query ∷ []) ≡ after c before
+after_query c before moment query =
+    ap (λ (rs : List Request). (let news = news_after c [] rs in let run = machine c.desk (map bare news) in record { callers = with_receipts c.callers news run.replies; desk = run.desk })) (requests-skip before moment query)
+
 -- one event goes on where the others stopped
 pub answer_on : (c : Contents) (before : List Event) (e : Event) → answer (after c before) [] e ≡ answer c before e
 answer_on c before (event.Request r) = request_is (after c before) [] r ∙ sym (request_is c before r)
+answer_on c before (event.Query moment query) = refl
 
 pub after_on : (c : Contents) (before : List Event) (e : Event) → after (after c before) (e ∷ []) ≡ after c (before ++ e ∷ [])
 after_on c before (event.Request r) = after_is (after c before) [] r ∙ sym (after_is c before r)
+after_on c before (event.Query moment query) = sym (after_query c before moment query)
 
 -- one request alone
 pub reply_first : (c : Contents) (r : Request) → reply_to c r ≡ answer c [] (event.Request r)
@@ -155,4 +169,5 @@ moved_keeps c new r h = subst (KeepsReceipts c) (sym h) (one_keeps c r)
 -- an answer keeps each receipt
 pub answer_keeps : (c new : Contents) (e : Event) (a : Answer) → IsAnswer c e a new → KeepsReceipts c new
 answer_keeps c new (event.Request r) (Replied reply) h = subst (KeepsReceipts c) (after_first c r ∙ sym h.1) (one_keeps c r)
+answer_keeps c new (event.Query moment query) (Replied reply) h = same_keeps c new h.1
 answer_keeps c new e (Unavailable fault) h = same_keeps c new h

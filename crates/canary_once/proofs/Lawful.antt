@@ -70,7 +70,9 @@ new_refusal leaves c r false other h = refl
 pub conflicts_change_nothing : LeavesTheDesk → ConflictsChangeNothing
 conflicts_change_nothing leaves c (event.Request r) h =
     sym (after_first c r) ∙ new_conflict leaves c r (r.number == count_of c r.caller + 1) _ (ap (λ (x : Reply). x.status) (reply_first c r) ∙ h)
+conflicts_change_nothing leaves c (event.Query moment query) h = refl
 
 pub refusals_leave_the_desk : LeavesTheDesk → RefusalsLeaveTheDesk
 refusals_leave_the_desk leaves c (event.Request r) h =
     ap (λ (k : Contents). k.desk) (sym (after_first c r)) ∙ new_refusal leaves c r (r.number == count_of c r.caller + 1) _ (ap (λ (x : Reply). x.status) (reply_first c r) ∙ h)
+refusals_leave_the_desk leaves c (event.Query moment query) h = refl

@@ -2,13 +2,15 @@
 use Rattle.std.proofs.Common.{◌≡◌, ℕ, ◌+◌, List, [], ◌∷◌, refl}
 use Rattle.std.specs.Prelude.{codes, map}
 use Rattle.std.specs.Fmt.{digits}
+use Rattle.canary_base.specs.Moments.{moment_text}
 use Rattle.canary_plan.specs.declared.step.Step.TheVariants.{Analysis}
 use Rattle.canary_plan.specs.declared.command.Command.{Command}
 use Rattle.canary_plan.specs.declared.command.Command.TheVariants.{Start, Promote}
 use Rattle.canary_release.specs.declared.reply.Reply.{Reply}
-use Rattle.canary_release.specs.declared.reply.ReplyStatus.TheVariants.{Conflict}
+use Rattle.canary_release.specs.declared.reply.ReplyStatus.TheVariants.{Conflict, NotFound}
 use Rattle.canary_release.proofs.Stories.{b, ok, no, web, v2, v3, m, add, two_pauses, metric, template}
 use Rattle.canary_once.specs.declared.book.Receipt.{Receipt}
+use Rattle.canary_once.specs.declared.event.Query.TheVariants.{Service, History, Run}
 use Rattle.canary_once.specs.declared.event.Event.{Event}
 use Rattle.canary_once.specs.declared.event.Event.TheVariants as event
 use Rattle.canary_once.specs.Contents.{no_contents, receipts_of}
@@ -18,6 +20,9 @@ use Rattle.canary_once.proofs.Worlds.{replies_from_nothing, receipts_from_nothin
 
 abbrev conflict : List ℕ → Reply
 conflict body = record { status = Conflict; body = body }
+
+abbrev missing : List ℕ → Reply
+missing body = record { status = NotFound; body = body }
 
 -- a request of that caller
 abbrev by : List ℕ → ℕ → ℕ → Command → Event
@@ -114,3 +119,51 @@ templates_in_turn_replies : answers_of no_contents templates_in_turn ≡
     ∷ []
 unfolding digits
 templates_in_turn_replies = replies_from_nothing templates_in_turn _ refl
+
+-- Queries show the service as it stands at their moments, or at its last moment where that is later, and change nothing.
+
+abbrev looked : List Event
+looked =
+    ops 1 b (add web two_pauses)
+    ∷ ops 2 (b + 1) (Start web v2)
+    ∷ event.Query (b + 10) (Service web)
+    ∷ event.Query b (Service web)
+    ∷ event.Query b (Service (codes "api"))
+    ∷ event.Query (b + 10) (History web)
+    ∷ ops 3 (b + 2) (Promote web)
+    ∷ []
+
+looked_replies : answers_of no_contents looked ≡
+    ok (codes "{\"code\":\"ok\",\"service\":\"web\",\"status\":\"Healthy\",\"step\":4,\"weight\":100}")
+    ∷ ok (codes "{\"code\":\"ok\",\"service\":\"web\",\"status\":\"Paused\",\"step\":1,\"weight\":20}")
+    ∷ ok (codes "{\"code\":\"ok\",\"hold\":\"none\",\"moment\":1767225610,\"open\":[],\"runs\":0,\"service\":\"web\",\"stable\":\"v1\",\"status\":\"Paused\",\"step\":1,\"version\":\"v2\",\"weight\":20}")
+    ∷ ok (codes "{\"code\":\"ok\",\"hold\":\"none\",\"moment\":1767225601,\"open\":[],\"runs\":0,\"service\":\"web\",\"stable\":\"v1\",\"status\":\"Paused\",\"step\":1,\"version\":\"v2\",\"weight\":20}")
+    ∷ missing (codes "{\"code\":\"unknown-service\"}")
+    ∷ ok (codes "{\"code\":\"ok\",\"lines\":[\"2026-01-01T00:00:00Z created v1\",\"2026-01-01T00:00:01Z start v2\",\"2026-01-01T00:00:01Z step 0 setWeight 20\",\"2026-01-01T00:00:01Z step 1 pause\"],\"service\":\"web\"}")
+    ∷ ok (codes "{\"code\":\"ok\",\"service\":\"web\",\"status\":\"Paused\",\"step\":3,\"weight\":50}")
+    ∷ []
+unfolding digits moment_text
+looked_replies = replies_from_nothing looked _ refl
+
+-- A run that is open, its metric, and a run that there is not.
+
+abbrev looked_at_runs : List Event
+looked_at_runs =
+    ops 1 b (template (codes "t") (metric m ∷ []) [] refl)
+    ∷ ops 2 b with_analysis
+    ∷ ops 3 (b + 1) (Start web v2)
+    ∷ event.Query (b + 2) (Service web)
+    ∷ event.Query (b + 2) (Run web 1)
+    ∷ event.Query (b + 2) (Run web 2)
+    ∷ []
+
+looked_at_runs_replies : answers_of no_contents looked_at_runs ≡
+    ok (codes "{\"code\":\"ok\",\"template\":\"t\"}")
+    ∷ ok (codes "{\"code\":\"ok\",\"service\":\"web\",\"status\":\"Healthy\",\"step\":1,\"weight\":100}")
+    ∷ ok (codes "{\"code\":\"ok\",\"service\":\"web\",\"status\":\"Progressing\",\"step\":0,\"weight\":0}")
+    ∷ ok (codes "{\"code\":\"ok\",\"hold\":\"none\",\"moment\":1767225602,\"open\":[1],\"runs\":1,\"service\":\"web\",\"stable\":\"v1\",\"status\":\"Progressing\",\"step\":0,\"version\":\"v2\",\"weight\":0}")
+    ∷ ok (codes "{\"closed\":null,\"code\":\"ok\",\"metrics\":[{\"consecutive\":0,\"counted\":0,\"dryRun\":false,\"due\":1767225601,\"errors\":0,\"failed\":0,\"inconclusive\":0,\"measurements\":0,\"name\":\"m\",\"phase\":\"Pending\"}],\"run\":1,\"service\":\"web\",\"started\":1767225601,\"step\":0,\"verdict\":\"Running\"}")
+    ∷ missing (codes "{\"code\":\"unknown-run\"}")
+    ∷ []
+unfolding digits
+looked_at_runs_replies = replies_from_nothing looked_at_runs _ refl

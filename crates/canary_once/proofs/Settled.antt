@@ -15,7 +15,7 @@ use Rattle.canary_once.specs.declared.event.Event.TheVariants as event
 use Rattle.canary_once.specs.Contents.{Contents, count_of, receipt_at}
 use Rattle.canary_once.specs.Answers.{requests_of, is_of, is_new, next_number, news_after, news_of, bare, settled_requests, after, repeat_reply, ahead_reply}
 use Rattle.canary_once.specs.Laws.{replies_to_new, NewAreOfTheMachine, GoUpFrom, numbers_of, EachOnce}
-use Rattle.canary_once.proofs.Events.{requests-push, news-push, map-push, machine-push}
+use Rattle.canary_once.proofs.Events.{requests-push, requests-skip, news-push, map-push, machine-push}
 
 -- the machine's replies with one more request, new or not
 one_new : (c : Contents) (before : List Event) (r : Request) (other : Reply) (rest : List Reply) (b : Bool)
@@ -43,6 +43,11 @@ new_after c before (event.Request r ∷ es) =
     ∙ ap (λ (news : List Request). (machine c.desk (map bare news)).replies ++ replies_to_new c more es) (sym (news-more c before r))
     ∙ new_after c more es
     ∙ ap (λ (b : List Event). (machine c.desk (settled_requests c b)).replies) (append_assoc before (event.Request r ∷ []) es)
+new_after c before (event.Query moment query ∷ es) =
+    let more = before ++ event.Query moment query ∷ [] in
+    ap (λ (rs : List Request). (machine c.desk (map bare (news_after c [] rs))).replies ++ replies_to_new c more es) (sym (requests-skip before moment query))
+    ∙ new_after c more es
+    ∙ ap (λ (b : List Event). (machine c.desk (settled_requests c b)).replies) (append_assoc before (event.Query moment query ∷ []) es)
 
 pub new_are_of_the_machine : NewAreOfTheMachine
 new_are_of_the_machine c es = new_after c [] es

@@ -12,8 +12,9 @@ use Rattle.canary_once.specs.declared.event.Event.{Event}
 use Rattle.canary_once.specs.declared.event.Event.TheVariants as event
 use Rattle.canary_once.specs.Contents.{Contents, no_contents, count_of, receipts_of}
 use Rattle.canary_once.specs.Answers.{receipt_of, repeat_reply, ahead_reply, answers_after, answers_of, after}
+use Rattle.canary_once.specs.Views.{asked_of, view_service, view_of}
 use Rattle.canary_once.specs.Single.{settle}
-use Rattle.canary_once.proofs.Events.{request_is, after_is}
+use Rattle.canary_once.proofs.Events.{request_is, after_is, after_query}
 
 pub record World : Type 0 where
   pub callers : List ℕ → Option (List Receipt)
@@ -46,10 +47,12 @@ world_after w r = if r.number == length (receipts_in w r.caller) + 1 then with_s
 abbrev pub replies_in : World → List Event → List Reply
 replies_in w [] = []
 replies_in w (event.Request r ∷ es) = reply_in w r ∷ replies_in (world_after w r) es
+replies_in w (event.Query moment query ∷ es) = view_service (w.desk.services (asked_of query)) moment query ∷ replies_in w es
 
 abbrev pub world_after_all : World → List Event → World
 world_after_all w [] = w
 world_after_all w (event.Request r ∷ es) = world_after_all (world_after w r) es
+world_after_all w (event.Query moment query ∷ es) = world_after_all w es
 
 abbrev pub world_of : Contents → World
 world_of c = record { callers = get c.callers; desk = desks.world_of c.desk }
@@ -73,6 +76,8 @@ replies-after : (c : Contents) (before es : List Event) → answers_after c befo
 replies-after c before [] = refl
 replies-after c before (event.Request r ∷ es) =
     λ i. request_is c before r i ∷ (replies-after c (before ++ event.Request r ∷ []) es ∙ ap (λ (w : World). replies_in w es) (one_more c before r)) i
+replies-after c before (event.Query moment query ∷ es) =
+    λ i. view_of (after c before).desk moment query ∷ (replies-after c (before ++ event.Query moment query ∷ []) es ∙ ap (λ (k : Contents). replies_in (world_of k) es) (after_query c before moment query)) i
 
 world-no_contents : world_of no_contents ≡ nowhere
 world-no_contents = λ i. record { callers = λ q. get-empty (slice_cmp nat_cmp) q i; desk = desks.world-no_desk i }
@@ -83,6 +88,10 @@ contents-after c before (event.Request r ∷ es) =
     ap (λ (b : List Event). world_of (after c b)) (sym (append_assoc before (event.Request r ∷ []) es))
     ∙ contents-after c (before ++ event.Request r ∷ []) es
     ∙ ap (λ (w : World). world_after_all w es) (one_more c before r)
+contents-after c before (event.Query moment query ∷ es) =
+    ap (λ (b : List Event). world_of (after c b)) (sym (append_assoc before (event.Query moment query ∷ []) es))
+    ∙ contents-after c (before ++ event.Query moment query ∷ []) es
+    ∙ ap (λ (k : Contents). world_after_all (world_of k) es) (after_query c before moment query)
 
 -- the replies, from empty contents
 pub replies_from_nothing : (es : List Event) (rs : List Reply) → replies_in nowhere es ≡ rs → answers_of no_contents es ≡ rs

@@ -17,11 +17,13 @@ use Rattle.canary_once.specs.declared.event.Event.TheVariants as event
 use Rattle.canary_once.specs.declared.event.Answer.{Answer}
 use Rattle.canary_once.specs.declared.event.Answer.TheVariants.{Replied, Unavailable}
 use Rattle.canary_once.specs.Contents.{Contents, count_of, receipt_at, with_receipt}
+use Rattle.canary_once.specs.Views.{view_of}
 
 -- the requests of events, in order
 abbrev pub requests_of : List Event → List Request
 requests_of [] = []
 requests_of (event.Request r ∷ es) = r ∷ requests_of es
+requests_of (event.Query moment query ∷ es) = requests_of es
 
 -- New, repeat, ahead.
 
@@ -95,6 +97,7 @@ answer_request c before r =
 -- the reply to an event, after these
 abbrev pub answer : Contents → List Event → Event → Reply
 answer c before (event.Request r) = answer_request c before r
+answer c before (event.Query moment query) = view_of (after c before).desk moment query
 
 -- the replies to events in order, after these
 abbrev pub answers_after : Contents → List Event → List Event → List Reply

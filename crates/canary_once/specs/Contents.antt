@@ -1,11 +1,13 @@
 -- What a book contains: for each caller the receipts of its settled requests, from number 1 on, and the desk.
-use Rattle.std.specs.Prelude.{◌≡◌, ℕ, ◌+◌, ◌-◌, List, [], ◌∷◌, ◌++◌, length, Option, Some, unwrap_or, slice_get}
+use Rattle.std.specs.Prelude.{◌≡◌, ◌⊎◌, ℕ, ◌+◌, ◌-◌, List, [], ◌∷◌, ◌++◌, length, Option, Some, unwrap_or, slice_get}
 use Rattle.std.specs.Ordering.{nat_cmp}
 use Rattle.std.specs.Cmp.Lexicographic.{slice_cmp}
 use Rattle.std.specs.List.{list_any}
 use Rattle.std.specs.Str.{bytes_eq}
 use Rattle.std.specs.FinMap.{FinMap, get, insert, retain_keys, empty}
 use Rattle.canary_plan.specs.declared.template.Template.{Template}
+use Rattle.canary_release.specs.declared.reply.ReplyStatus.{ReplyStatus}
+use Rattle.canary_release.specs.declared.reply.ReplyStatus.TheVariants.{Accepted, Refused}
 use Rattle.canary_release.specs.Desks.{Desk, no_desk}
 use Rattle.canary_release.specs.Shapes.{changed, IsStep}
 use Rattle.canary_once.specs.declared.book.Receipt.{Receipt}
@@ -33,6 +35,14 @@ receipt_at c caller number = slice_get (receipts_of c caller) (number - 1)
 -- the templates that have one of these names
 abbrev pub templates_named : Contents → List (List ℕ) → FinMap (slice_cmp nat_cmp) Template
 templates_named c names = retain_keys c.desk.templates (λ name. list_any (bytes_eq name) names)
+
+-- the command was accepted or refused
+abbrev pub IsSettledStatus : ReplyStatus → Type 0
+IsSettledStatus status = (status ≡ Accepted) ⊎ (status ≡ Refused)
+
+-- no receipt is of a conflict
+abbrev pub KeepsSettled : Contents → Type 0
+KeepsSettled c = (caller : List ℕ) (number : ℕ) (receipt : Receipt) → receipt_at c caller number ≡ Some receipt → IsSettledStatus receipt.reply.status
 
 -- each receipt stays as it was
 abbrev pub KeepsReceipts : Contents → Contents → Type 0

@@ -1,20 +1,22 @@
 -- Laws of the register.
-use Rattle.std.specs.Prelude.{◌≡◌, ◌⊎◌, ℕ, ◌+◌, ◌≤◌, if◌then◌else◌, List, [], ◌∷◌, ◌++◌, map, filter, Some}
+use Rattle.std.specs.Prelude.{◌≡◌, ◌⊎◌, ℕ, ◌+◌, ◌≤◌, if◌then◌else◌, List, [], ◌∷◌, ◌++◌, map, filter}
 use Rattle.canary_release.specs.declared.reply.Reply.{Reply}
-use Rattle.canary_release.specs.declared.reply.ReplyStatus.{ReplyStatus}
-use Rattle.canary_release.specs.declared.reply.ReplyStatus.TheVariants.{Accepted, Refused, Conflict}
+use Rattle.canary_release.specs.declared.reply.ReplyStatus.TheVariants.{Accepted, Refused, Conflict, NotFound}
+use Rattle.canary_release.specs.Order.{AreInOrder}
 use Rattle.canary_release.specs.Desks.{machine}
-use Rattle.canary_once.specs.declared.book.Receipt.{Receipt}
 use Rattle.canary_once.specs.declared.event.Request.{Request}
+use Rattle.canary_once.specs.declared.event.Query.{Query}
 use Rattle.canary_once.specs.declared.event.Event.{Event}
 use Rattle.canary_once.specs.declared.event.Event.TheVariants as event
-use Rattle.canary_once.specs.Contents.{Contents, count_of, receipt_at}
+use Rattle.canary_once.specs.Contents.{Contents, count_of, receipt_at, IsSettledStatus, KeepsSettled}
+use Rattle.canary_once.specs.Sound.{AreSoundContents}
 use Rattle.canary_once.specs.Answers.{is_of, is_new, news_of, settled_requests, answer, answer_request, answers_of, after, repeat_reply}
 use Rattle.canary_once.specs.Single.{reply_to, after_one}
 
 -- the replies to the new requests among events, after these
 abbrev pub replies_to_new : Contents → List Event → List Event → List Reply
 replies_to_new c before [] = []
+replies_to_new c before (event.Query moment query ∷ es) = replies_to_new c (before ++ event.Query moment query ∷ []) es
 replies_to_new c before (event.Request r ∷ es) =
     let rest = replies_to_new c (before ++ event.Request r ∷ []) es in
     if is_new c (news_of c before) r then answer_request c before r ∷ rest else rest
@@ -56,14 +58,22 @@ ConflictsChangeNothing = (c : Contents) (e : Event) → (answer c [] e).status �
 abbrev pub RefusalsLeaveTheDesk : Type 0
 RefusalsLeaveTheDesk = (c : Contents) (e : Event) → (answer c [] e).status ≡ Refused → (after c (e ∷ [])).desk ≡ c.desk
 
--- the command was accepted or refused
-abbrev pub IsSettledStatus : ReplyStatus → Type 0
-IsSettledStatus status = (status ≡ Accepted) ⊎ (status ≡ Refused)
-
--- no receipt is of a conflict
-abbrev pub KeepsSettled : Contents → Type 0
-KeepsSettled c = (caller : List ℕ) (number : ℕ) (receipt : Receipt) → receipt_at c caller number ≡ Some receipt → IsSettledStatus receipt.reply.status
-
 -- contents in which none is stay so
 abbrev pub StaysSettled : Type 0
 StaysSettled = (c : Contents) (es : List Event) → KeepsSettled c → KeepsSettled (after c es)
+
+-- an answer to a request says that it was accepted or refused, or that it conflicts
+abbrev pub RequestsAreAnswered : Type 0
+RequestsAreAnswered = (c : Contents) (r : Request) → KeepsSettled c → IsSettledStatus (answer c [] (event.Request r)).status ⊎ ((answer c [] (event.Request r)).status ≡ Conflict)
+
+-- an answer to a query shows what it asks for, or says that it is not there
+abbrev pub QueriesAreAnswered : Type 0
+QueriesAreAnswered = (c : Contents) (moment : ℕ) (query : Query) → ((answer c [] (event.Query moment query)).status ≡ Accepted) ⊎ ((answer c [] (event.Query moment query)).status ≡ NotFound)
+
+-- a query changes nothing
+abbrev pub QueriesChangeNothing : Type 0
+QueriesChangeNothing = (c : Contents) (moment : ℕ) (query : Query) → after c (event.Query moment query ∷ []) ≡ c
+
+-- a desk in order stays in order, and sound contents stay sound
+abbrev pub StaysSound : Type 0
+StaysSound = (c : Contents) (es : List Event) → AreInOrder c.desk → AreInOrder (after c es).desk × (AreSoundContents c → AreSoundContents (after c es))

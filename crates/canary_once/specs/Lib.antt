@@ -3,6 +3,15 @@ pub mod Books
 pub mod Ticks
 pub mod AnswerTexts
 pub mod Answers
+pub mod Records
+pub mod Views
+pub mod Showing
+pub mod Sound
 pub mod Single
-pub mod Logs
+pub mod Kept
+pub mod KeptRooms
+pub mod ServiceCodes
+pub mod KeptServices
+pub mod BookCodes
+pub mod InMemory
 pub mod Laws

@@ -11,7 +11,8 @@ use Rattle.canary_once.specs.declared.event.Event.{Event}
 use Rattle.canary_once.specs.declared.event.Answer.{Answer}
 use Rattle.canary_once.specs.declared.event.Answer.TheVariants.{Replied, Unavailable}
 use Rattle.canary_once.specs.Contents.{Contents, count_of, receipt_at, with_receipt, KeepsReceipts}
-use Rattle.canary_once.specs.Books.{BookState, IsFault}
+use Rattle.canary_once.specs.Books.{BookState, IsFault, StaysInMemory}
+use Rattle.canary_once.specs.Sound.{AreContents, AreSoundContents}
 use Rattle.canary_once.specs.Answers.{receipt_of, repeat_reply, ahead_reply, answer, after}
 
 abbrev pub request_of : ℕ → List ℕ → ℕ → Command → Request
@@ -50,6 +51,8 @@ IsFaultOf sure (Unavailable fault) = IsFault sure fault
 -- what a book did as an event was answered
 pub record IsAnsweredBy (old new : BookState) (e : Event) (a : Answer) : Type 0 where
   pub intact : new.is_intact → old.is_intact
+  pub in_memory : StaysInMemory old new
+  pub sound : new.is_intact → AreSoundContents old.contents → AreSoundContents new.contents
   pub step : new.is_intact → IsAnswer old.contents e a new.contents
   pub receipts : new.is_intact → KeepsReceipts old.contents new.contents
   pub sure : new.is_sure ≡ old.is_sure
@@ -58,6 +61,8 @@ pub record IsAnsweredBy (old new : BookState) (e : Event) (a : Answer) : Type 0 
 -- and as a request got its reply, these contents being there then, or failed
 pub record RepliesBy (reply : Contents → Reply) (next : Contents → Contents) (old new : BookState) (given : Result Reply BookFault) : Type 0 where
   pub intact : new.is_intact → old.is_intact
+  pub in_memory : StaysInMemory old new
+  pub lawful : new.is_intact → AreContents old.contents
   pub ok : new.is_intact → IfOk given (λ r. (r ≡ reply old.contents) × (new.contents ≡ next old.contents))
   pub err : new.is_intact → OnErr given (new.contents ≡ old.contents)
   pub sure : new.is_sure ≡ old.is_sure
@@ -66,6 +71,8 @@ pub record RepliesBy (reply : Contents → Reply) (next : Contents → Contents)
 -- and as a command was decided at its moment, by one step of the machine on these contents, which stay, or failed
 pub record DecidesOn (moment : ℕ) (command : Command) (old new : BookState) (given : Result Decision BookFault) : Type 0 where
   pub intact : new.is_intact → old.is_intact
+  pub in_memory : StaysInMemory old new
+  pub lawful : new.is_intact → AreContents old.contents
   pub same : new.is_intact → new.contents ≡ old.contents
   pub step : new.is_intact → IfOk given (λ d. IsStep old.contents.desk moment command d)
   pub sure : new.is_sure ≡ old.is_sure

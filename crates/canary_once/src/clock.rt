@@ -10,7 +10,8 @@ pub trait Clock {
     ghost use Rattle.std.specs.Prelude.{◌≡◌, ℕ, ◌+◌};
     ghost use Rattle.canary_base.specs.declared.moments.Moment.{Moment};
 
-    /// It tells these moments, one after another: its k-th coming moment is that at k - 1.
+    /// Which moments it tells from now on: `tells clock moment_at` says that its next moment is
+    /// `moment_at 0`, the one after it `moment_at 1`, and so on.
     ghost tells: { Self → (ℕ → Moment) → Type 0 };
 
     /// The first coming moment; each other moves up by one.
@@ -38,7 +39,8 @@ impl Model for StepClock {
 }
 
 impl StepClock {
-    /// A clock whose first moment is `at`, and each next one `step` seconds later.
+    /// A clock whose first moment is `at`, and each next one `step` seconds later, at most the
+    /// greatest moment: these are the moments that it tells.
     pub fn new(at: Moment, step: Moment) -> StepClock
         ensures value { result ≡ (at, step) }
         ensures tells { (moment_at : ℕ → ℕ) → TellsSteps at step moment_at

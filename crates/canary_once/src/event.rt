@@ -1,6 +1,7 @@
 //! Requests as they arrive, and their answers.
 ghost use Rattle.std.specs.Prelude.{◌≡◌, IfOk};
 ghost use Rattle.canary_once.specs.AnswerTexts.{answer_status, answer_body};
+ghost use Rattle.canary_once.specs.Views.{asked_of};
 
 use crate::book::BookFault;
 use canary_base::error::Memory;
@@ -34,10 +35,35 @@ impl Request {
     }
 }
 
-/// What arrives at the desk.
+/// What is asked of the desk, which shows it and keeps nothing.
+#[derive(Clone, Copy, Debug, PartialEq, Eq)]
+pub enum Query {
+    /// How a service stands.
+    Service(Name),
+    /// The history of a service.
+    History(Name),
+    /// A run of a service.
+    Run(Name, Number),
+}
+
+impl Query {
+    /// The service that it asks for.
+    pub fn service(&self) -> Name
+        ensures { result ≡ asked_of self.now }
+    {
+        match self {
+            Query::Service(name) => *name,
+            Query::History(name) => *name,
+            Query::Run(name, _) => *name,
+        }
+    }
+}
+
+/// What arrives at the desk: a request, or a query at its moment.
 #[derive(Drop)]
 pub enum Event {
     Request(Request),
+    Query { moment: Moment, query: Query },
 }
 
 impl Event {
@@ -47,14 +73,22 @@ impl Event {
     {
         match self {
             Event::Request(request) => Ok(Event::Request(request.copy(alloc)?)),
+            Event::Query { moment, query } => Ok(Event::Query {
+                moment: *moment,
+                query: *query,
+            }),
         }
     }
 }
 
-/// The answer to an event: a reply, or none where the book was out of memory or its store failed.
+/// The answer to an event.
 #[derive(Drop)]
 pub enum Answer {
+    /// A reply: to a request the machine's where it is new, that of its receipt where it is
+    /// repeated, and else a conflict; to a query what it asks for, or that it is not there.
     Replied(Reply),
+    /// No reply, and nothing changed: an allocation was refused (`Memory`), or the store failed
+    /// (`Storage`). The same event may be sent again.
     Unavailable(BookFault),
 }
 

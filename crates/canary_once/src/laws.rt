@@ -1,8 +1,11 @@
 //! Laws over the definitions alone.
 ghost use Rattle.canary_once.specs.Laws.{NewAreOfTheMachine, EachOnce, OneRequest, RunsOn};
 ghost use Rattle.canary_once.specs.Laws.{NoneIsAhead, ConflictsChangeNothing};
-ghost use Rattle.canary_once.specs.Laws.{RefusalsLeaveTheDesk, KeepsSettled, StaysSettled};
-ghost use Rattle.canary_once.specs.Contents.{no_contents};
+ghost use Rattle.canary_once.specs.Laws.{RefusalsLeaveTheDesk, StaysSettled};
+ghost use Rattle.canary_once.specs.Laws.{RequestsAreAnswered, QueriesAreAnswered};
+ghost use Rattle.canary_once.specs.Laws.{QueriesChangeNothing, StaysSound};
+ghost use Rattle.canary_once.specs.Contents.{no_contents, KeepsSettled};
+ghost use Rattle.canary_once.specs.Sound.{AreContents, AreSoundContents};
 ghost use Rattle.canary_once.specs.Books.{AreSure};
 
 use crate::book::Book;
@@ -43,15 +46,35 @@ pub fn refusals()
 }
 
 /// A receipt is of a command that was accepted or refused, and of no conflict: so it is where
-/// nothing is settled, and so it stays.
+/// nothing is settled, and so it stays. A request is answered by such a reply, or by a conflict; a
+/// query by what it asks for, or by saying that it is not there.
 pub fn statuses()
     ensures none { KeepsSettled no_contents }
     ensures kept { StaysSettled }
+    ensures requests { RequestsAreAnswered }
+    ensures queries { QueriesAreAnswered }
 {
     laws::refusals();
 }
 
-/// The store of a book in memory is honest, and the book is sure, however it came about.
+/// A query changes nothing.
+pub fn queries()
+    ensures { QueriesChangeNothing }
+{}
+
+/// Empty contents are sound, as what holds of all contents holds of them; and a desk in order stays
+/// in order, and sound contents stay sound: each verdict is that of its run's recorded measurements.
+pub fn soundness()
+    ensures lawful { AreContents no_contents }
+    ensures none { AreSoundContents no_contents }
+    ensures kept { StaysSound }
+{
+    laws::in_order();
+    laws::sound();
+}
+
+/// The store of a book in memory is honest, and memory alone, and the book is sure, however it came
+/// about.
 pub fn memory_books()
     ensures { AreSure ⟦<MemoryBook as Book>⟧.state }
 {}

@@ -1,14 +1,25 @@
 //! The register: each settled request acts once, and keeps its reply.
 //!
 //! Callers may rest on this: over any `Book`, `post` is one step of the answers that the small
-//! machine gives, and `run` answers a whole list of events as the machine applied to the settled
-//! requests alone, each once, in order.
+//! machine gives, `view` answers a query and changes nothing, and `run` answers a whole list of events
+//! as the machine applied to the settled requests alone, each once, in order.
 #![tactic(auto)]
 
 pub mod book;
+mod callers;
 pub mod clock;
 pub mod event;
+mod kept_desk;
+mod kept_past;
+mod kept_run;
+mod kept_service;
 pub mod laws;
 pub mod memory;
 pub mod post;
+pub mod record;
 pub mod run;
+mod services;
+pub mod view;
+mod view_past;
+mod view_run;
+mod view_text;

@@ -7,11 +7,13 @@ ghost use Rattle.canary_once.specs.Single.{IsAnsweredBy, RepliesBy, DecidesOn};
 
 use crate::book::{Book, BookFault, Receipt, Settlement};
 use crate::event::{Answer, Event};
+use crate::laws;
 use canary_base::error::Memory;
 use canary_base::lists::Text;
 use canary_base::moments::Moment;
 use canary_base::names::Name;
 use canary_base::numbers::Number;
+use canary_canonical::command::CanonicalCommand;
 use canary_plan::command::Command;
 use canary_release::decide::{Decision, decide};
 use canary_release::reply::{Reply, ReplyStatus};
@@ -31,6 +33,7 @@ pub fn post<B: Book>(
     ensures { IsAnsweredBy (B.state book.old) (B.state book.new)
         (Event.Request (request_of moment caller number command.now)) result }
 {
+    laws::soundness();
     match reply(alloc, book, moment, caller, number, command) {
         Ok(reply) => Answer::Replied(reply),
         Err(fault) => Answer::Unavailable(fault),
@@ -82,7 +85,7 @@ fn settle_new<B: Book>(
         caller,
         number,
         receipt: Receipt {
-            command: command.copy(alloc)?,
+            command: CanonicalCommand::of(alloc, command)?,
             reply: decision.reply,
         },
         change: decision.change,
@@ -91,7 +94,9 @@ fn settle_new<B: Book>(
     Ok(reply)
 }
 
-// Decides a command by the service that it names and the templates that it looks up.
+// Decides a command by the service that it names and the templates that it looks up. The book is
+// asked before anything is allocated: its answer says what holds of its contents, also where memory
+// is refused behind it.
 fn decide_on<B: Book>(
     alloc: Global,
     book: &mut B,
@@ -100,19 +105,20 @@ fn decide_on<B: Book>(
 ) -> Result<Decision, BookFault>
     ensures { DecidesOn moment command.now (B.state book.old) (B.state book.new) result }
 {
+    let service = book.service(&command.subject())?;
     let names = command.names_looked_up(alloc)?;
     let templates = book.templates(names.as_slice())?;
-    let service = book.service(&command.subject())?;
     Ok(decide(alloc, &templates, service.as_ref(), moment, command)?)
 }
 
-// The reply of the receipt, if it is of the same command.
+// The reply of the receipt, if it is of the same command: their canonical texts are compared.
 fn repeat(alloc: Global, receipt: Option<Receipt>, command: &Command) -> Result<Reply, Memory>
     ensures { IfOk result (λ reply. reply ≡ repeat_reply receipt command.now) }
 {
+    let asked = CanonicalCommand::of(alloc, command)?;
     match receipt {
         Some(receipt) => {
-            if receipt.command.is_same(command) {
+            if receipt.command.is_same(&asked) {
                 Ok(receipt.reply)
             } else {
                 refuse_reused(alloc)

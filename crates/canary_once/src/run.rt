@@ -1,12 +1,15 @@
 //! Lists of events.
 ghost use Rattle.std.specs.Prelude.{◌≡◌, length, IfOk, OnErr, All};
 ghost use Rattle.canary_once.specs.Contents.{KeepsReceipts};
+ghost use Rattle.canary_once.specs.Sound.{AreSoundContents};
+ghost use Rattle.canary_once.specs.Books.{StaysInMemory};
 ghost use Rattle.canary_once.specs.Answers.{heard, replies_in, answers_of, after};
 ghost use Rattle.canary_once.specs.Single.{IsAnsweredBy, IsFaultOf};
 
 use crate::book::Book;
 use crate::event::{Answer, Event};
 use crate::post::post;
+use crate::view::view;
 use canary_base::error::Memory;
 use std::alloc::Global;
 
@@ -18,6 +21,7 @@ use std::alloc::Global;
 /// `Memory` where there is no room for the answers; nothing was done.
 pub fn run<B: Book>(alloc: Global, book: &mut B, events: &[Event]) -> Result<Vec<Answer>, Memory>
     ensures intact { (B.state book.new).is_intact → (B.state book.old).is_intact }
+    ensures in_memory { StaysInMemory (B.state book.old) (B.state book.new) }
     ensures sure { ((B.state book.new).is_sure ≡ (B.state book.old).is_sure)
         × IfOk result (λ answers. All (IsFaultOf (B.state book.old).is_sure) answers.items) }
     ensures count { IfOk result (λ answers. length answers.items ≡ length events.now) }
@@ -29,6 +33,9 @@ pub fn run<B: Book>(alloc: Global, book: &mut B, events: &[Event]) -> Result<Vec
         ≡ after (B.state book.old).contents (heard events.now answers.items)) }
     ensures receipts { (B.state book.new).is_intact
         → KeepsReceipts (B.state book.old).contents (B.state book.new).contents }
+    ensures sound { (B.state book.new).is_intact
+        → AreSoundContents (B.state book.old).contents
+        → AreSoundContents (B.state book.new).contents }
     ensures err { OnErr result (book.new ≡ book.old) }
 {
     let mut answers = Vec::with_capacity(alloc, events.len())?;
@@ -51,5 +58,6 @@ fn answer<B: Book>(alloc: Global, book: &mut B, event: &Event) -> Answer
             request.number,
             &request.command,
         ),
+        Event::Query { moment, query } => view(alloc, book, *moment, query),
     }
 }

@@ -7,6 +7,8 @@ returns g c =
     let known : Known = (g.B.Book.state c.args.book.now).contents.desk.templates in
     record {
       intact = search rules;
+      in_memory = search rules;
+      lawful = search rules;
       same = search rules;
       step = λ i. c.in_ok-decide.ensures (g.B.Book.state c.args.book.now).contents.desk (agree_then _ known known c.as_slice.result.now _ (search rules) (search rules) refl) (search rules);
       sure = search rules;

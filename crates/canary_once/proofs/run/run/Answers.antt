@@ -27,6 +27,8 @@ loop-event-preserved g c =
     let below : c.loop-event.event-index < length c.args.events.now = omega arith in
     record {
       intact = λ x. i.intact (p.intact x);
+      in_memory = λ m. p.in_memory (i.in_memory m);
+      sound = λ x s. p.sound x (i.sound (p.intact x) s);
       sure = p.sure ∙ i.sure;
       count = o.len ∙ ap (λ n. n + 1) i.count;
       len = longer _ _ _ _ o.items i.len;

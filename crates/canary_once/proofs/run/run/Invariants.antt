@@ -1,6 +1,8 @@
 use Rattle.std.proofs.Common.{◌≡◌, ◌≤◌, length, take}
 use Rattle.std.specs.Prelude.{vec_len, vec_capacity, All}
 use Rattle.canary_once.specs.Contents.{KeepsReceipts}
+use Rattle.canary_once.specs.Sound.{AreSoundContents}
+use Rattle.canary_once.specs.Books.{StaysInMemory}
 use Rattle.canary_once.specs.Single.{IsFaultOf}
 use Rattle.canary_once.proofs.Runs.{IsRun}
 use Rattle.canary_once.proofs.run.run.Given as goal
@@ -11,6 +13,8 @@ invariant-loop-event g l =
     let now = g.B.Book.state l.book in
     record {
       intact : now.is_intact → old.is_intact;
+      in_memory : StaysInMemory old now;
+      sound : now.is_intact → AreSoundContents old.contents → AreSoundContents now.contents;
       sure : now.is_sure ≡ old.is_sure;
       count : vec_len l.answers ≡ l.event-index;
       len : length l.answers.items ≡ l.event-index;

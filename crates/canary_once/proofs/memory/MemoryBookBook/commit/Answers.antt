@@ -1,40 +1,39 @@
-use Rattle.std.proofs.Common.{◌≡◌, List, [], ◌∷◌, ◌++◌, refl, rules, sym, ap, ◌∙◌, subst}
-use Rattle.std.specs.Prelude.{Result, Ok, Err, OnOk, OnErr}
+use Rattle.std.proofs.Common.{◌≡◌, refl, sym, ◌∙◌, ap, subst}
 use Rattle.canary_once.specs.declared.book.Settlement.{Settlement}
-use Rattle.canary_once.specs.Contents.{no_contents, with_settlement, IsSettling, KeepsReceipts}
-use Rattle.canary_once.proofs.Events.{keep_keeps, same_keeps}
-use Rattle.canary_once.specs.Logs.{with_settlements, AreSettling}
-use Rattle.canary_once.proofs.LogLemmas.{with_settlements-push, sound-push}
+use Rattle.canary_once.specs.Contents.{Contents, with_settlement, IsSettling, KeepsReceipts}
+use Rattle.canary_once.specs.Sound.{AreContents, AreSoundContents}
+use Rattle.canary_once.proofs.Events.{keep_keeps}
+use Rattle.canary_once.proofs.Keeping.{is_kept, keeps_contents, keeps_soundness, settled_is}
 use Rattle.canary_once.proofs.memory.MemoryBookBook.commit.Goals as goal
 
-keeps : {T E : Type 0} (r : Result T E) (now old new : List Settlement) (x : Settlement) → old ≡ now → OnOk r (new ≡ old ++ x ∷ []) → OnErr r (new ≡ old) → AreSettling no_contents old → IsSettling (with_settlements no_contents now) x → AreSettling no_contents new
-keeps (Ok u) now old new x is ok err all one = rw ok (sound-push no_contents old x all (rw is one))
-keeps (Err e) now old new x is ok err all one = rw err all
+pub settle-requires-clause-kept : goal.settle-requires-clause-kept
+settle-requires-clause-kept c =
+    let old : Contents = record { callers = c.self.inside.callers; desk = c.self.inside.desk } in
+    is_kept c.changes.ensures old c.args.settlement (subst (λ k. IsSettling k c.args.settlement) (sym c.self.view_is) (c.requires tt))
 
-commits : {T E : Type 0} (r : Result T E) (now old new : List Settlement) (x : Settlement) → old ≡ now → OnOk r (new ≡ old ++ x ∷ []) → OnOk r (with_settlements no_contents new ≡ with_settlement (with_settlements no_contents now) x)
-commits (Ok u) now old new x is ok = ap (with_settlements no_contents) ok ∙ with_settlements-push no_contents old x ∙ ap (λ (l : List Settlement). with_settlement (with_settlements no_contents l) x) is
-commits (Err e) now old new x is ok = tt
-
-fails : {T E : Type 0} (r : Result T E) (now old new : List Settlement) → old ≡ now → OnErr r (new ≡ old) → OnErr r (with_settlements no_contents new ≡ with_settlements no_contents now)
-fails (Ok u) now old new is err = tt
-fails (Err e) now old new is err = ap (with_settlements no_contents) (err ∙ is)
-
-receipts_stay : {T E : Type 0} (r : Result T E) (now old new : List Settlement) (x : Settlement) → old ≡ now → OnOk r (new ≡ old ++ x ∷ []) → OnErr r (new ≡ old) → KeepsReceipts (with_settlements no_contents now) (with_settlements no_contents new)
-receipts_stay {E = E} (Ok u) now old new x is ok err =
-    subst (KeepsReceipts (with_settlements no_contents now)) (sym (commits {E = E} (Ok u) now old new x is ok)) (keep_keeps (with_settlements no_contents now) (with_settlement (with_settlements no_contents now) x).desk x.caller x.receipt)
-receipts_stay (Err e) now old new x is ok err = same_keeps (with_settlements no_contents now) (with_settlements no_contents new) (ap (with_settlements no_contents) (err ∙ is))
-
-pub invariant_of-self : goal.invariant_of-self
-invariant_of-self c = keeps c.append.result _ _ _ _ c.self.view_is c.append.ensures.ok c.append.ensures.err c.self.invariant (c.requires tt)
+pub invariant_of-self-2 : goal.invariant_of-self-2
+invariant_of-self-2 c =
+    let old : Contents = record { callers = c.self.inside.callers; desk = c.self.inside.desk } in
+    let settling : IsSettling old c.args.settlement = subst (λ k. IsSettling k c.args.settlement) (sym c.self.view_is) (c.requires tt) in
+    subst AreContents (sym (settled_is old c.args.settlement c.settle.new.callers c.settle.new.desk c.in_ok-settle.ensures.receipt c.in_ok-settle.ensures.desk))
+    (keeps_contents c.in_order.ensures.keeping c.refusals.ensures old c.args.settlement c.settle.ensures.few settling c.self.invariant)
 
 pub returns : goal.returns
 returns c =
-    let a = c.append.ensures in
+    let s : Settlement = c.args.settlement in
+    let now : Contents = c.args.self.now in
+    let old : Contents = record { callers = c.self.inside.callers; desk = c.self.inside.desk } in
+    let new : Contents = record { callers = c.settle.new.callers; desk = c.settle.new.desk } in
+    let settled : new ≡ with_settlement now s = settled_is old s c.settle.new.callers c.settle.new.desk c.in_ok-settle.ensures.receipt c.in_ok-settle.ensures.desk ∙ ap (λ (k : Contents). with_settlement k s) c.self.view_is in
+    let are : AreContents now = subst AreContents c.self.view_is c.self.invariant in
     record {
-      intact = λ intact. intact;
-      ok = λ _. commits c.append.result _ _ _ _ c.self.view_is a.ok;
-      err = λ _. fails c.append.result _ _ _ c.self.view_is a.err;
-      receipts = λ _. receipts_stay c.append.result _ _ _ _ c.self.view_is a.ok a.err;
+      intact = λ x. x;
+      in_memory = λ _. (tt, tt);
+      lawful = λ _. subst AreContents (sym settled) (keeps_contents c.in_order.ensures.keeping c.refusals.ensures now s c.settle.ensures.few (c.requires tt) are);
+      sound = λ _ sound. subst AreSoundContents (sym settled) (keeps_soundness c.sound.ensures.keeping now s (c.requires tt) are sound);
+      ok = λ _. settled;
+      err = λ _. tt;
+      receipts = λ _. subst (KeepsReceipts now) (sym settled) (keep_keeps now (with_settlement now s).desk s.caller s.receipt);
       sure = refl;
-      fault = search rules;
+      fault = tt;
     }

@@ -1,0 +1,10 @@
+use Rattle.std.proofs.Common.{◌∙◌}
+use Rattle.std.specs.Prelude.{string_bytes}
+use Rattle.canary_once.specs.Views.{quoted_line}
+use Rattle.canary_once.proofs.ViewsJoined.{words_more}
+use Rattle.canary_once.proofs.view_text.lines_text.Goals as goal
+
+pub loop-i-preserved : goal.loop-i-preserved
+loop-i-preserved c =
+    let x = c.index-lines-i.result in
+    words_more quoted_line c.args.lines.now c.loop-i.i x c.as_str.result.now (string_bytes c.loop-i.text) (string_bytes c.in_ok-text-2.text) c.loop-i-test.true c.index-lines-i.is (c.as_str.ensures.value ∙ c.in_ok-item.ensures) c.loop-i.invariant c.in_ok-text-2.ensures

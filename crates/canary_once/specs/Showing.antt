@@ -1,0 +1,73 @@
+-- What the code tells of a service that was passed: what a book told of it, as the effects on the way leave it.
+use Rattle.std.specs.Prelude.{◌≡◌, ℕ, ◌==◌, Bool, true, false, if◌then◌else◌, List, [], ◌∷◌, ◌++◌, replicate, Option, Some, None, option_map, Result, IfOk, IfErr}
+use Rattle.canary_metric.specs.Counts.{counts}
+use Rattle.canary_plan.specs.declared.line.Line.{Line}
+use Rattle.canary_release.specs.declared.effect.Opening.{Opening}
+use Rattle.canary_release.specs.declared.effect.Closing.{Closing}
+use Rattle.canary_release.specs.declared.effect.Effect.{Effect}
+use Rattle.canary_release.specs.declared.effect.Effect.TheVariants.{Told, Opened, Measured, Closed}
+use Rattle.canary_release.specs.declared.reply.Reply.{Reply}
+use Rattle.canary_release.specs.declared.service.Passed.{Passed}
+use Rattle.canary_release.specs.Pasts.{Past}
+use Rattle.canary_once.specs.declared.book.BookFault.{BookFault}
+use Rattle.canary_once.specs.declared.event.Query.{Query}
+use Rattle.canary_once.specs.declared.event.Query.TheVariants.{Service, History, Run}
+use Rattle.canary_once.specs.declared.record.RunRecord.{RunRecord}
+use Rattle.canary_once.specs.Contents.{Contents}
+use Rattle.canary_once.specs.Books.{BookState, IsFault}
+use Rattle.canary_once.specs.Records.{record_numbered}
+use Rattle.canary_once.specs.Views.{found, service_view, history_view, run_reply}
+
+-- what an item adds to the text of a list, where items stand before it or not
+abbrev pub item_words : Bool → List ℕ → List ℕ
+item_words false item = item
+item_words true item = 44 ∷ item
+
+-- the lines of a history after one thing more: those that are told stand at its end
+abbrev pub lines_then : List Line → Effect → List Line
+lines_then lines (Told line) = lines ++ line ∷ []
+lines_then lines (Opened x) = lines
+lines_then lines (Measured x) = lines
+lines_then lines (Closed x tallies) = lines
+
+abbrev pub lines_after : List Line → List Effect → List Line
+lines_after lines [] = lines
+lines_after lines (x ∷ xs) = lines_after (lines_then lines x) xs
+
+-- a run that is opened has measured nothing
+abbrev pub opened_record : Opening → RunRecord
+opened_record x = record { number = x.run; step = x.step; started = x.started; closed = None; tallies = replicate x.metrics (counts []) }
+
+abbrev pub closed_record : Closing → RunRecord → RunRecord
+closed_record x r = if r.number == x.run then record r { closed = Some x } else r
+
+-- the run of a number, if there is one, where one more is opened
+abbrev pub opened_of : ℕ → Opening → Option RunRecord → Option RunRecord
+opened_of number x (Some r) = Some r
+opened_of number x None = if x.run == number then Some (opened_record x) else None
+
+-- the run of a number, if there is one, after one thing more that is no measurement
+abbrev pub record_then : ℕ → Option RunRecord → Effect → Option RunRecord
+record_then number r (Told line) = r
+record_then number r (Opened x) = opened_of number x r
+record_then number r (Measured x) = r
+record_then number r (Closed x tallies) = option_map (closed_record x) r
+
+abbrev pub record_after : ℕ → Option RunRecord → List Effect → Option RunRecord
+record_after number r [] = r
+record_after number r (x ∷ xs) = record_after number (record_then number r x) xs
+
+-- the reply to a query on a service that was passed, of which this was past before
+abbrev pub shown : Passed → Query → Past → Reply
+shown p (Service name) past = found (service_view p.service.stand p.service.runs)
+shown p (History name) past = found (history_view p.service.stand.name (lines_after past.history p.effects))
+shown p (Run name number) past = run_reply p.service.stand (record_after number (record_numbered past number) p.effects)
+
+-- a reply was made from these contents, with what more the book was asked, or that failed
+pub record Shows (reply : Contents → Reply) (old new : BookState) (given : Result Reply BookFault) : Type 0 where
+  pub intact : new.is_intact → old.is_intact
+  pub in_memory : old.is_in_memory → old.is_intact → new.is_in_memory × new.is_intact
+  pub same : new.is_intact → new.contents ≡ old.contents
+  pub ok : new.is_intact → IfOk given (λ r. r ≡ reply old.contents)
+  pub sure : new.is_sure ≡ old.is_sure
+  pub fault : IfErr given (IsFault old.is_sure)

@@ -1,0 +1,99 @@
+//! One query.
+ghost use Rattle.canary_once.specs.declared.event.Event.TheVariants as event;
+ghost use Rattle.canary_once.specs.declared.event.Query.TheVariants as asks;
+ghost use Rattle.canary_once.specs.Records.{past_of};
+ghost use Rattle.canary_once.specs.Single.{IsAnsweredBy, RepliesBy};
+ghost use Rattle.canary_once.specs.Views.{asked_of, view_of};
+ghost use Rattle.canary_once.specs.Showing.{shown, Shows};
+
+use crate::book::{Book, BookFault};
+use crate::event::{Answer, Query};
+use crate::{view_past, view_text};
+use canary_base::moments::Moment;
+use canary_base::names::Name;
+use canary_base::numbers::Number;
+use canary_release::laws;
+use canary_release::reply::Reply;
+use canary_release::service::Passed;
+use std::alloc::Global;
+
+/// Answers one query on a copy of the service, passed to the moment: 200 with what it asks for, or
+/// 404 where there is no such service, or no such run. It changes nothing. Where the book is out of
+/// memory or its store failed, the answer is 503.
+pub fn view<B: Book>(alloc: Global, book: &mut B, moment: Moment, query: &Query) -> Answer
+    ensures { IsAnsweredBy (B.state book.old) (B.state book.new)
+        (event.Query moment query.now) result }
+{
+    match look(alloc, book, moment, query) {
+        Ok(reply) => Answer::Replied(reply),
+        Err(fault) => Answer::Unavailable(fault),
+    }
+}
+
+fn look<B: Book>(
+    alloc: Global,
+    book: &mut B,
+    moment: Moment,
+    query: &Query,
+) -> Result<Reply, BookFault>
+    ensures { RepliesBy (λ c. view_of c.desk moment query.now) (λ c. c)
+        (B.state book.old) (B.state book.new) result }
+{
+    laws::watching();
+    laws::changes();
+    laws::time();
+    laws::quiet();
+    match book.service(&query.service())? {
+        None => Ok(view_text::not_found(alloc, "unknown-service")?),
+        Some(service) => {
+            let passed = service.passed(alloc, moment)?;
+            show(alloc, book, &passed, query)
+        }
+    }
+}
+
+// What the query asks for, of the service that was passed.
+fn show<B: Book>(
+    alloc: Global,
+    book: &mut B,
+    passed: &Passed,
+    query: &Query,
+) -> Result<Reply, BookFault>
+    ensures { Shows (λ c. shown passed.now query.now (past_of c (asked_of query.now)))
+        (B.state book.old) (B.state book.new) result }
+{
+    match query {
+        Query::Service(_) => Ok(view_text::service_reply(alloc, &passed.service)?),
+        Query::History(name) => show_history(alloc, book, passed, name),
+        Query::Run(name, number) => show_run(alloc, book, passed, name, *number),
+    }
+}
+
+fn show_history<B: Book>(
+    alloc: Global,
+    book: &mut B,
+    passed: &Passed,
+    name: &Name,
+) -> Result<Reply, BookFault>
+    ensures { Shows (λ c. shown passed.now (asks.History name.now) (past_of c name.now))
+        (B.state book.old) (B.state book.new) result }
+{
+    let history = book.history(name)?;
+    let lines = view_past::lines_after(history, passed.effects.as_slice())?;
+    Ok(view_text::history_reply(alloc, passed.service.name(), lines.as_slice())?)
+}
+
+fn show_run<B: Book>(
+    alloc: Global,
+    book: &mut B,
+    passed: &Passed,
+    name: &Name,
+    number: Number,
+) -> Result<Reply, BookFault>
+    ensures { Shows (λ c. shown passed.now (asks.Run name.now number) (past_of c name.now))
+        (B.state book.old) (B.state book.new) result }
+{
+    let found = book.run(name, number)?;
+    let run = view_past::record_after(alloc, number.get(), found, passed.effects.as_slice())?;
+    Ok(view_text::run_reply(alloc, &passed.service, run.as_ref())?)
+}

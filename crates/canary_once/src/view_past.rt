@@ -1,0 +1,159 @@
+//! What a book tells of a service, as the effects of time that passed leave it.
+ghost use Rattle.std.specs.Prelude.{◌≡◌, [], ◌∷◌, ◌++◌, IfOk, option_map, replicate};
+ghost use Rattle.canary_metric.specs.Counts.{counts};
+ghost use Rattle.canary_plan.specs.Lines.{line_at};
+ghost use Rattle.canary_once.specs.Showing.{lines_then, lines_after, opened_record};
+ghost use Rattle.canary_once.specs.Showing.{closed_record, opened_of, record_then, record_after};
+
+use crate::record::RunRecord;
+use canary_base::error::Memory;
+use canary_base::lists::Listed;
+use canary_base::moments::Moment;
+use canary_metric::tally::Tally;
+use canary_plan::line::{Line, LineEvent};
+use canary_release::effect::{Closing, Effect, Opening};
+use std::alloc::Global;
+
+/// A history with the lines that these effects tell at its end.
+pub(crate) fn lines_after(history: Listed<Line>, effects: &[Effect]) -> Result<Listed<Line>, Memory>
+    ensures { IfOk result (λ lines. lines ≡ lines_after history effects.now) }
+{
+    let mut lines = history;
+    for effect in effects {
+        lines = lines_then(lines, effect)?;
+    }
+    Ok(lines)
+}
+
+fn lines_then(lines: Listed<Line>, effect: &Effect) -> Result<Listed<Line>, Memory>
+    ensures { IfOk result (λ more. more ≡ lines_then lines effect.now) }
+{
+    match effect {
+        Effect::Told(line) => with_line(lines, line),
+        Effect::Opened(_) => Ok(lines),
+        Effect::Measured(_) => Ok(lines),
+        Effect::Closed { .. } => Ok(lines),
+    }
+}
+
+fn with_line(lines: Listed<Line>, line: &Line) -> Result<Listed<Line>, Memory>
+    ensures { IfOk result (λ more. more ≡ lines ++ line.now ∷ []) }
+{
+    let Line { moment, event } = *line;
+    push_line(lines, moment, event)
+}
+
+// The line is made where it is put into the list.
+fn push_line(lines: Listed<Line>, moment: Moment, event: LineEvent) -> Result<Listed<Line>, Memory>
+    ensures { IfOk result (λ more. more ≡ lines ++ line_at moment event ∷ []) }
+{
+    let mut lines = lines;
+    lines.push(Line { moment, event })?;
+    Ok(lines)
+}
+
+/// The run of that number after these effects, none of which is a measurement: it may be opened, or
+/// closed, and its tallies stay.
+pub(crate) fn record_after(
+    alloc: Global,
+    number: u32,
+    found: Option<RunRecord>,
+    effects: &[Effect],
+) -> Result<Option<RunRecord>, Memory>
+    ensures { IfOk result (λ run. run ≡ record_after number found effects.now) }
+{
+    let mut record = found;
+    for effect in effects {
+        record = record_then(alloc, number, record, effect)?;
+    }
+    Ok(record)
+}
+
+fn record_then(
+    alloc: Global,
+    number: u32,
+    found: Option<RunRecord>,
+    effect: &Effect,
+) -> Result<Option<RunRecord>, Memory>
+    ensures { IfOk result (λ run. run ≡ record_then number found effect.now) }
+{
+    match effect {
+        Effect::Told(_) => Ok(found),
+        Effect::Opened(opening) => opened_of(alloc, number, opening, found),
+        Effect::Measured(_) => Ok(found),
+        Effect::Closed { closing, .. } => Ok(closed(closing, found)),
+    }
+}
+
+fn opened_of(
+    alloc: Global,
+    number: u32,
+    opening: &Opening,
+    found: Option<RunRecord>,
+) -> Result<Option<RunRecord>, Memory>
+    ensures { IfOk result (λ run. run ≡ opened_of number opening.now found) }
+{
+    match found {
+        Some(run) => Ok(Some(run)),
+        None => {
+            if opening.run == number {
+                Ok(Some(opened_record(alloc, opening)?))
+            } else {
+                Ok(None)
+            }
+        }
+    }
+}
+
+fn opened_record(alloc: Global, opening: &Opening) -> Result<RunRecord, Memory>
+    ensures { IfOk result (λ run. run ≡ opened_record opening.now) }
+{
+    Ok(RunRecord {
+        number: opening.run,
+        step: opening.step,
+        started: opening.started,
+        closed: None,
+        tallies: new_tallies(alloc, opening.metrics)?,
+    })
+}
+
+fn new_tallies(alloc: Global, metrics: u32) -> Result<Listed<Tally>, Memory>
+    ensures { IfOk result (λ tallies. tallies ≡ replicate metrics (counts [])) }
+{
+    let mut tallies = Listed::of(Vec::new(alloc));
+    for _ in 0..metrics {
+        tallies.push(Tally::new())?;
+    }
+    Ok(tallies)
+}
+
+fn closed(closing: &Closing, found: Option<RunRecord>) -> Option<RunRecord>
+    ensures { result ≡ option_map (closed_record closing.now) found }
+{
+    match found {
+        Some(run) => Some(closed_record(closing, run)),
+        None => None,
+    }
+}
+
+fn closed_record(closing: &Closing, run: RunRecord) -> RunRecord
+    ensures { result ≡ closed_record closing.now run }
+{
+    if run.number != closing.run {
+        return run;
+    }
+    let RunRecord {
+        number,
+        step,
+        started,
+        closed: _,
+        tallies,
+    } = run;
+    RunRecord {
+        number,
+        step,
+        started,
+        closed: Some(*closing),
+        tallies,
+    }
+}

@@ -1,0 +1,215 @@
+//! The text of a run.
+ghost use Rattle.std.specs.Prelude.{◌≡◌, IfOk, map, string_bytes};
+ghost use Rattle.std.specs.List.{zip};
+ghost use Rattle.canary_metric.specs.MetricPhases.{is_completed};
+ghost use Rattle.canary_release.specs.Courses.{run_metrics};
+ghost use Rattle.canary_release.specs.Replies.{bracketed};
+ghost use Rattle.canary_once.specs.Views.{null_or, bool_text, due_text, metric_front};
+ghost use Rattle.canary_once.specs.Views.{metric_middle, metric_back, metric_view, closed_at};
+ghost use Rattle.canary_once.specs.Views.{verdict_in, run_front, run_middle, run_back, run_view};
+
+use crate::record::RunRecord;
+use crate::view_text::{joined, with_item};
+use canary_base::error::Memory;
+use canary_condition::outcome::Phase;
+use canary_metric::metric::Metric;
+use canary_metric::tally::Tally;
+use canary_release::service::Service;
+use std::alloc::Global;
+
+/// The text that shows a run of a service.
+pub(crate) fn run_text(alloc: Global, service: &Service, run: &RunRecord) -> Result<String, Memory>
+    ensures { IfOk result (λ text. string_bytes text
+        ≡ run_view service.now.stand.name
+        (run_metrics service.now.stand.strategy run.now.step) run.now) }
+{
+    let front = run_front(alloc, service, run)?;
+    let middle = run_middle(alloc, service, run)?;
+    let back = run_back(alloc, run)?;
+    joined(front, middle.as_str(), back.as_str())
+}
+
+// When it was closed, and its metrics.
+fn run_front(alloc: Global, service: &Service, run: &RunRecord) -> Result<String, Memory>
+    ensures { IfOk result (λ text. string_bytes text
+        ≡ run_front (run_metrics service.now.stand.strategy run.now.step) run.now) }
+{
+    let closed = null_or(alloc, closed_at(run))?;
+    let metrics = run_metrics_text(alloc, service, run)?;
+    Ok(format!(in alloc; "{{\"closed\":{closed},\"code\":\"ok\",\"metrics\":{metrics}")?)
+}
+
+fn closed_at(run: &RunRecord) -> Option<u64>
+    ensures { result ≡ closed_at run.now.closed }
+{
+    match run.closed {
+        Some(closing) => Some(closing.at.get()),
+        None => None,
+    }
+}
+
+// Its number, the service and when it was started.
+fn run_middle(alloc: Global, service: &Service, run: &RunRecord) -> Result<String, Memory>
+    ensures { IfOk result (λ text. string_bytes text
+        ≡ run_middle service.now.stand.name run.now) }
+{
+    let number = run.number;
+    let name = service.name();
+    let started = run.started.get();
+    Ok(format!(in alloc; ",\"run\":{number},\"service\":\"{name}\",\"started\":{started}")?)
+}
+
+// Its step and its verdict.
+fn run_back(alloc: Global, run: &RunRecord) -> Result<String, Memory>
+    ensures { IfOk result (λ text. string_bytes text ≡ run_back run.now) }
+{
+    let step = null_or(alloc, step_of(run))?;
+    let verdict = verdict_in(run).text();
+    Ok(format!(in alloc; ",\"step\":{step},\"verdict\":\"{verdict}\"}}")?)
+}
+
+fn step_of(run: &RunRecord) -> Option<u64>
+    ensures { result ≡ run.now.step }
+{
+    match run.step {
+        Some(step) => Some(u64::from(step)),
+        None => None,
+    }
+}
+
+fn verdict_in(run: &RunRecord) -> Phase
+    ensures { result ≡ verdict_in run.now.closed }
+{
+    match run.closed {
+        Some(closing) => closing.verdict,
+        None => Phase::Running,
+    }
+}
+
+// A number, or null.
+fn null_or(alloc: Global, number: Option<u64>) -> Result<String, Memory>
+    ensures { IfOk result (λ text. string_bytes text ≡ null_or number) }
+{
+    match number {
+        Some(number) => Ok(format!(in alloc; "{number}")?),
+        None => Ok(String::from_str(alloc, "null")?),
+    }
+}
+
+// The metrics of a run of the service, in square brackets.
+fn run_metrics_text(alloc: Global, service: &Service, run: &RunRecord) -> Result<String, Memory>
+    ensures { IfOk result (λ text. string_bytes text
+        ≡ bracketed (map (metric_view run.now)
+        (zip (run_metrics service.now.stand.strategy run.now.step) run.now.tallies))) }
+{
+    match service.strategy().metrics(run.step) {
+        Some(metrics) => metrics_text(alloc, run, metrics),
+        None => Ok(String::from_str(alloc, "[]")?),
+    }
+}
+
+fn metrics_text(alloc: Global, run: &RunRecord, metrics: &[Metric]) -> Result<String, Memory>
+    ensures { IfOk result (λ text. string_bytes text
+        ≡ bracketed (map (metric_view run.now) (zip metrics.now run.now.tallies))) }
+{
+    let tallies = run.tallies.as_slice();
+    let count = metrics.len().min(tallies.len());
+    let mut text = String::from_str(alloc, "[")?;
+    for i in 0..count {
+        let item = metric_text(alloc, run, &metrics[i], &tallies[i])?;
+        text = with_item(text, i > 0, item.as_str())?;
+    }
+    text.push_str("]")?;
+    Ok(text)
+}
+
+fn metric_text(
+    alloc: Global,
+    run: &RunRecord,
+    metric: &Metric,
+    tally: &Tally,
+) -> Result<String, Memory>
+    ensures { IfOk result (λ text. string_bytes text
+        ≡ metric_view run.now (metric.now, tally.now)) }
+{
+    let front = metric_front(alloc, run, metric, tally)?;
+    let middle = metric_middle(alloc, tally)?;
+    let back = metric_back(alloc, run, metric, tally)?;
+    joined(front, middle.as_str(), back.as_str())
+}
+
+// What was counted, whether it is a dry run, and when it is due.
+fn metric_front(
+    alloc: Global,
+    run: &RunRecord,
+    metric: &Metric,
+    tally: &Tally,
+) -> Result<String, Memory>
+    ensures { IfOk result (λ text. string_bytes text
+        ≡ metric_front run.now metric.now tally.now) }
+{
+    let consecutive = tally.consecutive();
+    let counted = tally.counted();
+    let dry_run = bool_text(metric.dry_run());
+    let due = due_text(alloc, run, metric, tally)?;
+    Ok(format!(in alloc;
+        "{{\"consecutive\":{consecutive},\"counted\":{counted},\"dryRun\":{dry_run},\"due\":{due}"
+    )?)
+}
+
+fn bool_text(value: bool) -> &'static str
+    ensures { result.now ≡ bool_text value }
+{
+    if value { "true" } else { "false" }
+}
+
+// When the metric is due next; null where it is completed or the run is closed.
+fn due_text(
+    alloc: Global,
+    run: &RunRecord,
+    metric: &Metric,
+    tally: &Tally,
+) -> Result<String, Memory>
+    ensures { IfOk result (λ text. string_bytes text
+        ≡ due_text run.now metric.now tally.now) }
+{
+    if is_completed(tally.phase(metric, false)) || run.closed.is_some() {
+        null_or(alloc, None)
+    } else {
+        null_or(alloc, Some(tally.due(metric, run.started)))
+    }
+}
+
+fn is_completed(phase: Phase) -> bool
+    ensures { result ≡ is_completed phase }
+{
+    !matches!(phase, Phase::Pending | Phase::Running)
+}
+
+// The numbers of errors, of failed and inconclusive measurements, and of all.
+fn metric_middle(alloc: Global, tally: &Tally) -> Result<String, Memory>
+    ensures { IfOk result (λ text. string_bytes text ≡ metric_middle tally.now) }
+{
+    let errors = tally.errors();
+    let failed = tally.failed();
+    let inconclusive = tally.inconclusive();
+    let measurements = tally.measurements();
+    Ok(format!(in alloc;
+        ",\"errors\":{errors},\"failed\":{failed},\"inconclusive\":{inconclusive},\"measurements\":{measurements}"
+    )?)
+}
+
+// The name and the phase.
+fn metric_back(
+    alloc: Global,
+    run: &RunRecord,
+    metric: &Metric,
+    tally: &Tally,
+) -> Result<String, Memory>
+    ensures { IfOk result (λ text. string_bytes text
+        ≡ metric_back run.now metric.now tally.now) }
+{
+    let name = metric.name();
+    let phase = tally.phase(metric, run.closed.is_some()).text();
+    Ok(format!(in alloc; ",\"name\":\"{name}\",\"phase\":\"{phase}\"}}")?)
+}

@@ -1,0 +1,212 @@
+//! The replies to queries: services, histories, and lists of items.
+ghost use Rattle.std.specs.Prelude.{◌≡◌, ◌++◌, IfOk, map, string_bytes, option_copied};
+ghost use Rattle.canary_release.specs.Replies.{bracketed, code_alone};
+ghost use Rattle.canary_once.specs.Views.{found, not_found, hold_text, number_text, run_reply};
+ghost use Rattle.canary_once.specs.Views.{service_front, service_middle, service_back};
+ghost use Rattle.canary_once.specs.Views.{service_view, quoted_line, history_view};
+ghost use Rattle.canary_once.specs.Showing.{item_words};
+
+use crate::record::RunRecord;
+use crate::view_run::run_text;
+use canary_base::error::Memory;
+use canary_base::lists::Text;
+use canary_base::names::Name;
+use canary_plan::line::Line;
+use canary_release::reply::{Reply, ReplyStatus};
+use canary_release::runs::OpenRun;
+use canary_release::service::Service;
+use std::alloc::Global;
+
+/// The reply that what is asked for is not there, with that code.
+pub(crate) fn not_found(alloc: Global, code: &str) -> Result<Reply, Memory>
+    ensures { IfOk result (λ reply. reply ≡ not_found code.now) }
+{
+    let body = code_alone(alloc, code)?;
+    Ok(Reply {
+        status: ReplyStatus::NotFound,
+        body: Text::of(body),
+    })
+}
+
+fn code_alone(alloc: Global, code: &str) -> Result<String, Memory>
+    ensures { IfOk result (λ text. string_bytes text ≡ code_alone code.now) }
+{
+    Ok(format!(in alloc; "{{\"code\":\"{code}\"}}")?)
+}
+
+// The reply with this body, where what is asked for is there.
+fn found(body: String) -> Reply
+    ensures { result ≡ found (string_bytes body) }
+{
+    Reply {
+        status: ReplyStatus::Accepted,
+        body: Text::of(body),
+    }
+}
+
+/// The reply that shows a service.
+pub(crate) fn service_reply(alloc: Global, service: &Service) -> Result<Reply, Memory>
+    ensures { IfOk result (λ reply. reply
+        ≡ found (service_view service.now.stand service.now.runs)) }
+{
+    let body = service_text(alloc, service)?;
+    Ok(found(body))
+}
+
+/// The reply that shows the history of a service.
+pub(crate) fn history_reply(alloc: Global, name: Name, lines: &[Line]) -> Result<Reply, Memory>
+    ensures { IfOk result (λ reply. reply ≡ found (history_view name lines.now)) }
+{
+    let body = history_text(alloc, name, lines)?;
+    Ok(found(body))
+}
+
+/// The reply that shows a run of a service, or that there is no such run.
+pub(crate) fn run_reply(
+    alloc: Global,
+    service: &Service,
+    run: Option<&RunRecord>,
+) -> Result<Reply, Memory>
+    ensures { IfOk result (λ reply. reply ≡ run_reply service.now.stand (option_copied run.entry)) }
+{
+    match run {
+        Some(run) => {
+            let body = run_text(alloc, service, run)?;
+            Ok(found(body))
+        }
+        None => not_found(alloc, "unknown-run"),
+    }
+}
+
+fn service_text(alloc: Global, service: &Service) -> Result<String, Memory>
+    ensures { IfOk result (λ text. string_bytes text
+        ≡ service_view service.now.stand service.now.runs) }
+{
+    let front = service_front(alloc, service)?;
+    let middle = service_middle(alloc, service)?;
+    let back = service_back(alloc, service)?;
+    joined(front, middle.as_str(), back.as_str())
+}
+
+/// Three texts in one.
+pub(crate) fn joined(front: String, middle: &str, back: &str) -> Result<String, Memory>
+    ensures { IfOk result (λ text. string_bytes text
+        ≡ string_bytes front ++ (middle.now ++ back.now)) }
+{
+    let mut text = front;
+    text.push_str(middle)?;
+    text.push_str(back)?;
+    Ok(text)
+}
+
+// The hold, the last moment and the open runs.
+fn service_front(alloc: Global, service: &Service) -> Result<String, Memory>
+    ensures { IfOk result (λ text. string_bytes text
+        ≡ service_front service.now.stand service.now.runs) }
+{
+    let hold = hold_text(service.step_hold(), service.background_hold());
+    let moment = service.last().get();
+    let open = numbers_text(alloc, service.open_runs())?;
+    Ok(format!(in alloc;
+        "{{\"code\":\"ok\",\"hold\":\"{hold}\",\"moment\":{moment},\"open\":{open}"
+    )?)
+}
+
+fn hold_text(step: bool, background: bool) -> &'static str
+    ensures { result.now ≡ hold_text step background }
+{
+    match (step, background) {
+        (false, false) => "none",
+        (true, false) => "step",
+        (false, true) => "background",
+        (true, true) => "both",
+    }
+}
+
+// How many runs, the name and the stable version.
+fn service_middle(alloc: Global, service: &Service) -> Result<String, Memory>
+    ensures { IfOk result (λ text. string_bytes text
+        ≡ service_middle service.now.stand service.now.runs.count) }
+{
+    let count = service.run_count();
+    let name = service.name();
+    let stable = service.stable();
+    Ok(format!(in alloc; ",\"runs\":{count},\"service\":\"{name}\",\"stable\":\"{stable}\"")?)
+}
+
+// The status, the step, the version and the weight.
+fn service_back(alloc: Global, service: &Service) -> Result<String, Memory>
+    ensures { IfOk result (λ text. string_bytes text ≡ service_back service.now.stand) }
+{
+    let status = service.status().text();
+    let step = service.step();
+    let version = service.version();
+    let weight = service.weight();
+    Ok(format!(in alloc;
+        ",\"status\":\"{status}\",\"step\":{step},\"version\":\"{version}\",\"weight\":{weight}}}"
+    )?)
+}
+
+// The numbers of open runs, in square brackets.
+fn numbers_text(alloc: Global, runs: &[OpenRun]) -> Result<String, Memory>
+    ensures { IfOk result (λ text. string_bytes text ≡ bracketed (map number_text runs.now)) }
+{
+    let mut text = String::from_str(alloc, "[")?;
+    for (i, run) in runs.iter().enumerate() {
+        let number = number_text(alloc, run)?;
+        text = with_item(text, i > 0, number.as_str())?;
+    }
+    text.push_str("]")?;
+    Ok(text)
+}
+
+fn number_text(alloc: Global, run: &OpenRun) -> Result<String, Memory>
+    ensures { IfOk result (λ text. string_bytes text ≡ number_text run.now) }
+{
+    let number = run.number;
+    Ok(format!(in alloc; "{number}")?)
+}
+
+/// With one more item of a list, after a comma where it is not the first.
+pub(crate) fn with_item(text: String, later: bool, item: &str) -> Result<String, Memory>
+    ensures { IfOk result (λ all. string_bytes all
+        ≡ string_bytes text ++ item_words later item.now) }
+{
+    let mut text = text;
+    if later {
+        text.push_str(",")?;
+    }
+    text.push_str(item)?;
+    Ok(text)
+}
+
+fn history_text(alloc: Global, name: Name, lines: &[Line]) -> Result<String, Memory>
+    ensures { IfOk result (λ text. string_bytes text ≡ history_view name lines.now) }
+{
+    let lines = lines_text(alloc, lines)?;
+    Ok(format!(in alloc; "{{\"code\":\"ok\",\"lines\":{lines},\"service\":\"{name}\"}}")?)
+}
+
+// The lines in quotes, in square brackets.
+fn lines_text(alloc: Global, lines: &[Line]) -> Result<String, Memory>
+    ensures { IfOk result (λ text. string_bytes text ≡ bracketed (map quoted_line lines.now)) }
+{
+    let mut text = String::from_str(alloc, "[")?;
+    for (i, line) in lines.iter().enumerate() {
+        let item = quoted_line(alloc, line)?;
+        text = with_item(text, i > 0, item.as_str())?;
+    }
+    text.push_str("]")?;
+    Ok(text)
+}
+
+fn quoted_line(alloc: Global, line: &Line) -> Result<String, Memory>
+    ensures { IfOk result (λ text. string_bytes text ≡ quoted_line line.now) }
+{
+    let mut text = String::from_str(alloc, "\"")?;
+    line.moment.text(&mut text)?;
+    text.push_str(" ")?;
+    line.words(&mut text)?;
+    text.push_str("\"")?;
+    Ok(text)
+}
