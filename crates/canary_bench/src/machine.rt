@@ -235,7 +235,8 @@ fn is_accepted(
     }
 }
 
-fn nanos_of(took: Duration) -> u64 {
+/// The nanoseconds of a time.
+pub fn nanos_of(took: Duration) -> u64 {
     u64::try_from(took.as_nanos()).unwrap_or(u64::MAX)
 }
 

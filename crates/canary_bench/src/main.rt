@@ -1,5 +1,7 @@
 //! Prints figures of this machine. `canary_bench SUBJECT ROUNDS` measures one subject, so many
-//! times over: `condition`, `metric`, `machine` or `message`. With no words it prints nothing.
+//! times over: `condition`, `metric`, `machine` or `message`. `canary_bench register MOST STREAM`
+//! measures the book in memory, up to so many settled requests of a stream, and without a stream
+//! it prints the table's head. With no words it prints nothing.
 #![tactic(auto)]
 
 mod condition;
@@ -7,6 +9,9 @@ mod machine;
 mod message;
 mod metric;
 mod plans;
+mod reads;
+mod register;
+mod streams;
 
 use anyhow::{Context, Result, bail};
 use std::env;
@@ -26,6 +31,7 @@ fn main(rt: HostRuntime) -> Result<()> {
         "condition" => condition::measure(&rt, rounds),
         "metric" => metric::measure(&rt, rounds),
         "machine" => machine::measure(&rt, rounds),
+        "register" => register::measure(&rt, rounds, words.next()),
         "message" => message::measure(&rt, rounds),
         other => bail!("no such subject: {other}"),
     }

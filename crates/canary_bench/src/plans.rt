@@ -29,11 +29,13 @@ const GOOD: i64 = 0;
 
 const DOUBTFUL: i64 = 5;
 
-fn web() -> Option<Name> {
+/// The service.
+pub fn web() -> Option<Name> {
     Name::read("web".as_bytes())
 }
 
-fn latency() -> Option<Name> {
+/// The template.
+pub fn latency() -> Option<Name> {
     Name::read("latency".as_bytes())
 }
 
@@ -58,8 +60,11 @@ fn condition(alloc: Global, text: &str) -> Option<Text>
     Some(Text::of(String::from_str(alloc, text).ok()?))
 }
 
-// A metric that is to be measured five times.
-fn metric(alloc: Global, place: u32) -> Option<MetricSpec> {
+// A metric that is to be measured so many times.
+fn metric(alloc: Global, place: u32, measurements: u32) -> Option<MetricSpec> {
+    if measurements == 0 || measurements > 1_000_000 {
+        return None;
+    }
     let name = metric_name(place)?;
     let initial_delay = Seconds::new(0)?;
     let success = condition(alloc, "result < 1")?;
@@ -70,24 +75,25 @@ fn metric(alloc: Global, place: u32) -> Option<MetricSpec> {
         failure: Some(failure),
         interval: Seconds::new(60),
         initial_delay,
-        count: Some(5),
+        count: Some(measurements),
         failure_limit: 0,
         inconclusive_limit: 0,
         consecutive_error_limit: 4,
     })
 }
 
-fn metrics(alloc: Global, count: u32) -> Option<Vec<MetricSpec>> {
+fn metrics(alloc: Global, count: u32, measurements: u32) -> Option<Vec<MetricSpec>> {
     let mut metrics = Vec::new(alloc);
     for place in 0..count {
-        metrics.push(metric(alloc, place)?).ok()?;
+        metrics.push(metric(alloc, place, measurements)?).ok()?;
     }
     Some(metrics)
 }
 
-fn template(alloc: Global, count: u32) -> Option<TemplateSpec> {
+/// The template as it is asked for, with so many metrics of so many measurements each.
+pub fn template(alloc: Global, count: u32, measurements: u32) -> Option<TemplateSpec> {
     let name = latency()?;
-    let metrics = metrics(alloc, count)?;
+    let metrics = metrics(alloc, count, measurements)?;
     if metrics.is_empty() || metrics.len() > 32 {
         return None;
     }
@@ -109,7 +115,7 @@ pub fn known(alloc: Global, size: Size) -> Option<Templates> {
 }
 
 fn bound(alloc: Global, count: u32) -> Option<Template> {
-    let spec = template(alloc, count)?;
+    let spec = template(alloc, count, 5)?;
     Template::bind(alloc, &spec).ok()
 }
 
@@ -143,9 +149,13 @@ fn steps(alloc: Global, size: Size) -> Option<Listed<Step>> {
     }
 }
 
-/// A service with a strategy of that size, as it is asked for.
+/// The service with a strategy of that size, as it is asked for.
 pub fn service(alloc: Global, size: Size) -> Option<ServiceSpec> {
-    let name = web()?;
+    service_named(alloc, web()?, size)
+}
+
+/// A service of that name with a strategy of that size, as it is asked for.
+pub fn service_named(alloc: Global, name: Name, size: Size) -> Option<ServiceSpec> {
     let version = Label::read("v1".as_bytes())?;
     Some(ServiceSpec {
         name,
@@ -177,6 +187,28 @@ pub fn promote() -> Option<Command> {
     Some(Command::Promote { service: web()? })
 }
 
+/// A report of one measurement of the first metric, a success taken at that moment.
+pub fn report_of_one(alloc: Global, ordinal: u32, taken: Moment) -> Option<Command> {
+    if ordinal == 0 || ordinal > 1_000_000_000 {
+        return None;
+    }
+    let metric = metric_name(0)?;
+    let outcome = Outcome::Result(Value::Whole(GOOD));
+    let entry = Entry {
+        metric,
+        ordinal,
+        taken,
+        outcome,
+    };
+    report_on_first_run(one_entry(alloc, entry)?)
+}
+
+fn one_entry(alloc: Global, entry: Entry) -> Option<Vec<Entry>> {
+    let mut entries = Vec::new(alloc);
+    entries.push(entry).ok()?;
+    Some(entries)
+}
+
 fn entry(place: u32, value: i64) -> Option<Entry> {
     Some(Entry {
         metric: metric_name(place)?,
@@ -196,8 +228,11 @@ fn entries(alloc: Global, count: u32, value: i64) -> Option<Vec<Entry>> {
 
 // A report of the first run, on the first metrics, each with that value.
 fn report(alloc: Global, count: u32, value: i64) -> Option<Command> {
+    report_on_first_run(entries(alloc, count, value)?)
+}
+
+fn report_on_first_run(entries: Vec<Entry>) -> Option<Command> {
     let service = web()?;
-    let entries = entries(alloc, count, value)?;
     if entries.is_empty() || entries.len() > 32 {
         return None;
     }

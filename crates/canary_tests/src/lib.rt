@@ -8,11 +8,15 @@ mod asked;
 #[cfg(test)]
 mod base;
 #[cfg(test)]
+mod canonical;
+#[cfg(test)]
 mod cli;
 #[cfg(test)]
 mod command;
 #[cfg(test)]
 mod condition;
+#[cfg(test)]
+mod faulty;
 #[cfg(test)]
 mod line;
 #[cfg(test)]
@@ -22,9 +26,13 @@ mod once;
 #[cfg(test)]
 mod plan;
 #[cfg(test)]
+mod queries;
+#[cfg(test)]
 mod release;
 #[cfg(test)]
 mod rows;
+#[cfg(test)]
+mod sending;
 #[cfg(test)]
 mod wire_command;
 #[cfg(test)]

@@ -1,46 +1,30 @@
-//! The register: worked rows, sent to a book in memory and to one whose store fails. Each test holds
-//! as well where any one allocation is refused: what was answered 503 changed nothing, no more than
-//! one request is answered so, and it is sent again.
-ghost use Rattle.std.specs.Prelude.{◌≡◌};
+//! The register: worked rows, sent to a book in memory. Each test holds as well where any one
+//! allocation is refused: what was answered 503 changed nothing, no more than one request is answered
+//! so, and it is sent again.
 
-use crate::asked::{B, body, command, moment};
-use crate::rows::{says, split};
-use canary_base::error::Memory;
+use crate::asked::{B, command};
+use crate::rows::says;
+use crate::sending::{
+    NO_MEMORY, UNKNOWN, again, count_told, ops, promotions, request, send_stories, send_story,
+    settled,
+};
 use canary_base::lists::Text;
 use canary_base::moments::{LAST_MOMENT, Moment};
 use canary_base::names::Name;
 use canary_base::numbers::Number;
+use canary_canonical::command::CanonicalCommand;
 use canary_once::book::{Book, BookFault, Receipt, Settlement};
 use canary_once::clock::{Clock, StepClock};
-use canary_once::event::{Answer, Event, Request};
+use canary_once::event::Event;
 use canary_once::memory::MemoryBook;
 use canary_once::post::post;
 use canary_once::run::run;
-use canary_plan::templates::Templates;
 use canary_release::decide::DeskChange;
 use canary_release::reply::{Reply, ReplyStatus};
-use canary_release::service::Service;
 use std::alloc::Global;
-use std::process::Abort;
 use std::test::Fail;
 
-// Asks again where memory was refused.
-macro_rules! again {
-    ($call:expr) => {
-        match $call {
-            Ok(value) => value,
-            Err(_) => $call?,
-        }
-    };
-}
-
 const HEALTHY: &str = r#"{"code":"ok","service":"web","status":"Healthy","step":2,"weight":100}"#;
-
-const UNKNOWN: &str = r#"{"code":"unknown-service"}"#;
-
-const NO_MEMORY: &str = r#"{"code":"no-memory"}"#;
-
-const STORAGE: &str = r#"{"code":"storage"}"#;
 
 /// Requests: the caller, its number, the seconds after B, and what is asked of the service web, then
 /// the status of the answer (200 where none stands) and what its body stands for. A doubled promotion
@@ -59,19 +43,9 @@ ops 2 8 start v2 => [web Paused 1 20]
 ops 6 9 promote => 422 not-in-progress
 ops 6 10 promote => 422 not-in-progress"#;
 
-/// A service whose background analysis has the template errs, and its release.
-const WITH_BACKGROUND: &str =
-    "ops 2 0 service v1 setWeight:20 pause background:errs => [web Healthy 2 100]
-ops 3 0 start v2 => [web Paused 1 20]";
-
-/// A service with an analysis of the template t as its second step, and its release.
-const WITH_ANALYSIS: &str =
-    "ops 2 0 service v1 setWeight:10 analysis:t setWeight:60 pause => [web Healthy 4 100]
-ops 3 0 start v2 => [web Progressing 1 10]";
-
-/// Releases that a background run judges, each in a book of its own; `background` stands for the rows
-/// above. Five errors abort, and those between which a result came do not; a run is reported to in
-/// turn, in time, and once; an inconclusive run holds, and its promotion enters the step anew.
+/// Releases that a background run judges, each in a book of its own. Five errors abort, and those
+/// between which a result came do not; a run is reported to in turn, in time, and once; an
+/// inconclusive run holds, and its promotion enters the step anew.
 const BACKGROUND: &str = r#"ops 1 0 template errs m,interval=60 => [errs]
 background
 agent 1 0 report 1 m:1:0:!down => [web Paused 1 20 | 1 Error | Running]
@@ -109,7 +83,7 @@ agent 7 360 report 1 m:7:360:!down => [web Paused 1 20 | 1 Error | Running]
 agent 8 420 report 1 m:8:420:!down => [web Paused 1 20 | 1 Error | Running]
 agent 9 480 report 1 m:9:480:!down => [web Paused 1 20 | 1 Error | Running]";
 
-/// Releases that the run of a step judges; `analysis` stands for the rows above.
+/// Releases that the run of a step judges.
 const ANALYSES: &str = r#"ops 1 0 template t m,success=result>10,failure=result<5 => [t]
 analysis
 agent 1 0 report 1 m:1:0:7 => [web Paused 1 10 | 1 Inconclusive | Inconclusive]
@@ -240,134 +214,7 @@ const FALLING: &str = "ops 1 9 service v1 pause => [web Healthy 1 100]
 ops 2 0 start v2 => [web Paused 0 0]
 ops 3 1 promote => [web Healthy 1 100]";
 
-/// The first request and its answer.
-const FIRST: &str = "ops 1 0 service v1 setWeight:20 pause => [web Healthy 2 100]";
-
-const ASKED: &str = "ops 1 0 service v1 setWeight:20 pause";
-
 const ADDED: &str = "service v1 setWeight:20 pause";
-
-fn ops() -> Option<Name> {
-    Name::read("ops".as_bytes())
-}
-
-fn request(alloc: Global, asked: &str) -> Option<Request> {
-    let (caller, asked) = asked.split_once(' ')?;
-    let (number, asked) = asked.split_once(' ')?;
-    let (after, asked) = asked.split_once(' ')?;
-    Some(Request {
-        moment: moment(after)?,
-        caller: Name::read(caller.as_bytes())?,
-        number: Number::read(number.as_bytes())?,
-        command: command(alloc, asked)?,
-    })
-}
-
-/// The answer to a row, or none where memory was refused before it.
-fn answer<B: Book>(alloc: Global, book: &mut B, asked: &str) -> Option<Answer> {
-    let request = request(alloc, asked)?;
-    run(alloc, book, &[Event::Request(request)]).ok()?.pop()
-}
-
-/// How many requests of the caller ops are settled.
-fn settled<B: Book>(book: &mut B) -> Option<u32> {
-    book.settled(&ops()?).ok()
-}
-
-/// The status of an answer and what its body stands for.
-fn told_of(told: &str) -> Result<(u16, &str), Fail> {
-    if told.starts_with("[") {
-        return Ok((200, told));
-    }
-    let (status, body) = told.split_once(' ').ok_or("a status")?;
-    Ok((status.parse()?, body))
-}
-
-/// Whether the answer to a row is that of the row; none where it was answered 503 or not at all, for
-/// want of memory.
-fn is_answered<B: Book>(alloc: Global, book: &mut B, row: &str) -> Result<Option<bool>, Fail> {
-    let (asked, told) = split(row)?;
-    let (status, told) = told_of(told)?;
-    let body = body(alloc, told).ok_or(Memory)?;
-    match answer(alloc, book, asked) {
-        Some(answer) if answer.status() != 503 => {
-            Ok(Some(answer.status() == status && answer.body() == body.as_str()))
-        }
-        _ => Ok(None),
-    }
-}
-
-/// Sends a row, and once more where it was answered 503 or not at all: then nothing was settled.
-/// How many times more it was sent.
-fn send<B: Book>(rt: &impl Abort, alloc: Global, book: &mut B, row: &str) -> Result<u32, Fail> {
-    let before = settled(book);
-    if let Some(is_so) = is_answered(alloc, book, row)? {
-        assert!(rt; is_so, "{row}");
-        return Ok(0);
-    }
-    assert!(rt; settled(book) == before);
-    assert!(rt; is_answered(alloc, book, row)? == Some(true), "{row}");
-    Ok(1)
-}
-
-/// Sends rows in order. How many times more than once they were sent.
-fn send_all<B: Book>(
-    rt: &impl Abort,
-    alloc: Global,
-    book: &mut B,
-    rows: &str,
-) -> Result<u32, Fail> {
-    let mut again = 0u32;
-    for row in rows.lines() {
-        again = again.saturating_add(send(rt, alloc, book, row)?);
-    }
-    Ok(again)
-}
-
-/// The rows that a line of a story stands for.
-fn rows_of(line: &str) -> &str {
-    if line == "background" {
-        return WITH_BACKGROUND;
-    }
-    if line == "analysis" {
-        return WITH_ANALYSIS;
-    }
-    line
-}
-
-/// Sends what the lines of a story stand for to a new book. No more than one allocation is refused,
-/// so no more than one row is sent twice.
-fn send_story(rt: &impl Abort, alloc: Global, story: &str) -> Result<MemoryBook, Fail> {
-    let mut book = MemoryBook::new(alloc);
-    let again = send_lines(rt, alloc, &mut book, story)?;
-    assert!(rt; again <= 1, "{story}");
-    Ok(book)
-}
-
-/// Sends what the lines of a story stand for. How many times more than once rows were sent.
-fn send_lines(
-    rt: &impl Abort,
-    alloc: Global,
-    book: &mut MemoryBook,
-    story: &str,
-) -> Result<u32, Fail> {
-    let mut again = 0u32;
-    for line in story.lines() {
-        again = again.saturating_add(send_all(rt, alloc, book, rows_of(line))?);
-    }
-    Ok(again)
-}
-
-/// Sends each story of a text, with an empty line between two, to a book of its own. How many times
-/// more than once rows were sent.
-fn send_stories(rt: &impl Abort, alloc: Global, stories: &str) -> Result<u32, Fail> {
-    let mut again = 0u32;
-    for story in stories.split("\n\n") {
-        let mut book = MemoryBook::new(alloc);
-        again = again.saturating_add(send_lines(rt, alloc, &mut book, story)?);
-    }
-    Ok(again)
-}
 
 #[test]
 fn a_doubled_promotion_acts_once(rt: HostRuntime) -> Result<(), Fail> {
@@ -445,32 +292,6 @@ fn templates_are_looked_up(rt: HostRuntime) -> Result<(), Fail> {
     Ok(())
 }
 
-/// The first promotions of three callers, which know of no service.
-fn promotions(alloc: Global) -> Option<Vec<Event>> {
-    let mut events = Vec::with_capacity(alloc, 3).ok()?;
-    for caller in ["ann", "bob", "eve"] {
-        let request = Request {
-            moment: Moment::new(B)?,
-            caller: Name::read(caller.as_bytes())?,
-            number: Number::new(1)?,
-            command: command(alloc, "promote")?,
-        };
-        events.push(Event::Request(request)).ok()?;
-    }
-    Some(events)
-}
-
-/// How many of the answers have that body.
-fn count_told(answers: &[Answer], body: &str) -> usize {
-    let mut count = 0usize;
-    for answer in answers {
-        if answer.body() == body {
-            count = count.saturating_add(1);
-        }
-    }
-    count
-}
-
 #[test]
 fn one_failure_is_answered_once(rt: HostRuntime) -> Result<(), Fail> {
     let alloc = rt.alloc();
@@ -480,113 +301,6 @@ fn one_failure_is_answered_once(rt: HostRuntime) -> Result<(), Fail> {
     let failed = count_told(answers.as_slice(), NO_MEMORY);
     assert!(rt; failed <= 1);
     assert!(rt; count_told(answers.as_slice(), UNKNOWN) == 3 - failed);
-    Ok(())
-}
-
-/// A call of a book.
-#[derive(Clone, Copy, PartialEq, Eq)]
-enum Call {
-    Settled,
-    Receipt,
-    Templates,
-    Service,
-    Commit,
-}
-
-/// A book in memory whose store fails once, at one of its calls.
-#[derive(Drop)]
-struct Faulty {
-    book: MemoryBook,
-    fails: Option<Call>,
-}
-
-impl Faulty {
-    fn reach(&mut self, call: Call) -> Result<(), BookFault>
-        ensures { self.new.book ≡ self.old.book }
-    {
-        if self.fails == Some(call) {
-            self.fails = None;
-            return Err(BookFault::Storage);
-        }
-        Ok(())
-    }
-}
-
-impl Book for Faulty {
-    ghost use Rattle.std.specs.Prelude.{false};
-
-    ghost state = { λ b. record (⟦<MemoryBook as Book>⟧.state b.book) { is_sure = false } };
-
-    fn settled(&mut self, caller: &Name) -> Result<u32, BookFault> {
-        self.reach(Call::Settled)?;
-        self.book.settled(caller)
-    }
-
-    fn receipt(&mut self, caller: &Name, number: Number) -> Result<Option<Receipt>, BookFault> {
-        self.reach(Call::Receipt)?;
-        self.book.receipt(caller, number)
-    }
-
-    fn templates(&mut self, names: &[Name]) -> Result<Templates, BookFault> {
-        self.reach(Call::Templates)?;
-        self.book.templates(names)
-    }
-
-    fn service(&mut self, name: &Name) -> Result<Option<Service>, BookFault> {
-        self.reach(Call::Service)?;
-        self.book.service(name)
-    }
-
-    fn commit(&mut self, settlement: Settlement) -> Result<(), BookFault> {
-        self.reach(Call::Commit)?;
-        self.book.commit(settlement)
-    }
-}
-
-#[test]
-fn a_failed_commit_is_answered_once(rt: HostRuntime) -> Result<(), Fail> {
-    let alloc = rt.alloc();
-    let events = again!(promotions(alloc).ok_or("events"));
-    let mut book = Faulty {
-        book: MemoryBook::new(alloc),
-        fails: Some(Call::Commit),
-    };
-    let answers = again!(run(alloc, &mut book, events.as_slice()));
-    assert!(rt; count_told(answers.as_slice(), STORAGE) == 1);
-    let failed = count_told(answers.as_slice(), NO_MEMORY);
-    assert!(rt; failed <= 1);
-    assert!(rt; count_told(answers.as_slice(), UNKNOWN) == 2 - failed);
-    Ok(())
-}
-
-/// Sends a row to a book whose store fails once, at that call. Whether the answer says so; it is asked
-/// again where memory was refused first.
-fn is_refused(alloc: Global, book: &mut Faulty, call: Call) -> bool {
-    book.fails = Some(call);
-    says_storage(alloc, book) || says_storage(alloc, book)
-}
-
-fn says_storage(alloc: Global, book: &mut Faulty) -> bool {
-    match answer(alloc, book, ASKED) {
-        Some(answer) => answer.body() == STORAGE && answer.status() == 503,
-        None => false,
-    }
-}
-
-#[test]
-fn a_store_that_fails(rt: HostRuntime) -> Result<(), Fail> {
-    let alloc = rt.alloc();
-    let mut book = Faulty {
-        book: MemoryBook::new(alloc),
-        fails: None,
-    };
-    for call in [Call::Settled, Call::Templates, Call::Service, Call::Commit] {
-        assert!(rt; is_refused(alloc, &mut book, call));
-        assert!(rt; settled(&mut book) == Some(0));
-    }
-    send(&rt, alloc, &mut book, FIRST)?;
-    assert!(rt; is_refused(alloc, &mut book, Call::Receipt));
-    send(&rt, alloc, &mut book, FIRST)?;
     Ok(())
 }
 
@@ -626,9 +340,15 @@ fn posts(alloc: Global, book: &mut MemoryBook, clock: &mut StepClock) -> Option<
     Some(told.status() == 200 && told.body() == HEALTHY)
 }
 
+/// A command by its canonical text; none where memory was refused.
+fn canonical(alloc: Global, asked: &str) -> Option<CanonicalCommand> {
+    let command = command(alloc, asked)?;
+    CanonicalCommand::of(alloc, &command).ok()
+}
+
 /// Whether there is a receipt of that request, and it copies; none where memory was refused.
 fn has_receipt(alloc: Global, book: &mut MemoryBook) -> Option<bool> {
-    let asked = command(alloc, ADDED)?;
+    let asked = canonical(alloc, ADDED)?;
     let receipt = book.receipt(&ops()?, Number::new(1)?).ok()??;
     let copy = receipt.copy(alloc).ok()?;
     Some(copy.command.is_same(&asked) && copy.reply.body.as_str() == HEALTHY)
@@ -656,7 +376,7 @@ fn settlement_copies(alloc: Global) -> Option<bool> {
         caller: ops()?,
         number: Number::new(1)?,
         receipt: Receipt {
-            command: command(alloc, "promote")?,
+            command: canonical(alloc, "promote")?,
             reply: Reply {
                 status: ReplyStatus::Refused,
                 body: Text::of(String::from_str(alloc, UNKNOWN).ok()?),

@@ -5,11 +5,15 @@ use crate::wire_serve::{
     replies_to, reply, unless_out_of_memory, wire_text,
 };
 use canary_base::error::Memory;
+use canary_base::lists::Listed;
 use canary_base::names::Name;
 use canary_base::numbers::Number;
 use canary_once::book::{Book, BookFault, Receipt, Settlement};
 use canary_once::memory::MemoryBook;
+use canary_once::record::RunRecord;
+use canary_plan::line::Line;
 use canary_plan::templates::Templates;
+use canary_release::effect::Recorded;
 use canary_release::service::Service;
 use canary_wire::command::WireFault;
 use canary_wire::serve::{Ended, ServeFault, serve};
@@ -139,7 +143,8 @@ impl Book for Broken {
 
     ghost state = { λ _. record {
       contents = no_contents;
-      is_intact = Unit {0};
+      is_intact = ⊥;
+      is_in_memory = ⊥;
       is_sure = false;
     } };
 
@@ -156,6 +161,18 @@ impl Book for Broken {
     }
 
     fn service(&mut self, _: &Name) -> Result<Option<Service>, BookFault> {
+        Err(BookFault::Storage)
+    }
+
+    fn history(&mut self, _: &Name) -> Result<Listed<Line>, BookFault> {
+        Err(BookFault::Storage)
+    }
+
+    fn run(&mut self, _: &Name, _: Number) -> Result<Option<RunRecord>, BookFault> {
+        Err(BookFault::Storage)
+    }
+
+    fn measurements(&mut self, _: &Name, _: u64, _: u32) -> Result<Listed<Recorded>, BookFault> {
         Err(BookFault::Storage)
     }
 

@@ -1,0 +1,189 @@
+//! What is asked of a filled book again and again, and leaves it as it is.
+
+use crate::streams::Stream;
+use canary_base::moments::Moment;
+use canary_base::names::Name;
+use canary_base::numbers::Number;
+use canary_once::book::Book;
+use canary_once::event::{Answer, Request};
+use canary_once::memory::MemoryBook;
+use canary_once::post::post;
+use canary_plan::command::Command;
+use canary_release::reply::ReplyStatus;
+use std::alloc::Global;
+
+// The number of the run that is read.
+const FIRST_RUN: u32 = 1;
+
+// The most measurements of a page.
+const PAGE_LENGTH: u32 = 256;
+
+/// What is asked.
+#[derive(Clone, Copy, PartialEq, Eq)]
+pub enum Probe {
+    /// The first request again, which is number 1 of its caller.
+    Repeat,
+    /// Number 2 of a caller who is not known: a conflict.
+    Ahead,
+    /// The number of settled requests of the caller in the middle.
+    Settled,
+    /// The receipt in the middle.
+    Receipt,
+    /// The template, if it is registered.
+    Templates,
+    /// The service in the middle.
+    Service,
+    /// Run 1 of that service.
+    Run,
+    /// A page of that service's measurements, from the middle on.
+    Page,
+    /// The whole history of that service.
+    History,
+}
+
+/// At what the probes aim: what was settled first, and what in the middle.
+#[derive(Drop)]
+pub struct Aim {
+    pub first: Request,
+    pub first_status: ReplyStatus,
+    pub now: Moment,
+    pub stranger: Name,
+    pub ahead: Number,
+    pub caller: Name,
+    pub number: Number,
+    pub subject: Name,
+    pub template: Name,
+    pub middle: u64,
+}
+
+/// What the probes aim at in a book with so many settled requests of the stream.
+pub fn take_aim(alloc: Global, stream: Stream, settled: u32) -> Option<Aim> {
+    let first = stream.request(alloc, 0)?;
+    let place = settled / 2;
+    let middle = stream.request(alloc, place)?;
+    aim_at(stream, first, &middle, u64::from(place))
+}
+
+fn aim_at(stream: Stream, first: Request, request: &Request, middle: u64) -> Option<Aim> {
+    let now = request.moment;
+    let stranger = Name::read("nobody".as_bytes())?;
+    let ahead = Number::new(2)?;
+    let template = crate::plans::latency()?;
+    let first_status = stream.status();
+    let caller = request.caller;
+    let number = request.number;
+    let subject = request.command.subject();
+    Some(Aim {
+        first,
+        first_status,
+        now,
+        stranger,
+        ahead,
+        caller,
+        number,
+        subject,
+        template,
+        middle,
+    })
+}
+
+/// Asks once, and says how much was found; 0 is nothing, or another answer than the one wanted.
+pub fn ask(alloc: Global, book: &mut MemoryBook, probe: Probe, aim: &Aim) -> u64 {
+    match probe {
+        Probe::Repeat => repeat(alloc, book, aim),
+        Probe::Ahead => refuse_ahead(alloc, book, aim),
+        Probe::Settled => settled(book, aim),
+        Probe::Receipt => receipt(book, aim),
+        Probe::Templates => templates(book, aim),
+        Probe::Service => service(book, aim),
+        Probe::Run => run(book, aim),
+        Probe::Page => page(book, aim),
+        Probe::History => history(book, aim),
+    }
+}
+
+fn repeat(alloc: Global, book: &mut MemoryBook, aim: &Aim) -> u64 {
+    let first = &aim.first;
+    let answer = post(
+        alloc,
+        book,
+        aim.now,
+        first.caller,
+        first.number,
+        &first.command,
+    );
+    length_if(&answer, aim.first_status)
+}
+
+fn refuse_ahead(alloc: Global, book: &mut MemoryBook, aim: &Aim) -> u64 {
+    let service = aim.subject;
+    let command = Command::Promote { service };
+    let answer = post(alloc, book, aim.now, aim.stranger, aim.ahead, &command);
+    length_if(&answer, ReplyStatus::Conflict)
+}
+
+// How long the body is of a reply that says so.
+fn length_if(answer: &Answer, status: ReplyStatus) -> u64 {
+    if has_status(answer, status) {
+        answer.body().len() as u64
+    } else {
+        0
+    }
+}
+
+/// Whether the answer is a reply that says so.
+pub fn has_status(answer: &Answer, status: ReplyStatus) -> bool {
+    match answer {
+        Answer::Replied(reply) => reply.status == status,
+        Answer::Unavailable(_) => false,
+    }
+}
+
+fn settled(book: &mut MemoryBook, aim: &Aim) -> u64 {
+    book.settled(&aim.caller).map_or(0, u64::from)
+}
+
+fn receipt(book: &mut MemoryBook, aim: &Aim) -> u64 {
+    match book.receipt(&aim.caller, aim.number) {
+        Ok(Some(receipt)) => receipt.reply.body.as_str().len() as u64,
+        _ => 0,
+    }
+}
+
+fn templates(book: &mut MemoryBook, aim: &Aim) -> u64 {
+    match book.templates(&[aim.template]) {
+        Ok(templates) => u64::from(templates.get(aim.template).is_some()),
+        Err(_) => 0,
+    }
+}
+
+fn service(book: &mut MemoryBook, aim: &Aim) -> u64 {
+    match book.service(&aim.subject) {
+        Ok(Some(service)) => u64::from(service.step()).saturating_add(1),
+        _ => 0,
+    }
+}
+
+fn run(book: &mut MemoryBook, aim: &Aim) -> u64 {
+    let Some(number) = Number::new(FIRST_RUN) else {
+        return 0;
+    };
+    match book.run(&aim.subject, number) {
+        Ok(Some(run)) => u64::from(run.number),
+        _ => 0,
+    }
+}
+
+fn page(book: &mut MemoryBook, aim: &Aim) -> u64 {
+    match book.measurements(&aim.subject, aim.middle, PAGE_LENGTH) {
+        Ok(measurements) => measurements.as_slice().len() as u64,
+        Err(_) => 0,
+    }
+}
+
+fn history(book: &mut MemoryBook, aim: &Aim) -> u64 {
+    match book.history(&aim.subject) {
+        Ok(lines) => lines.as_slice().len() as u64,
+        Err(_) => 0,
+    }
+}

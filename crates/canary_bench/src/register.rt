@@ -1,0 +1,253 @@
+//! Nanoseconds of a request and of a read over the book in memory as it grows, and the memory that
+//! settled requests take.
+
+use crate::machine::nanos_of;
+use crate::reads::{self, Aim, Probe};
+use crate::streams::Stream;
+use anyhow::{Context, Result, ensure};
+use canary_once::event::Request;
+use canary_once::memory::MemoryBook;
+use canary_once::post::post;
+use canary_release::reply::ReplyStatus;
+use std::alloc::Global;
+use std::fs;
+use std::time::Instant;
+
+// The numbers of settled requests at which a book is measured.
+const SIZES: [u32; 3] = [1_000, 10_000, 100_000];
+
+// How many requests are made ready before they are timed.
+const CHUNK: u32 = 100;
+
+// The quickest of so many batches counts.
+const BATCHES: u32 = 7;
+
+// The new requests of a batch: some whole turns of each stream.
+const NEXT: u32 = 12;
+
+// About how long a batch of reads is to take, and how many they are at most.
+const BATCH_NANOS: u64 = 1_000_000;
+
+const MOST_READS: u64 = 1_000;
+
+// A book that takes longer to grow to a size is not measured there.
+const LONGEST_NANOS: u64 = 60_000_000_000;
+
+// The bytes of a page of memory.
+const PAGE: u64 = 4_096;
+
+const REFUSED: &str = "out of memory, or refused";
+
+const PROBES: [Probe; 9] = [
+    Probe::Repeat,
+    Probe::Ahead,
+    Probe::Settled,
+    Probe::Receipt,
+    Probe::Templates,
+    Probe::Service,
+    Probe::Run,
+    Probe::Page,
+    Probe::History,
+];
+
+/// Settles up to so many requests of the stream of that name, and prints a row at each size. With
+/// no name it prints the head of the table.
+pub fn measure(rt: &HostRuntime, most: u32, name: Option<String>) -> Result<()> {
+    match name {
+        None => print_head(rt),
+        Some(name) => measure_named(rt, most, name.as_str()),
+    }
+}
+
+fn print_head(rt: &HostRuntime) -> Result<()> {
+    println!(rt; "nanoseconds each, and bytes a settled request; * is nothing found")?;
+    print!(rt; "stream    settled     whole      next   bytes")?;
+    print!(rt; "    repeat     ahead   settled   receipt templates   service")?;
+    println!(rt; "       run      page   history")?;
+    Ok(())
+}
+
+fn measure_named(rt: &HostRuntime, most: u32, name: &str) -> Result<()> {
+    let stream = Stream::named(name).context("no such stream")?;
+    let mut book = MemoryBook::new(rt.alloc());
+    // What making a chunk of requests takes is no part of what the book takes.
+    make_ready(rt, stream)?;
+    let before = resident(rt)?;
+    let mut settled = 0u32;
+    for size in SIZES {
+        if size > most {
+            break;
+        }
+        let Some(nanos) = grow(rt, &mut book, stream, settled, size)? else {
+            println!(rt; "{name:8} {size:>8}   more than a minute")?;
+            break;
+        };
+        let bytes = resident(rt)?.saturating_sub(before) / u64::from(size.max(1));
+        let whole = nanos / u64::from(size.saturating_sub(settled).max(1));
+        let next = time_next(rt, &mut book, stream, size)?;
+        print!(rt; "{name:8} {size:>8} {whole:>9} {next:>9} {bytes:>7}")?;
+        print_reads(rt, &mut book, stream, size)?;
+        settled = size.saturating_add(BATCHES * NEXT);
+    }
+    Ok(())
+}
+
+fn make_ready(rt: &HostRuntime, stream: Stream) -> Result<()> {
+    let requests = stream.requests(rt.alloc(), 0, CHUNK).context(REFUSED)?;
+    ensure!(!requests.is_empty(), "no requests");
+    Ok(())
+}
+
+// The bytes of memory that this process has.
+fn resident(rt: &HostRuntime) -> Result<u64> {
+    let text = fs::read_to_string(rt, "/proc/self/statm")?;
+    let pages = pages_in(text.as_str()).context("/proc/self/statm has another form")?;
+    Ok(pages.saturating_mul(PAGE))
+}
+
+// The second number of the text.
+fn pages_in(text: &str) -> Option<u64> {
+    let mut words = text.split(' ');
+    let _all = words.next()?;
+    words.next()?.parse::<u64>().ok()
+}
+
+// The nanoseconds in which the book grows from a number of settled requests to another, or none
+// where that is more than a minute.
+fn grow(
+    rt: &HostRuntime,
+    book: &mut MemoryBook,
+    stream: Stream,
+    from: u32,
+    to: u32,
+) -> Result<Option<u64>> {
+    let mut nanos = 0u64;
+    let mut place = from;
+    for _ in 0..to.saturating_sub(from).div_ceil(CHUNK) {
+        let count = to.saturating_sub(place).min(CHUNK);
+        nanos = nanos.saturating_add(settle(rt, book, stream, place, count)?);
+        if nanos > LONGEST_NANOS {
+            return Ok(None);
+        }
+        place = place.saturating_add(count);
+    }
+    Ok(Some(nanos))
+}
+
+// The nanoseconds each of the next requests, in the quickest batch.
+fn time_next(rt: &HostRuntime, book: &mut MemoryBook, stream: Stream, from: u32) -> Result<u64> {
+    let mut least = u64::MAX;
+    for batch in 0..BATCHES {
+        let place = from.saturating_add(batch * NEXT);
+        least = least.min(settle(rt, book, stream, place, NEXT)?);
+    }
+    Ok(least / u64::from(NEXT))
+}
+
+// The nanoseconds in which so many requests are settled; making them is not timed.
+fn settle(
+    rt: &HostRuntime,
+    book: &mut MemoryBook,
+    stream: Stream,
+    from: u32,
+    count: u32,
+) -> Result<u64> {
+    let requests = stream.requests(rt.alloc(), from, count).context(REFUSED)?;
+    let (nanos, as_wanted) = time_posts(rt, book, requests.as_slice(), stream.status())?;
+    ensure!(
+        as_wanted == count,
+        "{as_wanted} of {count} requests from {from} on are answered as wanted"
+    );
+    Ok(nanos)
+}
+
+// The nanoseconds that the requests take, and how many replies say that.
+fn time_posts(
+    rt: &HostRuntime,
+    book: &mut MemoryBook,
+    requests: &[Request],
+    status: ReplyStatus,
+) -> Result<(u64, u32)> {
+    let start = Instant::now(rt)?;
+    let as_wanted = post_all(rt.alloc(), book, requests, status);
+    Ok((nanos_of(start.elapsed(rt)?), as_wanted))
+}
+
+fn post_all(
+    alloc: Global,
+    book: &mut MemoryBook,
+    requests: &[Request],
+    status: ReplyStatus,
+) -> u32 {
+    let mut as_wanted = 0u32;
+    for request in requests {
+        if is_answered(alloc, book, request, status) {
+            as_wanted = as_wanted.saturating_add(1);
+        }
+    }
+    as_wanted
+}
+
+fn is_answered(
+    alloc: Global,
+    book: &mut MemoryBook,
+    request: &Request,
+    status: ReplyStatus,
+) -> bool {
+    let moment = request.moment;
+    let answer = post(
+        alloc,
+        book,
+        moment,
+        request.caller,
+        request.number,
+        &request.command,
+    );
+    reads::has_status(&answer, status)
+}
+
+fn print_reads(rt: &HostRuntime, book: &mut MemoryBook, stream: Stream, size: u32) -> Result<()> {
+    let aim = reads::take_aim(rt.alloc(), stream, size).context(REFUSED)?;
+    for probe in PROBES {
+        print_read(rt, book, probe, &aim)?;
+    }
+    println!(rt; "")?;
+    Ok(())
+}
+
+// The nanoseconds of one call in the quickest batch.
+fn print_read(rt: &HostRuntime, book: &mut MemoryBook, probe: Probe, aim: &Aim) -> Result<()> {
+    let (once, _found) = time_reads(rt, book, probe, aim, 1)?;
+    let rounds = (BATCH_NANOS / once.max(1)).max(1).min(MOST_READS);
+    let mut least = u64::MAX;
+    let mut found = 0;
+    for _ in 0..BATCHES {
+        let (nanos, all) = time_reads(rt, book, probe, aim, rounds)?;
+        least = least.min(nanos);
+        found = all;
+    }
+    let each = least / rounds.max(1);
+    let mark = if found == 0 { '*' } else { ' ' };
+    print!(rt; "{each:>9}{mark}")?;
+    Ok(())
+}
+
+fn time_reads(
+    rt: &HostRuntime,
+    book: &mut MemoryBook,
+    probe: Probe,
+    aim: &Aim,
+    rounds: u64,
+) -> Result<(u64, u64)> {
+    let start = Instant::now(rt)?;
+    let found = read_often(rt.alloc(), book, probe, aim, rounds);
+    Ok((nanos_of(start.elapsed(rt)?), found))
+}
+
+fn read_often(alloc: Global, book: &mut MemoryBook, probe: Probe, aim: &Aim, rounds: u64) -> u64 {
+    let mut found = 0u64;
+    for _ in 0..rounds {
+        found = found.saturating_add(reads::ask(alloc, book, probe, aim));
+    }
+    found
+}

@@ -1,0 +1,190 @@
+//! The requests that fill a book, stream by stream.
+
+use crate::plans::{self, Size};
+use canary_base::moments::Moment;
+use canary_base::names::{Label, Name};
+use canary_base::numbers::Number;
+use canary_once::event::Request;
+use canary_plan::command::Command;
+use canary_release::reply::ReplyStatus;
+use std::alloc::Global;
+
+/// Which requests are settled, one after another. But for `Reports`, each service has the usual
+/// strategy, of two weights and two pauses.
+#[derive(Clone, Copy, PartialEq, Eq)]
+pub enum Stream {
+    /// One caller on one service: a Start, a Tick and two Promotes, again and again.
+    One,
+    /// The same on one service, each request from a caller of its own.
+    Callers,
+    /// One caller, who by turns registers a service and lets time pass on one that is there.
+    Services,
+    /// Each request registers a service of its own, from a caller of its own.
+    Names,
+    /// One caller, each request on a service of another name, none of which is there.
+    Unknown,
+    /// One caller, who reports measurement after measurement of one run.
+    Reports,
+}
+
+// The requests of `Reports` before the first measurement.
+const BEFORE_REPORTS: u32 = 3;
+
+// Seconds from one request to the next: the interval of the metric.
+const STEP: u64 = 60;
+
+const USUAL: Size = Size {
+    steps: 4,
+    metrics: 0,
+};
+
+const ONE_ANALYSIS: Size = Size {
+    steps: 1,
+    metrics: 1,
+};
+
+impl Stream {
+    /// The stream of that name.
+    pub fn named(name: &str) -> Option<Stream> {
+        match name {
+            "one" => Some(Stream::One),
+            "callers" => Some(Stream::Callers),
+            "services" => Some(Stream::Services),
+            "names" => Some(Stream::Names),
+            "unknown" => Some(Stream::Unknown),
+            "reports" => Some(Stream::Reports),
+            _ => None,
+        }
+    }
+
+    /// What the reply to each of its requests is to say.
+    pub fn status(self) -> ReplyStatus {
+        match self {
+            Stream::Unknown => ReplyStatus::Refused,
+            _ => ReplyStatus::Accepted,
+        }
+    }
+
+    // Whether each of its requests comes from a caller of its own.
+    fn has_many_callers(self) -> bool {
+        matches!(self, Stream::Callers | Stream::Names)
+    }
+
+    /// Its request at that place, from 0.
+    pub fn request(self, alloc: Global, place: u32) -> Option<Request> {
+        let moment = moment_at(place)?;
+        let caller = self.caller(alloc, place)?;
+        let number = self.number(place)?;
+        let command = self.command(alloc, place, moment)?;
+        Some(Request {
+            moment,
+            caller,
+            number,
+            command,
+        })
+    }
+
+    /// So many of its requests, from that place on.
+    pub fn requests(self, alloc: Global, from: u32, count: u32) -> Option<Vec<Request>> {
+        let mut requests = Vec::new(alloc);
+        for place in from..from.saturating_add(count) {
+            requests.push(self.request(alloc, place)?).ok()?;
+        }
+        Some(requests)
+    }
+
+    fn caller(self, alloc: Global, place: u32) -> Option<Name> {
+        if self.has_many_callers() {
+            numbered(alloc, "caller", place)
+        } else {
+            Name::read("ops".as_bytes())
+        }
+    }
+
+    fn number(self, place: u32) -> Option<Number> {
+        if self.has_many_callers() {
+            Number::new(1)
+        } else {
+            Number::new(place.saturating_add(1))
+        }
+    }
+
+    fn command(self, alloc: Global, place: u32, moment: Moment) -> Option<Command> {
+        match self {
+            Stream::One | Stream::Callers => in_turn(alloc, place),
+            Stream::Services => on_many(alloc, place),
+            Stream::Names => register(alloc, place),
+            Stream::Unknown => promote_unknown(alloc, place),
+            Stream::Reports => reporting(alloc, place, moment),
+        }
+    }
+}
+
+/// The moment of the request at that place.
+pub fn moment_at(place: u32) -> Option<Moment> {
+    let begin = plans::begin()?;
+    Moment::new(begin.get().saturating_add(STEP * u64::from(place)))
+}
+
+// A name that ends with that number.
+fn numbered(alloc: Global, word: &str, number: u32) -> Option<Name> {
+    let text = format!(in alloc; "{word}{number}").ok()?;
+    Name::read(text.as_bytes())
+}
+
+// The service is registered, and then released again and again.
+fn in_turn(alloc: Global, place: u32) -> Option<Command> {
+    if place == 0 {
+        return plans::register(alloc, USUAL);
+    }
+    match place % 4 {
+        1 => start(alloc, place),
+        2 => plans::tick(),
+        _ => plans::promote(),
+    }
+}
+
+// Begins a release of a version that ends with a number above that.
+fn start(alloc: Global, place: u32) -> Option<Command> {
+    let service = plans::web()?;
+    let number = place.saturating_add(1);
+    let text = format!(in alloc; "v{number}").ok()?;
+    let version = Label::read(text.as_bytes())?;
+    Some(Command::Start { service, version })
+}
+
+// A service is registered, or time passes on one of those that are there.
+fn on_many(alloc: Global, place: u32) -> Option<Command> {
+    let last = place / 2;
+    if place % 2 == 0 {
+        return register(alloc, last);
+    }
+    let service = numbered(alloc, "service", spread(last))?;
+    Some(Command::Tick { service })
+}
+
+// A number from 0 to the last, which leaps about as the last grows.
+fn spread(last: u32) -> u32 {
+    let count = u64::from(last) + 1;
+    (u64::from(last) * 7_919 % count) as u32
+}
+
+fn register(alloc: Global, number: u32) -> Option<Command> {
+    let name = numbered(alloc, "service", number)?;
+    Some(Command::Service(plans::service_named(alloc, name, USUAL)?))
+}
+
+fn promote_unknown(alloc: Global, place: u32) -> Option<Command> {
+    let service = numbered(alloc, "none", place)?;
+    Some(Command::Promote { service })
+}
+
+// The template and the service are registered, the release begins, and its run is measured.
+fn reporting(alloc: Global, place: u32, moment: Moment) -> Option<Command> {
+    match place {
+        0 => Some(Command::Template(plans::template(alloc, 1, 1_000_000)?)),
+        1 => plans::register(alloc, ONE_ANALYSIS),
+        2 => plans::start(),
+        _ => plans::report_of_one(alloc, (place - BEFORE_REPORTS).saturating_add(1), moment),
+    }
+}
