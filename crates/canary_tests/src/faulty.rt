@@ -134,9 +134,13 @@ impl Book for Faulty {
     }
 
     fn commit(&mut self, settlement: Settlement) -> Result<(), BookFault> {
-        self.book.settled(&settlement.caller)?;
-        self.reach(Call::Commit)?;
-        self.book.commit(settlement)
+        match self.reach(Call::Commit) {
+            Ok(()) => self.book.commit(settlement),
+            Err(fault) => {
+                self.book.settled(&settlement.caller)?;
+                Err(fault)
+            }
+        }
     }
 }
 
