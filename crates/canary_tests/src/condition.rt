@@ -1,11 +1,11 @@
 //! Conditions, measurements and the texts of results: worked values from the grammar and the table
 //! of measurements.
-use crate::rows::split;
 use canary_base::lists::Text;
 use canary_condition::condition::{Condition, ConditionFault, Verdict3};
 use canary_condition::explanation::{Expected, Explained, Why, explain};
 use canary_condition::measurement::measure;
 use canary_condition::outcome::{FailureText, Outcome, Phase, Value};
+use canary_rows::rows::split;
 use std::alloc::{AllocError, Global};
 use std::process::Abort;
 use std::test::Fail;

@@ -2,7 +2,6 @@
 //! computed on their definitions.
 ghost use Rattle.std.specs.Prelude.{◌≡◌, true, nat_lt, length, IfSome};
 
-use crate::rows::says;
 use canary_base::durations::Seconds;
 use canary_base::lists::{Listed, Text};
 use canary_base::names::{Label, Name};
@@ -14,6 +13,7 @@ use canary_plan::strategy::Strategy;
 use canary_plan::template::{BadCondition, ConditionKey, Template};
 use canary_plan::template_spec::{MetricSpec, TemplateSpec};
 use canary_plan::templates::Templates;
+use canary_rows::rows::says;
 use std::alloc::Global;
 use std::test::Fail;
 

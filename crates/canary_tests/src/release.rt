@@ -1,8 +1,6 @@
 //! Releases: worked ones with the lines of their histories, and the copies of what they leave. A test
 //! ends with an error where memory was refused.
 
-use crate::asked::{B, body, command, moment};
-use crate::rows::{says, split};
 use canary_base::error::Memory;
 use canary_base::moments::{LAST_MOMENT, Moment};
 use canary_base::names::Name;
@@ -15,6 +13,8 @@ use canary_release::reply::Reply;
 use canary_release::runs::Runs;
 use canary_release::service::{Service, ServiceParts};
 use canary_release::stand::{State, Status};
+use canary_rows::asked::{B, body, command, moment};
+use canary_rows::rows::{says, split};
 use std::alloc::Global;
 use std::test::Fail;
 

@@ -3,10 +3,8 @@
 //! refused.
 ghost use Rattle.std.specs.Prelude.{◌≡◌};
 
-use crate::rows::split;
 use crate::sending::{
     NO_MEMORY, STORAGE, UNKNOWN, again, answer, count_told, promotions, send, send_story, settled,
-    unfolded,
 };
 use canary_base::lists::Listed;
 use canary_base::names::Name;
@@ -19,6 +17,7 @@ use canary_plan::line::Line;
 use canary_plan::templates::Templates;
 use canary_release::effect::Recorded;
 use canary_release::service::Service;
+use canary_rows::rows::{split, unfolded};
 use std::alloc::Global;
 use std::process::Abort;
 use std::test::Fail;

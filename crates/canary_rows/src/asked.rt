@@ -26,10 +26,10 @@ use canary_plan::template_spec::{MetricSpec, TemplateSpec};
 use std::alloc::{AllocError, Global};
 
 /// 2026-01-01T00:00:00Z
-pub(crate) const B: u64 = 1_767_225_600;
+pub const B: u64 = 1_767_225_600;
 
-// The moment so many seconds after B.
-pub(crate) fn moment(after: &str) -> Option<Moment> {
+/// The moment so many seconds after B.
+pub fn moment(after: &str) -> Option<Moment> {
     Moment::new(B.checked_add(after.parse().ok()?)?)
 }
 
@@ -267,8 +267,8 @@ fn plain(service: Name, kind: &str) -> Option<Command> {
     None
 }
 
-// The command that the text asks for; none where it asks for none, or memory was refused.
-pub(crate) fn command(alloc: Global, asked: &str) -> Option<Command> {
+/// The command that the text asks for; none where it asks for none, or memory was refused.
+pub fn command(alloc: Global, asked: &str) -> Option<Command> {
     let (kind, of) = cut(asked, ' ');
     let web = name("web")?;
     if kind == "template" {
@@ -288,10 +288,10 @@ pub(crate) fn command(alloc: Global, asked: &str) -> Option<Command> {
     plain(web, kind)
 }
 
-// What a short form stands for: `[t]` for the reply of a template, `[web Paused 1 20]` for that of
-// another command, and `[web Paused 1 20 | 1 Error | Running]` for that of a report, with its run,
-// its phases and its verdict. A body of JSON stands for itself, and a code for a body of it alone.
-pub(crate) fn body(alloc: Global, told: &str) -> Option<String> {
+/// What a short form stands for: `[t]` for the reply of a template, `[web Paused 1 20]` for that of
+/// another command, and `[web Paused 1 20 | 1 Error | Running]` for that of a report, with its run,
+/// its phases and its verdict. A body of JSON stands for itself, and a code for a body of it alone.
+pub fn body(alloc: Global, told: &str) -> Option<String> {
     if told.starts_with("{") {
         return String::from_str(alloc, told).ok();
     }

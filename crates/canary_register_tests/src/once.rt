@@ -2,8 +2,6 @@
 //! allocation is refused: what was answered 503 changed nothing, no more than one request is answered
 //! so, and it is sent again.
 
-use crate::asked::{B, command};
-use crate::rows::says;
 use crate::sending::{
     NO_MEMORY, UNKNOWN, again, count_told, ops, promotions, request, send_stories, send_story,
     settled,
@@ -21,6 +19,8 @@ use canary_once::post::post;
 use canary_once::run::run;
 use canary_release::decide::DeskChange;
 use canary_release::reply::{Reply, ReplyStatus};
+use canary_rows::asked::{B, command};
+use canary_rows::rows::says;
 use std::alloc::Global;
 use std::test::Fail;
 

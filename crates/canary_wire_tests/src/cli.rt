@@ -1,10 +1,10 @@
 //! Command lines as users type them, with their exit statuses and what is printed.
-use crate::rows::{lined, split};
 use canary_base::error::Memory;
 use canary_base::moments::Moment;
 use canary_cli::perform::{perform, refuse};
 use canary_cli::process::words_of;
 use canary_cli::words::{Program, WordsFault, read_words};
+use canary_rows::rows::{lined, split};
 use std::alloc::Global;
 use std::env::{Env, FillError};
 use std::io;

@@ -2,8 +2,7 @@
 //! query leaves nothing behind; and pages of measurements. Each test holds as well where any one
 //! allocation is refused.
 
-use crate::asked::B;
-use crate::sending::{UNKNOWN, again, event, send, send_stories, send_story, unfolded};
+use crate::sending::{UNKNOWN, again, event, send, send_stories, send_story};
 use canary_base::error::Memory;
 use canary_base::moments::Moment;
 use canary_base::names::Name;
@@ -14,6 +13,8 @@ use canary_once::memory::MemoryBook;
 use canary_once::run::run;
 use canary_once::view::view;
 use canary_release::effect::Recorded;
+use canary_rows::asked::B;
+use canary_rows::rows::unfolded;
 use std::alloc::Global;
 use std::process::Abort;
 use std::test::Fail;

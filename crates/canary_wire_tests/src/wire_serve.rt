@@ -1,9 +1,9 @@
 //! Streams as clients send them, with the bytes that answer them.
-use crate::rows::{lined, split};
 use canary_base::error::Memory;
 use canary_base::moments::Moment;
 use canary_once::clock::StepClock;
 use canary_once::memory::MemoryBook;
+use canary_rows::rows::{lined, split, unfolded};
 use canary_wire::serve::{Ended, ServeFault, serve};
 use std::alloc::Global;
 use std::io;
@@ -17,14 +17,21 @@ pub(crate) const NO_ROUTE: &str = r#"{"code":"no-route"}"#;
 // A doubled promotion, a number ahead, another command under an old number, the start in other
 // words, and on to the end: the numbers of caller `ops` with their bodies, and what they are told.
 const RELEASE: &str =
-    r#"1 => {"service":{"manifest":{"metadata":{"name":"web"},"spec":{"strategy":{"canary":{"steps":[{"setWeight":20},{"pause":{}},{"setWeight":50},{"pause":{}}]}}}},"version":"v1"}} => 200 OK => {"code":"ok","service":"web","status":"Healthy","step":4,"weight":100}
-2 => {"start":{"service":"web","version":"v2"}} => 200 OK => {"code":"ok","service":"web","status":"Paused","step":1,"weight":20}
-3 => {"promote":{"service":"web"}} => 200 OK => {"code":"ok","service":"web","status":"Paused","step":3,"weight":50}
-3 => {"promote":{"service":"web"}} => 200 OK => {"code":"ok","service":"web","status":"Paused","step":3,"weight":50}
+    r#"1 => {"service":{"manifest":{"metadata":{"name":"web"},"spec":{"strategy":{"canary":{"steps":[
+    {"setWeight":20},{"pause":{}},{"setWeight":50},{"pause":{}}]}}}},"version":"v1"}}
+     => 200 OK => {"code":"ok","service":"web","status":"Healthy","step":4,"weight":100}
+2 => {"start":{"service":"web","version":"v2"}}
+     => 200 OK => {"code":"ok","service":"web","status":"Paused","step":1,"weight":20}
+3 => {"promote":{"service":"web"}}
+     => 200 OK => {"code":"ok","service":"web","status":"Paused","step":3,"weight":50}
+3 => {"promote":{"service":"web"}}
+     => 200 OK => {"code":"ok","service":"web","status":"Paused","step":3,"weight":50}
 5 => {"promote":{"service":"web"}} => 409 Conflict => {"code":"ahead","expected":4}
 3 => {"start":{"service":"web","version":"v3"}} => 409 Conflict => {"code":"reused"}
-2 => { "start" : {"version":"v2", "service":"web"} } => 200 OK => {"code":"ok","service":"web","status":"Paused","step":1,"weight":20}
-4 => {"promote":{"service":"web"}} => 200 OK => {"code":"ok","service":"web","status":"Healthy","step":4,"weight":100}
+2 => { "start" : {"version":"v2", "service":"web"} }
+     => 200 OK => {"code":"ok","service":"web","status":"Paused","step":1,"weight":20}
+4 => {"promote":{"service":"web"}}
+     => 200 OK => {"code":"ok","service":"web","status":"Healthy","step":4,"weight":100}
 5 => {"promote":{"service":"web"}} => 422 Unprocessable Content => {"code":"not-in-progress"}"#;
 
 // A stream, and the replies to it.
@@ -60,7 +67,8 @@ pub(crate) fn release(alloc: Global, messages: usize) -> Result<Script, Fail> {
         stream: String::new(alloc),
         replies: String::new(alloc),
     };
-    for row in RELEASE.lines().take(messages) {
+    let rows = unfolded(alloc, RELEASE)?;
+    for row in rows.as_str().lines().take(messages) {
         script.add(alloc, row)?;
     }
     Ok(script)
@@ -260,11 +268,16 @@ PUT /callers/ops/requests/1/ HTTP/1.1|content-length: 0|| => 404 Not Found => {"
 PUT /callers/-x/requests/0 HTTP/1.1|content-length: 0|| => 400 Bad Request => {"code":"bad-name"}
 PUT /callers/ops/requests/0 HTTP/1.1|content-length: 0|| => 400 Bad Request => {"code":"bad-number"}
 PUT /callers/ops/requests/007 HTTP/1.1|content-length: 0|| => 400 Bad Request => {"code":"bad-number"}
-PUT /callers/ops/requests/1000000001 HTTP/1.1|content-length: 0|| => 400 Bad Request => {"code":"bad-number"}
-PUT /callers/ops/requests/1000000000 HTTP/1.1|content-length: 2||{} => 400 Bad Request => {"code":"unreadable"}
-PUT /callers/ops/requests/1 HTTP/1.1|content-length: 46||{"service":{"manifest":{"kind":"Deployment"}}} => 400 Bad Request => {"code":"unsupported"}
-PUT /callers/ops/requests/2 HTTP/1.1|content-length: 29||{"promote":{"service":"web"}} => 409 Conflict => {"code":"ahead","expected":1}
-PUT /callers/ops/requests/1 HTTP/1.1|content-length: 29||{"promote":{"service":"web"}} => 422 Unprocessable Content => {"code":"unknown-service"}"#;
+PUT /callers/ops/requests/1000000001 HTTP/1.1|content-length: 0||
+     => 400 Bad Request => {"code":"bad-number"}
+PUT /callers/ops/requests/1000000000 HTTP/1.1|content-length: 2||{}
+     => 400 Bad Request => {"code":"unreadable"}
+PUT /callers/ops/requests/1 HTTP/1.1|content-length: 46||{"service":{"manifest":{"kind":"Deployment"}}}
+     => 400 Bad Request => {"code":"unsupported"}
+PUT /callers/ops/requests/2 HTTP/1.1|content-length: 29||{"promote":{"service":"web"}}
+     => 409 Conflict => {"code":"ahead","expected":1}
+PUT /callers/ops/requests/1 HTTP/1.1|content-length: 29||{"promote":{"service":"web"}}
+     => 422 Unprocessable Content => {"code":"unknown-service"}"#;
 
 const NO_PUT: &str =
     r#"DELETE /callers/ops/requests/1 HTTP/1.1|| => 405 Method Not Allowed => {"code":"method"}
@@ -272,7 +285,8 @@ put /callers/ops/requests/1 HTTP/1.1|| => 405 Method Not Allowed => {"code":"met
 
 #[test]
 fn refuses_requests(rt: HostRuntime) -> Result<(), Fail> {
-    for row in REFUSED.lines() {
+    let rows = unfolded(rt.alloc(), REFUSED)?;
+    for row in rows.as_str().lines() {
         assert!(rt;
             is_answered(rt.alloc(), row, "", Ended::EndOfInput)?,
             "{row}"

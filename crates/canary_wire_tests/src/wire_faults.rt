@@ -1,5 +1,4 @@
 //! Readers, writers and stores that fail under a stream, and what is said of that.
-use crate::rows::says;
 use crate::wire_serve::{
     ALL, GET, NO_ROUTE, NOT_FOUND, Script, Served, clock, in_pieces, release, replies_over,
     replies_to, reply, unless_out_of_memory, wire_text,
@@ -15,6 +14,7 @@ use canary_plan::line::Line;
 use canary_plan::templates::Templates;
 use canary_release::effect::Recorded;
 use canary_release::service::Service;
+use canary_rows::rows::says;
 use canary_wire::command::WireFault;
 use canary_wire::serve::{Ended, ServeFault, serve};
 use std::alloc::Global;

@@ -5,7 +5,7 @@ use Rattle.canary_once.specs.declared.book.BookFault.TheVariants.{Memory, Storag
 use Rattle.canary_once.specs.Contents.{Contents, KeepsReceipts, with_settlement}
 use Rattle.canary_once.specs.Sound.{AreSoundContents}
 use Rattle.canary_once.specs.Books.{IsFault}
-use Rattle.canary_tests.proofs.faulty.FaultyBook.commit.Goals as goal
+use Rattle.canary_register_tests.proofs.faulty.FaultyBook.commit.Goals as goal
 
 may_fail : (done : Result (Unit {0}) BookFault) → IfErr done (IsFault true) → IfErr done (IsFault false)
 may_fail (Ok x) sure = tt

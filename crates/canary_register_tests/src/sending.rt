@@ -10,8 +10,6 @@
 //! A story is rows for one new book; a line `background` or `analysis` stands for the two rows
 //! below.
 
-use crate::asked::{B, body, command, moment};
-use crate::rows::split;
 use canary_base::error::Memory;
 use canary_base::moments::Moment;
 use canary_base::names::Name;
@@ -20,6 +18,8 @@ use canary_once::book::Book;
 use canary_once::event::{Answer, Event, Query, Request};
 use canary_once::memory::MemoryBook;
 use canary_once::run::run;
+use canary_rows::asked::{B, body, command, moment};
+use canary_rows::rows::split;
 use std::alloc::Global;
 use std::process::Abort;
 use std::test::Fail;
@@ -210,16 +210,6 @@ pub(crate) fn send_stories(rt: &impl Abort, alloc: Global, stories: &str) -> Res
         again = again.saturating_add(send_lines(rt, alloc, &mut book, story)?);
     }
     Ok(again)
-}
-
-/// The stories of a text in which a line that begins with four spaces goes on with the row before
-/// it.
-pub(crate) fn unfolded(alloc: Global, text: &str) -> Result<String, Memory> {
-    let mut stories = String::new(alloc);
-    for part in text.split("\n    ") {
-        stories.push_str(part)?;
-    }
-    Ok(stories)
 }
 
 /// The first promotions of three callers, which know of no service.

@@ -1,0 +1,12 @@
+//! The tests of `canary_wire` and `canary_cli`: streams as clients send them with the bytes that
+//! answer them, readers and writers that fail, and command lines.
+#![tactic(auto)]
+
+#[cfg(test)]
+mod cli;
+#[cfg(test)]
+mod wire_command;
+#[cfg(test)]
+mod wire_faults;
+#[cfg(test)]
+mod wire_serve;
