@@ -11,7 +11,7 @@ use Rattle.std.proofs.lemmas.Map.Text.{is_eq-slice_cmp}
 use Rattle.std.proofs.lemmas.Slice.Eq.{bytes_eq-Decides}
 use Rattle.canary_once.specs.declared.book.Receipt.{Receipt}
 use Rattle.canary_once.specs.Contents.{with_receipt}
-use Rattle.canary_once.specs.InMemory.{CallerMap, receipts_in, HaveReceipts}
+use Rattle.canary_once.specs.Contents.{CallerMap, receipts_in, HaveReceipts}
 use Rattle.canary_once.proofs.Named.{at_name, get_name}
 
 abbrev pub NameMap : Type 0 → Type 0

@@ -18,7 +18,8 @@ use Rattle.canary_once.specs.declared.book.Receipt.{Receipt}
 use Rattle.canary_once.specs.declared.book.Settlement.{Settlement}
 use Rattle.canary_once.specs.Contents.{Contents, receipts_of, with_receipt, with_settlement, IsSettledStatus, KeepsSettled, IsSettling}
 use Rattle.canary_once.specs.Sound.{AreContents, AreSoundContents}
-use Rattle.canary_once.specs.InMemory.{CallerMap, receipts_in, name_in, IsKept}
+use Rattle.canary_once.specs.Contents.{CallerMap, receipts_in}
+use Rattle.canary_once.specs.InMemory.{name_in, IsKept}
 use Rattle.canary_once.proofs.CallerMaps.{insert_with, at_itself, keep_receipts, few_listed, one_more_few, some_same}
 
 -- a command is accepted or refused

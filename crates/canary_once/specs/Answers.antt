@@ -16,7 +16,7 @@ use Rattle.canary_once.specs.declared.event.Event.{Event}
 use Rattle.canary_once.specs.declared.event.Event.TheVariants as event
 use Rattle.canary_once.specs.declared.event.Answer.{Answer}
 use Rattle.canary_once.specs.declared.event.Answer.TheVariants.{Replied, Unavailable}
-use Rattle.canary_once.specs.Contents.{Contents, count_of, receipt_at, with_receipt}
+use Rattle.canary_once.specs.Contents.{CallerMap, Contents, count_of, receipt_at, with_receipt}
 use Rattle.canary_once.specs.Views.{view_of}
 
 -- the requests of events, in order
@@ -61,7 +61,7 @@ abbrev pub receipt_of : Request → Reply → Receipt
 receipt_of r reply = record { command = r.command; reply = reply }
 
 -- each new request has a receipt with its reply, under its caller
-abbrev pub with_receipts : FinMap (slice_cmp nat_cmp) (List Receipt) → List Request → List Reply → FinMap (slice_cmp nat_cmp) (List Receipt)
+abbrev pub with_receipts : CallerMap → List Request → List Reply → CallerMap
 with_receipts callers [] replies = callers
 with_receipts callers (r ∷ rs) [] = callers
 with_receipts callers (r ∷ rs) (reply ∷ replies) = with_receipts (with_receipt callers r.caller (receipt_of r reply)) rs replies

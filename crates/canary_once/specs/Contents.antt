@@ -1,5 +1,5 @@
 -- What a book contains: for each caller the receipts of its settled requests, from number 1 on, and the desk.
-use Rattle.std.specs.Prelude.{◌≡◌, ◌⊎◌, ℕ, ◌+◌, ◌-◌, List, [], ◌∷◌, ◌++◌, length, Option, Some, unwrap_or, slice_get}
+use Rattle.std.specs.Prelude.{◌≡◌, ◌⊎◌, ℕ, ◌+◌, ◌-◌, ◌≤◌, List, [], ◌∷◌, ◌++◌, length, Option, Some, unwrap_or, slice_get}
 use Rattle.std.specs.Ordering.{nat_cmp}
 use Rattle.std.specs.Cmp.Lexicographic.{slice_cmp}
 use Rattle.std.specs.List.{list_any}
@@ -13,16 +13,23 @@ use Rattle.canary_release.specs.Shapes.{changed, IsStep}
 use Rattle.canary_once.specs.declared.book.Receipt.{Receipt}
 use Rattle.canary_once.specs.declared.book.Settlement.{Settlement}
 
+-- for each caller the receipts for its numbers 1, 2 and so on
+abbrev pub CallerMap : Type 0
+CallerMap = FinMap (slice_cmp nat_cmp) (List Receipt)
+
 pub record Contents : Type 0 where
-  pub callers : FinMap (slice_cmp nat_cmp) (List Receipt)
+  pub callers : CallerMap
   pub desk : Desk
 
 abbrev pub no_contents : Contents
 no_contents = record { callers = empty; desk = no_desk }
 
--- the receipts for a caller's numbers 1, 2 and so on
+-- the receipts of one caller
+abbrev pub receipts_in : CallerMap → List ℕ → List Receipt
+receipts_in callers caller = unwrap_or (get callers caller) []
+
 abbrev pub receipts_of : Contents → List ℕ → List Receipt
-receipts_of c caller = unwrap_or (get c.callers caller) []
+receipts_of c caller = receipts_in c.callers caller
 
 -- the number of settled requests of a caller
 abbrev pub count_of : Contents → List ℕ → ℕ
@@ -44,13 +51,17 @@ IsSettledStatus status = (status ≡ Accepted) ⊎ (status ≡ Refused)
 abbrev pub KeepsSettled : Contents → Type 0
 KeepsSettled c = (caller : List ℕ) (number : ℕ) (receipt : Receipt) → receipt_at c caller number ≡ Some receipt → IsSettledStatus receipt.reply.status
 
+-- a caller has at least one receipt, and at most 1,000,000,000
+abbrev pub HaveReceipts : CallerMap → Type 0
+HaveReceipts callers = (caller : List ℕ) (receipts : List Receipt) → get callers caller ≡ Some receipts → (1 ≤ length receipts) × (length receipts ≤ 1000000000)
+
 -- each receipt stays as it was
 abbrev pub KeepsReceipts : Contents → Contents → Type 0
 KeepsReceipts old new = (caller : List ℕ) (number : ℕ) (receipt : Receipt) → receipt_at old caller number ≡ Some receipt → receipt_at new caller number ≡ Some receipt
 
 -- with one more receipt for a caller
-abbrev pub with_receipt : FinMap (slice_cmp nat_cmp) (List Receipt) → List ℕ → Receipt → FinMap (slice_cmp nat_cmp) (List Receipt)
-with_receipt callers caller receipt = insert callers caller (unwrap_or (get callers caller) [] ++ receipt ∷ [])
+abbrev pub with_receipt : CallerMap → List ℕ → Receipt → CallerMap
+with_receipt callers caller receipt = insert callers caller (receipts_in callers caller ++ receipt ∷ [])
 
 -- with one more settled request
 abbrev pub with_settlement : Contents → Settlement → Contents

@@ -3,14 +3,14 @@ use Rattle.std.specs.Prelude.{◌≡◌, ℕ, List}
 use Rattle.canary_plan.specs.declared.service.ServiceSpec.{ServiceSpec}
 use Rattle.canary_release.specs.declared.service.ServiceParts.{ServiceParts}
 use Rattle.canary_release.specs.Pasts.{watched}
-use Rattle.canary_release.specs.Desks.{ModelService}
+use Rattle.canary_release.specs.Desks.{ModelService, made_as}
 use Rattle.canary_once.specs.Kept.{Kept, past_kept, AreKept}
 use Rattle.canary_once.specs.KeptRooms.{kept_in}
 use Rattle.canary_once.specs.declared.kept_service.KeptService.TheInside.{Inside}
 
 -- its strategy stays, and so what the command that made it asked for can be read off from it
 abbrev pub made_of : List ℕ → List ℕ → ServiceParts → ServiceSpec
-made_of name version s = record { name = name; version = version; steps = s.stand.strategy.steps; background = s.stand.strategy.background }
+made_of name version s = record (made_as s.stand) { name = name; version = version }
 
 abbrev pub model_of : List ℕ → List ℕ → ServiceParts → Kept → ModelService
 model_of name version s k = record { made = made_of name version s; stand = s.stand; past = past_kept k }

@@ -14,7 +14,7 @@ use Rattle.canary_once.specs.declared.event.Query.{Query}
 use Rattle.canary_once.specs.declared.event.Query.TheVariants.{Service, History, Run}
 use Rattle.canary_once.specs.declared.record.RunRecord.{RunRecord}
 use Rattle.canary_once.specs.Contents.{Contents}
-use Rattle.canary_once.specs.Books.{BookState, IsFault}
+use Rattle.canary_once.specs.Books.{BookState, IsFault, StaysInMemory}
 use Rattle.canary_once.specs.Records.{record_numbered}
 use Rattle.canary_once.specs.Views.{found, service_view, history_view, run_reply}
 
@@ -66,7 +66,7 @@ shown p (Run name number) past = run_reply p.service.stand (record_after number 
 -- a reply was made from these contents, with what more the book was asked, or that failed
 pub record Shows (reply : Contents → Reply) (old new : BookState) (given : Result Reply BookFault) : Type 0 where
   pub intact : new.is_intact → old.is_intact
-  pub in_memory : old.is_in_memory → old.is_intact → new.is_in_memory × new.is_intact
+  pub in_memory : StaysInMemory old new
   pub same : new.is_intact → new.contents ≡ old.contents
   pub ok : new.is_intact → IfOk given (λ r. r ≡ reply old.contents)
   pub sure : new.is_sure ≡ old.is_sure

@@ -1,14 +1,11 @@
 -- What holds of all contents, and when they are sound.
-use Rattle.std.specs.Prelude.{◌≡◌, ℕ, ◌≤◌, List, length, Some}
-use Rattle.std.specs.FinMap.{get}
 use Rattle.canary_release.specs.Order.{AreInOrder}
 use Rattle.canary_release.specs.Sound.{AreSound}
-use Rattle.canary_once.specs.declared.book.Receipt.{Receipt}
-use Rattle.canary_once.specs.Contents.{Contents, KeepsSettled}
+use Rattle.canary_once.specs.Contents.{Contents, HaveReceipts, KeepsSettled}
 
 -- what holds of all contents: a caller has at least one receipt and at most 1,000,000,000, no receipt is of a conflict, and the desk is in order
 pub record AreContents (c : Contents) : Type 0 where
-  pub numbers : (caller : List ℕ) (receipts : List Receipt) → get c.callers caller ≡ Some receipts → (1 ≤ length receipts) × (length receipts ≤ 1000000000)
+  pub numbers : HaveReceipts c.callers
   pub statuses : KeepsSettled c
   pub desk : AreInOrder c.desk
 

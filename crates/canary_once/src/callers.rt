@@ -3,7 +3,7 @@ ghost use Rattle.std.specs.Prelude.{◌≡◌, ◌+◌, ◌-◌, ◌≤◌, [], 
 ghost use Rattle.std.specs.Prelude.{option_copied, IfOk, OnOk, OnErr, List};
 ghost use Rattle.std.specs.FinMap as map;
 ghost use Rattle.canary_once.specs.Contents.{with_receipt};
-ghost use Rattle.canary_once.specs.InMemory.{CallerMap, receipts_in, HaveReceipts};
+ghost use Rattle.canary_once.specs.Contents.{CallerMap, receipts_in, HaveReceipts};
 
 use crate::book::Receipt;
 use canary_base::error::Memory;
@@ -76,7 +76,7 @@ impl Model for Callers {
     ghost use Rattle.std.specs.FinMap as map;
     ghost use Rattle.canary_once.specs.contracts.book.Receipt.{the_row};
     ghost use Rattle.canary_once.specs.BookCodes.{map_code};
-    ghost use Rattle.canary_once.specs.InMemory.{CallerMap, HaveReceipts};
+    ghost use Rattle.canary_once.specs.Contents.{CallerMap, HaveReceipts};
 
     ghost Value = { CallerMap };
 

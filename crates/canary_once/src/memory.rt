@@ -8,7 +8,8 @@ ghost use Rattle.canary_release.specs.Shapes.{changed};
 ghost use Rattle.canary_release.specs.Effects.{IsChange};
 ghost use Rattle.canary_once.specs.Contents.{with_receipt};
 ghost use Rattle.canary_once.specs.Books.{IsEmptyAndSure};
-ghost use Rattle.canary_once.specs.InMemory.{receipts_in, HaveReceipts, IsKept};
+ghost use Rattle.canary_once.specs.Contents.{receipts_in, HaveReceipts};
+ghost use Rattle.canary_once.specs.InMemory.{IsKept};
 
 use crate::book::{Book, BookFault, Receipt, Settlement};
 use crate::callers::Callers;

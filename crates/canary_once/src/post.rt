@@ -131,11 +131,7 @@ fn repeat(alloc: Global, receipt: Option<Receipt>, command: &Command) -> Result<
 fn refuse_reused(alloc: Global) -> Result<Reply, Memory>
     ensures { IfOk result (λ reply. reply ≡ reused_reply) }
 {
-    let body = String::from_str(alloc, "{\"code\":\"reused\"}")?;
-    Ok(Reply {
-        status: ReplyStatus::Conflict,
-        body: Text::of(body),
-    })
+    Reply::of_code(alloc, ReplyStatus::Conflict, "reused")
 }
 
 fn refuse_ahead(alloc: Global, expected: u64) -> Result<Reply, Memory>

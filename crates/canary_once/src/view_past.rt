@@ -12,6 +12,7 @@ use canary_base::moments::Moment;
 use canary_metric::tally::Tally;
 use canary_plan::line::{Line, LineEvent};
 use canary_release::effect::{Closing, Effect, Opening};
+use canary_release::runs::new_tallies;
 use std::alloc::Global;
 
 /// A history with the lines that these effects tell at its end.
@@ -115,16 +116,6 @@ fn opened_record(alloc: Global, opening: &Opening) -> Result<RunRecord, Memory>
         closed: None,
         tallies: new_tallies(alloc, opening.metrics)?,
     })
-}
-
-fn new_tallies(alloc: Global, metrics: u32) -> Result<Listed<Tally>, Memory>
-    ensures { IfOk result (λ tallies. tallies ≡ replicate metrics (counts [])) }
-{
-    let mut tallies = Listed::of(Vec::new(alloc));
-    for _ in 0..metrics {
-        tallies.push(Tally::new())?;
-    }
-    Ok(tallies)
 }
 
 fn closed(closing: &Closing, found: Option<RunRecord>) -> Option<RunRecord>

@@ -1,7 +1,6 @@
 //! The text of a run.
 ghost use Rattle.std.specs.Prelude.{◌≡◌, IfOk, map, string_bytes};
 ghost use Rattle.std.specs.List.{zip};
-ghost use Rattle.canary_metric.specs.MetricPhases.{is_completed};
 ghost use Rattle.canary_release.specs.Courses.{run_metrics};
 ghost use Rattle.canary_release.specs.Replies.{bracketed};
 ghost use Rattle.canary_once.specs.Views.{null_or, bool_text, due_text, metric_front};
@@ -14,6 +13,7 @@ use canary_base::error::Memory;
 use canary_condition::outcome::Phase;
 use canary_metric::metric::Metric;
 use canary_metric::tally::Tally;
+use canary_metric::verdict::is_completed;
 use canary_release::service::Service;
 use std::alloc::Global;
 
@@ -178,12 +178,6 @@ fn due_text(
     } else {
         null_or(alloc, Some(tally.due(metric, run.started)))
     }
-}
-
-fn is_completed(phase: Phase) -> bool
-    ensures { result ≡ is_completed phase }
-{
-    !matches!(phase, Phase::Pending | Phase::Running)
 }
 
 // The numbers of errors, of failed and inconclusive measurements, and of all.

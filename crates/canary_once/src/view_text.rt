@@ -1,6 +1,6 @@
 //! The replies to queries: services, histories, and lists of items.
 ghost use Rattle.std.specs.Prelude.{◌≡◌, ◌++◌, IfOk, map, string_bytes, option_copied};
-ghost use Rattle.canary_release.specs.Replies.{bracketed, code_alone};
+ghost use Rattle.canary_release.specs.Replies.{bracketed};
 ghost use Rattle.canary_once.specs.Views.{found, not_found, hold_text, number_text, run_reply};
 ghost use Rattle.canary_once.specs.Views.{service_front, service_middle, service_back};
 ghost use Rattle.canary_once.specs.Views.{service_view, quoted_line, history_view};
@@ -21,17 +21,7 @@ use std::alloc::Global;
 pub(crate) fn not_found(alloc: Global, code: &str) -> Result<Reply, Memory>
     ensures { IfOk result (λ reply. reply ≡ not_found code.now) }
 {
-    let body = code_alone(alloc, code)?;
-    Ok(Reply {
-        status: ReplyStatus::NotFound,
-        body: Text::of(body),
-    })
-}
-
-fn code_alone(alloc: Global, code: &str) -> Result<String, Memory>
-    ensures { IfOk result (λ text. string_bytes text ≡ code_alone code.now) }
-{
-    Ok(format!(in alloc; "{{\"code\":\"{code}\"}}")?)
+    Reply::of_code(alloc, ReplyStatus::NotFound, code)
 }
 
 // The reply with this body, where what is asked for is there.

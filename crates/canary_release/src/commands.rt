@@ -15,7 +15,7 @@ ghost use Rattle.canary_release.specs.Shapes.{whole, kept_after, runs_made, led_
 
 use crate::draft::Draft;
 use crate::reply::{Reply, Reported};
-use crate::runs::Runs;
+use crate::runs::{MOST_RUNS, Runs};
 use crate::stand::{Stand, State, Status};
 use canary_base::error::Memory;
 use canary_base::moments::Moment;
@@ -26,10 +26,8 @@ use canary_plan::refusal::Refusal;
 use canary_plan::report::Report;
 use std::alloc::Global;
 
-// The numbers of runs that a service may have, and those that an attempt may take: one for each of
-// 64 steps, one for the background, and one more where a promotion clears its hold.
-const MOST_RUNS: u32 = 1_000_000;
-
+// The numbers of runs that an attempt may take: one for each of 64 steps, one for the background,
+// and one more where a promotion clears its hold.
 const RUNS_OF_AN_ATTEMPT: u32 = 66;
 
 /// Where a command leads a service, and what it adds to its reply if it is a report.

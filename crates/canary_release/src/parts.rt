@@ -2,7 +2,6 @@
 ghost use Rattle.std.specs.Prelude.{◌≡◌, ◌-◌, ◌≤◌, true, ◌||◌, ◌&&◌, not, nat_lt, length, filter};
 ghost use Rattle.std.specs.Prelude.{is_none, is_some};
 ghost use Rattle.std.specs.List.{list_any};
-ghost use Rattle.canary_metric.specs.MetricPhases.{is_completed};
 ghost use Rattle.canary_release.specs.Courses.{has_number};
 ghost use Rattle.canary_release.specs.Passing.{next_move, is_by};
 ghost use Rattle.canary_release.specs.Services.{is_going, is_done, is_held};
@@ -12,15 +11,12 @@ ghost use Rattle.canary_release.specs.Parts.{repeats_number, has_wrong_tallies, 
 ghost use Rattle.canary_release.specs.Parts.{is_judged, is_background_run, is_step_run};
 ghost use Rattle.canary_release.specs.Parts.{has_background_run};
 
-use crate::runs::OpenRun;
+use crate::runs::{MOST_RUNS, OpenRun};
 use crate::service::{Service, ServiceParts};
 use crate::stand::{Stand, State};
-use canary_condition::outcome::Phase;
+use canary_metric::verdict::is_completed;
 use std::error::Error;
 use std::fmt;
-
-// The most runs that a service may have.
-const MOST_RUNS: u32 = 1_000_000;
 
 /// Why parts make no service.
 #[derive(Clone, Copy, Debug, PartialEq, Eq)]
@@ -289,12 +285,6 @@ fn is_judged(stand: &Stand, run: &OpenRun) -> bool
     ensures { result ≡ is_judged stand.now run.now }
 {
     is_completed(stand.run_verdict(false, run))
-}
-
-fn is_completed(phase: Phase) -> bool
-    ensures { result ≡ is_completed phase }
-{
-    !matches!(phase, Phase::Pending | Phase::Running)
 }
 
 // The present step has been left by time.

@@ -57,6 +57,18 @@ impl Reply {
         })
     }
 
+    /// The reply of that status whose body has a code and nothing else, or `Memory`.
+    pub fn of_code(alloc: Global, status: ReplyStatus, code: &str) -> Result<Reply, Memory>
+        ensures { IfOk result (λ reply. reply
+            ≡ record { status = status; body = code_alone code.now }) }
+    {
+        let body = code_alone(alloc, code)?;
+        Ok(Reply {
+            status,
+            body: Text::of(body),
+        })
+    }
+
     /// The reply that accepts a command, with that body.
     pub(crate) fn accepts(body: String) -> Reply
         ensures { result ≡ accepted (string_bytes body) }

@@ -5,7 +5,7 @@ ghost use Rattle.std.specs.Prelude.{ℕ, cond};
 ghost use Rattle.std.specs.List.{list_any};
 ghost use Rattle.canary_condition.specs.declared.outcome.Phase.TheVariants as phase;
 ghost use Rattle.canary_metric.specs.Counts.{size};
-ghost use Rattle.canary_metric.specs.MetricPhases.{is_completed, due_of_counts};
+ghost use Rattle.canary_metric.specs.MetricPhases.{due_of_counts};
 ghost use Rattle.canary_plan.specs.declared.command.Command.TheVariants as command;
 ghost use Rattle.canary_plan.specs.declared.refusal.Refusal.TheVariants as refusal;
 ghost use Rattle.canary_plan.specs.Refusals.{first_that_holds};
@@ -37,6 +37,7 @@ use canary_condition::measurement::measure;
 use canary_condition::outcome::Phase;
 use canary_metric::metric::Metric;
 use canary_metric::tally::{MOST_MEASUREMENTS, Tally};
+use canary_metric::verdict::is_completed;
 use canary_plan::line::LineEvent;
 use canary_plan::refusal::Refusal;
 use canary_plan::report::{Entry, Report};
@@ -82,12 +83,6 @@ fn names_metric(before: &[Entry], name: Label) -> bool
     ensures { result ≡ list_any (names_metric name) before.now }
 {
     before.iter().any(|entry| entry.metric == name)
-}
-
-fn is_completed(phase: Phase) -> bool
-    ensures { result ≡ is_completed phase }
-{
-    !matches!(phase, Phase::Pending | Phase::Running)
 }
 
 // Why an entry is refused by its ordinal and its moment, at that index.

@@ -19,6 +19,9 @@ use canary_base::moments::Moment;
 use canary_metric::tally::Tally;
 use std::alloc::Global;
 
+/// The most runs that a service may have.
+pub(crate) const MOST_RUNS: u32 = 1_000_000;
+
 /// An open run of the analysis at a step, or of the background: one tally for each of its metrics,
 /// in order.
 #[derive(Drop)]
@@ -121,7 +124,8 @@ fn counted(tally: Tally, recorded: &Recorded) -> Tally
     tally
 }
 
-fn new_tallies(alloc: Global, metrics: u32) -> Result<Listed<Tally>, Memory>
+/// The tallies of a run that is opened with so many metrics, which have measured nothing, or `Memory`.
+pub fn new_tallies(alloc: Global, metrics: u32) -> Result<Listed<Tally>, Memory>
     ensures { IfOk result (λ tallies. tallies ≡ replicate metrics (counts [])) }
 {
     let mut tallies = Listed::of(Vec::new(alloc));

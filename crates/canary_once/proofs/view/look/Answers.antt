@@ -13,7 +13,7 @@ returns-in_ok-passed-in-Some g c =
     let new : Contents = (g.B.Book.state c.show.new.book).contents in
     record {
       intact = λ i. f.intact (s.intact i);
-      in_memory = λ m. let first = f.in_memory m in s.in_memory first.0 first.1;
+      in_memory = λ m. s.in_memory (f.in_memory m);
       lawful = λ i. f.lawful (s.intact i);
       ok =
           λ i. looked c.watching.ensures c.changes.ensures c.time.ensures c.quiet.ensures old mid new c.args.moment c.args.query.now c.in-Some.service c.in_ok-passed-in-Some.passed c.show.result

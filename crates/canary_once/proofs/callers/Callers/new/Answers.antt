@@ -1,6 +1,6 @@
 use Rattle.std.proofs.Common.{sym, ap, subst}
 use Rattle.std.specs.FinMap as map
-use Rattle.canary_once.specs.InMemory.{HaveReceipts}
+use Rattle.canary_once.specs.Contents.{HaveReceipts}
 use Rattle.canary_once.proofs.CallerMaps.{none_have}
 use Rattle.canary_once.proofs.callers.Callers.new.Goals as goal
 
