@@ -1,6 +1,9 @@
+pub mod Items
+pub mod Members
+pub mod Kept
 pub mod Regular
-pub mod Fitting
-pub mod Plain
+pub mod Limits
+pub mod PlainData
 pub mod Backwards
 pub mod Canonicals
 pub mod Rows

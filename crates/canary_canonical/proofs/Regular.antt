@@ -1,5 +1,5 @@
 -- What is written in JSON with its keys in order is read back.
-use Rattle.std.proofs.Common.{◌≡◌, pos, negsuc, [], max, suc, Bool, true, false, Some, refl, sym, ap, ap₂, ◌∙◌, ◌≤◌, arith, append-nil, true≢false}
+use Rattle.std.proofs.Common.{◌≡◌, pos, negsuc, [], max, suc, Bool, true, false, Some, refl, sym, ap, ap₂, ◌∙◌, ◌<◌, ◌≤◌, ◌^◌, arith, append-nil, true≢false}
 use Rattle.std.specs.Prelude.{◌||◌, option_map, option_and_then, ⊤}
 use Rattle.json.specs.Lex.{tokens}
 use Rattle.json.specs.Print.{IsNumber}
@@ -14,7 +14,31 @@ use Rattle.serde_json.specs.Read.{read, max_depth, number_of, of_json, of_items,
 use Rattle.serde_json.specs.Written.{number_text, outline, items_outline, members_outline, compact_text, has_float, items_have_float, members_have_float}
 use Rattle.serde_json.proofs.Numbers.{number_of-decimal, number_of-negative}
 use Rattle.serde_json.proofs.Texts.{print-outline}
-use Rattle.canary_canonical.specs.Laws.{FitsWord, NumbersFit, ItemsFit, MembersFit}
+
+-- 64 bits hold it; a whole number has a sign where it is below 0
+abbrev pub FitsWord : Num → Type 0
+FitsWord (unsigned n) = n < 2 ^ 64
+FitsWord (negative (pos n)) = ⊥
+FitsWord (negative (negsuc n)) = n < 2 ^ 63
+FitsWord (float x) = ⊤
+
+-- each whole number fits 64 bits
+abbrev mutual
+  pub NumbersFit : Data → Type 0
+  NumbersFit null = ⊤
+  NumbersFit (boolean b) = ⊤
+  NumbersFit (number n) = FitsWord n
+  NumbersFit (string s) = ⊤
+  NumbersFit (array ds) = ItemsFit ds
+  NumbersFit (object ms) = MembersFit ms
+
+  pub ItemsFit : Items → Type 0
+  ItemsFit no_items = ⊤
+  ItemsFit (item d ds) = NumbersFit d × ItemsFit ds
+
+  pub MembersFit : Members → Type 0
+  MembersFit no_members = ⊤
+  MembersFit (member k d ms) = NumbersFit d × MembersFit ms
 
 -- the members put in one after another
 abbrev pub rebuilt : Members → Members → Members

@@ -1,5 +1,5 @@
 -- Worked texts, computed on the definitions, so that a wrong key or value in a definition does not check.
-use Rattle.std.proofs.Common.{◌≡◌, ℕ, pos, negsuc, List, [], ◌∷◌, Some, None, refl}
+use Rattle.std.proofs.Common.{◌≡◌, ℕ, pos, negsuc, List, [], ◌∷◌, ◌++◌, Some, None, refl}
 use Rattle.std.specs.Prelude.{codes}
 use Rattle.std.specs.Fmt.{digits}
 use Rattle.json.proofs.OnLiterals.{json_on_literals}
@@ -10,9 +10,10 @@ use Rattle.canary_condition.specs.declared.outcome.Value.TheVariants.{Whole, Lis
 use Rattle.canary_plan.specs.declared.step.Step.TheVariants.{SetWeight, Pause, Analysis}
 use Rattle.canary_plan.specs.declared.template_spec.MetricSpec.{MetricSpec}
 use Rattle.canary_plan.specs.declared.report.Entry.{Entry}
+use Rattle.canary_plan.specs.declared.command.Command.{Command}
 use Rattle.canary_plan.specs.declared.command.Command.TheVariants as command
 use Rattle.canary_canonical.specs.Texts.{metric_data, template_data, step_data, background_data, service_data, entry_data, report_data, start_data, command_data, command_text}
-use Rattle.canary_canonical.specs.Readings.{report_in, command_of_kind, no_command, command_of}
+use Rattle.canary_canonical.specs.Readings.{service_in, step_in, entry_in, report_in, start_in, plain_of_kind, command_of_kind, no_command, command_of, canonical_in}
 
 abbrev web : List ℕ
 web = codes "web"
@@ -114,20 +115,81 @@ report = refl
 -- What is read.
 
 tick_read : command_of (codes "{\"tick\":{\"service\":\"web\"}}") ≡ command.Tick web
-unfolding serde_json_on_literals command_of command_of_kind
+unfolding serde_json_on_literals command_of command_of_kind plain_of_kind
 tick_read = refl
 
 -- a text with a space is read, and is not canonical
 spaced : command_of (codes "{\"tick\": {\"service\":\"web\"}}") ≡ command.Tick web
-unfolding serde_json_on_literals command_of command_of_kind
+unfolding serde_json_on_literals command_of command_of_kind plain_of_kind
 spaced = refl
+
+not_canonical : canonical_in (codes "{\"tick\": {\"service\":\"web\"}}") ≡ None
+unfolding json_on_literals serde_json_on_literals command_text command_data canonical_in command_of_kind plain_of_kind
+not_canonical = refl
+
+-- without the space it is
+canonical : canonical_in (codes "{\"tick\":{\"service\":\"web\"}}") ≡ Some (command.Tick web)
+unfolding json_on_literals serde_json_on_literals command_text command_data canonical_in command_of_kind plain_of_kind
+canonical = refl
+
+-- a service, with the longest pause
+abbrev pausing : List ℕ → List ℕ
+pausing seconds = codes "{\"service\":{\"analysis\":null,\"name\":\"web\",\"steps\":[{\"pause\":" ++ seconds ++ codes "}],\"version\":\"v1\"}}"
+
+longest : command_of (pausing (codes "31536000")) ≡ command.Service (record { name = web; version = codes "v1"; steps = Pause (Some 31536000) ∷ []; background = None })
+unfolding serde_json_on_literals command_of command_of_kind service_in step_in
+longest = refl
+
+-- and one that is too long
+too_long : command_of (pausing (codes "31536001")) ≡ no_command
+unfolding serde_json_on_literals command_of command_of_kind service_in step_in
+too_long = refl
+
+-- a report, with this result
+abbrev reporting : List ℕ → List ℕ
+reporting result = codes "{\"report\":{\"entries\":[{\"metric\":\"m\",\"ordinal\":1,\"result\":" ++ result ++ codes ",\"taken\":1000}],\"run\":2,\"service\":\"web\"}}"
+
+abbrev reported : Outcome → Command
+reported outcome = command.Report (record { service = web; run = 2; entries = measurement 1000 outcome ∷ []; within = refl })
+
+greatest : command_of (reporting (codes "9223372036854775807")) ≡ reported (Brought (Whole (pos 9223372036854775807)))
+unfolding serde_json_on_literals command_of command_of_kind plain_of_kind report_in entry_in
+greatest = refl
+
+least : command_of (reporting (codes "-9223372036854775808")) ≡ reported (Brought (Whole (negsuc 9223372036854775807)))
+unfolding serde_json_on_literals command_of command_of_kind plain_of_kind report_in entry_in
+least = refl
+
+-- no signed word of 64 bits holds it
+not_held : command_of (reporting (codes "9223372036854775808")) ≡ no_command
+unfolding serde_json_on_literals command_of command_of_kind plain_of_kind report_in entry_in
+not_held = refl
+
+-- a list of numbers has one at least
+no_numbers : command_of (reporting (codes "[]")) ≡ no_command
+unfolding serde_json_on_literals command_of command_of_kind plain_of_kind report_in entry_in
+no_numbers = refl
+
+-- a name has no capital letter, and a label may have one
+no_name : command_of (codes "{\"start\":{\"service\":\"Web\",\"version\":\"V1\"}}") ≡ no_command
+unfolding serde_json_on_literals command_of command_of_kind plain_of_kind start_in
+no_name = refl
+
+label : command_of (codes "{\"start\":{\"service\":\"web\",\"version\":\"V1\"}}") ≡ command.Start web (codes "V1")
+unfolding serde_json_on_literals command_of command_of_kind plain_of_kind start_in
+label = refl
+
+-- a member beside those of the command
+one_member_more : command_of (codes "{\"tick\":{\"service\":\"web\",\"version\":\"v1\"}}") ≡ no_command
+unfolding serde_json_on_literals command_of command_of_kind plain_of_kind
+one_member_more = refl
 
 -- an object of two members is no command
 two_kinds : command_of (codes "{\"abort\":{\"service\":\"web\"},\"tick\":{\"service\":\"web\"}}") ≡ no_command
-unfolding serde_json_on_literals command_of command_of_kind
+unfolding serde_json_on_literals command_of command_of_kind plain_of_kind
 two_kinds = refl
 
 -- a limit that the type of a report promises
 too_great : command_of (codes "{\"report\":{\"entries\":[],\"run\":2,\"service\":\"web\"}}") ≡ no_command
-unfolding serde_json_on_literals command_of command_of_kind report_in
+unfolding serde_json_on_literals command_of command_of_kind plain_of_kind report_in
 too_great = refl

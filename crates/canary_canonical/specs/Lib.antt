@@ -1,3 +1,5 @@
+pub mod Forms
+pub mod Reads
 pub mod Texts
 pub mod Readings
 pub mod Laws

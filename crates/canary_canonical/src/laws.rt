@@ -1,8 +1,8 @@
 //! Laws over the definitions alone.
 ghost use Rattle.canary_canonical.specs.Laws.{ReadsBack, OneText};
 
-/// A command's canonical text is read as the command, where its numbers fit 64 bits, as those of
-/// each command of a program do.
+/// A command's canonical text is read as the command, where each part of the command keeps its
+/// limits, as in each command of a program.
 pub fn reads_back()
     ensures { ReadsBack }
 {}

@@ -1,8 +1,11 @@
 //! The parts of commands in JSON.
-ghost use Rattle.std.specs.Prelude.{◌≡◌, IfOk};
+ghost use Rattle.std.specs.Prelude.{◌≡◌, IsTrue, IfOk};
+ghost use Rattle.std.specs.List.{list_all};
+ghost use Rattle.canary_base.specs.Names.{is_name};
 ghost use Rattle.serde_json.specs.Data.{string};
 ghost use Rattle.serde_json.specs.View.{view};
 ghost use Rattle.canary_canonical.specs.Texts.{whole_data, data_or_null, list_data, only};
+ghost use Rattle.canary_canonical.specs.Laws.{is_duration, all_of};
 
 use canary_base::durations::Seconds;
 use canary_base::lists::Text;
@@ -22,7 +25,8 @@ pub fn number_or_null(number: Option<u32>) -> Value
 
 /// The duration in seconds, or null.
 pub fn seconds_or_null(duration: Option<Seconds>) -> Value
-    ensures { view result ≡ data_or_null whole_data duration }
+    ensures value { view result ≡ data_or_null whole_data duration }
+    ensures kept { IsTrue (all_of is_duration duration) }
 {
     match duration {
         Some(duration) => Value::from(duration.get()),
@@ -60,7 +64,8 @@ pub fn texts(alloc: Global, texts: &[Text]) -> Result<Value, AllocError>
 
 /// The names, in order.
 pub fn names(alloc: Global, names: &[Name]) -> Result<Value, AllocError>
-    ensures { IfOk result (λ value. view value ≡ list_data string names.now) }
+    ensures value { IfOk result (λ value. view value ≡ list_data string names.now) }
+    ensures kept { IfOk result (λ _. IsTrue (list_all is_name names.now)) }
 {
     let mut values = Vec::new(alloc);
     for name in names {

@@ -1,8 +1,12 @@
 //! Reports in JSON.
-ghost use Rattle.std.specs.Prelude.{◌≡◌, IfOk};
+ghost use Rattle.std.specs.Prelude.{◌≡◌, IsTrue, IfOk, nat_le};
+ghost use Rattle.std.specs.List.{list_all};
+ghost use Rattle.canary_base.specs.Names.{is_label};
 ghost use Rattle.serde_json.specs.View.{view};
 ghost use Rattle.canary_canonical.specs.Texts.{signed_data, list_data, result_data};
 ghost use Rattle.canary_canonical.specs.Texts.{measured, failed, entry_data, report_data};
+ghost use Rattle.canary_canonical.specs.Laws.{is_signed_word, keeps_outcome, keeps_entry};
+ghost use Rattle.canary_canonical.specs.Laws.{keeps_report};
 
 use canary_condition::outcome::{FailureText, Outcome, Value as Measured};
 use canary_plan::report::{Entry, Report};
@@ -10,16 +14,18 @@ use serde_json::{Value, json};
 use std::alloc::{AllocError, Global};
 
 /// The report in JSON.
-#[tactic(auto, unfolding(crate::specs::Texts::report_data))]
+#[tactic(auto, unfolding(crate::specs::Texts::report_data, crate::specs::Laws::keeps_report))]
 pub fn report_value(alloc: Global, report: &Report) -> Result<Value, AllocError>
-    ensures { IfOk result (λ value. view value ≡ report_data report.now) }
+    ensures value { IfOk result (λ value. view value ≡ report_data report.now) }
+    ensures kept { IfOk result (λ _. IsTrue (keeps_report report.now)) }
 {
     let entries = entry_values(alloc, report.entries.as_slice())?;
     json!(in alloc; {"entries": entries, "run": report.run, "service": report.service.as_str()})
 }
 
 fn entry_values(alloc: Global, entries: &[Entry]) -> Result<Value, AllocError>
-    ensures { IfOk result (λ value. view value ≡ list_data entry_data entries.now) }
+    ensures value { IfOk result (λ value. view value ≡ list_data entry_data entries.now) }
+    ensures kept { IfOk result (λ _. IsTrue (list_all keeps_entry entries.now)) }
 {
     let mut values = Vec::new(alloc);
     for entry in entries {
@@ -28,9 +34,10 @@ fn entry_values(alloc: Global, entries: &[Entry]) -> Result<Value, AllocError>
     Ok(Value::Array(values))
 }
 
-#[tactic(auto, unfolding(crate::specs::Texts::entry_data))]
+#[tactic(auto, unfolding(crate::specs::Texts::entry_data, crate::specs::Laws::keeps_entry))]
 fn entry_value(alloc: Global, entry: &Entry) -> Result<Value, AllocError>
-    ensures { IfOk result (λ value. view value ≡ entry_data entry.now) }
+    ensures value { IfOk result (λ value. view value ≡ entry_data entry.now) }
+    ensures kept { IfOk result (λ _. IsTrue (keeps_entry entry.now)) }
 {
     match &entry.outcome {
         Outcome::Result(result) => measured_value(alloc, entry, *result),
@@ -40,8 +47,11 @@ fn entry_value(alloc: Global, entry: &Entry) -> Result<Value, AllocError>
 
 // The entry, with this result.
 fn measured_value(alloc: Global, entry: &Entry, outcome: Measured) -> Result<Value, AllocError>
-    ensures { IfOk result (λ value. view value
+    ensures value { IfOk result (λ value. view value
         ≡ measured entry.now.metric entry.now.ordinal entry.now.taken outcome) }
+    ensures metric { IfOk result (λ _. IsTrue (is_label entry.now.metric)) }
+    ensures taken { IfOk result (λ _. IsTrue (nat_le entry.now.taken 253370764799)) }
+    ensures kept { IfOk result (λ _. IsTrue (keeps_outcome (Outcome.Result outcome))) }
 {
     let result = result_value(alloc, outcome)?;
     json!(in alloc; {
@@ -53,9 +63,13 @@ fn measured_value(alloc: Global, entry: &Entry, outcome: Measured) -> Result<Val
 }
 
 // The entry, with this failure.
+#[tactic(auto, unfolding(crate::specs::Laws::keeps_outcome))]
 fn failed_value(alloc: Global, entry: &Entry, text: &FailureText) -> Result<Value, AllocError>
-    ensures { IfOk result (λ value. view value
+    ensures value { IfOk result (λ value. view value
         ≡ failed entry.now.metric entry.now.ordinal entry.now.taken text.now) }
+    ensures metric { IfOk result (λ _. IsTrue (is_label entry.now.metric)) }
+    ensures taken { IfOk result (λ _. IsTrue (nat_le entry.now.taken 253370764799)) }
+    ensures kept { IfOk result (λ _. IsTrue (keeps_outcome (Outcome.Failure text.now))) }
 {
     json!(in alloc; {
         "failure": text.as_str(),
@@ -65,8 +79,10 @@ fn failed_value(alloc: Global, entry: &Entry, text: &FailureText) -> Result<Valu
     })
 }
 
+#[tactic(auto, unfolding(crate::specs::Laws::keeps_outcome))]
 fn result_value(alloc: Global, outcome: Measured) -> Result<Value, AllocError>
-    ensures { IfOk result (λ value. view value ≡ result_data outcome) }
+    ensures value { IfOk result (λ value. view value ≡ result_data outcome) }
+    ensures kept { IfOk result (λ _. IsTrue (keeps_outcome (Outcome.Result outcome))) }
 {
     match outcome {
         Measured::Whole(number) => Ok(Value::from(number)),
@@ -75,7 +91,8 @@ fn result_value(alloc: Global, outcome: Measured) -> Result<Value, AllocError>
 }
 
 fn number_values(alloc: Global, numbers: &[i64]) -> Result<Value, AllocError>
-    ensures { IfOk result (λ value. view value ≡ list_data signed_data numbers.now) }
+    ensures value { IfOk result (λ value. view value ≡ list_data signed_data numbers.now) }
+    ensures kept { IfOk result (λ _. IsTrue (list_all is_signed_word numbers.now)) }
 {
     let mut values = Vec::new(alloc);
     for number in numbers {

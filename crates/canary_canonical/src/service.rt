@@ -1,8 +1,12 @@
 //! Services in JSON.
-ghost use Rattle.std.specs.Prelude.{◌≡◌, IfOk};
+ghost use Rattle.std.specs.Prelude.{◌≡◌, IsTrue, IfOk};
+ghost use Rattle.std.specs.List.{list_all};
+ghost use Rattle.canary_base.specs.Names.{is_name};
 ghost use Rattle.serde_json.specs.View.{view};
 ghost use Rattle.canary_canonical.specs.Texts.{data_or_null, list_data};
 ghost use Rattle.canary_canonical.specs.Texts.{step_data, background_data, service_data};
+ghost use Rattle.canary_canonical.specs.Laws.{is_word, all_of};
+ghost use Rattle.canary_canonical.specs.Laws.{keeps_step, keeps_background, keeps_service};
 
 use crate::parts::{names, only, seconds_or_null};
 use canary_plan::service::{Background, ServiceSpec};
@@ -11,9 +15,10 @@ use serde_json::{Value, json};
 use std::alloc::{AllocError, Global};
 
 /// The service in JSON.
-#[tactic(auto, unfolding(crate::specs::Texts::service_data))]
+#[tactic(auto, unfolding(crate::specs::Texts::service_data, crate::specs::Laws::keeps_service))]
 pub fn service_value(alloc: Global, service: &ServiceSpec) -> Result<Value, AllocError>
-    ensures { IfOk result (λ value. view value ≡ service_data service.now) }
+    ensures value { IfOk result (λ value. view value ≡ service_data service.now) }
+    ensures kept { IfOk result (λ _. IsTrue (keeps_service service.now)) }
 {
     let background = background_or_null(alloc, &service.background)?;
     let steps = step_values(alloc, service.steps.as_slice())?;
@@ -25,8 +30,11 @@ pub fn service_value(alloc: Global, service: &ServiceSpec) -> Result<Value, Allo
     })
 }
 
+#[tactic(auto, unfolding(crate::specs::Laws::keeps_background))]
 fn background_or_null(alloc: Global, background: &Option<Background>) -> Result<Value, AllocError>
-    ensures { IfOk result (λ value. view value ≡ data_or_null background_data background.now) }
+    ensures value { IfOk result (λ value. view value
+        ≡ data_or_null background_data background.now) }
+    ensures kept { IfOk result (λ _. IsTrue (all_of keeps_background background.now)) }
 {
     match background {
         Some(background) => background_value(alloc, background),
@@ -36,14 +44,17 @@ fn background_or_null(alloc: Global, background: &Option<Background>) -> Result<
 
 #[tactic(auto, unfolding(crate::specs::Texts::background_data))]
 fn background_value(alloc: Global, background: &Background) -> Result<Value, AllocError>
-    ensures { IfOk result (λ value. view value ≡ background_data background.now) }
+    ensures value { IfOk result (λ value. view value ≡ background_data background.now) }
+    ensures names { IfOk result (λ _. IsTrue (list_all is_name background.now.templates)) }
+    ensures step { IfOk result (λ _. IsTrue (is_word background.now.starting_step)) }
 {
     let templates = names(alloc, background.templates.as_slice())?;
     json!(in alloc; {"startingStep": background.starting_step, "templates": templates})
 }
 
 fn step_values(alloc: Global, steps: &[Step]) -> Result<Value, AllocError>
-    ensures { IfOk result (λ value. view value ≡ list_data step_data steps.now) }
+    ensures value { IfOk result (λ value. view value ≡ list_data step_data steps.now) }
+    ensures kept { IfOk result (λ _. IsTrue (list_all keeps_step steps.now)) }
 {
     let mut values = Vec::new(alloc);
     for step in steps {
@@ -52,9 +63,10 @@ fn step_values(alloc: Global, steps: &[Step]) -> Result<Value, AllocError>
     Ok(Value::Array(values))
 }
 
-#[tactic(auto, unfolding(crate::specs::Texts::step_data))]
+#[tactic(auto, unfolding(crate::specs::Texts::step_data, crate::specs::Laws::keeps_step))]
 fn step_value(alloc: Global, step: &Step) -> Result<Value, AllocError>
-    ensures { IfOk result (λ value. view value ≡ step_data step.now) }
+    ensures value { IfOk result (λ value. view value ≡ step_data step.now) }
+    ensures kept { IfOk result (λ _. IsTrue (keeps_step step.now)) }
 {
     match step {
         Step::SetWeight(percent) => only(alloc, "setWeight", Value::from(*percent)),

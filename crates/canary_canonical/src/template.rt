@@ -1,7 +1,9 @@
 //! Templates in JSON.
-ghost use Rattle.std.specs.Prelude.{◌≡◌, IfOk};
+ghost use Rattle.std.specs.Prelude.{◌≡◌, IsTrue, IfOk};
+ghost use Rattle.std.specs.List.{list_all};
 ghost use Rattle.serde_json.specs.View.{view};
 ghost use Rattle.canary_canonical.specs.Texts.{list_data, metric_data, template_data};
+ghost use Rattle.canary_canonical.specs.Laws.{keeps_metric, keeps_template};
 
 use crate::parts::{number_or_null, seconds_or_null, text_or_null, texts};
 use canary_plan::template_spec::{MetricSpec, TemplateSpec};
@@ -9,9 +11,10 @@ use serde_json::{Value, json};
 use std::alloc::{AllocError, Global};
 
 /// The template in JSON.
-#[tactic(auto, unfolding(crate::specs::Texts::template_data))]
+#[tactic(auto, unfolding(crate::specs::Texts::template_data, crate::specs::Laws::keeps_template))]
 pub fn template_value(alloc: Global, template: &TemplateSpec) -> Result<Value, AllocError>
-    ensures { IfOk result (λ value. view value ≡ template_data template.now) }
+    ensures value { IfOk result (λ value. view value ≡ template_data template.now) }
+    ensures kept { IfOk result (λ _. IsTrue (keeps_template template.now)) }
 {
     let dry_run = texts(alloc, template.dry_run.as_slice())?;
     let metrics = metric_values(alloc, template.metrics.as_slice())?;
@@ -19,7 +22,8 @@ pub fn template_value(alloc: Global, template: &TemplateSpec) -> Result<Value, A
 }
 
 fn metric_values(alloc: Global, metrics: &[MetricSpec]) -> Result<Value, AllocError>
-    ensures { IfOk result (λ value. view value ≡ list_data metric_data metrics.now) }
+    ensures value { IfOk result (λ value. view value ≡ list_data metric_data metrics.now) }
+    ensures kept { IfOk result (λ _. IsTrue (list_all keeps_metric metrics.now)) }
 {
     let mut values = Vec::new(alloc);
     for metric in metrics {
@@ -28,9 +32,10 @@ fn metric_values(alloc: Global, metrics: &[MetricSpec]) -> Result<Value, AllocEr
     Ok(Value::Array(values))
 }
 
-#[tactic(auto, unfolding(crate::specs::Texts::metric_data))]
+#[tactic(auto, unfolding(crate::specs::Texts::metric_data, crate::specs::Laws::keeps_metric))]
 fn metric_value(alloc: Global, metric: &MetricSpec) -> Result<Value, AllocError>
-    ensures { IfOk result (λ value. view value ≡ metric_data metric.now) }
+    ensures value { IfOk result (λ value. view value ≡ metric_data metric.now) }
+    ensures kept { IfOk result (λ _. IsTrue (keeps_metric metric.now)) }
 {
     let success = text_or_null(alloc, &metric.success)?;
     let failure = text_or_null(alloc, &metric.failure)?;

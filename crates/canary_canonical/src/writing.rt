@@ -1,11 +1,12 @@
 //! The canonical text of a command.
-ghost use Rattle.std.specs.Prelude.{◌≡◌, Some, IfOk, string_bytes};
+ghost use Rattle.std.specs.Prelude.{◌≡◌, IsTrue, Some, IfOk, string_bytes};
+ghost use Rattle.canary_base.specs.Names.{is_name, is_label};
 ghost use Rattle.serde_json.specs.Read.{read};
 ghost use Rattle.serde_json.specs.View.{view};
 ghost use Rattle.canary_canonical.specs.Texts.{start_data, service_alone};
 ghost use Rattle.canary_canonical.specs.Texts.{command_data, command_text};
-ghost use Rattle.canary_canonical.specs.Readings.{command_of};
-ghost use Rattle.canary_canonical.specs.Laws.{IsReadable};
+ghost use Rattle.canary_canonical.specs.Readings.{command_of, canonical_in};
+ghost use Rattle.canary_canonical.specs.Laws.{KeepsLimits};
 
 use crate::parts::only;
 use crate::report::report_value;
@@ -24,7 +25,8 @@ use std::alloc::{AllocError, Global};
 pub fn text(alloc: Global, command: &Command) -> Result<Text, Memory>
     ensures value { IfOk result (λ text. text ≡ command_text command.now) }
     ensures read { IfOk result (λ text. command_of text ≡ command.now) }
-    ensures readable { IfOk result (λ _. IsReadable command.now) }
+    ensures back { IfOk result (λ text. canonical_in text ≡ Some command.now) }
+    ensures kept { IfOk result (λ _. KeepsLimits command.now) }
 {
     Ok(Text::of(written(alloc, command)?))
 }
@@ -33,15 +35,17 @@ fn written(alloc: Global, command: &Command) -> Result<String, AllocError>
     ensures value { IfOk result (λ text. string_bytes text ≡ command_text command.now) }
     ensures read { IfOk result (λ text. read (string_bytes text)
         ≡ Some (command_data command.now)) }
+    ensures kept { IfOk result (λ _. KeepsLimits command.now) }
 {
     let value = command_value(alloc, command)?;
     value.to_string(alloc)
 }
 
 // The command in JSON.
-#[tactic(auto, unfolding(crate::specs::Texts::command_data))]
+#[tactic(auto, unfolding(crate::specs::Texts::command_data, crate::specs::Laws::keeps_limits))]
 fn command_value(alloc: Global, command: &Command) -> Result<Value, AllocError>
-    ensures { IfOk result (λ value. view value ≡ command_data command.now) }
+    ensures value { IfOk result (λ value. view value ≡ command_data command.now) }
+    ensures kept { IfOk result (λ _. KeepsLimits command.now) }
 {
     match command {
         Command::Template(spec) => only(alloc, "template", template_value(alloc, spec)?),
@@ -62,13 +66,15 @@ fn command_value(alloc: Global, command: &Command) -> Result<Value, AllocError>
 
 #[tactic(auto, unfolding(crate::specs::Texts::start_data))]
 fn start_value(alloc: Global, service: &Name, version: &Label) -> Result<Value, AllocError>
-    ensures { IfOk result (λ value. view value ≡ start_data service.now version.now) }
+    ensures value { IfOk result (λ value. view value ≡ start_data service.now version.now) }
+    ensures kept { IfOk result (λ _. IsTrue (is_name service.now) × IsTrue (is_label version.now)) }
 {
     json!(in alloc; {"service": service.as_str(), "version": version.as_str()})
 }
 
 fn service_alone(alloc: Global, service: &Name) -> Result<Value, AllocError>
-    ensures { IfOk result (λ value. view value ≡ service_alone service.now) }
+    ensures value { IfOk result (λ value. view value ≡ service_alone service.now) }
+    ensures kept { IfOk result (λ _. IsTrue (is_name service.now)) }
 {
     only(
         alloc,

@@ -6,8 +6,8 @@ use Rattle.canary_canonical.proofs.writing.written.Goals as goal
 
 pub returns-clause-value : goal.returns-clause-value
 returns-clause-value c =
-    IfOk-weaker c.to_string.result _ _ (λ text h. written_text (string_bytes text) (view c.in_ok-value.value) c.args.command.now c.in_ok-value.ensures h) c.to_string.ensures.text
+    IfOk-weaker c.to_string.result _ _ (λ text h. written_text (string_bytes text) (view c.in_ok-value.value) c.args.command.now c.in_ok-value.ensures.value h) c.to_string.ensures.text
 
 pub returns-clause-read : goal.returns-clause-read
 returns-clause-read c =
-    IfOk-weaker c.to_string.result _ _ (λ text h. written_read (string_bytes text) (view c.in_ok-value.value) c.args.command.now c.in_ok-value.ensures h) c.to_string.ensures.reads_back
+    IfOk-weaker c.to_string.result _ _ (λ text h. written_read (string_bytes text) (view c.in_ok-value.value) c.args.command.now c.in_ok-value.ensures.value h) c.to_string.ensures.reads_back

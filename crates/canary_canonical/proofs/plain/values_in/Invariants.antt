@@ -1,0 +1,8 @@
+use Rattle.std.proofs.Common.{◌≡◌, drop}
+use Rattle.serde_json.specs.View.{items_view}
+use Rattle.canary_canonical.specs.Forms.{each, signed_in}
+use Rattle.canary_canonical.proofs.Items.{with_front}
+use Rattle.canary_canonical.proofs.plain.values_in.Given as goal
+
+abbrev pub invariant-loop-item : goal.invariant-loop-item
+invariant-loop-item l = with_front l.values.items (each signed_in (items_view (drop l.item-index l.list.items))) ≡ each signed_in (items_view l.list.items)

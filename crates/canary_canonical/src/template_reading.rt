@@ -1,0 +1,219 @@
+//! The template that a value of JSON is, in the form of a canonical text.
+ghost use Rattle.std.specs.Prelude.{◌≡◌};
+ghost use Rattle.serde_json.specs.Find.{as_str};
+ghost use Rattle.serde_json.specs.View.{view, items_view};
+ghost use Rattle.canary_plan.specs.Limits.{is_condition_asked, is_count};
+ghost use Rattle.canary_canonical.specs.Forms.{at, each, list_of, null_or};
+ghost use Rattle.canary_canonical.specs.Readings.{seconds_in, word_in, metric_with, metric_in};
+ghost use Rattle.canary_canonical.specs.Readings.{template_with, template_in};
+ghost use Rattle.canary_canonical.specs.Reads.{IsRead};
+
+use crate::form::{
+    FormFault, label_at, name_at, number_at, number_up_to, seconds_at, seconds_or_null, text_in,
+};
+use canary_base::durations::Seconds;
+use canary_base::lists::{Listed, Text};
+use canary_base::names::{Label, Name};
+use canary_plan::template_spec::{MetricSpec, TemplateSpec};
+use serde_json::Value;
+use std::alloc::Global;
+
+// The most metrics of a template.
+const MOST_METRICS: usize = 32;
+
+// The greatest count of a metric, and the greatest of its limits.
+const GREATEST_LIMIT: u32 = 1_000_000;
+
+/// The template that it is.
+///
+/// # Errors
+/// `Unreadable` where it has another form, or a part beyond its limits; `Memory`.
+#[tactic(auto, unfolding(crate::specs::Readings::template_in))]
+pub fn template_in(alloc: Global, value: &Value) -> Result<TemplateSpec, FormFault>
+    ensures { IsRead (template_in (view value.now)) result }
+{
+    let name = name_at(value, "name").ok_or(FormFault::Unreadable)?;
+    let metrics = value.get("metrics").ok_or(FormFault::Unreadable)?;
+    let metrics = metrics_of(alloc, metrics)?;
+    let dry_run = value.get("dryRun").ok_or(FormFault::Unreadable)?;
+    let dry_run = texts_of(alloc, dry_run)?;
+    template_with(name, metrics, dry_run).ok_or(FormFault::Unreadable)
+}
+
+/// The template, where the number of its metrics keeps its limits: 1 to 32.
+pub fn template_with(
+    name: Name,
+    metrics: Listed<MetricSpec>,
+    dry_run: Listed<Text>,
+) -> Option<TemplateSpec>
+    ensures { result ≡ template_with name metrics dry_run }
+{
+    let count = metrics.as_slice().len();
+    let is_within = 1 <= count && count <= MOST_METRICS;
+    if !is_within {
+        return None;
+    }
+    Some(TemplateSpec {
+        name,
+        metrics,
+        dry_run,
+    })
+}
+
+fn metrics_of(alloc: Global, value: &Value) -> Result<Listed<MetricSpec>, FormFault>
+    ensures { IsRead (list_of metric_in (view value.now)) result }
+{
+    match value.as_array() {
+        Some(list) => metrics_in(alloc, list),
+        None => Err(FormFault::Unreadable),
+    }
+}
+
+#[tactic(auto, using(crate::proofs::Items::read_in_turn))]
+fn metrics_in(alloc: Global, list: &Vec<Value>) -> Result<Listed<MetricSpec>, FormFault>
+    ensures { IsRead (each metric_in (items_view list.now.items)) result }
+{
+    let mut metrics = Vec::new(alloc);
+    for item in list {
+        let metric = metric_in(alloc, item)?;
+        metrics.push(metric)?;
+    }
+    Ok(Listed::of(metrics))
+}
+
+#[tactic(auto, unfolding(crate::specs::Readings::metric_in))]
+fn metric_in(alloc: Global, value: &Value) -> Result<MetricSpec, FormFault>
+    ensures { IsRead (metric_in (view value.now)) result }
+{
+    let name = label_at(value, "name").ok_or(FormFault::Unreadable)?;
+    let success = condition_at(alloc, value, "successCondition")?;
+    let failure = condition_at(alloc, value, "failureCondition")?;
+    let interval = interval_at(value, "interval").ok_or(FormFault::Unreadable)?;
+    let delay = seconds_at(value, "initialDelay").ok_or(FormFault::Unreadable)?;
+    let count = count_at(value, "count").ok_or(FormFault::Unreadable)?;
+    let failed = number_at(value, "failureLimit", u32::MAX).ok_or(FormFault::Unreadable)?;
+    let inconclusive = number_at(value, "inconclusiveLimit", u32::MAX).ok_or(
+        FormFault::Unreadable,
+    )?;
+    let errors = number_at(value, "consecutiveErrorLimit", u32::MAX).ok_or(FormFault::Unreadable)?;
+    metric_with(
+        name,
+        success,
+        failure,
+        interval,
+        delay,
+        count,
+        failed,
+        inconclusive,
+        errors,
+    )
+    .ok_or(FormFault::Unreadable)
+}
+
+/// The metric, where its conditions, its count and its limits keep their limits: a condition is not
+/// empty, a count is 1 to 1,000,000, and a limit is at most 1,000,000.
+pub fn metric_with(
+    name: Label,
+    success: Option<Text>,
+    failure: Option<Text>,
+    interval: Option<Seconds>,
+    initial_delay: Seconds,
+    count: Option<u32>,
+    failure_limit: u32,
+    inconclusive_limit: u32,
+    consecutive_error_limit: u32,
+) -> Option<MetricSpec>
+    ensures { result ≡ metric_with name success failure interval initial_delay count
+        failure_limit inconclusive_limit consecutive_error_limit }
+{
+    let is_within = is_condition_asked(&success)
+        && is_condition_asked(&failure)
+        && is_count(count)
+        && failure_limit <= GREATEST_LIMIT
+        && inconclusive_limit <= GREATEST_LIMIT
+        && consecutive_error_limit <= GREATEST_LIMIT;
+    if !is_within {
+        return None;
+    }
+    Some(MetricSpec {
+        name,
+        success,
+        failure,
+        interval,
+        initial_delay,
+        count,
+        failure_limit,
+        inconclusive_limit,
+        consecutive_error_limit,
+    })
+}
+
+// Absent, or not empty.
+fn is_condition_asked(condition: &Option<Text>) -> bool
+    ensures { result ≡ is_condition_asked condition.now }
+{
+    match condition {
+        Some(text) => !text.as_str().is_empty(),
+        None => true,
+    }
+}
+
+// Absent, or 1 to 1,000,000.
+fn is_count(count: Option<u32>) -> bool
+    ensures { result ≡ is_count count }
+{
+    match count {
+        Some(count) => 1 <= count && count <= GREATEST_LIMIT,
+        None => true,
+    }
+}
+
+// A condition, or null.
+fn condition_at(alloc: Global, value: &Value, key: &str) -> Result<Option<Text>, FormFault>
+    ensures { IsRead (at key.now (null_or as_str) (view value.now)) result }
+{
+    let member = value.get(key).ok_or(FormFault::Unreadable)?;
+    if member.is_null() {
+        return Ok(None);
+    }
+    Ok(Some(text_in(alloc, member)?))
+}
+
+// A duration, or null.
+fn interval_at(value: &Value, key: &str) -> Option<Option<Seconds>>
+    ensures { result ≡ at key.now (null_or seconds_in) (view value.now) }
+{
+    seconds_or_null(value.get(key)?)
+}
+
+// A count, or null.
+fn count_at(value: &Value, key: &str) -> Option<Option<u32>>
+    ensures { result ≡ at key.now (null_or word_in) (view value.now) }
+{
+    let member = value.get(key)?;
+    if member.is_null() {
+        return Some(None);
+    }
+    Some(Some(number_up_to(member, u32::MAX)?))
+}
+
+fn texts_of(alloc: Global, value: &Value) -> Result<Listed<Text>, FormFault>
+    ensures { IsRead (list_of as_str (view value.now)) result }
+{
+    match value.as_array() {
+        Some(list) => texts_in(alloc, list),
+        None => Err(FormFault::Unreadable),
+    }
+}
+
+#[tactic(auto, using(crate::proofs::Items::read_in_turn))]
+fn texts_in(alloc: Global, list: &Vec<Value>) -> Result<Listed<Text>, FormFault>
+    ensures { IsRead (each as_str (items_view list.now.items)) result }
+{
+    let mut texts = Vec::new(alloc);
+    for item in list {
+        let text = text_in(alloc, item)?;
+        texts.push(text)?;
+    }
+    Ok(Listed::of(texts))
+}
