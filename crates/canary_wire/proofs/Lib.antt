@@ -1,6 +1,3 @@
-pub mod Bodies
-pub mod Items
-pub mod Members
 pub mod CutLemmas
 pub mod CutLaw
 pub mod EndLaw

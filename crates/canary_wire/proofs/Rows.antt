@@ -1,6 +1,6 @@
 -- Worked rows of the wire, computed on the definitions.
 use Rattle.std.proofs.Common.{◌≡◌, ℕ, List, [], ◌∷◌, true, false, refl, arith}
-use Rattle.std.specs.Prelude.{codes, None, Ok, Err}
+use Rattle.std.specs.Prelude.{codes, Ok, Err}
 use Rattle.std.specs.Fmt.{digits}
 use Rattle.std.specs.Str.{is_utf8, chars}
 use lib.Utf8.{encode}
@@ -8,47 +8,14 @@ use Rattle.std.proofs.lemmas.Str.{IsUtf8-from_is_utf8}
 use Rattle.httparse.specs.Grammar.{trim_ows}
 use Rattle.http1.specs.Text.{eq_ignore_case}
 use Rattle.http1.specs.Fields.{elements}
-use Rattle.serde_json.proofs.OnLiterals.{serde_json_on_literals}
-use Rattle.canary_plan.specs.declared.step.Step.TheVariants.{SetWeight, Pause}
-use Rattle.canary_plan.specs.declared.command.Command.TheVariants.{Service, Start, Promote}
 use Rattle.canary_release.specs.declared.reply.ReplyStatus.TheVariants.{Accepted}
 use Rattle.canary_once.specs.declared.event.Answer.TheVariants.{Replied}
 use Rattle.canary_wire.specs.declared.rejection.Rejection.TheVariants.{Malformed, Length, TooLong, Method, BadName}
 use Rattle.canary_wire.specs.declared.framing.Framing.TheVariants.{Body, Rejected}
 use Rattle.canary_wire.specs.declared.reply.Response.TheVariants as response
-use Rattle.canary_wire.specs.CommandReadings.{unsupported, unreadable, readable}
-use Rattle.canary_wire.specs.Rollouts.{step_in, is_unsupported_step, is_unsupported_rollout}
-use Rattle.canary_wire.specs.CommandForms.{service_in, start_in, promote_in, reading_of_kind, body_reading}
 use Rattle.canary_wire.specs.Heads.{framing_of, asks_to_close}
 use Rattle.canary_wire.specs.ReplyTexts.{head_text, reply_text}
 use Rattle.canary_wire.specs.Routes.{IsAddress}
-
--- ---- bodies
-
-promotes : body_reading (codes "{\"promote\":{\"service\":\"web\"}}") ≡ readable (Promote (codes "web"))
-unfolding serde_json_on_literals is_utf8 chars reading_of_kind promote_in
-promotes = refl
-
-starts_in_other_words : body_reading (codes "{ \"start\" : {\"version\":\"v2\", \"service\":\"web\"} }") ≡ readable (Start (codes "web") (codes "v2"))
-unfolding serde_json_on_literals is_utf8 chars reading_of_kind start_in
-starts_in_other_words = refl
-
-registers : body_reading (codes "{\"service\":{\"manifest\":{\"metadata\":{\"name\":\"web\"},\"spec\":{\"strategy\":{\"canary\":{\"steps\":[{\"setWeight\":20},{\"pause\":{}},{\"setWeight\":50},{\"pause\":{}}]}}}},\"version\":\"v1\"}}")
-    ≡ readable (Service (record { name = codes "web"; version = codes "v1"; steps = SetWeight 20 ∷ Pause None ∷ SetWeight 50 ∷ Pause None ∷ []; background = None }))
-unfolding serde_json_on_literals is_utf8 chars reading_of_kind service_in step_in is_unsupported_step is_unsupported_rollout
-registers = refl
-
-foreign_even_where_null : body_reading (codes "{\"promote\":{\"service\":\"web\",\"x\":null}}") ≡ unreadable
-unfolding serde_json_on_literals is_utf8 chars reading_of_kind promote_in
-foreign_even_where_null = refl
-
-unsupported_goes_first : body_reading (codes "{\"service\":{\"manifest\":{\"kind\":\"Deployment\"},\"x\":0}}") ≡ unsupported
-unfolding serde_json_on_literals is_utf8 chars reading_of_kind service_in is_unsupported_rollout
-unsupported_goes_first = refl
-
-no_json : body_reading (codes "aaaa") ≡ unreadable
-unfolding serde_json_on_literals is_utf8 chars
-no_json = refl
 
 -- ---- heads
 

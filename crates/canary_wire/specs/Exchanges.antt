@@ -15,8 +15,8 @@ use Rattle.canary_wire.specs.declared.rejection.Rejection.TheVariants.{Unsupport
 use Rattle.canary_wire.specs.declared.reply.Response.{Response}
 use Rattle.canary_wire.specs.declared.reply.Response.TheVariants.{Rejected, NoMemory, Answered}
 use Rattle.canary_wire.specs.declared.routes.Address.{Address}
-use Rattle.canary_wire.specs.CommandReadings.{unsupported, unreadable, readable}
-use Rattle.canary_wire.specs.CommandForms.{body_reading}
+use Rattle.canary_manifest.specs.Readings.{unsupported, unreadable, readable}
+use Rattle.canary_manifest.specs.Commands.{body_reading}
 use Rattle.canary_wire.specs.Heads.{closes, is_bare}
 use Rattle.canary_wire.specs.Cut.{Message}
 use Rattle.canary_wire.specs.ReplyTexts.{reply_text}

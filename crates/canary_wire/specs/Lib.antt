@@ -1,7 +1,3 @@
-pub mod CommandReadings
-pub mod ManifestForms
-pub mod Rollouts
-pub mod CommandForms
 pub mod Heads
 pub mod Named
 pub mod Cut

@@ -6,12 +6,12 @@ ghost use Rattle.canary_wire.specs.Exchanges.{response_of, IsHandling, reply_byt
 ghost use Rattle.canary_wire.specs.Routes.{the_rows, IsAddress};
 ghost use Rattle.canary_wire.specs.Writes.{Writes};
 
-use crate::command::{WireFault, command_from_json};
 use crate::cut::Parts;
 use crate::rejection::Rejection;
 use crate::reply::{Response, WriteFault, write_reply};
 use crate::routes::{Address, Route, address_of};
 use canary_base::moments::Moment;
+use canary_manifest::command::{WireFault, command_from_json};
 use canary_once::book::Book;
 use canary_once::clock::Clock;
 use canary_once::post::post;

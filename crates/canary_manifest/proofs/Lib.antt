@@ -1,0 +1,5 @@
+pub mod Bodies
+pub mod Digits
+pub mod Items
+pub mod TemplateRows
+pub mod CommandRows

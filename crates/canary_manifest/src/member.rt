@@ -1,0 +1,236 @@
+//! The members of a manifest, and what they hold.
+//!
+//! A null member is as if absent, and a member that is not asked for is passed over.
+ghost use Rattle.std.specs.Prelude.{◌≡◌, ◌<◌, ◌^◌, ◌==◌, IsTrue, option_map};
+ghost use Rattle.std.specs.Option.{SomeIff};
+ghost use Rattle.std.specs.Str.Parse.{digits_value};
+ghost use Rattle.std.specs.Char.{is_ascii_digit};
+ghost use Rattle.std.specs.List.{list_all};
+ghost use Rattle.serde_json.specs.View.{view};
+ghost use Rattle.canary_canonical.specs.Reads.{IsRead};
+ghost use Rattle.canary_manifest.specs.Members.{member_of, in_member_or};
+ghost use Rattle.canary_manifest.specs.Members.{is_digits, digits_up_to, count_up_to, limit_in};
+ghost use Rattle.canary_manifest.specs.Members.{count_in, condition_in, duration_in, delay_in};
+ghost use Rattle.canary_manifest.specs.Members.{pause_seconds, short_text, is_true};
+ghost use Rattle.canary_manifest.specs.Members.{is_other_text, is_no_empty_list};
+ghost use Rattle.canary_manifest.specs.Members.{is_negative_text, is_negative};
+
+use canary_base::durations::Seconds;
+use canary_base::lists::Text;
+use canary_canonical::form::{FormFault, number_up_to};
+use serde_json::Value;
+use std::alloc::Global;
+
+// The greatest count of a metric, and the greatest of its limits.
+const GREATEST_LIMIT: u32 = 1_000_000;
+
+// The longest pause, in seconds.
+const LONGEST_PAUSE: u32 = 31_536_000;
+
+// The member of that key, where it is there and not null.
+pub(crate) fn member_of<'a>(value: &'a Value, key: &str) -> Option<&'a Value>
+    ensures { option_map (λ member. view member.now) result ≡ member_of key.now (view value.now) }
+{
+    match value.get(key) {
+        Some(member) if !member.is_null() => Some(member),
+        _ => None,
+    }
+}
+
+// One digit or more.
+fn is_digits(text: &str) -> bool
+    ensures { result ≡ is_digits text.now }
+{
+    !text.is_empty() && are_digits(text.as_bytes())
+}
+
+// The number that a text of digits spells, if 32 bits hold it.
+#[tactic(auto, using(crate::proofs::Digits::parses))]
+fn number_of(digits: &str) -> Option<u32>
+    requires { IsTrue (is_digits digits.now) }
+    ensures { SomeIff result (digits_value 10 digits.now < 2 ^ 32)
+        (digits_value 10 digits.now) }
+{
+    digits.parse().ok()
+}
+
+// The number that a text of digits spells, up to that.
+fn digits_up_to(text: &str, greatest: u32) -> Option<u32>
+    ensures { result ≡ digits_up_to greatest text.now }
+{
+    if !is_digits(text) {
+        return None;
+    }
+    match number_of(text) {
+        Some(number) if number <= greatest => Some(number),
+        _ => None,
+    }
+}
+
+// A whole number or a text of digits, up to that.
+fn count_up_to(value: &Value, greatest: u32) -> Option<u32>
+    ensures { result ≡ count_up_to greatest (view value.now) }
+{
+    match value.as_str() {
+        Some(text) => digits_up_to(text, greatest),
+        None => number_up_to(value, greatest),
+    }
+}
+
+// The limit under that key, or this where it is absent.
+pub(crate) fn limit_at(value: &Value, key: &str, absent: u32) -> Option<u32>
+    ensures { result ≡ in_member_or key.now absent limit_in (view value.now) }
+{
+    match member_of(value, key) {
+        Some(limit) => count_up_to(limit, GREATEST_LIMIT),
+        None => Some(absent),
+    }
+}
+
+// The count under that key, if there is one; 0 is as if absent.
+pub(crate) fn count_at(value: &Value, key: &str) -> Option<Option<u32>>
+    ensures { result ≡ in_member_or key.now None count_in (view value.now) }
+{
+    let Some(count) = member_of(value, key) else {
+        return Some(None);
+    };
+    let count = count_up_to(count, GREATEST_LIMIT)?;
+    Some(if count == 0 { None } else { Some(count) })
+}
+
+// The condition under that key, if there is one; an empty one is as if absent.
+pub(crate) fn condition_at(
+    alloc: Global,
+    value: &Value,
+    key: &str,
+) -> Result<Option<Text>, FormFault>
+    ensures { IsRead (in_member_or key.now None condition_in (view value.now)) result }
+{
+    match member_of(value, key) {
+        Some(condition) => condition_in(alloc, condition),
+        None => Ok(None),
+    }
+}
+
+fn condition_in(alloc: Global, value: &Value) -> Result<Option<Text>, FormFault>
+    ensures { IsRead (condition_in (view value.now)) result }
+{
+    match value.as_str() {
+        Some("") => Ok(None),
+        Some(text) => Ok(Some(Text::of(String::from_str(alloc, text)?))),
+        None => Err(FormFault::Unreadable),
+    }
+}
+
+// The duration under that key, if there is one; an empty text is as if absent.
+pub(crate) fn duration_at(value: &Value, key: &str) -> Option<Option<Seconds>>
+    ensures { result ≡ in_member_or key.now None duration_in (view value.now) }
+{
+    match member_of(value, key) {
+        Some(duration) => duration_in(duration),
+        None => Some(None),
+    }
+}
+
+fn duration_in(value: &Value) -> Option<Option<Seconds>>
+    ensures { result ≡ duration_in (view value.now) }
+{
+    let text = value.as_str()?;
+    if text.is_empty() {
+        return Some(None);
+    }
+    Some(Some(Seconds::read(text)?))
+}
+
+// The same, where what is absent is 0.
+pub(crate) fn delay_at(value: &Value, key: &str) -> Option<Seconds>
+    ensures { result ≡ in_member_or key.now 0 delay_in (view value.now) }
+{
+    match duration_at(value, key)? {
+        Some(delay) => Some(delay),
+        None => Seconds::new(0),
+    }
+}
+
+// How long a pause is: the text of a duration, or seconds as a whole number or a text of digits.
+pub(crate) fn pause_seconds(value: &Value) -> Option<Seconds>
+    ensures { result ≡ pause_seconds (view value.now) }
+{
+    match count_up_to(value, LONGEST_PAUSE) {
+        Some(seconds) => Seconds::new(u64::from(seconds)),
+        None => Seconds::read(value.as_str()?),
+    }
+}
+
+// A text of 1 to 63 bytes.
+pub(crate) fn short_text(alloc: Global, value: &Value) -> Result<Text, FormFault>
+    ensures { IsRead (short_text (view value.now)) result }
+{
+    match value.as_str() {
+        Some(text) if !text.is_empty() && text.len() <= 63 => {
+            Ok(Text::of(String::from_str(alloc, text)?))
+        }
+        _ => Err(FormFault::Unreadable),
+    }
+}
+
+// Whether it is `true`.
+pub(crate) fn is_true(value: &Value) -> bool
+    ensures { result ≡ is_true (view value.now) }
+{
+    value.as_bool().unwrap_or(false)
+}
+
+// Whether it is anything but that text.
+pub(crate) fn is_other_text(value: &Value, text: &str) -> bool
+    ensures { result ≡ is_other_text text.now (view value.now) }
+{
+    match value.as_str() {
+        Some(found) => found != text,
+        None => true,
+    }
+}
+
+// Whether it is anything but an empty list.
+#[tactic(auto, using(crate::proofs::Items::items_len_view))]
+pub(crate) fn is_no_empty_list(value: &Value) -> bool
+    ensures { result ≡ is_no_empty_list (view value.now) }
+{
+    match value.as_array() {
+        Some(list) => !list.is_empty(),
+        None => true,
+    }
+}
+
+// A minus and digits that are not all 0.
+fn is_negative_text(text: &[u8]) -> bool
+    ensures { result ≡ is_negative_text text.now }
+{
+    match text {
+        [first, digits @ ..] => *first == b'-' && are_digits(digits) && !are_zeros(digits),
+        [] => false,
+    }
+}
+
+fn are_digits(text: &[u8]) -> bool
+    ensures { result ≡ list_all is_ascii_digit text.now }
+{
+    text.iter().all(|digit| digit.is_ascii_digit())
+}
+
+fn are_zeros(text: &[u8]) -> bool
+    ensures { result ≡ list_all (λ d. d == 48) text.now }
+{
+    text.iter().all(|digit| *digit == b'0')
+}
+
+// Whether it is a whole number below 0, or a text of one.
+pub(crate) fn is_negative(value: &Value) -> bool
+    ensures { result ≡ is_negative (view value.now) }
+{
+    match value {
+        Value::String(text) => is_negative_text(text.as_bytes()),
+        Value::Number(_) => value.is_i64() && !value.is_u64(),
+        _ => false,
+    }
+}

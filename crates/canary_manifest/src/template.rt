@@ -1,0 +1,171 @@
+//! AnalysisTemplate manifests of Argo Rollouts.
+ghost use Rattle.std.specs.Prelude.{◌≡◌, codes, []};
+ghost use Rattle.serde_json.specs.View.{view, items_view};
+ghost use Rattle.canary_canonical.specs.Forms.{each, list_of};
+ghost use Rattle.canary_canonical.specs.Reads.{IsRead};
+ghost use Rattle.canary_manifest.specs.Members.{any_item, some_item, in_member_or};
+ghost use Rattle.canary_manifest.specs.Templates.{metric_of, dry_run_name, template_of};
+ghost use Rattle.canary_manifest.specs.Templates.{is_unsupported_metric, is_unsupported_template};
+ghost use Rattle.canary_manifest.specs.Templates.{is_unsupported_analysis_spec};
+
+use crate::member::{
+    condition_at, count_at, delay_at, duration_at, is_negative, is_no_empty_list, is_other_text,
+    limit_at, member_of, short_text,
+};
+use canary_base::lists::{Listed, Text};
+use canary_canonical::form::{FormFault, label_in, name_in};
+use canary_canonical::template_reading::{metric_with, template_with};
+use canary_plan::template_spec::{MetricSpec, TemplateSpec};
+use serde_json::Value;
+use std::alloc::Global;
+
+// The template that a manifest asks for.
+#[tactic(auto, unfolding(crate::specs::Templates::template_of))]
+pub(crate) fn template_of(alloc: Global, manifest: &Value) -> Result<TemplateSpec, FormFault>
+    ensures { IsRead (template_of (view manifest.now)) result }
+{
+    let metadata = member_of(manifest, "metadata").ok_or(FormFault::Unreadable)?;
+    let name = member_of(metadata, "name").ok_or(FormFault::Unreadable)?;
+    let name = name_in(name).ok_or(FormFault::Unreadable)?;
+    let spec = member_of(manifest, "spec").ok_or(FormFault::Unreadable)?;
+    let metrics = member_of(spec, "metrics").ok_or(FormFault::Unreadable)?;
+    let metrics = metrics_of(alloc, metrics)?;
+    let dry_run = dry_run_at(alloc, spec)?;
+    template_with(name, metrics, dry_run).ok_or(FormFault::Unreadable)
+}
+
+fn metrics_of(alloc: Global, value: &Value) -> Result<Listed<MetricSpec>, FormFault>
+    ensures { IsRead (list_of metric_of (view value.now)) result }
+{
+    match value.as_array() {
+        Some(list) => metrics_in(alloc, list),
+        None => Err(FormFault::Unreadable),
+    }
+}
+
+#[tactic(auto, using(crate::proofs::Items::read_in_turn))]
+fn metrics_in(alloc: Global, list: &Vec<Value>) -> Result<Listed<MetricSpec>, FormFault>
+    ensures { IsRead (each metric_of (items_view list.now.items)) result }
+{
+    let mut metrics = Vec::new(alloc);
+    for item in list {
+        let metric = metric_of(alloc, item)?;
+        metrics.push(metric)?;
+    }
+    Ok(Listed::of(metrics))
+}
+
+// A metric, with its defaults.
+#[tactic(auto, unfolding(crate::specs::Templates::metric_of))]
+fn metric_of(alloc: Global, metric: &Value) -> Result<MetricSpec, FormFault>
+    ensures { IsRead (metric_of (view metric.now)) result }
+{
+    let name = member_of(metric, "name").ok_or(FormFault::Unreadable)?;
+    let name = label_in(name).ok_or(FormFault::Unreadable)?;
+    let success = condition_at(alloc, metric, "successCondition")?;
+    let failure = condition_at(alloc, metric, "failureCondition")?;
+    let interval = duration_at(metric, "interval").ok_or(FormFault::Unreadable)?;
+    let delay = delay_at(metric, "initialDelay").ok_or(FormFault::Unreadable)?;
+    let count = count_at(metric, "count").ok_or(FormFault::Unreadable)?;
+    let failed = limit_at(metric, "failureLimit", 0).ok_or(FormFault::Unreadable)?;
+    let inconclusive = limit_at(metric, "inconclusiveLimit", 0).ok_or(FormFault::Unreadable)?;
+    let errors = limit_at(metric, "consecutiveErrorLimit", 4).ok_or(FormFault::Unreadable)?;
+    metric_with(
+        name,
+        success,
+        failure,
+        interval,
+        delay,
+        count,
+        failed,
+        inconclusive,
+        errors,
+    )
+    .ok_or(FormFault::Unreadable)
+}
+
+// The names of the metrics that are measured without counting; none where the member is absent.
+fn dry_run_at(alloc: Global, spec: &Value) -> Result<Listed<Text>, FormFault>
+    ensures { IsRead (in_member_or (codes "dryRun") [] (list_of dry_run_name) (view spec.now))
+        result }
+{
+    match member_of(spec, "dryRun") {
+        Some(list) => dry_run_of(alloc, list),
+        None => Ok(Listed::of(Vec::new(alloc))),
+    }
+}
+
+fn dry_run_of(alloc: Global, value: &Value) -> Result<Listed<Text>, FormFault>
+    ensures { IsRead (list_of dry_run_name (view value.now)) result }
+{
+    match value.as_array() {
+        Some(list) => dry_run_in(alloc, list),
+        None => Err(FormFault::Unreadable),
+    }
+}
+
+#[tactic(auto, using(crate::proofs::Items::read_in_turn))]
+fn dry_run_in(alloc: Global, list: &Vec<Value>) -> Result<Listed<Text>, FormFault>
+    ensures { IsRead (each dry_run_name (items_view list.now.items)) result }
+{
+    let mut names = Vec::new(alloc);
+    for item in list {
+        let name = dry_run_name(alloc, item)?;
+        names.push(name)?;
+    }
+    Ok(Listed::of(names))
+}
+
+fn dry_run_name(alloc: Global, value: &Value) -> Result<Text, FormFault>
+    ensures { IsRead (dry_run_name (view value.now)) result }
+{
+    let name = member_of(value, "metricName").ok_or(FormFault::Unreadable)?;
+    short_text(alloc, name)
+}
+
+// Whether a manifest asks for what the desk does not do: another kind of manifest, templates in a
+// template, measurement retention, or a metric with a `consecutiveSuccessLimit` or a failure limit
+// below 0.
+#[tactic(auto, unfolding(crate::specs::Templates::is_unsupported_template))]
+pub(crate) fn is_unsupported_template(manifest: &Value) -> bool
+    ensures { result ≡ is_unsupported_template (view manifest.now) }
+{
+    member_of(manifest, "kind").is_some_and(|kind| is_other_text(kind, "AnalysisTemplate"))
+        || member_of(manifest, "spec").is_some_and(is_unsupported_analysis_spec)
+}
+
+fn is_unsupported_analysis_spec(spec: &Value) -> bool
+    ensures { result ≡ is_unsupported_analysis_spec (view spec.now) }
+{
+    member_of(spec, "templates").is_some_and(is_no_empty_list)
+        || member_of(spec, "measurementRetention").is_some_and(is_no_empty_list)
+        || member_of(spec, "metrics").is_some_and(has_unsupported_metric)
+}
+
+fn has_unsupported_metric(metrics: &Value) -> bool
+    ensures { result ≡ some_item is_unsupported_metric (view metrics.now) }
+{
+    match metrics.as_array() {
+        Some(list) => is_any_metric_unsupported(list),
+        None => false,
+    }
+}
+
+#[tactic(auto, using(crate::proofs::Items::tested_in_turn))]
+fn is_any_metric_unsupported(list: &Vec<Value>) -> bool
+    ensures { result ≡ any_item is_unsupported_metric (items_view list.now.items) }
+{
+    for metric in list {
+        if is_unsupported_metric(metric) {
+            return true;
+        }
+    }
+    false
+}
+
+fn is_unsupported_metric(metric: &Value) -> bool
+    ensures { result ≡ is_unsupported_metric (view metric.now) }
+{
+    member_of(metric, "consecutiveSuccessLimit").is_some()
+        || member_of(metric, "failureLimit").is_some_and(is_negative)
+}
