@@ -10,7 +10,7 @@ use Rattle.canary_once.specs.declared.event.Answer.TheVariants.{Replied, Unavail
 use Rattle.canary_once.specs.Contents.{Contents}
 use Rattle.canary_once.specs.Answers.{heard, replies_in, answers_of, after}
 use Rattle.canary_once.specs.Laws.{RunsOn}
-use Rattle.canary_wire.specs.Exchanges.{Handling, rejected, no_memory, posted, IsSureHandling, Exchange, IsExchange, moments_of, event_in, answer_in, events_of, answers_in, Point, AreFirst, Holds, IsHandled, AreHandled, Exchanges, Went}
+use Rattle.canary_wire.specs.Exchanges.{Handling, rejected, no_memory, posted, viewed, IsSureHandling, Exchange, IsExchange, moments_of, event_in, answer_in, events_of, answers_in, Point, AreFirst, Holds, IsHandled, AreHandled, Exchanges, Went}
 
 -- ---- lists
 
@@ -73,6 +73,7 @@ went_none p = record {
   moments = λ says h. (λ k inside. absurd (omega arith), subst p.clock (first_is says) h);
   intact = λ h. h;
   sure = (refl, tt);
+  sound = λ h sound. sound;
   handled = λ h. refl;
   receipts = λ h caller number receipt e. e;
 }
@@ -84,6 +85,7 @@ went_one p q x e = record {
   moments = λ says h. (let m = e.moment says h in (λ k inside. first_one says x.moment m.0 k inside, m.1));
   intact = e.books.intact;
   sure = (e.books.sure.0, (e.books.sure.1, tt));
+  sound = e.books.sound;
   handled = λ h. (q.book.contents, e.books.handled h, refl);
   receipts = e.books.receipts;
 }
@@ -101,6 +103,7 @@ went_then p q r xs ys a b = record {
       );
   intact = λ h. a.intact (b.intact h);
   sure = (b.sure.0 ∙ a.sure.0, all-append (λ x. IsSureHandling p.book.is_sure x.handling) xs ys a.sure.1 (sure_as q.book.is_sure p.book.is_sure ys a.sure.0 b.sure.1));
+  sound = λ h sound. b.sound h (a.sound (b.intact h) sound);
   handled = λ h. handled-append p.book.contents q.book.contents r.book.contents xs ys (a.handled (b.intact h)) (b.handled h);
   receipts = λ h caller number receipt e. b.receipts h caller number receipt (a.receipts (b.intact h) caller number receipt e);
 }
@@ -113,18 +116,24 @@ one_is d mid (rejected r) h = (refl, h)
 one_is d mid no_memory h = (refl, h)
 one_is d mid (posted r (Replied reply)) h = (ap (λ (x : Reply). x ∷ []) h.0, h.1)
 one_is d mid (posted r (Unavailable fault)) h = (refl, h)
+one_is d mid (viewed at q (Replied reply)) h = (ap (λ (x : Reply). x ∷ []) h.0, h.1)
+one_is d mid (viewed at q (Unavailable fault)) h = (refl, h)
 
 replies_first : (o : Handling) (gs : List Answer) → replies_in (answer_in o ++ gs) ≡ replies_in (answer_in o) ++ replies_in gs
 replies_first (rejected r) gs = refl
 replies_first no_memory gs = refl
 replies_first (posted r (Replied reply)) gs = refl
 replies_first (posted r (Unavailable fault)) gs = refl
+replies_first (viewed at q (Replied reply)) gs = refl
+replies_first (viewed at q (Unavailable fault)) gs = refl
 
 heard_first : (o : Handling) (es : List Event) (gs : List Answer) → heard (event_in o ++ es) (answer_in o ++ gs) ≡ heard (event_in o) (answer_in o) ++ heard es gs
 heard_first (rejected r) es gs = refl
 heard_first no_memory es gs = refl
 heard_first (posted r (Replied reply)) es gs = refl
 heard_first (posted r (Unavailable fault)) es gs = refl
+heard_first (viewed at q (Replied reply)) es gs = refl
+heard_first (viewed at q (Unavailable fault)) es gs = refl
 
 handled_are : RunsOn → (d new : Contents) (xs : List Exchange) → AreHandled d xs new
     → (replies_in (answers_in xs) ≡ answers_of d (heard (events_of xs) (answers_in xs))) × (new ≡ after d (heard (events_of xs) (answers_in xs)))
@@ -148,6 +157,7 @@ holds_of goes p q xs went = record {
   moments = went.moments;
   intact = went.intact;
   sure = went.sure;
+  sound = went.sound;
   answers = λ h. (handled_are goes p.book.contents q.book.contents xs (went.handled h)).0;
   contents = λ h. (handled_are goes p.book.contents q.book.contents xs (went.handled h)).1;
   receipts = went.receipts;

@@ -1,31 +1,24 @@
--- What the router finds for the path of a request, and how that path is split.
-use Rattle.std.proofs.Common.{◌≡◌, ℕ, zero, suc, ◌+◌, ◌-◌, ◌<◌, List, [], ◌∷◌, ◌++◌, length, drop, get_or, subst, Option, Some, None, Bool, true, false, cond, refl, sym, ap, ◌∙◌, arith, codes, nat_eq, ◌==◌, ◌&&◌}
+-- What the router finds for a path, and how that path is split.
+use Rattle.std.proofs.Common.{◌≡◌, ℕ, zero, suc, ◌+◌, ◌-◌, ◌<◌, List, [], ◌∷◌, ◌++◌, length, take, drop, get_or, subst, Option, Some, None, Bool, true, false, cond, refl, sym, ap, ◌∙◌, arith, codes, nat_eq, ◌==◌, ◌&&◌, ◌||◌}
 use Rattle.std.proofs.lemmas.Bool.Decides.{nat_tests}
 use Rattle.std.proofs.lemmas.List.{length-append}
 use Rattle.std.proofs.Math.Numerals.{one-add}
 use Rattle.std.specs.List.{list_any, before_first}
 use Rattle.std.proofs.lemmas.Bool.{or_parts}
 use Rattle.std.proofs.lemmas.Option.{none-some}
-use Rattle.std.proofs.lemmas.List.{get_or-append-add}
+use Rattle.std.proofs.lemmas.List.{get_or-append-add, take-append-drop}
 use Rattle.std.specs.Cmp.Lexicographic.{pointwise}
-use Rattle.std.specs.Prelude.{ltb}
+use Rattle.std.specs.Prelude.{ltb, IsUtf8, MatchOption}
 use Rattle.std.proofs.lemmas.Bool.{and_from, and_parts, lt-ltb}
-use Rattle.std.proofs.Math.Seq.{drop-append_seam}
-use Rattle.canary_wire.specs.Routes.{the_rows, request_row, IsPart, IsSplit, HasNoRoute}
+use Rattle.std.proofs.Math.Seq.{drop-append_seam, take-append_seam}
+use Rattle.canary_wire.specs.declared.routes.Route.{Route}
+use Rattle.canary_wire.specs.declared.routes.Route.TheVariants as route
+use Rattle.canary_wire.specs.Routes.{the_rows, request_row, service_row, history_row, run_row, Target, request, service, history, run, spelled, HasParts, IsPart, IsSplit, IsPathOf, HasNoRoute, route_to, EndsPart, StandsBehind}
 use Rattle.matchit.specs.Rows.{RowsOf, param_token, catch_all_token}
 use Rattle.matchit.specs.Seek.{own, step, or_else, seek, first, param_step, has_slash, segment, cuts, longest_suffix, with_suffix}
-use Rattle.matchit.specs.Router.{Refused}
+use Rattle.matchit.specs.Router.{RouteOf, Refused, nearest}
 use Rattle.matchit.specs.declared.error.InsertError.{InsertError}
 use Rattle.matchit.specs.declared.error.InsertError.TheVariants.{Conflict, InvalidParam, InvalidParamSegment, InvalidCatchAll, OutOfMemory}
-use Rattle.canary_wire.specs.declared.routes.Route.{Route}
-
--- a router without routes takes one, or there is no memory for it
-pub takes_first : (p : List ℕ) (e : InsertError) → Refused {T = Route} p [] e → e ≡ OutOfMemory
-takes_first p (Conflict with) (n, some, text) = absurd (none-some n some)
-takes_first p OutOfMemory is = refl
-takes_first p InvalidParamSegment is = absurd is
-takes_first p InvalidParam is = absurd is
-takes_first p InvalidCatchAll is = absurd is
 
 abbrev is_slash : ℕ → Bool
 is_slash b = b == 47
@@ -47,6 +40,29 @@ cuts-slash b c =
     let e : suc (length (c ++ 47 ∷ [])) - 1 ≡ length (b ∷ c) = omega (arith, length-append c (47 ∷ [])) in
     let d : drop (suc (length (c ++ 47 ∷ [])) - 1) (b ∷ (c ++ 47 ∷ [])) ≡ 47 ∷ [] = ap (λ n. drop n (b ∷ (c ++ 47 ∷ []))) e ∙ drop-append_seam (b ∷ c) (47 ∷ []) in
     and_from _ _ (lt-ltb 1 (suc (length (c ++ 47 ∷ []))) (omega (arith, length-append c (47 ∷ [])))) (ap (λ t. pointwise nat_eq (47 ∷ []) t) d)
+
+-- a text without a slash
+segment-all : (c : List ℕ) → list_any is_slash c ≡ false → segment c ≡ c
+segment-all [] h = refl
+segment-all (b ∷ c) h =
+    let p = or_parts (b == 47) (list_any is_slash c) h in
+    rw p.0 (ap (λ t. b ∷ t) (segment-all c p.1))
+
+and-false : (v : Bool) → (v && false) ≡ false
+and-false true = refl
+and-false false = refl
+
+no_last : (n : ℕ) (c : List ℕ) → list_any is_slash c ≡ false → pointwise nat_eq (47 ∷ []) (drop n c) ≡ false
+no_last zero [] h = refl
+no_last zero (x ∷ c) h =
+    let p = or_parts (x == 47) (list_any is_slash c) h in
+    let e : (47 == x) ≡ false = (let q = p.0 in grind (arith, nat_tests)) in
+    rw e refl
+no_last (suc n) [] h = refl
+no_last (suc n) (x ∷ c) h = no_last n c (or_parts (x == 47) (list_any is_slash c) h).1
+
+cuts-none : (b : ℕ) (c : List ℕ) → list_any is_slash (b ∷ c) ≡ false → cuts (b ∷ c) (47 ∷ []) ≡ false
+cuts-none b c h = ap (λ v. ltb 1 (suc (length c)) && v) (no_last (suc (length c) - 1) (b ∷ c) h) ∙ and-false _
 
 drop-all : (c : List ℕ) → drop (length c) c ≡ []
 drop-all [] = refl
@@ -107,10 +123,24 @@ module _ {K : Type 0} where
       let y = and_parts _ _ x.1 in
       seek-lit rs b (w ++ p) (none _ x.0) (none _ y.0) ∙ seek-lits w (step b rs) p y.1
 
-  step-param : (b : ℕ) (t : List ℕ) (k : K) → b < 256 → step b ((param_token ∷ t, k) ∷ []) ≡ []
-  step-param b t k h =
+  -- rows that go on with a parameter each
+  abbrev pub under_param : RowsOf K → RowsOf K
+  under_param [] = []
+  under_param ((t, k) ∷ rest) = (param_token ∷ t, k) ∷ under_param rest
+
+  step-byte : (b : ℕ) (rs : RowsOf K) → b < 256 → step b (under_param rs) ≡ []
+  step-byte b [] h = refl
+  step-byte b ((t, k) ∷ rest) h =
       let e : (256 == b) ≡ false = grind (arith, nat_tests) in
-      rw e refl
+      rw e (step-byte b rest h)
+
+  step-param : (rs : RowsOf K) → step param_token (under_param rs) ≡ rs
+  step-param [] = refl
+  step-param ((t, k) ∷ rest) = ap (λ r. (t, k) ∷ r) (step-param rest)
+
+  step-catch_all : (rs : RowsOf K) → step catch_all_token (under_param rs) ≡ []
+  step-catch_all [] = refl
+  step-catch_all ((t, k) ∷ rest) = step-catch_all rest
 
   seek-cons : (rs : RowsOf K) (b : ℕ) (p : List ℕ) → seek 0 rs (b ∷ p)
       ≡ or_else (seek 0 (step b rs) p) (or_else (seek ((param_step (step param_token rs) (b ∷ p)).0 - 1) (param_step (step param_token rs) (b ∷ p)).1 p) (own (step catch_all_token rs)))
@@ -126,90 +156,209 @@ module _ {K : Type 0} where
   unfolding param_step
   param_step-taken rs path = refl
 
-  taken-slash : (b : ℕ) (c t path : List ℕ) (k : K) → taken ((47 ∷ t, k) ∷ []) path (b ∷ (c ++ 47 ∷ [])) ≡ (length (b ∷ c), (47 ∷ t, k) ∷ [])
-  taken-slash b c t path k =
+  -- a parameter that takes as many bytes
+  seek-taken : (rs tail : RowsOf K) (b : ℕ) (c q : List ℕ) → b < 256 → param_step rs (b ∷ (c ++ q)) ≡ (length (b ∷ c), tail)
+      → seek 0 (under_param rs) (b ∷ (c ++ q)) ≡ seek 0 tail q
+  seek-taken rs tail b c q small ps =
+      let back : length (b ∷ c) - 1 ≡ length c = omega arith in
+      seek-cons _ b (c ++ q) ∙ rw (step-byte b rs small, step-param rs, step-catch_all rs, ps, seek-empty 0 (c ++ q), or_else-none, back, seek-drop (length c) tail (c ++ q), drop-append_seam c q) refl
+
+  -- a parameter with a slash behind it, and these rows going on there
+  pub seek-param : (rs tail : RowsOf K) (b : ℕ) (c q : List ℕ) → b < 256 → list_any is_slash (b ∷ c) ≡ false
+      → taken rs (b ∷ (c ++ 47 ∷ q)) (b ∷ (c ++ 47 ∷ [])) ≡ (length (b ∷ c), tail)
+      → seek 0 (under_param rs) (b ∷ (c ++ 47 ∷ q)) ≡ seek 0 tail (47 ∷ q)
+  seek-param rs tail b c q small h is =
+      seek-taken rs tail b c (47 ∷ q) small
+      (param_step-taken rs _ ∙ ap (taken rs (b ∷ (c ++ 47 ∷ q))) (segment-part (b ∷ c) q h) ∙ is)
+
+  pub seek-own : (rs : RowsOf K) → seek 0 rs [] ≡ own rs
+  unfolding seek
+  seek-own rs = refl
+
+  -- a parameter that takes what is left, since these rows go on with nothing that it ends with
+  pub seek-last : (rs : RowsOf K) (b : ℕ) (c : List ℕ) → b < 256 → list_any is_slash (b ∷ c) ≡ false → longest_suffix (b ∷ c) rs ≡ []
+      → seek 0 (under_param rs) (b ∷ c) ≡ own rs
+  seek-last rs b c small h no_suffix =
+      let ps : param_step rs (b ∷ c) ≡ (length (b ∷ c), rs) =
+      param_step-taken rs (b ∷ c) ∙ ap (taken rs (b ∷ c)) (segment-all (b ∷ c) h) ∙ rw (no_suffix, no_slash (b ∷ c) h) refl in
+      let back : length (b ∷ c) - 1 ≡ length c = omega arith in
+      seek-cons _ b c ∙ rw (step-byte b rs small, step-param rs, step-catch_all rs, ps, seek-empty 0 c, or_else-none, back, seek-drop (length c) rs c, drop-all c) (seek-own rs)
+
+  -- one row goes on with a slash
+  taken-one : (b : ℕ) (c t path : List ℕ) (k : K) → taken ((47 ∷ t, k) ∷ []) path (b ∷ (c ++ 47 ∷ [])) ≡ (length (b ∷ c), (47 ∷ t, k) ∷ [])
+  taken-one b c t path k =
       let e : suc (length (c ++ 47 ∷ [])) - 1 ≡ length (b ∷ c) = omega (arith, length-append c (47 ∷ [])) in
       rw (cuts-slash b c) (ap (λ n. (n, (47 ∷ t, k) ∷ [])) e)
 
-  -- a parameter with a slash behind it
-  pub seek-param : (b : ℕ) (c q t : List ℕ) (k : K) → b < 256 → list_any is_slash (b ∷ c) ≡ false
-      → seek 0 ((param_token ∷ 47 ∷ t, k) ∷ []) ((b ∷ c) ++ 47 ∷ q) ≡ seek 0 ((47 ∷ t, k) ∷ []) (47 ∷ q)
-  seek-param b c q t k small h =
-      let ps : param_step ((47 ∷ t, k) ∷ []) (b ∷ (c ++ 47 ∷ q)) ≡ (length (b ∷ c), (47 ∷ t, k) ∷ []) =
-      param_step-taken _ _ ∙ ap (taken ((47 ∷ t, k) ∷ []) (b ∷ (c ++ 47 ∷ q))) (segment-part (b ∷ c) q h) ∙ taken-slash b c t (b ∷ (c ++ 47 ∷ q)) k in
-      let back : length (b ∷ c) - 1 ≡ length c = omega arith in
-      seek-cons _ b (c ++ 47 ∷ q) ∙ rw (step-param b (47 ∷ t) k small, ps, seek-empty 0 (c ++ 47 ∷ q), or_else-none, back, seek-drop (length c) ((47 ∷ t, k) ∷ []) (c ++ 47 ∷ q), drop-append_seam c (47 ∷ q)) refl
+  -- two rows do, and a third one ends
+  taken-two : (b : ℕ) (c t u path : List ℕ) (k l m : K) → taken ((47 ∷ t, k) ∷ (47 ∷ u, l) ∷ ([], m) ∷ []) path (b ∷ (c ++ 47 ∷ [])) ≡ (length (b ∷ c), (47 ∷ t, k) ∷ (47 ∷ u, l) ∷ [])
+  taken-two b c t u path k l m =
+      let e : suc (length (c ++ 47 ∷ [])) - 1 ≡ length (b ∷ c) = omega (arith, length-append c (47 ∷ [])) in
+      rw (cuts-slash b c) (ap (λ n. (n, (47 ∷ t, k) ∷ (47 ∷ u, l) ∷ [])) e)
 
-  seek-own : (k : K) → seek 0 (([], k) ∷ []) [] ≡ Some k
-  unfolding seek
-  seek-own k = refl
+  longest-none : (b : ℕ) (c t u : List ℕ) (k l m : K) → list_any is_slash (b ∷ c) ≡ false → longest_suffix (b ∷ c) ((47 ∷ t, k) ∷ (47 ∷ u, l) ∷ ([], m) ∷ []) ≡ []
+  longest-none b c t u k l m h = rw (cuts-none b c h) refl
 
-  -- the last parameter
-  pub seek-last : (b : ℕ) (c : List ℕ) (k : K) → b < 256 → list_any is_slash (b ∷ c) ≡ false
-      → seek 0 ((param_token ∷ [], k) ∷ []) (b ∷ c) ≡ Some k
-  seek-last b c k small h =
-      let ps : param_step (([], k) ∷ []) (b ∷ c) ≡ (length (b ∷ c), ([], k) ∷ []) =
-      param_step-taken _ _ ∙ rw (no_slash (b ∷ c) h) refl in
-      let back : length (b ∷ c) - 1 ≡ length c = omega arith in
-      seek-cons _ b c ∙ rw (step-param b [] k small, ps, seek-empty 0 c, or_else-none, back, seek-drop (length c) (([], k) ∷ []) c, drop-all c) (seek-own k)
+-- ---- the routes are added
 
--- the router finds the path of a request
-first-parts : (b x : ℕ) (c n : List ℕ) → b < 256 → x < 256 → list_any is_slash (b ∷ c) ≡ false → list_any is_slash (x ∷ n) ≡ false
+-- a router that holds no such route takes one, or there is no memory for it
+pub takes : (p : List ℕ) (rs : RowsOf (RouteOf Route)) (e : InsertError) → nearest p rs ≡ None → Refused p rs e → e ≡ OutOfMemory
+takes p rs (Conflict with) free (n, some, text) = absurd (none-some n (sym free ∙ some))
+takes p rs OutOfMemory free is = refl
+takes p rs InvalidParamSegment free is = absurd is
+takes p rs InvalidParam free is = absurd is
+takes p rs InvalidCatchAll free is = absurd is
+
+-- ---- what the router finds
+
+abbrev pub row_of : Target → RouteOf Route
+row_of (request caller number) = request_row.1
+row_of (service name) = service_row.1
+row_of (history name) = history_row.1
+row_of (run name number) = run_row.1
+
+abbrev behind_caller : RowsOf (RouteOf Route)
+behind_caller = (codes "/requests/" ++ param_token ∷ [], request_row.1) ∷ []
+
+abbrev behind_service : RowsOf (RouteOf Route)
+behind_service = (codes "/history", history_row.1) ∷ (codes "/runs/" ++ param_token ∷ [], run_row.1) ∷ []
+
+abbrev at_service : RowsOf (RouteOf Route)
+at_service = (codes "/history", history_row.1) ∷ (codes "/runs/" ++ param_token ∷ [], run_row.1) ∷ ([], service_row.1) ∷ []
+
+finds_request : (b x : ℕ) (c n : List ℕ) → b < 256 → x < 256 → list_any is_slash (b ∷ c) ≡ false → list_any is_slash (x ∷ n) ≡ false
     → first the_rows (codes "/callers/" ++ ((b ∷ c) ++ (codes "/requests/" ++ (x ∷ n)))) ≡ Some request_row.1
 unfolding the_rows
-first-parts b x c n small less h g =
+finds_request b x c n small less h g =
     seek-lits (codes "/callers/") the_rows ((b ∷ c) ++ (codes "/requests/" ++ (x ∷ n))) refl
-    ∙ seek-param b c (codes "requests/" ++ (x ∷ n)) (codes "requests/" ++ param_token ∷ []) request_row.1 small h
-    ∙ seek-lits (codes "/requests/") ((codes "/requests/" ++ param_token ∷ [], request_row.1) ∷ []) (x ∷ n) refl
-    ∙ seek-last x n request_row.1 less g
+    ∙ seek-param behind_caller behind_caller b c (codes "requests/" ++ (x ∷ n)) small h (taken-one b c (codes "requests/" ++ param_token ∷ []) (b ∷ (c ++ 47 ∷ (codes "requests/" ++ (x ∷ n)))) request_row.1)
+    ∙ seek-lits (codes "/requests/") behind_caller (x ∷ n) refl
+    ∙ seek-last (([], request_row.1) ∷ []) x n less g refl
+
+finds_service : (b : ℕ) (c : List ℕ) → b < 256 → list_any is_slash (b ∷ c) ≡ false → first the_rows (codes "/services/" ++ (b ∷ c)) ≡ Some service_row.1
+unfolding the_rows
+finds_service b c small h =
+    seek-lits (codes "/services/") the_rows (b ∷ c) refl
+    ∙ seek-last at_service b c small h (longest-none b c (codes "history") (codes "runs/" ++ param_token ∷ []) history_row.1 run_row.1 service_row.1 h)
+
+-- the name of a service, and this behind it
+finds_behind : (b : ℕ) (c q : List ℕ) → b < 256 → list_any is_slash (b ∷ c) ≡ false → first the_rows (codes "/services/" ++ ((b ∷ c) ++ 47 ∷ q)) ≡ seek 0 behind_service (47 ∷ q)
+unfolding the_rows
+finds_behind b c q small h =
+    seek-lits (codes "/services/") the_rows ((b ∷ c) ++ 47 ∷ q) refl
+    ∙ seek-param at_service behind_service b c q small h (taken-two b c (codes "history") (codes "runs/" ++ param_token ∷ []) (b ∷ (c ++ 47 ∷ q)) history_row.1 run_row.1 service_row.1)
+
+finds_history : (b : ℕ) (c : List ℕ) → b < 256 → list_any is_slash (b ∷ c) ≡ false → first the_rows (codes "/services/" ++ ((b ∷ c) ++ codes "/history")) ≡ Some history_row.1
+finds_history b c small h =
+    finds_behind b c (codes "history") small h
+    ∙ seek-lits (codes "/history") behind_service [] refl
+    ∙ seek-own (([], history_row.1) ∷ [])
+
+finds_run : (b x : ℕ) (c n : List ℕ) → b < 256 → x < 256 → list_any is_slash (b ∷ c) ≡ false → list_any is_slash (x ∷ n) ≡ false
+    → first the_rows (codes "/services/" ++ ((b ∷ c) ++ (codes "/runs/" ++ (x ∷ n)))) ≡ Some run_row.1
+finds_run b x c n small less h g =
+    finds_behind b c (codes "runs/" ++ (x ∷ n)) small h
+    ∙ seek-lits (codes "/runs/") behind_service (x ∷ n) refl
+    ∙ seek-last (([], run_row.1) ∷ []) x n less g refl
 
 -- each byte is one
 abbrev pub AreBytes : List ℕ → Type 0
 AreBytes path = (k : ℕ) → get_or path k 0 < 256
 
-first_number : (c n : List ℕ) → get_or (codes "/callers/" ++ (c ++ (codes "/requests/" ++ n))) (9 + (length c + 10)) 0 ≡ get_or n 0 0
-first_number c n = get_or-append-add (codes "/callers/") (c ++ (codes "/requests/" ++ n)) (length c + 10) 0 ∙ get_or-append-add c (codes "/requests/" ++ n) 10 0
+bytes_behind : (front rest : List ℕ) → AreBytes (front ++ rest) → AreBytes rest
+bytes_behind front rest bytes k = subst (λ v. v < 256) (get_or-append-add front rest k 0) (bytes (length front + k))
 
-pub found : (path caller number : List ℕ) → AreBytes path → IsSplit path caller number → first the_rows path ≡ Some request_row.1
-found path [] number bytes s = absurd (let p = s.caller_is.0 in omega arith)
-found path (b ∷ c) [] bytes s = absurd (let p = s.number_is.0 in omega arith)
-found path (b ∷ c) (x ∷ n) bytes s =
-    let whole = s.whole in
-    let small : b < 256 = subst (λ t. get_or t 9 0 < 256) whole (bytes 9) in
-    let at : get_or path (9 + (length (b ∷ c) + 10)) 0 ≡ x = ap (λ t. get_or t (9 + (length (b ∷ c) + 10)) 0) whole ∙ first_number (b ∷ c) (x ∷ n) in
-    let less : x < 256 = subst (λ t. t < 256) at (bytes (9 + (length (b ∷ c) + 10))) in
-    ap (first the_rows) whole ∙ first-parts b x c n small less s.caller_is.1 s.number_is.1
+no_part : IsPart [] → ⊥
+no_part p = let some = p.0 in omega arith
+
+-- the router finds what spells a target
+finds : (t : Target) → AreBytes (spelled t) → HasParts t → first the_rows (spelled t) ≡ Some (row_of t)
+finds (request [] n) bytes p = absurd (no_part p.0)
+finds (request (b ∷ c) []) bytes p = absurd (no_part p.1)
+finds (request (b ∷ c) (x ∷ n)) bytes p =
+    let behind = bytes_behind (codes "/callers/") ((b ∷ c) ++ (codes "/requests/" ++ (x ∷ n))) bytes in
+    let last = bytes_behind (codes "/requests/") (x ∷ n) (bytes_behind (b ∷ c) (codes "/requests/" ++ (x ∷ n)) behind) in
+    finds_request b x c n (behind 0) (last 0) p.0.1 p.1.1
+finds (service []) bytes p = absurd (no_part p)
+finds (service (b ∷ c)) bytes p = finds_service b c (bytes_behind (codes "/services/") (b ∷ c) bytes 0) p.1
+finds (history []) bytes p = absurd (no_part p)
+finds (history (b ∷ c)) bytes p = finds_history b c (bytes_behind (codes "/services/") ((b ∷ c) ++ codes "/history") bytes 0) p.1
+finds (run [] n) bytes p = absurd (no_part p.0)
+finds (run (b ∷ c) []) bytes p = absurd (no_part p.1)
+finds (run (b ∷ c) (x ∷ n)) bytes p =
+    let behind = bytes_behind (codes "/services/") ((b ∷ c) ++ (codes "/runs/" ++ (x ∷ n))) bytes in
+    let last = bytes_behind (codes "/runs/") (x ∷ n) (bytes_behind (b ∷ c) (codes "/runs/" ++ (x ∷ n)) behind) in
+    finds_run b x c n (behind 0) (last 0) p.0.1 p.1.1
+
+found : (path : List ℕ) (t : Target) → AreBytes path → IsSplit path t → first the_rows path ≡ Some (row_of t)
+found path t bytes s = ap (first the_rows) s.whole ∙ finds t (subst AreBytes s.whole bytes) s.parts
 
 -- where the router finds nothing there is no route
 pub none_found : (path : List ℕ) → AreBytes path → first the_rows path ≡ None → HasNoRoute path
-none_found path bytes none caller number p =
-    let some = found path caller number bytes p.split in
-    none-some request_row.1 (sym none ∙ some)
+none_found path bytes nothing t p = none-some (row_of t) (sym nothing ∙ found path t bytes p.split)
+
+abbrev value_of : Option (RouteOf Route) → Route
+value_of None = route.Request
+value_of (Some r) = r.value
+
+value_is : (t : Target) → (row_of t).value ≡ route_to t
+value_is (request caller number) = refl
+value_is (service name) = refl
+value_is (history name) = refl
+value_is (run name number) = refl
+
+-- where it finds a route, a path that is split as that route says, or not at all, is so split or has none
+pub some_found : {P : Type 0} (path : List ℕ) (r : RouteOf Route) (seen : P → Target) (split : Option P) → AreBytes path → IsUtf8 path → first the_rows path ≡ Some r
+    → MatchOption split ((t : Target) → r.value ≡ route_to t → ¬ (IsSplit path t)) (λ parts. IsSplit path (seen parts))
+    → MatchOption split (HasNoRoute path) (λ parts. IsPathOf path (seen parts))
+some_found path r seen None bytes text is other = λ t p. other t (ap value_of (sym is ∙ found path t bytes p.split) ∙ value_is t) p.split
+some_found path r seen (Some parts) bytes text is s = record { text = text; split = s }
 
 -- ---- splitting
 
--- what stands before the first slash behind a part
-before_slash : (c q : List ℕ) → list_any is_slash c ≡ false → before_first is_slash (c ++ 47 ∷ q) ≡ c
-before_slash [] q h = refl
-before_slash (b ∷ c) q h =
+-- what is behind a front is one text
+pub one_behind : (path front a b : List ℕ) → path ≡ front ++ a → path ≡ front ++ b → a ≡ b
+one_behind path front a b e f = sym (drop-append_seam front a) ∙ ap (drop (length front)) (sym e ∙ f) ∙ drop-append_seam front b
+
+-- what stands before the first slash, where a part does
+before_slash : (c q : List ℕ) → list_any is_slash c ≡ false → EndsPart q → before_first is_slash (c ++ q) ≡ c
+before_slash [] [] h ends = refl
+before_slash [] (b ∷ q) h ends = rw ends refl
+before_slash (b ∷ c) q h ends =
     let p = or_parts (b == 47) (list_any is_slash c) h in
-    rw (p.0, one-add) (ap (λ t. b ∷ t) (before_slash c q p.1))
+    rw (p.0, one-add) (ap (λ t. b ∷ t) (before_slash c q p.1 ends))
 
--- the caller and what is behind it, where a path is split
-pub split_is : (path rest caller number : List ℕ) → path ≡ codes "/callers/" ++ rest → IsSplit path caller number
-    → (before_first is_slash rest ≡ caller) × (drop (length (before_first is_slash rest)) rest ≡ codes "/requests/" ++ number)
-split_is path rest caller number e s =
-    let same : rest ≡ caller ++ (codes "/requests/" ++ number) = ap (drop 9) (sym e ∙ s.whole) in
-    let front : before_first is_slash rest ≡ caller = ap (before_first is_slash) same ∙ before_slash caller (codes "requests/" ++ number) s.caller_is.1 in
-    (front, ap (λ t. drop (length t) rest) front ∙ ap (drop (length caller)) same ∙ drop-append_seam caller (codes "/requests/" ++ number))
+abbrev behind_slash : List ℕ → List ℕ
+behind_slash l = drop (length (before_first is_slash l)) l
 
-pub no_requests : (path rest : List ℕ) → path ≡ codes "/callers/" ++ rest
-    → ((more : List ℕ) → drop (length (before_first is_slash rest)) rest ≡ codes "/requests/" ++ more → ⊥) → (caller number : List ℕ) → ¬ (IsSplit path caller number)
-no_requests path rest e none caller number s = none number (split_is path rest caller number e s).1
+ends_by : (b : ℕ) (l : List ℕ) (v : Bool) → (b == 47) ≡ v → EndsPart (behind_slash l) → EndsPart (behind_slash (b ∷ l))
+ends_by b l true e more = (let same : b ≡ 47 = grind (arith, nat_tests) in rw e same)
+ends_by b l false e more = rw (e, one-add) more
 
-pub not_parts : (path rest number : List ℕ) → path ≡ codes "/callers/" ++ rest → drop (length (before_first is_slash rest)) rest ≡ codes "/requests/" ++ number
-    → (IsPart (before_first is_slash rest) → IsPart number → ⊥) → (caller other : List ℕ) → ¬ (IsSplit path caller other)
-not_parts path rest number e f none caller other s =
-    let d = split_is path rest caller other e s in
-    let same : number ≡ other = ap (drop 10) (sym f ∙ d.1) in
-    none (subst IsPart (sym d.0) s.caller_is) (subst IsPart (sym same) s.number_is)
+-- behind it stands nothing, or the slash
+ends_behind : (l : List ℕ) → EndsPart (behind_slash l)
+ends_behind [] = tt
+ends_behind (b ∷ l) = ends_by b l (b == 47) refl (ends_behind l)
+
+-- (here `front` is a front, `rest` what stands behind it, `upto` what stands before the first slash of that, and `part` and `after` the two halves)
+module _ (path front rest upto part after : List ℕ) (whole : path ≡ front ++ rest) (is : upto ≡ before_first is_slash rest) (first_is : part ≡ take (length upto) rest) (then_is : after ≡ drop (length upto) rest) where
+  part_as : part ≡ take (length (before_first is_slash rest)) rest
+  part_as = first_is ∙ ap (λ t. take (length t) rest) is
+
+  after_as : after ≡ behind_slash rest
+  after_as = then_is ∙ ap (λ t. drop (length t) rest) is
+
+  both_are : part ++ after ≡ rest
+  both_are = (λ i. part_as i ++ after_as i) ∙ take-append-drop (length (before_first is_slash rest)) rest
+
+  pub stands : IsPart part → StandsBehind path front part after
+  stands p = record { whole = whole ∙ ap (λ t. front ++ t) (sym both_are); part_is = p; ends = subst EndsPart (sym after_as) (ends_behind rest) }
+
+  -- there is one such part, and one rest
+  pub one_part : (other more : List ℕ) → StandsBehind path front other more → (other ≡ part) × (more ≡ after)
+  one_part other more s =
+      let same : rest ≡ other ++ more = one_behind path front rest (other ++ more) whole s.whole in
+      let front_is : before_first is_slash rest ≡ other = ap (before_first is_slash) same ∙ before_slash other more s.part_is.1 s.ends in
+      let one : part ≡ other = part_as ∙ ap (λ t. take (length t) rest) front_is ∙ ap (take (length other)) same ∙ take-append_seam other more in
+      let two : after ≡ more = after_as ∙ ap (λ t. drop (length t) rest) front_is ∙ ap (drop (length other)) same ∙ drop-append_seam other more in
+      (sym one, sym two)

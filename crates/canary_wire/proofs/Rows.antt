@@ -1,21 +1,25 @@
 -- Worked rows of the wire, computed on the definitions.
-use Rattle.std.proofs.Common.{◌≡◌, ℕ, List, [], ◌∷◌, true, false, refl, arith}
+use Rattle.std.proofs.Common.{◌≡◌, ℕ, List, [], ◌∷◌, ◌++◌, length, drop, get_or, true, false, refl, sym, ap, subst, arith}
 use Rattle.std.specs.Prelude.{codes, Ok, Err}
 use Rattle.std.specs.Fmt.{digits}
 use Rattle.std.specs.Str.{is_utf8, chars}
 use lib.Utf8.{encode}
 use Rattle.std.proofs.lemmas.Str.{IsUtf8-from_is_utf8}
+use Rattle.std.proofs.lemmas.List.{length-append}
 use Rattle.httparse.specs.Grammar.{trim_ows}
 use Rattle.http1.specs.Text.{eq_ignore_case}
 use Rattle.http1.specs.Fields.{elements}
 use Rattle.canary_release.specs.declared.reply.ReplyStatus.TheVariants.{Accepted}
 use Rattle.canary_once.specs.declared.event.Answer.TheVariants.{Replied}
+use Rattle.canary_once.specs.declared.event.Query.TheVariants as query
+use Rattle.canary_wire.specs.declared.rejection.Allowed.TheVariants.{Put, Get}
+use Rattle.canary_wire.specs.declared.routes.Asked.TheVariants as asked
 use Rattle.canary_wire.specs.declared.rejection.Rejection.TheVariants.{Malformed, Length, TooLong, Method, BadName}
 use Rattle.canary_wire.specs.declared.framing.Framing.TheVariants.{Body, Rejected}
 use Rattle.canary_wire.specs.declared.reply.Response.TheVariants as response
 use Rattle.canary_wire.specs.Heads.{framing_of, asks_to_close}
 use Rattle.canary_wire.specs.ReplyTexts.{head_text, reply_text}
-use Rattle.canary_wire.specs.Routes.{IsAddress}
+use Rattle.canary_wire.specs.Routes.{Target, request, service, history, run, IsPart, HasNoRoute, IsAsked}
 
 -- ---- heads
 
@@ -56,35 +60,100 @@ close_in_a_word = refl
 
 -- ---- targets
 
-third : IsAddress (codes "PUT") (codes "/callers/ops/requests/3?x=/") (Ok (record { caller = codes "ops"; number = 3 }))
+third : IsAsked (codes "PUT") (codes "/callers/ops/requests/3?x=/") (Ok (asked.Request (record { caller = codes "ops"; number = 3 })))
 unfolding is_utf8 chars encode digits
 third = (
-  codes "3",
-  (
-    record {
+  request (codes "ops") (codes "3"),
+  record {
+    path = record {
       text = IsUtf8-from_is_utf8 (codes "/callers/ops/requests/3") refl;
-      split = record { whole = refl; caller_is = (omega arith, refl); number_is = (omega arith, refl) };
-    },
-    refl,
-  ),
-  refl,
-  (omega arith, omega arith, refl),
+      split = record { whole = refl; parts = ((omega arith, refl), (omega arith, refl)) };
+    };
+    allowed = refl;
+  },
+  (codes "3", refl, refl, (omega arith, omega arith, refl)),
 )
 
-name_goes_before_number : IsAddress (codes "PUT") (codes "/callers/-x/requests/0") (Err BadName)
+name_goes_before_number : IsAsked (codes "PUT") (codes "/callers/-x/requests/0") (Err BadName)
 unfolding is_utf8 chars encode
 name_goes_before_number = (
-  codes "-x",
-  codes "0",
-  (
-    record {
+  request (codes "-x") (codes "0"),
+  record {
+    path = record {
       text = IsUtf8-from_is_utf8 (codes "/callers/-x/requests/0") refl;
-      split = record { whole = refl; caller_is = (omega arith, refl); number_is = (omega arith, refl) };
-    },
-    refl,
-  ),
+      split = record { whole = refl; parts = ((omega arith, refl), (omega arith, refl)) };
+    };
+    allowed = refl;
+  },
   λ e. cc,
 )
+
+seventh_run : IsAsked (codes "GET") (codes "/services/web/runs/7") (Ok (asked.Query (query.Run (codes "web") 7)))
+unfolding is_utf8 chars encode digits
+seventh_run = (
+  run (codes "web") (codes "7"),
+  record {
+    path = record {
+      text = IsUtf8-from_is_utf8 (codes "/services/web/runs/7") refl;
+      split = record { whole = refl; parts = ((omega arith, refl), (omega arith, refl)) };
+    };
+    allowed = refl;
+  },
+  (codes "7", refl, refl, (omega arith, omega arith, refl)),
+)
+
+history_of_web : IsAsked (codes "GET") (codes "/services/web/history") (Ok (asked.Query (query.History (codes "web"))))
+unfolding is_utf8 chars encode
+history_of_web = (
+  history (codes "web"),
+  record {
+    path = record {
+      text = IsUtf8-from_is_utf8 (codes "/services/web/history") refl;
+      split = record { whole = refl; parts = (omega arith, refl) };
+    };
+    allowed = refl;
+  },
+  (refl, refl),
+)
+
+method_goes_before_name : IsAsked (codes "HEAD") (codes "/services/-x") (Err (Method Get))
+unfolding is_utf8 chars encode
+method_goes_before_name = (
+  service (codes "-x"),
+  record {
+    text = IsUtf8-from_is_utf8 (codes "/services/-x") refl;
+    split = record { whole = refl; parts = (omega arith, refl) };
+  },
+  λ e. cc,
+  refl,
+)
+
+-- a part has no slash
+slash_behind : HasNoRoute (codes "/services/web/")
+slash_behind (request c n) p = let e = ap (λ l. get_or l 1 0) p.split.whole in omega arith
+slash_behind (service name) p =
+    let is : codes "web/" ≡ name = ap (drop 10) p.split.whole in
+    let no = subst IsPart (sym is) p.split.parts in
+    cc
+slash_behind (history name) p = let e = ap length p.split.whole in omega (arith, length-append name (codes "/history"))
+slash_behind (run name number) p = let e = ap length p.split.whole in omega (arith, length-append name (codes "/runs/" ++ number))
+
+-- a part has one byte at least
+no_part_between : HasNoRoute (codes "/services//history")
+no_part_between (request c n) p = let e = ap (λ l. get_or l 1 0) p.split.whole in omega arith
+no_part_between (service name) p =
+    let is : codes "/history" ≡ name = ap (drop 10) p.split.whole in
+    let no = subst IsPart (sym is) p.split.parts in
+    cc
+no_part_between (history name) p =
+    let e = ap length p.split.whole in
+    let some = p.split.parts.0 in
+    omega (arith, length-append name (codes "/history"))
+no_part_between (run [] number) p = let some = p.split.parts.0.0 in omega arith
+no_part_between (run (b ∷ c) number) p =
+    let e : 47 ≡ b = ap (λ l. get_or l 10 0) p.split.whole in
+    let no = subst (λ v. IsPart (v ∷ c)) (sym e) p.split.parts.0 in
+    cc
 
 -- ---- replies
 
@@ -93,10 +162,16 @@ promoted_text : reply_text (response.Answered (Replied (record { status = Accept
 unfolding reply_text head_text digits
 promoted_text = refl
 
-method_text_to_head : reply_text (response.Rejected Method) false true
+method_text_to_head : reply_text (response.Rejected (Method Put)) false true
     ≡ codes "HTTP/1.1 405 Method Not Allowed\r\nContent-Type: application/json\r\nContent-Length: 17\r\nAllow: PUT\r\n\r\n"
 unfolding reply_text head_text digits
 method_text_to_head = refl
+
+-- as to HEAD /services/web
+method_text_to_head_of_a_service : reply_text (response.Rejected (Method Get)) false true
+    ≡ codes "HTTP/1.1 405 Method Not Allowed\r\nContent-Type: application/json\r\nContent-Length: 17\r\nAllow: GET\r\n\r\n"
+unfolding reply_text head_text digits
+method_text_to_head_of_a_service = refl
 
 too_long_text : reply_text (response.Rejected TooLong) true false
     ≡ codes "HTTP/1.1 413 Content Too Large\r\nContent-Type: application/json\r\nContent-Length: 19\r\nConnection: close\r\n\r\n{\"code\":\"too-long\"}"

@@ -5,8 +5,10 @@ use Rattle.canary_plan.specs.declared.command.Command.{Command}
 use Rattle.canary_once.specs.declared.event.Request.{Request}
 use Rattle.canary_once.specs.declared.event.Event.{Event}
 use Rattle.canary_once.specs.declared.event.Event.TheVariants as event
+use Rattle.canary_once.specs.declared.event.Query.{Query}
 use Rattle.canary_once.specs.declared.event.Answer.{Answer}
 use Rattle.canary_once.specs.Contents.{Contents, KeepsReceipts}
+use Rattle.canary_once.specs.Sound.{AreSoundContents}
 use Rattle.canary_once.specs.Books.{BookState}
 use Rattle.canary_once.specs.Answers.{replies_in, heard, answers_of, after}
 use Rattle.canary_once.specs.Single.{request_of, IsAnswer, IsFaultOf}
@@ -15,26 +17,29 @@ use Rattle.canary_wire.specs.declared.rejection.Rejection.TheVariants.{Unsupport
 use Rattle.canary_wire.specs.declared.reply.Response.{Response}
 use Rattle.canary_wire.specs.declared.reply.Response.TheVariants.{Rejected, NoMemory, Answered}
 use Rattle.canary_wire.specs.declared.routes.Address.{Address}
+use Rattle.canary_wire.specs.declared.routes.Asked.TheVariants as asked
 use Rattle.canary_manifest.specs.Readings.{unsupported, unreadable, readable}
 use Rattle.canary_manifest.specs.Commands.{body_reading}
 use Rattle.canary_wire.specs.Heads.{closes, is_bare}
 use Rattle.canary_wire.specs.Cut.{Message}
 use Rattle.canary_wire.specs.ReplyTexts.{reply_text}
-use Rattle.canary_wire.specs.Routes.{IsAddress}
+use Rattle.canary_wire.specs.Routes.{IsAsked}
 
 -- ---- what comes of a message
 
--- it is rejected, or memory ran out as its command was read, or it is a request to the register, which answered
+-- it is rejected, or memory ran out as its command was read, or it is a request to the register, which answered, or a query at a moment, which the register answered
 pub data Handling : Type 0 where
   rejected : Rejection → Handling
   no_memory : Handling
   posted : Request → Answer → Handling
+  viewed : ℕ → Query → Answer → Handling
 
 -- what its reply says
 abbrev pub response_of : Handling → Response
 response_of (rejected r) = Rejected r
 response_of no_memory = NoMemory
 response_of (posted r a) = Answered a
+response_of (viewed moment q a) = Answered a
 
 -- a body is no command, and is rejected so
 abbrev pub IsUnread : List ℕ → Rejection → Type 0
@@ -42,18 +47,24 @@ IsUnread body Unsupported = body_reading body ≡ unsupported
 IsUnread body Unreadable = body_reading body ≡ unreadable
 IsUnread body _ = ⊥
 
--- what comes of a method, a target and a body at a moment: the first rejection that holds, or the request that they are
-abbrev pub IsHandling : List ℕ → List ℕ → List ℕ → ℕ → Handling → Type 0
-IsHandling method target body moment (rejected r) = IsAddress method target (Err r) ⊎ ((a : Address) × IsAddress method target (Ok a) × IsUnread body r)
-IsHandling method target body moment no_memory = (a : Address) × IsAddress method target (Ok a)
-IsHandling method target body moment (posted request answer) =
-    (a : Address) × (command : Command) × IsAddress method target (Ok a) × (body_reading body ≡ readable command) × (request ≡ request_of moment a.caller a.number command)
+-- a method and a target are a request of this caller, under this number
+abbrev pub IsRequest : List ℕ → List ℕ → Address → Type 0
+IsRequest method target a = IsAsked method target (Ok (asked.Request a))
 
--- only over a book that is not sure a request is answered 503 for its store
+-- what comes of a method, a target and a body at a moment: the first rejection that holds, or the request that they are, or the query, of which the body says nothing
+abbrev pub IsHandling : List ℕ → List ℕ → List ℕ → ℕ → Handling → Type 0
+IsHandling method target body moment (rejected r) = IsAsked method target (Err r) ⊎ ((a : Address) × IsRequest method target a × IsUnread body r)
+IsHandling method target body moment no_memory = (a : Address) × IsRequest method target a
+IsHandling method target body moment (posted request answer) =
+    (a : Address) × (command : Command) × IsRequest method target a × (body_reading body ≡ readable command) × (request ≡ request_of moment a.caller a.number command)
+IsHandling method target body moment (viewed at query answer) = IsAsked method target (Ok (asked.Query query)) × (at ≡ moment)
+
+-- only over a book that is not sure a request or a query is answered 503 for its store
 abbrev pub IsSureHandling : Bool → Handling → Type 0
 IsSureHandling sure (rejected r) = Unit {0}
 IsSureHandling sure no_memory = Unit {0}
 IsSureHandling sure (posted request answer) = IsFaultOf sure answer
+IsSureHandling sure (viewed moment query answer) = IsFaultOf sure answer
 
 -- ---- exchanges
 
@@ -80,11 +91,13 @@ abbrev pub event_in : Handling → List Event
 event_in (rejected r) = []
 event_in no_memory = []
 event_in (posted request answer) = event.Request request ∷ []
+event_in (viewed moment query answer) = event.Query moment query ∷ []
 
 abbrev pub answer_in : Handling → List Answer
 answer_in (rejected r) = []
 answer_in no_memory = []
 answer_in (posted request answer) = answer ∷ []
+answer_in (viewed moment query answer) = answer ∷ []
 
 abbrev pub events_of : List Exchange → List Event
 events_of xs = flat_map (λ x. event_in x.handling) xs
@@ -106,12 +119,13 @@ point clock book = record { clock = clock; book = book }
 abbrev pub AreFirst : (ℕ → ℕ) → List ℕ → Type 0
 AreFirst moment_at moments = (k : ℕ) → k < length moments → slice_index moments k ≡ moment_at k
 
--- from one point to another these exchanges were held, in order: the k-th message has the clock's k-th moment, and of the events answered otherwise than by 503 the answers, and the contents afterwards, are those of the small machine
+-- from one point to another these exchanges were held, in order: the k-th message has the clock's k-th moment, and of the events answered otherwise than by 503 the answers, and the contents afterwards, are those of the small machine, which stay sound
 pub record Holds (old new : Point) (xs : List Exchange) : Type 0 where
   pub each : AllByRecursion IsExchange xs
   pub moments : (moment_at : ℕ → ℕ) → old.clock moment_at → AreFirst moment_at (moments_of xs) × new.clock (λ k. moment_at (k + length xs))
   pub intact : new.book.is_intact → old.book.is_intact
   pub sure : (new.book.is_sure ≡ old.book.is_sure) × AllByRecursion (λ x. IsSureHandling old.book.is_sure x.handling) xs
+  pub sound : new.book.is_intact → AreSoundContents old.book.contents → AreSoundContents new.book.contents
   pub answers : new.book.is_intact → replies_in (answers_in xs) ≡ answers_of old.book.contents (heard (events_of xs) (answers_in xs))
   pub contents : new.book.is_intact → new.book.contents ≡ after old.book.contents (heard (events_of xs) (answers_in xs))
   pub receipts : new.book.is_intact → KeepsReceipts old.book.contents new.book.contents
@@ -123,6 +137,7 @@ abbrev pub IsHandled : Contents → Handling → Contents → Type 0
 IsHandled c (rejected r) new = new ≡ c
 IsHandled c no_memory new = new ≡ c
 IsHandled c (posted request answer) new = IsAnswer c (event.Request request) answer new
+IsHandled c (viewed moment query answer) new = IsAnswer c (event.Query moment query) answer new
 
 -- messages are, one after another
 abbrev pub AreHandled : Contents → List Exchange → Contents → Type 0
@@ -133,6 +148,7 @@ AreHandled c (x ∷ xs) new = (mid : Contents) × IsHandled c x.handling mid × 
 pub record Books (old new : BookState) (h : Handling) : Type 0 where
   pub intact : new.is_intact → old.is_intact
   pub sure : (new.is_sure ≡ old.is_sure) × IsSureHandling old.is_sure h
+  pub sound : new.is_intact → AreSoundContents old.contents → AreSoundContents new.contents
   pub handled : new.is_intact → IsHandled old.contents h new.contents
   pub receipts : new.is_intact → KeepsReceipts old.contents new.contents
 
@@ -148,5 +164,6 @@ pub record Went (old new : Point) (xs : List Exchange) : Type 0 where
   pub moments : (moment_at : ℕ → ℕ) → old.clock moment_at → AreFirst moment_at (moments_of xs) × new.clock (λ k. moment_at (k + length xs))
   pub intact : new.book.is_intact → old.book.is_intact
   pub sure : (new.book.is_sure ≡ old.book.is_sure) × AllByRecursion (λ x. IsSureHandling old.book.is_sure x.handling) xs
+  pub sound : new.book.is_intact → AreSoundContents old.book.contents → AreSoundContents new.book.contents
   pub handled : new.book.is_intact → AreHandled old.book.contents xs new.book.contents
   pub receipts : new.book.is_intact → KeepsReceipts old.book.contents new.book.contents

@@ -3,6 +3,8 @@ use Rattle.std.specs.Prelude.{ℕ, Bool, true, false, ◌&&◌, ◌==◌, nat_le
 use Rattle.http.specs.StatusCode.{code_digits}
 use Rattle.canary_release.specs.Replies.{code_alone}
 use Rattle.canary_once.specs.AnswerTexts.{answer_status, answer_body}
+use Rattle.canary_wire.specs.declared.rejection.Allowed.{Allowed}
+use Rattle.canary_wire.specs.declared.rejection.Allowed.TheVariants.{Put, Get}
 use Rattle.canary_wire.specs.declared.rejection.Rejection.{Rejection}
 use Rattle.canary_wire.specs.declared.rejection.Rejection.TheVariants.{Malformed, Length, TooLong, NoRoute, Method, BadName, BadNumber, Unsupported, Unreadable}
 use Rattle.canary_wire.specs.declared.reply.Response.{Response}
@@ -10,12 +12,16 @@ use Rattle.canary_wire.specs.declared.reply.Response.TheVariants.{Rejected, NoMe
 
 -- ---- rejections
 
+abbrev pub method_name : Allowed → List ℕ
+method_name Put = codes "PUT"
+method_name Get = codes "GET"
+
 abbrev pub rejection_status : Rejection → ℕ
 rejection_status Malformed = 400
 rejection_status Length = 411
 rejection_status TooLong = 413
 rejection_status NoRoute = 404
-rejection_status Method = 405
+rejection_status (Method allowed) = 405
 rejection_status BadName = 400
 rejection_status BadNumber = 400
 rejection_status Unsupported = 400
@@ -26,7 +32,7 @@ rejection_code Malformed = codes "malformed"
 rejection_code Length = codes "length"
 rejection_code TooLong = codes "too-long"
 rejection_code NoRoute = codes "no-route"
-rejection_code Method = codes "method"
+rejection_code (Method allowed) = codes "method"
 rejection_code BadName = codes "bad-name"
 rejection_code BadNumber = codes "bad-number"
 rejection_code Unsupported = codes "unsupported"
@@ -52,10 +58,10 @@ response_body (Rejected r) = rejection_body r
 response_body NoMemory = codes "{\"code\":\"no-memory\"}"
 response_body (Answered a) = answer_body a
 
--- the reply names the methods of the route
-abbrev pub allows : Response → Bool
-allows (Rejected Method) = true
-allows response = false
+-- the field line that names the method of the route, which only a rejection of another method has
+abbrev pub allow_line : Response → List ℕ
+allow_line (Rejected (Method allowed)) = codes "Allow: " ++ (method_name allowed ++ codes "\r\n")
+allow_line response = []
 
 -- ---- texts
 
@@ -77,15 +83,15 @@ abbrev pub line_if : Bool → List ℕ → List ℕ
 line_if true line = line
 line_if false line = []
 
--- the status line, the fields, and the empty line
-unfoldable pub head_text : ℕ → ℕ → Bool → Bool → List ℕ
+-- the status line, the fields, with this line or none among them, and the empty line
+unfoldable pub head_text : ℕ → ℕ → List ℕ → Bool → List ℕ
 head_text status size allow close =
     codes "HTTP/1.1 " ++ code_digits status ++ codes " " ++ reason_of status
     ++ codes "\r\nContent-Type: application/json\r\nContent-Length: " ++ decimal size ++ codes "\r\n"
-    ++ line_if allow (codes "Allow: PUT\r\n") ++ line_if close (codes "Connection: close\r\n") ++ codes "\r\n"
+    ++ allow ++ line_if close (codes "Connection: close\r\n") ++ codes "\r\n"
 
 -- the head, and the body unless the head stands alone; the stream ends after it, or not
 unfoldable pub reply_text : Response → Bool → Bool → List ℕ
 reply_text response close bare =
-    head_text (response_status response) (length (response_body response)) (allows response) close
+    head_text (response_status response) (length (response_body response)) (allow_line response) close
     ++ (if bare then [] else response_body response)

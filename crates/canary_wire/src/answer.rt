@@ -2,25 +2,28 @@
 ghost use Rattle.std.specs.Prelude.{◌≡◌, ℕ, List, Ok};
 ghost use Rattle.canary_wire.specs.Cut.{Message, IsFirst};
 ghost use Rattle.canary_wire.specs.Exchanges.{Handling, Exchange, Exchanges, Books};
-ghost use Rattle.canary_wire.specs.Exchanges.{response_of, IsHandling, reply_bytes, point};
-ghost use Rattle.canary_wire.specs.Routes.{the_rows, IsAddress};
+ghost use Rattle.canary_wire.specs.Exchanges.{response_of, IsRequest, IsHandling};
+ghost use Rattle.canary_wire.specs.Exchanges.{reply_bytes, point};
+ghost use Rattle.canary_wire.specs.Routes.{the_rows, IsAsked};
 ghost use Rattle.canary_wire.specs.Writes.{Writes};
 
 use crate::cut::Parts;
 use crate::rejection::Rejection;
 use crate::reply::{Response, WriteFault, write_reply};
-use crate::routes::{Address, Route, address_of};
+use crate::routes::{Address, Asked, Route, asked_of};
 use canary_base::moments::Moment;
 use canary_manifest::command::{WireFault, command_from_json};
 use canary_once::book::Book;
 use canary_once::clock::Clock;
+use canary_once::event::Query;
 use canary_once::post::post;
+use canary_once::view::view;
 use matchit::Router;
 use std::alloc::Global;
 use std::io::Write;
 
 // Answers the message that stands first in these bytes: the clock is asked once, the register is
-// asked where the message is a request, and then the reply is written.
+// asked where the message is a request or a query, and then the reply is written.
 pub(crate) fn answer<W: Write, C: Clock, B: Book>(
     alloc: Global,
     router: &Router<Route>,
@@ -61,8 +64,9 @@ fn handle<B: Book>(
         × IsHandling method.now target.now body.now moment h
         × Books (B.state book.old) (B.state book.new) h }
 {
-    match address_of(router, method, target) {
-        Ok(address) => handle_request(alloc, address, body, moment, book),
+    match asked_of(router, method, target) {
+        Ok(Asked::Request(address)) => handle_request(alloc, address, body, moment, book),
+        Ok(Asked::Query(query)) => handle_query(alloc, &query, moment, book),
         Err(rejection) => Response::Rejected(rejection),
     }
 }
@@ -75,7 +79,7 @@ fn handle_request<B: Book>(
     moment: Moment,
     book: &mut B,
 ) -> Response
-    ensures { (method target : List ℕ) → IsAddress method target (Ok address) → (h : Handling)
+    ensures { (method target : List ℕ) → IsRequest method target address → (h : Handling)
         × (result ≡ response_of h) × IsHandling method target body.now moment h
         × Books (B.state book.old) (B.state book.new) h }
 {
@@ -95,4 +99,14 @@ fn handle_request<B: Book>(
         Err(WireFault::Unreadable) => Response::Rejected(Rejection::Unreadable),
         Err(WireFault::Memory) => Response::NoMemory,
     }
+}
+
+// The same where the message is a query, whose body says nothing.
+fn handle_query<B: Book>(alloc: Global, query: &Query, moment: Moment, book: &mut B) -> Response
+    ensures { (method target body : List ℕ) → IsAsked method target (Ok (Asked.Query query.now))
+        → (h : Handling) × (result ≡ response_of h) × IsHandling method target body moment h
+        × Books (B.state book.old) (B.state book.new) h }
+{
+    let answer = view(alloc, book, moment, query);
+    Response::Answered(answer)
 }

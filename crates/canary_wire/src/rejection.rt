@@ -1,8 +1,27 @@
 //! Why a message is turned away before the register is asked.
 ghost use Rattle.std.specs.Prelude.{◌≡◌};
-ghost use Rattle.canary_wire.specs.ReplyTexts.{rejection_status, rejection_body};
+ghost use Rattle.canary_wire.specs.ReplyTexts.{method_name, rejection_status, rejection_body};
 
 use http::StatusCode;
+
+// The only method of a route.
+#[derive(Clone, Copy, Debug, PartialEq, Eq)]
+pub(crate) enum Allowed {
+    Put,
+    Get,
+}
+
+impl Allowed {
+    // Its name (RFC 9110).
+    pub(crate) fn name(self) -> &'static str
+        ensures { result.now ≡ method_name self }
+    {
+        match self {
+            Allowed::Put => "PUT",
+            Allowed::Get => "GET",
+        }
+    }
+}
 
 // Why a message is rejected before the register is asked.
 #[derive(Clone, Copy, Debug, PartialEq, Eq)]
@@ -15,11 +34,11 @@ pub(crate) enum Rejection {
     TooLong,
     // A target that is no route.
     NoRoute,
-    // A method that the route does not have.
-    Method,
-    // A caller that is no name.
+    // Another method than the one that the route has.
+    Method(Allowed),
+    // A caller or a service that is no name.
     BadName,
-    // A number that is no request number.
+    // A number that is none of a request or of a run.
     BadNumber,
     // A command that asks for what the desk does not do.
     Unsupported,
@@ -34,7 +53,7 @@ impl Rejection {
     {
         match self {
             Rejection::NoRoute => StatusCode::NOT_FOUND,
-            Rejection::Method => StatusCode::METHOD_NOT_ALLOWED,
+            Rejection::Method(_) => StatusCode::METHOD_NOT_ALLOWED,
             Rejection::Length => StatusCode::LENGTH_REQUIRED,
             Rejection::TooLong => StatusCode::PAYLOAD_TOO_LARGE,
             _ => StatusCode::BAD_REQUEST,
@@ -50,7 +69,7 @@ impl Rejection {
             Rejection::Length => "{\"code\":\"length\"}",
             Rejection::TooLong => "{\"code\":\"too-long\"}",
             Rejection::NoRoute => "{\"code\":\"no-route\"}",
-            Rejection::Method => "{\"code\":\"method\"}",
+            Rejection::Method(_) => "{\"code\":\"method\"}",
             Rejection::BadName => "{\"code\":\"bad-name\"}",
             Rejection::BadNumber => "{\"code\":\"bad-number\"}",
             Rejection::Unsupported => "{\"code\":\"unsupported\"}",

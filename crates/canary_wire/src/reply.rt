@@ -1,10 +1,11 @@
 //! Replies (RFC 9112), and writing them.
 ghost use Rattle.std.specs.Prelude.{◌≡◌, ◌++◌, ◌≤◌, length};
-ghost use Rattle.canary_wire.specs.ReplyTexts.{response_status, response_body, allows, status_code};
-ghost use Rattle.canary_wire.specs.ReplyTexts.{reason_of, line_if, head_text, reply_text};
+ghost use Rattle.canary_wire.specs.ReplyTexts.{response_status, response_body, allow_line};
+ghost use Rattle.canary_wire.specs.ReplyTexts.{status_code, reason_of, line_if};
+ghost use Rattle.canary_wire.specs.ReplyTexts.{head_text, reply_text};
 ghost use Rattle.canary_wire.specs.Writes.{Writes};
 
-use crate::rejection::Rejection;
+use crate::rejection::{Allowed, Rejection};
 use arrayvec::ArrayString;
 use canary_once::event::Answer;
 use http::StatusCode;
@@ -42,11 +43,16 @@ impl Response {
         }
     }
 
-    // Whether the reply names the method of the route.
-    fn allows(&self) -> bool
-        ensures { result ≡ allows self.now }
+    // The field line that names the method of the route, or none.
+    fn allow_line(&self) -> &'static str
+        ensures is { result.now ≡ allow_line self.now }
+        ensures short { length result.now ≤ 12 }
     {
-        matches!(self, Response::Rejected(Rejection::Method))
+        match self {
+            Response::Rejected(Rejection::Method(Allowed::Put)) => "Allow: PUT\r\n",
+            Response::Rejected(Rejection::Method(Allowed::Get)) => "Allow: GET\r\n",
+            _ => "",
+        }
     }
 }
 
@@ -68,7 +74,12 @@ pub(crate) fn write_reply<W: Write>(
         (reply_text response.now is_last head_alone) result }
 {
     let body = response.body();
-    let head = reply_head(response.status(), body.len(), response.allows(), is_last);
+    let head = reply_head(
+        response.status(),
+        body.len(),
+        response.allow_line(),
+        is_last,
+    );
     if head_alone {
         return write_all(writer, head.as_str().as_bytes());
     }
@@ -84,8 +95,9 @@ fn status_code(status: u16) -> StatusCode
 
 // The status line, the fields and the empty line.
 #[tactic(auto, unfolding(crate::specs::ReplyTexts::head_text))]
-fn reply_head(status: StatusCode, size: usize, allows: bool, is_last: bool) -> ArrayString<ROOM>
-    ensures { result.bytes ≡ head_text status size allows is_last }
+fn reply_head(status: StatusCode, size: usize, allow: &str, is_last: bool) -> ArrayString<ROOM>
+    requires { length allow.now ≤ 12 }
+    ensures { result.bytes ≡ head_text status size allow.now is_last }
 {
     let mut digits = itoa::Buffer::new();
     let mut head = ArrayString::new();
@@ -96,7 +108,7 @@ fn reply_head(status: StatusCode, size: usize, allows: bool, is_last: bool) -> A
     head.push_str("\r\nContent-Type: application/json\r\nContent-Length: ");
     head.push_str(digits.format(size));
     head.push_str("\r\n");
-    head.push_str(line_if(allows, "Allow: PUT\r\n"));
+    head.push_str(allow);
     head.push_str(line_if(is_last, "Connection: close\r\n"));
     head.push_str("\r\n");
     head

@@ -1,12 +1,17 @@
-//! Routes: what a target leads to.
-ghost use Rattle.std.specs.Prelude.{◌≡◌, ◌≢◌, ◌↔◌, ◌==◌, List, ℕ, ◌++◌, IsTrue, IfOk, IsOkUnless, MatchOption};
+//! Routes: what a method and a target ask for.
+ghost use Rattle.std.specs.Prelude.{◌≡◌, ◌≢◌, ◌↔◌, ◌==◌, List, ℕ, ◌++◌};
+ghost use Rattle.std.specs.Prelude.{IsTrue, IfOk, IfErr, IfSome, IsOkUnless, MatchOption};
 ghost use Rattle.std.specs.List.{before_first, position};
-ghost use Rattle.canary_wire.specs.Routes.{the_rows, IsAddress};
-ghost use Rattle.canary_wire.specs.Routes.{IsPart, IsSplit, IsRequestPath, HasNoRoute};
+ghost use Rattle.canary_base.specs.Names.{is_name};
+ghost use Rattle.canary_base.specs.Numbers.{SpellsNumber};
+ghost use Rattle.canary_wire.specs.Routes.{the_rows, Target, request, service, history, run};
+ghost use Rattle.canary_wire.specs.Routes.{IsPart, IsSplit, IsPathOf, HasNoRoute, StandsBehind};
+ghost use Rattle.canary_wire.specs.Routes.{target_of, route_to, allowed_on, IsRead, IsAsked};
 
-use crate::rejection::Rejection;
+use crate::rejection::{Allowed, Rejection};
 use canary_base::names::Name;
 use canary_base::numbers::Number;
+use canary_once::event::Query;
 use matchit::{InsertError, Router};
 use std::alloc::Global;
 use std::str;
@@ -16,6 +21,12 @@ use std::str;
 pub(crate) enum Route {
     // A caller's request.
     Request,
+    // A service.
+    Service,
+    // The history of a service.
+    History,
+    // A run of a service.
+    Run,
 }
 
 // Whose request a message is, and under which number.
@@ -25,6 +36,15 @@ pub(crate) struct Address {
     pub number: Number,
 }
 
+// What a message asks for.
+#[derive(Clone, Copy)]
+pub(crate) enum Asked {
+    // What the command in its body says.
+    Request(Address),
+    // To be shown something.
+    Query(Query),
+}
+
 // The router of the routes.
 pub(crate) fn routes(alloc: Global) -> Result<Router<Route>, InsertError>
     ensures ok { IfOk result (λ router. router ≡ the_rows) }
@@ -32,69 +52,185 @@ pub(crate) fn routes(alloc: Global) -> Result<Router<Route>, InsertError>
 {
     let mut router = Router::new(alloc);
     router.insert("/callers/{caller}/requests/{number}", Route::Request)?;
+    router.insert("/services/{service}", Route::Service)?;
+    router.insert("/services/{service}/history", Route::History)?;
+    router.insert("/services/{service}/runs/{run}", Route::Run)?;
     Ok(router)
 }
 
-// Whose request this method and this target are, and under which number, or the first of these that
-// holds: `NoRoute` where the target, up to its first question mark, is no route or not UTF-8,
-// `Method` where the method is not PUT, `BadName` and `BadNumber` where the parts are no name and
-// no request number.
-pub(crate) fn address_of(
+// What this method and this target ask for, or the first of these that holds: `NoRoute` where the
+// target, up to its first question mark, is no route or not UTF-8, `Method` where the method is not
+// that of the route, `BadName` and `BadNumber` where a part is no name or no number.
+pub(crate) fn asked_of(
     router: &Router<Route>,
     method: &[u8],
     target: &[u8],
-) -> Result<Address, Rejection>
+) -> Result<Asked, Rejection>
     requires { router.now ≡ the_rows }
-    ensures { IsAddress method.now target.now result }
+    ensures { IsAsked method.now target.now result }
 {
-    let Some((caller, number)) = request_parts(router, before(target, b'?')) else {
+    let Some(parts) = parts_of(router, before(target, b'?')) else {
         return Err(Rejection::NoRoute);
     };
-    if method != b"PUT".as_slice() {
-        return Err(Rejection::Method);
+    let allowed = parts.allowed();
+    if method != allowed.name().as_bytes() {
+        return Err(Rejection::Method(allowed));
     }
-    let Some(caller) = Name::read(caller) else {
-        return Err(Rejection::BadName);
-    };
-    match Number::read(number) {
-        Some(number) => Ok(Address { caller, number }),
-        None => Err(Rejection::BadNumber),
-    }
+    parts.read()
 }
 
-// The caller and the number in the path of a request.
-fn request_parts<'a>(router: &Router<Route>, path: &'a [u8]) -> Option<(&'a [u8], &'a [u8])>
+// The parts of a path that has a route.
+fn parts_of<'a>(router: &Router<Route>, path: &'a [u8]) -> Option<PathParts<'a>>
     requires { router.now ≡ the_rows }
     ensures { MatchOption result (HasNoRoute path.now)
-        (λ parts. IsRequestPath path.now parts.0.now parts.1.now) }
+        (λ parts. IsPathOf path.now (target_of parts)) }
 {
     let Ok(text) = str::from_utf8(path) else {
         return None;
     };
     match router.at(text) {
-        Ok(_) => split_path(path),
+        Ok(found) => split(*found.value, path),
         Err(_) => None,
     }
 }
 
-// What stands where the names of callers and the numbers do.
-fn split_path(path: &[u8]) -> Option<(&[u8], &[u8])>
-    ensures { MatchOption result ((caller number : List ℕ) → ¬ (IsSplit path.now caller number))
-        (λ parts. IsSplit path.now parts.0.now parts.1.now) }
+// The parts of a path, each as its bytes.
+#[derive(Clone, Copy)]
+pub(crate) enum PathParts<'a> {
+    Request(&'a [u8], &'a [u8]),
+    Service(&'a [u8]),
+    History(&'a [u8]),
+    Run(&'a [u8], &'a [u8]),
+}
+
+impl PathParts<'_> {
+    // The method of the route.
+    fn allowed(self) -> Allowed
+        ensures { result ≡ allowed_on (target_of self.entry) }
+    {
+        match self {
+            PathParts::Request(..) => Allowed::Put,
+            PathParts::Service(_) => Allowed::Get,
+            PathParts::History(_) => Allowed::Get,
+            PathParts::Run(..) => Allowed::Get,
+        }
+    }
+
+    // What they say, or `BadName` before `BadNumber`.
+    fn read(self) -> Result<Asked, Rejection>
+        ensures { IsRead (target_of self.entry) result }
+    {
+        match self {
+            PathParts::Request(caller, number) => {
+                let caller = name_of(caller)?;
+                let number = number_of(number)?;
+                Ok(Asked::Request(Address { caller, number }))
+            }
+            PathParts::Service(name) => Ok(Asked::Query(Query::Service(name_of(name)?))),
+            PathParts::History(name) => Ok(Asked::Query(Query::History(name_of(name)?))),
+            PathParts::Run(name, number) => {
+                let name = name_of(name)?;
+                Ok(Asked::Query(Query::Run(name, number_of(number)?)))
+            }
+        }
+    }
+}
+
+fn name_of(bytes: &[u8]) -> Result<Name, Rejection>
+    ensures ok { IfOk result (λ name. (name ≡ bytes.now) × IsTrue (is_name name)) }
+    ensures err { IfErr result (λ rejection. (rejection ≡ Rejection.BadName)
+        × ¬ (IsTrue (is_name bytes.now))) }
 {
-    let Some(rest) = behind(path, b"/callers/") else {
-        return None;
-    };
-    let caller = before(rest, b'/');
-    let (_, rest) = rest.split_at(caller.len());
-    let Some(number) = behind(rest, b"/requests/") else {
-        return None;
-    };
-    if are_parts(caller, number) {
-        Some((caller, number))
+    Name::read(bytes).ok_or(Rejection::BadName)
+}
+
+fn number_of(digits: &[u8]) -> Result<Number, Rejection>
+    ensures ok { IfOk result (SpellsNumber digits.now) }
+    ensures err { IfErr result (λ rejection. (rejection ≡ Rejection.BadNumber)
+        × ((n : ℕ) → ¬ (SpellsNumber digits.now n))) }
+{
+    Number::read(digits).ok_or(Rejection::BadNumber)
+}
+
+// The parts of a path, where this route is its only one.
+fn split(route: Route, path: &[u8]) -> Option<PathParts<'_>>
+    ensures { MatchOption result ((t : Target) → route ≡ route_to t → ¬ (IsSplit path.now t))
+        (λ parts. IsSplit path.now (target_of parts)) }
+{
+    match route {
+        Route::Request => split_request(path),
+        Route::Service => split_service(path),
+        Route::History => split_history(path),
+        Route::Run => split_run(path),
+    }
+}
+
+fn split_request(path: &[u8]) -> Option<PathParts<'_>>
+    ensures { MatchOption result
+        ((caller number : List ℕ) → ¬ (IsSplit path.now (request caller number)))
+        (λ parts. IsSplit path.now (target_of parts)) }
+{
+    let (caller, rest) = part_behind(path, b"/callers/")?;
+    let number = last_part(rest, b"/requests/")?;
+    Some(PathParts::Request(caller, number))
+}
+
+fn split_service(path: &[u8]) -> Option<PathParts<'_>>
+    ensures { MatchOption result ((name : List ℕ) → ¬ (IsSplit path.now (service name)))
+        (λ parts. IsSplit path.now (target_of parts)) }
+{
+    let name = last_part(path, b"/services/")?;
+    Some(PathParts::Service(name))
+}
+
+fn split_history(path: &[u8]) -> Option<PathParts<'_>>
+    ensures { MatchOption result ((name : List ℕ) → ¬ (IsSplit path.now (history name)))
+        (λ parts. IsSplit path.now (target_of parts)) }
+{
+    let (name, rest) = part_behind(path, b"/services/")?;
+    if rest == b"/history".as_slice() {
+        Some(PathParts::History(name))
     } else {
         None
     }
+}
+
+fn split_run(path: &[u8]) -> Option<PathParts<'_>>
+    ensures { MatchOption result
+        ((name number : List ℕ) → ¬ (IsSplit path.now (run name number)))
+        (λ parts. IsSplit path.now (target_of parts)) }
+{
+    let (name, rest) = part_behind(path, b"/services/")?;
+    let number = last_part(rest, b"/runs/")?;
+    Some(PathParts::Run(name, number))
+}
+
+// The part that stands behind that front, up to the next slash, and what stands behind it.
+fn part_behind<'a>(path: &'a [u8], front: &[u8]) -> Option<(&'a [u8], &'a [u8])>
+    ensures parts { MatchOption result
+        ((part rest : List ℕ) → ¬ (StandsBehind path.now front.now part rest))
+        (λ parts. StandsBehind path.now front.now parts.0.now parts.1.now) }
+    ensures only { IfSome result (λ parts. (part rest : List ℕ)
+        → StandsBehind path.now front.now part rest
+        → (part ≡ parts.0.now) × (rest ≡ parts.1.now)) }
+{
+    let behind = behind(path, front)?;
+    let (part, rest) = behind.split_at(before(behind, b'/').len());
+    if is_part(part) {
+        Some((part, rest))
+    } else {
+        None
+    }
+}
+
+// The part that stands behind that front, and is the last.
+fn last_part<'a>(path: &'a [u8], front: &[u8]) -> Option<&'a [u8]>
+    ensures { MatchOption result
+        ((part : List ℕ) → IsPart part → path.now ≢ front.now ++ part)
+        (λ part. IsPart part.now × (path.now ≡ front.now ++ part.now)) }
+{
+    let part = behind(path, front)?;
+    if is_part(part) { Some(part) } else { None }
 }
 
 // What stands behind that front.
@@ -119,12 +255,6 @@ fn place_of(text: &[u8], byte: u8) -> Option<usize>
     ensures { result ≡ position (λ b. b == byte) text.now }
 {
     text.iter().position(|b| *b == byte)
-}
-
-fn are_parts(caller: &[u8], number: &[u8]) -> bool
-    ensures { IsTrue result ↔ (IsPart caller.now × IsPart number.now) }
-{
-    is_part(caller) && is_part(number)
 }
 
 // Whether these bytes are some, and none of them is a slash.

@@ -63,10 +63,10 @@ pub(crate) enum Turn {
 /// Serves a stream of requests of HTTP (RFC 9110, RFC 9112), each answered as soon as it is whole.
 ///
 /// The bytes that are read are cut into messages. For each the clock is asked once, the register is
-/// asked where the message is a request, and its reply is written before more is read. The stream
-/// ends at the end of the input, after a message of HTTP/1.0 or with `Connection: close`, at a
-/// message that is rejected as `malformed`, `length` or `too-long`, or after 1,000,000,000 reads.
-/// Where memory runs out behind the first read, the reply is 503.
+/// asked where the message is a request or a query, and its reply is written before more is read.
+/// The stream ends at the end of the input, after a message of HTTP/1.0 or with
+/// `Connection: close`, at a message that is rejected as `malformed`, `length` or `too-long`, or
+/// after 1,000,000,000 reads. Where memory runs out behind the first read, the reply is 503.
 ///
 /// # Errors
 /// `Memory` where there was none for the buffer of 81,920 bytes or for the routes: nothing was

@@ -1,0 +1,11 @@
+use Rattle.std.proofs.Common.{refl, rules}
+use Rattle.canary_wire.specs.Exchanges.{viewed}
+use Rattle.canary_wire.proofs.answer.handle_query.Goals as goal
+
+pub returns : goal.returns
+returns g c = λ method target body a. (
+  viewed c.args.moment c.args.query.now c.view-answer.result,
+  search rules,
+  (a, refl),
+  (let p = c.view-answer.ensures in record { intact = p.intact; sure = (p.sure, p.fault); sound = p.sound; handled = p.step; receipts = p.receipts }),
+)
