@@ -1,5 +1,5 @@
-//! Commands as they are asked for, in JSON: AnalysisTemplate and Rollout manifests of Argo Rollouts,
-//! as `kubectl get -o json` prints them, and the commands that name a service.
+//! Commands as they are asked for, in JSON: AnalysisTemplate and Rollout manifests of Argo
+//! Rollouts, as `kubectl get -o json` prints them, and the commands that name a service.
 //!
 //! Callers may rest on this: a command is read from the bytes of a body exactly as its definition
 //! reads it, and what the desk does not do is told before what cannot be read.

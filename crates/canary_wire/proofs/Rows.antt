@@ -19,7 +19,7 @@ use Rattle.canary_wire.specs.declared.framing.Framing.TheVariants.{Body, Rejecte
 use Rattle.canary_wire.specs.declared.reply.Response.TheVariants as response
 use Rattle.canary_wire.specs.Heads.{framing_of, asks_to_close}
 use Rattle.canary_wire.specs.ReplyTexts.{head_text, reply_text}
-use Rattle.canary_wire.specs.Routes.{Target, request, service, history, run, IsPart, HasNoRoute, IsAsked}
+use Rattle.canary_wire.specs.Routes.{request, service, history, run, IsPart, HasNoRoute, IsAsked}
 
 -- ---- heads
 

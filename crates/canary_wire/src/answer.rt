@@ -107,6 +107,5 @@ fn handle_query<B: Book>(alloc: Global, query: &Query, moment: Moment, book: &mu
         → (h : Handling) × (result ≡ response_of h) × IsHandling method target body moment h
         × Books (B.state book.old) (B.state book.new) h }
 {
-    let answer = view(alloc, book, moment, query);
-    Response::Answered(answer)
+    Response::Answered(view(alloc, book, moment, query))
 }

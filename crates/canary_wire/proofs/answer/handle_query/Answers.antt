@@ -4,8 +4,8 @@ use Rattle.canary_wire.proofs.answer.handle_query.Goals as goal
 
 pub returns : goal.returns
 returns g c = λ method target body a. (
-  viewed c.args.moment c.args.query.now c.view-answer.result,
+  viewed c.args.moment c.args.query.now c.view.result,
   search rules,
   (a, refl),
-  (let p = c.view-answer.ensures in record { intact = p.intact; sure = (p.sure, p.fault); sound = p.sound; handled = p.step; receipts = p.receipts }),
+  (let p = c.view.ensures in record { intact = p.intact; sure = (p.sure, p.fault); sound = p.sound; handled = p.step; receipts = p.receipts }),
 )

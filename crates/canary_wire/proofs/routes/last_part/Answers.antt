@@ -1,4 +1,4 @@
-use Rattle.std.proofs.Common.{◌≡◌, true, sym, subst}
+use Rattle.std.proofs.Common.{◌≡◌, true, subst}
 use Rattle.std.proofs.lemmas.Bool.{both_ways}
 use Rattle.canary_wire.specs.Routes.{IsPart}
 use Rattle.canary_wire.proofs.RouteLemmas.{one_behind}

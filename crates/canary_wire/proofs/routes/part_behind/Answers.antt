@@ -1,8 +1,5 @@
-use Rattle.std.proofs.Common.{◌≡◌, ◌∙◌, true, sym, ap, subst, length, take, drop, ◌++◌}
-use Rattle.std.specs.List.{before_first}
-use Rattle.std.specs.Prelude.{◌==◌}
+use Rattle.std.proofs.Common.{◌≡◌, true, subst}
 use Rattle.std.proofs.lemmas.Bool.{both_ways}
-use Rattle.std.proofs.lemmas.List.{take-append-drop}
 use Rattle.canary_wire.specs.Routes.{IsPart}
 use Rattle.canary_wire.proofs.RouteLemmas.{stands, one_part}
 use Rattle.canary_wire.proofs.routes.part_behind.Goals as goal

@@ -1,5 +1,5 @@
 use Rattle.std.proofs.Common.{◌≡◌, ◌∙◌, sym, ap, arith}
-use Rattle.std.specs.Prelude.{Some, None}
+use Rattle.std.specs.Prelude.{None}
 use Rattle.matchit.specs.Seek.{first}
 use Rattle.canary_wire.specs.Routes.{the_rows, target_of}
 use Rattle.canary_wire.proofs.RouteLemmas.{some_found, none_found}
