@@ -1,7 +1,7 @@
 //! Bodies as clients send them, each with what it reads as.
 use canary_base::error::Memory;
 use canary_plan::command::Command;
-use canary_wire::command::{WireFault, command_from_json};
+use canary_manifest::command::{WireFault, command_from_json};
 use std::alloc::Global;
 use std::process::Abort;
 use std::test::Fail;
