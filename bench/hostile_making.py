@@ -7,39 +7,46 @@ from stream_making import Making
 from stream_replies import message_ends
 from stream_texts import Raw, odd
 
-NUMBERS = ("0", "-0", "-1", "00", "1.0", "1.5", "1e2", "1E-2", "0.0", "-0.0", "1e999", "-", "+1", ".5",
-           "01", "1.", "9223372036854775807", "9223372036854775808", "-9223372036854775808",
+NUMBERS = ("0", "-0", "-1", "00", "1.0", "1.5", "1e2", "1E-2", "0.0", "-0.0", "1e999", "-", "+1",
+           ".5", "01", "1.", "9223372036854775807", "9223372036854775808", "-9223372036854775808",
            "-9223372036854775809", "18446744073709551615", "18446744073709551616", "1000000000",
            "1000000001", "253370764799", "253370764800", "65535", "65536", "65537", "9" * 400,
-           "0." + "3" * 400, "2147483648", "4294967296", "31536000", "31536001", "1000000", "63", "64",
-           "NaN", "Infinity", "0x10", "1e99999999999", "1767225600", "null", "true", '"1"')
-TEXTS = ('""', '"\\ud800"', '"\\udc00\\ud800"', '"\\ud83d\\ude00"', '"\\u0000"', '"\\x"', '"\\u12"', '"',
-         '"\u00e9"', "'a'", '"a\tb"', '"' + "x" * 200 + '"', '"' + "x" * 5000 + '"', '"{{a}}"', '".*"',
-         '"1h1m1s"', '"8760h"', '"result > 0"', '"' + "(" * 500 + '"', '"' + "! " * 500 + '"',
-         '"' + "not " * 255 + 'result>0"', '"' + "result>0||" * 100 + 'result>0"', '"web"', "nul", "[]",
-         "{}", "[{}]", "[[1,2],[3]]", "false", '{"a":1,"a":2}', "", ",", "//", "[1,]", '{"a":}')
-JUNK = (b"\0", b"\xff", b"\x80", b"\xc3\x28", b"\xed\xa0\x80", b"\xf4\x90\x80\x80", b"\xc0\x80", b"\r",
-        b"\n", b"\r\n", b"\n\n", b"\r\n\r\n", b"\t", b" ", b"\x0b", b"\x7f", b"\x01", b":", b"\xef\xbb\xbf",
-        b"\r\r\n", b"{", b"}", b"[", b"]", b'"', b"\\", b",", b"0\r\n\r\n", b"HTTP/1.1", b"GET / HTTP/1.1")
-LENGTHS = ("{0}\r\nContent-Length: {0}", "{0}\r\ncontent-length: 5", "{1}", "{2}", "abc", "+{0}", "-{0}",
-           "", " ", "{0}, {0}", "{0} {0}", "99999999999999999999", "0x10", "000{0}", "{0}.0", "65536",
-           "65537", "{0};", "\t{0}\t", "18446744073709551617", "{0}\0", "4294967296", "0" * 300 + "{0}",
-           "\u0665", "0", "1")
+           "0." + "3" * 400, "2147483648", "4294967296", "31536000", "31536001", "1000000", "63",
+           "64", "NaN", "Infinity", "0x10", "1e99999999999", "1767225600", "null", "true", '"1"')
+TEXTS = ('""', '"\\ud800"', '"\\udc00\\ud800"', '"\\ud83d\\ude00"', '"\\u0000"', '"\\x"', '"\\u12"',
+         '"', '"\u00e9"', "'a'", '"a\tb"', '"' + "x" * 200 + '"', '"' + "x" * 5000 + '"', '"{{a}}"',
+         '".*"', '"1h1m1s"', '"8760h"', '"result > 0"', '"' + "(" * 500 + '"',
+         '"' + "! " * 500 + '"', '"' + "not " * 255 + 'result>0"',
+         '"' + "result>0||" * 100 + 'result>0"', '"web"', "nul", "[]", "{}", "[{}]", "[[1,2],[3]]",
+         "false", '{"a":1,"a":2}', "", ",", "//", "[1,]", '{"a":}')
+JUNK = (b"\0", b"\xff", b"\x80", b"\xc3\x28", b"\xed\xa0\x80", b"\xf4\x90\x80\x80", b"\xc0\x80",
+        b"\r", b"\n", b"\r\n", b"\n\n", b"\r\n\r\n", b"\t", b" ", b"\x0b", b"\x7f", b"\x01", b":",
+        b"\xef\xbb\xbf", b"\r\r\n", b"{", b"}", b"[", b"]", b'"', b"\\", b",", b"0\r\n\r\n",
+        b"HTTP/1.1", b"GET / HTTP/1.1")
+LENGTHS = ("{0}\r\nContent-Length: {0}", "{0}\r\ncontent-length: 5", "{1}", "{2}", "abc", "+{0}",
+           "-{0}", "", " ", "{0}, {0}", "{0} {0}", "99999999999999999999", "0x10", "000{0}",
+           "{0}.0", "65536", "65537", "{0};", "\t{0}\t", "18446744073709551617", "{0}\0",
+           "4294967296", "0" * 300 + "{0}", "\u0665", "0", "1")
 LINES = ("Transfer-Encoding: chunked", "transfer-encoding: identity", "TRANSFER-ENCODING:",
-         "Connection: close", "connection: Close", "Connection: keep-alive, close", "Connection: close,",
-         "Connection: x close", "Connection: closed", "Connection:close\t", "Connection: \"close\"",
-         "Connection: keep-alive\r\nConnection: CLOSE", "Connection: a,\tclOSE ,b", "Connection:",
-         "X-Folded: a\r\n b", "X-Space : a", ": a", "X", "", " X: a", "X:", "X: \u00e9", "X: a\0b",
-         "X: a\x7fb", "X: a\rb", "X\u00e9: a", "X(: a", "Expect: 100-continue", "Content-Length : 5",
-         "X: a\nY: b", "Host: a\r\nHost: b", "Upgrade: h2c", "Content-Type: text/csv", "X:\t \ta\t \t")
+         "Connection: close", "connection: Close", "Connection: keep-alive, close",
+         "Connection: close,", "Connection: x close", "Connection: closed", "Connection:close\t",
+         "Connection: \"close\"", "Connection: keep-alive\r\nConnection: CLOSE",
+         "Connection: a,\tclOSE ,b", "Connection:", "X-Folded: a\r\n b", "X-Space : a", ": a", "X",
+         "", " X: a", "X:", "X: \u00e9", "X: a\0b", "X: a\x7fb", "X: a\rb", "X\u00e9: a", "X(: a",
+         "Expect: 100-continue", "Content-Length : 5", "X: a\nY: b", "Host: a\r\nHost: b",
+         "Upgrade: h2c", "Content-Type: text/csv", "X:\t \ta\t \t")
 VERSIONS = ("HTTP/1.0", "HTTP/1.2", "HTTP/2.0", "http/1.1", "HTTP/1.1 ", "HTTP/1.", "", "HTTP/11",
             " HTTP/1.1", "HTTP/0.9", "HTTP/1.1x", "ICY/1.1")
-METHODS = ("GET", "PUT", "HEAD", "POST", "put", "P(T", "", "G" * 300, "PUT\t", "M-SEARCH", "PU\u00dc", "\0")
-TARGETS = ("*", "/", "", "http://desk/services/web", "/services/%77eb", "/services/w\u00e9b", "/services/web#x",
-           "/services/web/../web", "//", "/services//history", "/callers//requests/1", "/services/a b",
-           "/callers/ops/requests/", "/services/{service}", "/callers/{caller}/requests/{number}", "web",
-           "/services/web?" + "x" * 300, "/services/web\x01", "/services/" + "a" * 64, "/a" * 200,
-           "/services/web/runs/18446744073709551616", "/services/web/runs/", "/\x7f", "?", "/services/web\\")
+METHODS = ("GET", "PUT", "HEAD", "POST", "put", "P(T", "", "G" * 300, "PUT\t", "M-SEARCH",
+           "PU\u00dc", "\0")
+KEYS = ("kind", "failure", "result", "more", "dryRun", "pause", "setWeight")
+TARGETS = ("*", "/", "", "http://desk/services/web", "/services/%77eb", "/services/w\u00e9b",
+           "/services/web#x", "/services/web/../web", "//", "/services//history",
+           "/callers//requests/1", "/services/a b", "/callers/ops/requests/", "/services/{service}",
+           "/callers/{caller}/requests/{number}", "web", "/services/web?" + "x" * 300,
+           "/services/web\x01", "/services/" + "a" * 64, "/a" * 200,
+           "/services/web/runs/18446744073709551616", "/services/web/runs/", "/\x7f", "?",
+           "/services/web\\")
 
 
 def piece(chance, stream, most=400):
@@ -137,7 +144,8 @@ def many_lines(chance, head, body):
 
 def long_head(chance, head, body):
     """A head about as long as it may be, by a long field, name or target."""
-    wanted = chance.choice((16_384 + chance.randint(-3, 3), 16_384 + chance.randint(-40, 40), 40_000))
+    near = 16_384 + chance.choice((chance.randint(-3, 3), chance.randint(-40, 40)))
+    wanted = near if chance.random() < 0.7 else 40_000
     fill = b"x" * max(0, wanted - len(framed(head, body)) + len(body) - 5)
     first, rest = head.split(b"\r\n", 1)
     if chance.random() < 0.6:
@@ -194,10 +202,10 @@ def change_tree(chance, tree):
     if turn == 0:
         del inside[key]
     elif turn == 1 and isinstance(inside, dict):
-        inside[chance.choice((key.upper(), key + "s", "", "more", "\0", "\u00e9"))] = inside.pop(key)
+        name = chance.choice((key.upper(), key + "s", "", "more", "\0", "\u00e9"))
+        inside[name] = inside.pop(key)
     elif turn == 2 and isinstance(inside, dict):
-        inside[chance.choice(("kind", "failure", "result", "more", "dryRun", "pause", "setWeight"))] \
-            = Raw(chance.choice(TEXTS))
+        inside[chance.choice(KEYS)] = Raw(chance.choice(TEXTS))
     elif turn == 3 and isinstance(inside, list):
         inside.extend([inside[key]] * chance.choice((1, 16, 32, 64)))
     else:

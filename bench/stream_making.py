@@ -10,6 +10,7 @@ FAILURES = ("timeout", "down", "\u00e9t\u00e9 \U0001f600", 'no "data"\n', "\u000
             "x" * 200, "!", "result", "{{args.x}}", "\u00e9" * 100)
 LATER = (1, 7, 1_000, 10 ** 9)
 GREATEST = 253_370_764_799
+REMEMBERED = 5_000
 
 
 class Making:
@@ -19,7 +20,7 @@ class Making:
         self.chance = random.Random(seed)
         self.most, self.at, self.step = services, at, step
         self.settled = {f"caller-{number}": 0 for number in range(callers)}
-        self.callers, self.sent, self.made = list(self.settled), [], 0
+        self.callers, self.sent, self.last, self.made = list(self.settled), [], [], 0
         self.services, self.known, self.active = {}, [], []
         self.templates, self.names, self.numbered = {}, [], 0
         self.kinds = ((self.on_service, 70), (self.query, 8), (self.repeat, 3), (self.reworded, 3),
@@ -54,8 +55,16 @@ class Making:
         caller = caller or self.chance.choice(self.callers)
         self.settled[caller] = self.settled.get(caller, 0) + 1
         body = self.body(command)
-        self.sent.append((caller, self.settled[caller], command, body))
+        self.remember((caller, self.settled[caller], command, body))
         return self.request(caller, self.settled[caller], body)
+
+    def remember(self, request):
+        """Keeps the last requests, and some of the older ones."""
+        self.last = [*self.last[-19:], request]
+        if len(self.sent) < REMEMBERED:
+            self.sent.append(request)
+        elif self.chance.random() < 0.5:
+            self.sent[self.chance.randrange(REMEMBERED)] = request
 
     def request(self, caller, number, body):
         """A request as a message."""
@@ -63,9 +72,7 @@ class Making:
 
     def earlier(self):
         """A request that was sent, one of the last ones rather."""
-        if self.chance.random() < 0.6:
-            return self.chance.choice(self.sent[-20:])
-        return self.chance.choice(self.sent)
+        return self.chance.choice(self.last if self.chance.random() < 0.6 else self.sent)
 
     def repeat(self):
         """A request again, byte for byte."""
@@ -115,7 +122,8 @@ class Making:
         draw = self.chance.random()
         if draw < 0.08 or not self.services:
             return self.chance.choice(("nothing", "s", "s0", f"s{self.numbered + 1}"))
-        return self.chance.choice(self.active if draw < 0.8 else self.known[-3 * self.most:])
+        return self.chance.choice(self.active if draw < 0.7 else self.known[-3 * self.most:]
+                                  if draw < 0.98 else self.known)
 
     def query(self):
         """A query of a service, of its history or of one of its runs."""
@@ -129,7 +137,8 @@ class Making:
         if service:
             service.pass_to(self.moment())
         numbers = [run.number for run in service.open] if service else []
-        numbers += [self.chance.randint(1, made + 1), max(1, made), 1_000_000_000][:2 + (draw < 0.52)]
+        numbers += [self.chance.randint(1, made + 1), max(1, made)]
+        numbers += [1_000_000_000] if draw < 0.52 else []
         return get(self.chance, f"/services/{name}/runs/{self.chance.choice(numbers)}")
 
     # Templates and services
@@ -143,19 +152,21 @@ class Making:
         if plan.accepted(self.templates):
             self.templates[plan.name] = plan.marked()
             self.names = [*self.names[-self.most:], plan.name]
+            self.templates = {name: self.templates[name] for name in self.names}
         return self.settle(plan)
 
     def service(self):
         """A service, which may be refused; the oldest one is left alone from then on."""
         self.numbered += 1
-        known = {name: self.templates[name] for name in self.names}
-        plan = random_service(self.chance, f"s{self.numbered}", known)
+        plan = random_service(self.chance, f"s{self.numbered}", self.templates)
         if self.services and self.chance.random() < (0.7 if len(self.active) == self.most else 0.2):
-            plan = wrong_service(self.chance, plan, self.active, known)
+            plan = wrong_service(self.chance, plan, self.active, self.templates)
         if plan.accepted(self.services, self.templates):
             self.services[plan.name] = plan.service(self.templates)
             self.known.append(plan.name)
             self.active = self.known[-self.most:]
+            if len(self.known) > 3 * self.most:
+                self.services.pop(self.known[-3 * self.most - 1], None)
         return self.settle(plan)
 
     # Commands on a service
@@ -234,12 +245,13 @@ class Making:
         return self.settle({"report": {"service": service.name, "run": run, "entries": entries}})
 
     def outcome(self, metric):
-        """An outcome, a successful one rather."""
+        """An outcome: now and then a failure, and rather one of a phase than another."""
         if self.chance.random() < 0.06:
             return ("failure", self.chance.choice(FAILURES))
+        wanted = self.chance.choice(("Successful", "Successful", "Successful", "Inconclusive"))
         for _ in range(self.chance.choice((1, 3, 6, 10))):
             outcome = ("result", self.result(metric.shape))
-            if metric.judge(outcome) == "Successful":
+            if metric.judge(outcome) == wanted:
                 break
         return outcome
 
@@ -265,8 +277,8 @@ class Making:
             open_runs = {each.number for each in service.open}
             closed = [n for n in range(1, service.made + 1) if n not in open_runs][-9:]
             unknown = [service.made + 1, service.made + 1, 1_000_000_000]
-            number = self.chance.choice(closed if closed and self.chance.random() < 0.7 else unknown)
-            return self.reported(service, number, [self.entry(run, 0)[0]])
+            some = closed if closed and self.chance.random() < 0.7 else unknown
+            return self.reported(service, self.chance.choice(some), [self.entry(run, 0)[0]])
         entries = [self.entry(run, index)[0]
                    for index in self.chance.sample(right, min(len(right), 2))]
         wrong = self.wrong_entry(run, [entry["metric"] for entry in entries])

@@ -2,7 +2,7 @@
 from dataclasses import dataclass, field
 
 from stream_model import Condition, Metric, Service
-from stream_texts import WRONG_CONDITIONS, condition, duration
+from stream_texts import WRONG_CONDITIONS, band, condition, duration, nested
 
 PROVIDER = {"prometheus": {"address": "http://prometheus.example:9090",
                            "query": 'sum(rate(requests{code=~"5.."}[5m])) / 1.5e3'}}
@@ -38,7 +38,8 @@ class TemplatePlan:
         if self.dry or chance.random() < 0.1:
             spec["dryRun"] = [{"metricName": name} for name in self.dry]
         ignored(chance, spec, {"args": [{"name": "most", "value": "5"}], "templates": [],
-                               "measurementRetention": None, "more": {"a": [1, 2.5, None]}})
+                               "measurementRetention": None, "more": {"a": [1, 2.5, None]},
+                               "deep": nested(chance.choice((3, 3, 123, 124)))})
         tree = {"metadata": {"name": self.name}, "spec": spec}
         ignored(chance, tree["metadata"], {"labels": {"team": "ops"}, "namespace": "canaries"})
         ignored(chance, tree, {"apiVersion": "argoproj.io/v1alpha1", "kind": "AnalysisTemplate",
@@ -164,11 +165,13 @@ def random_metric(chance, name, endless):
     """A metric that a template may have."""
     shape = chance.choice((0, 0, 0, 0, 1, 2, 3, 16))
     metric = Metric(name, shape=shape)
-    conditions = chance.choice(("success", "success", "failure", "both", "both", "both", "none"))
+    conditions = chance.choice(("success", "success", "failure", "both", "band", "band", "none"))
     if conditions in ("success", "both"):
         metric.success = condition(chance, shape)
     if conditions in ("failure", "both"):
         metric.failure = condition(chance, shape)
+    if conditions == "band":
+        metric.success, metric.failure = band(chance, shape)
     metric.interval = chance.choice((None, *SHORT))
     if metric.interval is not None and not (endless and chance.random() < 0.6):
         metric.count = chance.choice((1, 1, 2, 2, 3, 5))

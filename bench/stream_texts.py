@@ -6,20 +6,29 @@ from stream_model import Condition
 SPACES = ("", "", "", " ", "  ", "\t", "\n", "\r\n")
 WORDS = frozenset("abcdefghijklmnopqrstuvwxyzABCDEFGHIJKLMNOPQRSTUVWXYZ0123456789_")
 FAR = (2 ** 63 - 1, -2 ** 63, 1_000_000, -1)
-WRONG_CONDITIONS = (
-    "result >", "result", "> 5", "result > 0.5", "result = 1", "result > 1)", "(result > 1",
-    "(result) > 1", "result == 'a'", "result == true", "{{args.most}} > result", " ",
-    "result[-1] > 0", "result[] > 0", "result[0 > 0", "result[result] > 0", "len(result) > 0",
-    "result > 9223372036854775808", "result > -9223372036854775809", "result > - 5",
-    "result == 5and result == 6", "result > 1 result", "result > 1 & result > 2", "5x == result",
-    "result > 1 or", "not", "!", "result !== 1", "result + 1 > 2", "default(result, 0) > 1",
-    "result < 1 < 2", "Result > 1", "result > 1 AND result > 2", "result \u2265 1", "result > 1\u0000",
-    "result[9223372036854775808] > 0", "result\u000b> 1", "()", "result > 1 ()", "result.a > 1",
-    "(" * 33 + "result > 0" + ")" * 33, "result > 0" + " " * 1015, "result > 1 ||| result > 2")
+WRONG_CONDITIONS = ("result >", "result", "> 5", "result > 0.5", "result = 1", "result > 1)",
+                    "(result > 1", "(result) > 1", "result == 'a'", "result == true",
+                    "{{args.most}} > result", " ", "result[-1] > 0", "result[] > 0", "result[0 > 0",
+                    "result[result] > 0", "len(result) > 0", "result > 9223372036854775808",
+                    "result > -9223372036854775809", "result > - 5", "result == 5and result == 6",
+                    "result > 1 result", "result > 1 & result > 2", "5x == result", "result > 1 or",
+                    "not", "!", "result !== 1", "result + 1 > 2", "default(result, 0) > 1",
+                    "result < 1 < 2", "Result > 1", "result > 1 AND result > 2", "result \u2265 1",
+                    "result > 1\u0000", "result[9223372036854775808] > 0", "result\u000b> 1", "()",
+                    "result > 1 ()", "result.a > 1", "(" * 33 + "result > 0" + ")" * 33,
+                    "result > 0" + " " * 1015, "result > 1 ||| result > 2")
 
 
 class Raw(str):
     """A JSON text that is written as it is."""
+
+
+def nested(depth):
+    """So many lists, each in the one before."""
+    value = []
+    for _ in range(depth - 1):
+        value = [value]
+    return value
 
 
 def compact(value):
@@ -109,16 +118,29 @@ def operand_tokens(chance, tree):
     return [("-" if value < 0 else "") + zeros + str(abs(value))]
 
 
-def condition(chance, shape):
-    """A random condition that has a reading."""
-    tree = tree_of(chance, shape, chance.choice((0, 0, 1, 2, 3)))
+def spelled(chance, tree):
+    """A condition that has a tree, with white space between its words or without."""
     tokens = tokens_of(chance, tree)
     spaced, text = chance.random() < 0.7, tokens[0]
     for token in tokens[1:]:
         needs = spaced or text[-1] in WORDS and token[0] in WORDS
         text += (" " if needs else "") if chance.random() < 0.9 or not needs else "\t\n "
         text += token
-    return Condition(text, tree) if len(text) <= 1024 else condition(chance, shape)
+    return Condition(text, tree)
+
+
+def condition(chance, shape):
+    """A random condition that has a reading."""
+    made = spelled(chance, tree_of(chance, shape, chance.choice((0, 0, 1, 2, 3))))
+    return made if len(made.text) <= 1024 else condition(chance, shape)
+
+
+def band(chance, shape):
+    """A success and a failure condition, between which results are inconclusive."""
+    part = ("result", chance.randrange(shape) if shape else None)
+    low = chance.randint(0, 4)
+    return (spelled(chance, (">=", part, ("number", low + chance.randint(1, 6)))),
+            spelled(chance, ("<", part, ("number", low))))
 
 
 def duration(chance, seconds, bare=False):

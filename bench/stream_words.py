@@ -12,7 +12,7 @@ def read_words(text, programs, numbers, texts=()):
     """The program words, and a map of what the `--name VALUE` words say.
 
     `programs` is how many words stand without a name. `numbers` has the names of whole numbers, and
-    what each is where it is left out, None where it has to stand; `texts` names those of texts.
+    what each is where it is left out; `texts` names those of texts, which are None where left out.
     """
     words, found, plain = sys.argv[1:], dict(numbers), []
     found.update({name: None for name in texts})
@@ -27,6 +27,6 @@ def read_words(text, programs, numbers, texts=()):
             found[name] = int(words.pop(0))
         else:
             usage(text)
-    if len(plain) != programs or any(found[name] is None for name in numbers):
+    if len(plain) != programs:
         usage(text)
     return plain, found

@@ -1,24 +1,25 @@
 """Messages for bench/streams that are refused before any request is settled, and go on."""
-from stream_texts import Raw, compact, get, odd, put
+from stream_texts import Raw, compact, get, nested, odd, put
 
 NAMES = ("Ops", "-ops", "ops-", "-", "o_ps", "o.ps", "a" * 64, "%61", "o%2Fps", "ops+1", "~")
 NUMBERS = ("0", "007", "1000000001", "x", "-1", "+1", "1.0", "1e3", "99999999999999999999", "1_0")
-PATHS = ("/", "/nope", "/callers", "/callers/ops", "/callers/ops/requests", "/services", "/Services/a",
-         "/services/a/runs", "/services/a/runs/1/2", "/services/a/histories", "/callers/ops/request/1",
-         "/callers/ops/requests/1/", "/services/a/history/", "/services/a/", "*", "/services/a/b/c",
-         "//services/a", "/services/a/history/1")
+PATHS = ("/", "/nope", "/callers", "/callers/ops", "/callers/ops/requests", "/services",
+         "/Services/a", "/services/a/runs", "/services/a/runs/1/2", "/services/a/histories",
+         "/callers/ops/request/1", "/callers/ops/requests/1/", "/services/a/history/",
+         "/services/a/", "*", "/services/a/b/c", "//services/a", "/services/a/history/1")
 METHODS = ("POST", "DELETE", "HEAD", "PATCH", "OPTIONS", "put", "get", "Get", "G")
 NO_JSON = (b"", b" ", b"{", b"[]", b"7", b'"tick"', b"null", b"{}", b'{"tick":{"service":"a"}',
-           b'{"tick":{"service":"a"}}}', b'{"tick":{"service":"a"}} x', b'{"tick":{"service":"a",}}',
-           b"{'tick':{}}", b'{"tick":{"service":"a\xff"}}', b'{"tick":{"service":"\\ud800"}}',
-           b'\xef\xbb\xbf{"tick":{"service":"a"}}', b'{"tick":{"service":"a\n"}}', b'{"tick":nul}',
+           b'{"tick":{"service":"a"}}}', b'{"tick":{"service":"a"}} x',
+           b'{"tick":{"service":"a",}}', b"{'tick':{}}", b'{"tick":{"service":"a\xff"}}',
+           b'{"tick":{"service":"\\ud800"}}', b'\xef\xbb\xbf{"tick":{"service":"a"}}',
+           b'{"tick":{"service":"a\n"}}', b'{"tick":nul}',
            b'{"tick":{"service":"a"},"abort":{"service":"a"}}', b'{"tack":{"service":"a"}}',
            b'{"Tick":{"service":"a"}}', b'{"tick":[]}', b'{"tick":{}}', b'{"tick":null}',
            b'{"tick":{"service":null}}', b'{"tick":{"service":"a","more":null}}',
            b'{"tick":{"service":"A"}}', b'{"start":{"service":"a"}}', b'{"template":{}}',
            b'{"start":{"service":"a","version":""}}', b'{"start":{"service":"a","version":"a b"}}',
-           b'{"service":{"version":"v1"}}', b'{"tick":{"service":"a"}}\x00', b'{"tick":{"service":01}}',
-           b'{"template":{"more":' + b"[" * 126 + b"]" * 126 + b"}}",
+           b'{"service":{"version":"v1"}}', b'{"tick":{"service":"a"}}\x00',
+           b'{"tick":{"service":01}}', b'{"template":{"more":' + b"[" * 126 + b"]" * 126 + b"}}",
            b'{"template":{"more":' + b"[" * 200 + b"]" * 200 + b"}}", b"[" * 127 + b"]" * 127,
            b"[" * 128 + b"]" * 128, b"\t\r\n ", b'{"promoteFull":{"service":5}}')
 ENTRIES = ({"taken": -1}, {"taken": 253370764800}, {"taken": "0"}, {"taken": Raw("1.0")},
@@ -33,15 +34,16 @@ ENTRIES = ({"taken": -1}, {"taken": 253370764800}, {"taken": "0"}, {"taken": Raw
 FAILURES = ("", "x" * 201, "\u00e9" * 101, 5, None, [])
 RUNS = (0, -1, 1_000_000_001, "1", Raw("1.0"), None, [1], Raw("-0"))
 METRICS = ({"name": ""}, {"name": 5}, {"name": "a" * 64}, {"name": "a/b"}, {"name": None},
-           {"count": -1}, {"count": 1_000_001}, {"count": "1 "}, {"count": ""}, {"count": Raw("1.0")},
-           {"count": Raw("-0")}, {"count": "+1"}, {"count": "1000001"}, {"count": True},
-           {"interval": 60}, {"interval": "60"}, {"interval": "8760h1s"}, {"interval": "1.5s"},
-           {"interval": "5ms"}, {"interval": "-5s"}, {"interval": "s"}, {"interval": "1s 1m"},
-           {"interval": "5S"}, {"interval": "99999999999999999999s"}, {"initialDelay": "1"},
-           {"initialDelay": "{{args.delay}}"}, {"failureLimit": "x"}, {"failureLimit": True},
-           {"inconclusiveLimit": -1}, {"inconclusiveLimit": "-1"}, {"consecutiveErrorLimit": -1},
-           {"consecutiveErrorLimit": [4]}, {"successCondition": 5}, {"failureCondition": ["x"]},
-           {"interval": 0}, {"count": {}}, {"failureLimit": Raw("1e2")})
+           {"count": -1}, {"count": 1_000_001}, {"count": "1 "}, {"count": ""},
+           {"count": Raw("1.0")}, {"count": Raw("-0")}, {"count": "+1"}, {"count": "1000001"},
+           {"count": True}, {"interval": 60}, {"interval": "60"}, {"interval": "8760h1s"},
+           {"interval": "1.5s"}, {"interval": "5ms"}, {"interval": "-5s"}, {"interval": "s"},
+           {"interval": "1s 1m"}, {"interval": "5S"}, {"interval": "99999999999999999999s"},
+           {"initialDelay": "1"}, {"initialDelay": "{{args.delay}}"}, {"failureLimit": "x"},
+           {"failureLimit": True}, {"inconclusiveLimit": -1}, {"inconclusiveLimit": "-1"},
+           {"consecutiveErrorLimit": -1}, {"consecutiveErrorLimit": [4]}, {"successCondition": 5},
+           {"failureCondition": ["x"]}, {"interval": 0}, {"count": {}},
+           {"failureLimit": Raw("1e2")})
 UNSUPPORTED_METRICS = ({"failureLimit": -1}, {"failureLimit": "-3"}, {"consecutiveSuccessLimit": 1},
                        {"consecutiveSuccessLimit": "x"}, {"consecutiveSuccessLimit": 0})
 STEPS = ({}, {"setWeight": 10, "pause": {}}, {"setWeight": -1}, {"setWeight": 1_000_001},
@@ -61,7 +63,8 @@ UNSUPPORTED_STEPS = ({"setCanaryScale": {}}, {"setWeight": 10, "experiment": {}}
 TEMPLATE_SPECS = ({"metrics": []}, {"metrics": None}, {"metrics": {}}, {"metrics": [None]},
                   {"metrics": [{"name": "m"}] * 33}, {"dryRun": {}}, {"dryRun": [{}]},
                   {"dryRun": [{"metricName": ""}]}, {"dryRun": [{"metricName": "m" * 64}]},
-                  {"dryRun": ["m"]}, {"dryRun": [{"metricName": 5}]}, {"dryRun": "m"})
+                  {"dryRun": ["m"]}, {"dryRun": [{"metricName": 5}]}, {"dryRun": "m"},
+                  {"more": nested(125)}, {"more": nested(126)}, {"more": nested(200)})
 UNSUPPORTED_SPECS = ({"templates": [{"templateName": "t"}]}, {"measurementRetention": [{}]},
                      {"templates": {}}, {"measurementRetention": "x"}, {"templates": 0})
 CANARIES = ({"steps": {}}, {"steps": "x"}, {"analysis": []}, {"analysis": {}},
@@ -139,8 +142,10 @@ def wrong_body(chance):
     if chance.random() < 0.4:
         return chance.choice(NO_JSON)
     turn, supported = chance.randrange(3), chance.random() < 0.7
-    tree = (wrong_report(chance) if turn == 0 and supported
-            else wrong_template(chance, supported) if turn == 1 else wrong_service(chance, supported))
+    if turn == 0 and supported:
+        tree = wrong_report(chance)
+    else:
+        tree = (wrong_template if turn == 1 else wrong_service)(chance, supported)
     return odd(chance, tree).encode()
 
 
