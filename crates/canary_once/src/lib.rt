@@ -1,8 +1,8 @@
 //! The register: each settled request acts once, and keeps its reply.
 //!
 //! Callers may rest on this: over any `Book`, `post` is one step of the answers that the small
-//! machine gives, `view` answers a query and changes nothing, and `run` answers a whole list of events
-//! as the machine applied to the settled requests alone, each once, in order.
+//! machine gives, `view` answers a query and changes nothing, and `run` answers a whole list of
+//! events as the machine applied to the settled requests alone, each once, in order.
 #![tactic(auto)]
 
 pub mod book;

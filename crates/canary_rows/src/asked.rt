@@ -1,12 +1,13 @@
-//! Commands from compact texts, and replies from short forms, by which tables of requests are written.
+//! Commands from compact texts, and replies from short forms, by which tables of requests are
+//! written.
 //!
 //! A command on the service web is one of these, where METRIC is a name, then its members, as in
-//! `m,interval=60,success=result>10`, and ENTRY is `METRIC:ORDINAL:TAKEN:OUTCOME`, with TAKEN in seconds
-//! after B and an outcome that is a result or `!` and a failure's text:
+//! `m,interval=60,success=result>10`, and ENTRY is `METRIC:ORDINAL:TAKEN:OUTCOME`, with TAKEN in
+//! seconds after B and an outcome that is a result or `!` and a failure's text:
 //!
 //! - `template NAME METRIC.. dryRun:NAME..`
-//! - `service VERSION STEP.. background:TEMPLATE`, each step `setWeight:N`, `pause`, `pause:SECONDS` or
-//!   `analysis:TEMPLATE`, or `N*` in front of one that stands so many times
+//! - `service VERSION STEP.. background:TEMPLATE`, each step `setWeight:N`, `pause`, `pause:SECONDS`
+//!   or `analysis:TEMPLATE`, or `N*` in front of one that stands so many times
 //! - `start VERSION`, `promote`, `promoteFull`, `abort`, `retry`, `tick`
 //! - `report RUN ENTRY..`
 ghost use Rattle.std.specs.Prelude.{◌≡◌, IsTrue, true, nat_lt, length, IfSome, IfOk};

@@ -1,4 +1,5 @@
-//! Rows of a table that stands in one text, a row a line: so a table is proved as quickly as its reader.
+//! Rows of a table that stands in one text, a row a line: so a table is proved as quickly as its
+//! reader.
 use canary_base::error::Memory;
 use std::alloc::Global;
 use std::fmt::Display;

@@ -1,5 +1,5 @@
-//! What the small types print, names as keys, and copies with ample memory. Their limits are contracts,
-//! with worked values on the definitions.
+//! What the small types print, names as keys, and copies with ample memory. Their limits are
+//! contracts, with worked values on the definitions.
 use canary_base::lists::{Listed, Text};
 use canary_base::moments::Moment;
 use canary_base::names::{Label, Name};

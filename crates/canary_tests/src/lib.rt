@@ -1,6 +1,6 @@
 //! The tests of the crates up to canary_release: worked rows, printed texts, and each allocation
-//! failing in turn. What a contract says is not tested again. Tests stand in crates of their own, so
-//! that no other crate is proved twice.
+//! failing in turn. What a contract says is not tested again. Tests stand in crates of their own,
+//! so that no other crate is proved twice.
 #![tactic(auto)]
 
 #[cfg(test)]
