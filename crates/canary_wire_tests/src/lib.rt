@@ -1,5 +1,6 @@
-//! The tests of `canary_wire` and `canary_cli`: streams as clients send them with the bytes that
-//! answer them, readers and writers that fail, and command lines.
+//! The tests of `canary_manifest`, `canary_wire` and `canary_cli`: bodies with what they read as,
+//! streams as clients send them with the bytes that answer them, readers and writers that fail, and
+//! command lines.
 #![tactic(auto)]
 
 #[cfg(test)]
