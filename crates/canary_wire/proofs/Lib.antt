@@ -8,3 +8,7 @@ pub mod ExchangeLemmas
 pub mod RouteLemmas
 pub mod BufferLemmas
 pub mod Rows
+pub mod NextLemmas
+pub mod OrderLemmas
+pub mod TurnLemmas
+pub mod CrowdLemmas

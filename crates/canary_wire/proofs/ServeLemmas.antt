@@ -23,10 +23,10 @@ use Rattle.canary_wire.proofs.ExchangeLemmas.{all-append, went_none, went_one, w
 
 -- ---- the front of a stream
 
-begins_none : (bytes : List ℕ) → Begins bytes [] bytes
+pub begins_none : (bytes : List ℕ) → Begins bytes [] bytes
 begins_none bytes = record { whole = refl; each = tt }
 
-begins_then : (bytes mid rest : List ℕ) (ms ns : List Message) → Begins bytes ms mid → Begins mid ns rest → Begins bytes (ms ++ ns) rest
+pub begins_then : (bytes mid rest : List ℕ) (ms ns : List Message) → Begins bytes ms mid → Begins mid ns rest → Begins bytes (ms ++ ns) rest
 begins_then bytes mid rest ms ns a b = record {
   whole =
       a.whole ∙ ap (λ t. flat_map message_bytes ms ++ t) b.whole ∙ sym (append_assoc (flat_map message_bytes ms) (flat_map message_bytes ns) rest)
@@ -38,13 +38,13 @@ begins_then bytes mid rest ms ns a b = record {
 begins_one : (bytes rest : List ℕ) (m : Message) → KeepsOpen m → bytes ≡ message_bytes m ++ rest → Begins bytes (m ∷ []) rest
 begins_one bytes rest m on e = record { whole = e ∙ ap (λ t. t ++ rest) (sym (append-nil (message_bytes m))); each = (on, tt) }
 
-begins_more : (bytes rest got : List ℕ) (ms : List Message) → Begins bytes ms rest → Begins (bytes ++ got) ms (rest ++ got)
+pub begins_more : (bytes rest got : List ℕ) (ms : List Message) → Begins bytes ms rest → Begins (bytes ++ got) ms (rest ++ got)
 begins_more bytes rest got ms b = record { whole = ap (λ t. t ++ got) b.whole ∙ append_assoc (flat_map message_bytes ms) rest got; each = b.each }
 
-begins_as : (bytes rest other : List ℕ) (ms : List Message) → rest ≡ other → Begins bytes ms rest → Begins bytes ms other
+pub begins_as : (bytes rest other : List ℕ) (ms : List Message) → rest ≡ other → Begins bytes ms rest → Begins bytes ms other
 begins_as bytes rest other ms e b = let P : List ℕ → Type 0 = λ t. Begins bytes ms t in subst P e b
 
-cut_then : (bytes mid : List ℕ) (ms ns : List Message) (e : Ending) → Begins bytes ms mid → IsCut mid ns e → IsCut bytes (ms ++ ns) e
+pub cut_then : (bytes mid : List ℕ) (ms ns : List Message) (e : Ending) → Begins bytes ms mid → IsCut mid ns e → IsCut bytes (ms ++ ns) e
 cut_then bytes mid ms ns e b (unfinished ks rest c u) = unfinished (ms ++ ns) rest (begins_then bytes mid rest ms ns b c) u
 cut_then bytes mid ms ns e b (rejected ks rest r bare c u) = rejected (ms ++ ns) rest r bare (begins_then bytes mid rest ms ns b c) u
 cut_then bytes mid ms ns e b (closed ks last rest c is shut) =
@@ -52,17 +52,17 @@ cut_then bytes mid ms ns e b (closed ks last rest c is shut) =
     subst P (append_assoc ms ks (last ∷ [])) (closed (ms ++ ks) last rest (begins_then bytes mid (message_bytes last ++ rest) ms ks b c) is shut)
 
 -- the messages and the replies of two lists of exchanges
-messages-append : (xs ys : List Exchange) → messages_of (xs ++ ys) ≡ messages_of xs ++ messages_of ys
+pub messages-append : (xs ys : List Exchange) → messages_of (xs ++ ys) ≡ messages_of xs ++ messages_of ys
 messages-append xs ys = map-append (λ (x : Exchange). x.message) xs ys
 
-replies-append : (xs ys : List Exchange) → flat_map reply_bytes (xs ++ ys) ≡ flat_map reply_bytes xs ++ flat_map reply_bytes ys
+pub replies-append : (xs ys : List Exchange) → flat_map reply_bytes (xs ++ ys) ≡ flat_map reply_bytes xs ++ flat_map reply_bytes ys
 replies-append xs ys = flat_map-append reply_bytes xs ys
 
 texts_then : (xs ys : List Exchange) (text front : List ℕ) → text ≡ flat_map reply_bytes ys ++ front → flat_map reply_bytes xs ++ text ≡ flat_map reply_bytes (xs ++ ys) ++ front
 texts_then xs ys text front e =
     ap (λ t. flat_map reply_bytes xs ++ t) e ∙ sym (append_assoc (flat_map reply_bytes xs) (flat_map reply_bytes ys) front) ∙ ap (λ t. t ++ front) (sym (replies-append xs ys))
 
-cut_short_then : (bytes mid text : List ℕ) (xs ys : List Exchange) → Begins bytes (messages_of xs) mid → IsCutShort mid text ys → IsCutShort bytes (flat_map reply_bytes xs ++ text) (xs ++ ys)
+pub cut_short_then : (bytes mid text : List ℕ) (xs ys : List Exchange) → Begins bytes (messages_of xs) mid → IsCutShort mid text ys → IsCutShort bytes (flat_map reply_bytes xs ++ text) (xs ++ ys)
 cut_short_then bytes mid text xs ys b (in_reply ks last rest front c is cut e) =
     let P : List Exchange → Type 0 = λ t. IsCutShort bytes (flat_map reply_bytes xs ++ text) t in
     let Q : List Message → Type 0 = λ t. Begins bytes t (message_bytes last.message ++ rest) in
@@ -251,7 +251,7 @@ so_far_spent goes r r1 w w1 p p1 n old so spent = (
   serves_open goes r r1 w w1 p p1 so.bytes old so.exchanges so.read so.begins so.unfinished so.went so.written,
 )
 
-empty : (xs : List ℕ) → length xs ≡ 0 → xs ≡ []
+pub empty : (xs : List ℕ) → length xs ≡ 0 → xs ≡ []
 empty [] h = refl
 empty (x ∷ xs) h = absurd (omega arith)
 

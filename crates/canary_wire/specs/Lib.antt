@@ -7,3 +7,7 @@ pub mod Buffers
 pub mod Routes
 pub mod Exchanges
 pub mod Serving
+pub mod Owing
+pub mod Conversing
+pub mod Talks
+pub mod Crowds

@@ -5,14 +5,19 @@ ghost use Rattle.std.specs.Io.KnownBytes.{Consumes, IsAtEnd};
 
 use canary_base::error::Memory;
 use std::alloc::Global;
-use std::io::Read;
+use std::io::{ErrorKind, Read};
 
 // The room: a head of 16,384 bytes and a body of 65,536.
 const ROOM: usize = 81_920;
 
-// The reader failed.
+// Why a read gave nothing.
 #[derive(Clone, Copy, Debug, PartialEq, Eq)]
-pub(crate) struct ReadFault;
+pub(crate) enum ReadFault {
+    // Nothing can be read now, or the reader was interrupted.
+    NotNow,
+    // The reader failed.
+    Failed,
+}
 
 // The bytes that were read and not yet taken.
 #[derive(Drop)]
@@ -58,7 +63,7 @@ impl Buffer {
 
     // Reads more bytes behind those that it holds, and says how many: none only at the end of the
     // input. It holds nothing then that can be answered: what is whole is answered before more is
-    // waited for. Where the reader fails, also where it is interrupted, nothing was read.
+    // waited for. On a fault nothing was read.
     pub(crate) fn fill<R: Read>(&mut self, reader: &mut R) -> Result<usize, ReadFault>
         requires { IsUnfinished (bytes_held self.old) }
         ensures more { IfOk result (λ n. (got : List ℕ)
@@ -120,6 +125,12 @@ fn read_at<R: Read>(reader: &mut R, bytes: &mut [u8], at: usize) -> Result<usize
 {
     match reader.read(&mut bytes[at..]) {
         Ok(n) => Ok(n),
-        Err(_) => Err(ReadFault),
+        Err(error) if is_not_now(error.kind()) => Err(ReadFault::NotNow),
+        Err(_) => Err(ReadFault::Failed),
     }
+}
+
+// Whether an error of a reader or a writer says no more than that it is to be asked again later.
+pub(crate) fn is_not_now(kind: ErrorKind) -> bool {
+    kind == ErrorKind::WouldBlock || kind == ErrorKind::Interrupted
 }

@@ -1,6 +1,12 @@
-//! Laws of the cutting of a stream.
-ghost use Rattle.std.specs.Prelude.{◌≡◌, ℕ, List};
+//! Laws of the cutting of a stream, and of many conversations at once.
+ghost use Rattle.std.specs.Prelude.{◌≡◌, ℕ, List, [], ◌++◌};
+ghost use Rattle.canary_wire.specs.Crowds.{Comes, HasTurn, Goes, GoesOn, IsOfTheMachine};
 ghost use Rattle.canary_wire.specs.Cut.{Message, Ending, IsCut, SameEnding};
+ghost use Rattle.canary_wire.specs.Exchanges.{Exchange, Went, Holds, point};
+
+use canary_once::book::Book;
+use canary_once::clock::Clock;
+use canary_once::laws::running_on;
 
 /// A stream has one list of messages and one end, but that where the input ends inside the target
 /// of a request or behind the 64th header line, it may be cut off or rejected.
@@ -10,3 +16,32 @@ pub fn one_cut()
     ensures ends { (bytes : List ℕ) (ms ns : List Message) (e f : Ending)
         → IsCut bytes ms e → IsCut bytes ns f → SameEnding bytes ms e f }
 {}
+
+/// Clients come, have their turns and go, in any order: each conversation stays in order, by the
+/// turns of its own client alone. All turns together are what the small machine answers to all
+/// that was asked in them, in their order, and leave its contents.
+pub fn crowds()
+    ensures comes { Comes }
+    ensures turn { HasTurn }
+    ensures goes { Goes }
+    ensures handled { GoesOn }
+    ensures contents { IsOfTheMachine }
+{
+    running_on();
+}
+
+/// What was held from one clock and book to others, and on from these, was held from the first to
+/// the last, and the answers and the contents then are those of the small machine.
+pub fn going_on<C: Clock, B: Book>()
+    ensures none { (c : C) (b : B)
+        → Went (point (C.tells c) (B.state b)) (point (C.tells c) (B.state b)) [] }
+    ensures then { (c d e : C) (f g h : B) (xs ys : List Exchange)
+        → Went (point (C.tells c) (B.state f)) (point (C.tells d) (B.state g)) xs
+        → Went (point (C.tells d) (B.state g)) (point (C.tells e) (B.state h)) ys
+        → Went (point (C.tells c) (B.state f)) (point (C.tells e) (B.state h)) (xs ++ ys) }
+    ensures holds { (c d : C) (f g : B) (xs : List Exchange)
+        → Went (point (C.tells c) (B.state f)) (point (C.tells d) (B.state g)) xs
+        → Holds (point (C.tells c) (B.state f)) (point (C.tells d) (B.state g)) xs }
+{
+    running_on();
+}

@@ -2,14 +2,18 @@
 //!
 //! Callers may rest on this: over any reader, writer, clock and book `serve` cuts the bytes that it
 //! reads into messages, in one way only, and writes their replies in order: each is a rejection
-//! that the rules fix, a 503, or the register's answer at the clock's next moment.
+//! that the rules fix, a 503, or the register's answer at the clock's next moment. Of a
+//! `Conversation` with one client all its turns say the same, whatever other clients are answered
+//! between them.
 #![tactic(auto)]
 
 mod answer;
 mod buffer;
+pub mod conversation;
 mod cut;
 mod framing;
 pub mod laws;
+mod owed;
 mod rejection;
 mod reply;
 mod routes;

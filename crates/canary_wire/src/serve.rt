@@ -167,7 +167,7 @@ fn end_of(rest: &[u8]) -> Ended
 }
 
 // Whether there are only line ends.
-fn is_blank(rest: &[u8]) -> bool
+pub(crate) fn is_blank(rest: &[u8]) -> bool
     ensures { result ≡ list_all is_newline rest.now }
 {
     rest.iter().all(|byte| *byte == b'\r' || *byte == b'\n')
@@ -216,7 +216,7 @@ fn answer_held<W: Write, C: Clock, B: Book>(
 }
 
 // Writes the reply of a rejection that ends the stream.
-fn reject<W: Write>(
+pub(crate) fn reject<W: Write>(
     writer: &mut W,
     rejection: Rejection,
     head_alone: bool,

@@ -1,0 +1,378 @@
+//! A conversation with one client, turn by turn: where `serve` waits for its reader and its
+//! writer, a turn never does, so many clients can be served at once.
+ghost use Rattle.std.specs.Prelude.{◌≡◌, None, [], length, IfOk, IfSome};
+ghost use Rattle.canary_wire.specs.Buffers.{bytes_held};
+ghost use Rattle.canary_wire.specs.Conversing.{begun, IsListening, end_cause, Awaits, StandsAt};
+ghost use Rattle.canary_wire.specs.Conversing.{Receives, Sends, AnswersMore, Replies, TakesTurn};
+ghost use Rattle.canary_wire.specs.Conversing.{AnswersNext};
+ghost use Rattle.canary_wire.specs.Exchanges.{point};
+ghost use Rattle.canary_wire.specs.Routes.{the_rows};
+ghost use Rattle.canary_wire.specs.Writes.{Known};
+
+use crate::answer::answer;
+use crate::buffer::{Buffer, ReadFault};
+use crate::cut::{Next, first};
+use crate::owed::Owed;
+use crate::routes::{Route, routes};
+use crate::serve::{is_blank, reject};
+use canary_base::error::Memory;
+use canary_once::book::Book;
+use canary_once::clock::Clock;
+use matchit::Router;
+use std::alloc::Global;
+use std::io::{Read, Write};
+
+// The most messages that are answered at a stretch, so that the others have their turn.
+const MOST_STEPS: u32 = 64;
+
+/// The routes of the desk, which all conversations share.
+#[derive(Drop)]
+pub struct Routes {
+    router: Router<Route>,
+    ghost rows: { router ≡ the_rows },
+}
+
+impl Routes {
+    /// The routes.
+    ///
+    /// # Errors
+    /// `Memory` where an allocation was refused.
+    pub fn new(alloc: Global) -> Result<Routes, Memory> {
+        match routes(alloc) {
+            Ok(router) => Ok(Routes { router }),
+            Err(_) => Err(Memory),
+        }
+    }
+}
+
+/// Where a conversation stands.
+#[derive(Clone, Copy, Debug, PartialEq, Eq)]
+pub enum Stage {
+    /// More messages may come.
+    Open,
+    /// The last reply is owed, or was written.
+    Over,
+    /// There was no memory for a reply: what is owed is all that will be written.
+    Broken,
+}
+
+/// What a conversation waits for behind a turn.
+#[derive(Clone, Copy, Debug, PartialEq, Eq)]
+pub enum Wants {
+    /// For bytes of the client: it is open, nothing is owed, and no whole message is held.
+    Read,
+    /// For the writer to take more of what is owed.
+    Write,
+    /// For its next turn: it is open, nothing is owed, and more messages may be held.
+    Turn,
+    /// For nothing: the last reply was written. The client may still be sending: what it sends is
+    /// to be read and thrown away for a while, so that it can read that reply.
+    Rest,
+    /// For nothing: it ended otherwise.
+    Nothing(Cause),
+}
+
+/// Why a conversation ended before a last reply.
+#[derive(Clone, Copy, Debug, PartialEq, Eq)]
+pub enum Cause {
+    /// The client ended its sending side, and nothing but line ends stood behind its last message.
+    /// Everything was answered and written: this is no fault.
+    EndOfInput,
+    /// The client ended its sending side in the midst of a message. All before it was answered and
+    /// written.
+    Truncated,
+    /// The reader failed. All that was read before was answered and written.
+    Read,
+    /// The writer failed, or took no byte, with something still owed.
+    Write,
+    /// There was no memory for a reply. What was owed of it was written; if its message was a new
+    /// request, it is settled.
+    Memory,
+}
+
+/// A conversation with one client: what came of it and is not answered yet, and what is still to
+/// be written to it.
+#[derive(Drop)]
+pub struct Conversation {
+    buffer: Buffer,
+    owed: Owed,
+    stage: Stage,
+    most_owed: usize,
+    answered: u64,
+}
+
+impl Conversation {
+    ghost use Rattle.canary_wire.specs.Talks.{talk_of};
+
+    /// A conversation in which nothing was said.
+    ///
+    /// No further message is answered while at least `most_owed` bytes are owed, and at least one:
+    /// so, if the client does not read, what is owed to it stays below `most_owed` bytes and one
+    /// reply.
+    ///
+    /// # Errors
+    /// `Memory` where there was none for the buffer of 81,920 bytes.
+    pub fn new(alloc: Global, most_owed: usize) -> Result<Conversation, Memory>
+        ensures { IfOk result (λ conversation. talk_of conversation ≡ begun) }
+    {
+        let buffer = Buffer::new(alloc)?;
+        Ok(Conversation {
+            buffer,
+            owed: Owed::new(alloc),
+            stage: Stage::Open,
+            most_owed,
+            answered: 0,
+        })
+    }
+
+    /// How many bytes were read that are not answered yet.
+    pub fn holds(&self) -> usize
+        ensures { result ≡ length (talk_of self.now).held }
+    {
+        self.buffer.as_slice().len()
+    }
+
+    /// How many messages were answered, the last not counted where it ended the conversation.
+    pub fn answered(&self) -> u64 {
+        self.answered
+    }
+
+    /// How many bytes are still to be written.
+    pub fn owes(&self) -> usize
+        ensures { result ≡ length (talk_of self.now).owed }
+    {
+        self.owed.as_slice().len()
+    }
+
+    /// Where it stands.
+    pub fn stage(&self) -> Stage
+        ensures { result ≡ (talk_of self.now).stage }
+    {
+        self.stage
+    }
+
+    /// A turn of this conversation, and what it waits for then.
+    ///
+    /// What is owed is written first. Where nothing is owed then, up to 64 of the messages that are
+    /// held are answered, and their replies written by one write. Where that leaves no whole
+    /// message and nothing owed, it is read once, and up to 64 of the messages that are whole then
+    /// are answered and written in the same way. A reader or a writer that would block, or was
+    /// interrupted, ends the turn and is no fault.
+    ///
+    /// For each message the clock is asked once, the register is asked where the message is a
+    /// request or a query, and its reply is owed. A client that ends its sending side still gets
+    /// its replies: the end is read only where nothing is owed.
+    ///
+    /// After `Rest` or `Nothing` no further turn is needed. A turn after `Rest`, or where there was
+    /// no memory for a reply, reads, writes and asks nothing.
+    pub fn turn<R: Read, W: Write, C: Clock, B: Book>(
+        &mut self,
+        alloc: Global,
+        routes: &Routes,
+        reader: &mut R,
+        writer: &mut W,
+        clock: &mut C,
+        book: &mut B,
+    ) -> Wants
+        ensures turn { TakesTurn (R.remaining reader.old) (R.remaining reader.new)
+            (W.contents writer.old) (W.contents writer.new)
+            (point (C.tells clock.old) (B.state book.old))
+            (point (C.tells clock.new) (B.state book.new))
+            (talk_of self.old) (talk_of self.new) }
+        ensures awaits { Awaits (R.remaining reader.new) (talk_of self.new) result }
+    {
+        if let Some(wants) = self.write_owed(writer) {
+            return wants;
+        }
+        if let Some(wants) = self.reply(alloc, routes, writer, clock, book) {
+            return wants;
+        }
+        if let Some(wants) = self.read_more(reader) {
+            return wants;
+        }
+        if let Some(wants) = self.reply(alloc, routes, writer, clock, book) {
+            return wants;
+        }
+        Wants::Read
+    }
+
+    // Writes what is owed, once: none where nothing is owed then.
+    fn write_owed<W: Write>(&mut self, writer: &mut W) -> Option<Wants>
+        ensures sends { Sends (W.contents writer.old) (W.contents writer.new)
+            (talk_of self.old) (talk_of self.new) }
+        ensures awaits { (r : Known) → IfSome result (Awaits r (talk_of self.new)) }
+        ensures written { result ≡ None → (talk_of self.new).owed ≡ [] }
+    {
+        if let Err(_) = self.owed.write_to(writer) {
+            return Some(Wants::Nothing(Cause::Write));
+        }
+        if self.owes() > 0 {
+            return Some(Wants::Write);
+        }
+        None
+    }
+
+    // Reads once: none where more came.
+    fn read_more<R: Read>(&mut self, reader: &mut R) -> Option<Wants>
+        requires { IsListening (talk_of self.old) }
+        ensures receives { Receives (R.remaining reader.old) (R.remaining reader.new)
+            (talk_of self.old) (talk_of self.new) }
+        ensures awaits { IfSome result (Awaits (R.remaining reader.new) (talk_of self.new)) }
+    {
+        match self.buffer.fill(reader) {
+            Ok(0) => Some(Wants::Nothing(end_cause(self.buffer.as_slice()))),
+            Ok(_) => None,
+            Err(ReadFault::NotNow) => Some(Wants::Read),
+            Err(ReadFault::Failed) => Some(Wants::Nothing(Cause::Read)),
+        }
+    }
+
+    // Answers what is held, and writes that: none where more bytes are needed.
+    fn reply<W: Write, C: Clock, B: Book>(
+        &mut self,
+        alloc: Global,
+        routes: &Routes,
+        writer: &mut W,
+        clock: &mut C,
+        book: &mut B,
+    ) -> Option<Wants>
+        ensures replies { Replies (W.contents writer.old) (W.contents writer.new)
+            (point (C.tells clock.old) (B.state book.old))
+            (point (C.tells clock.new) (B.state book.new))
+            (talk_of self.old) (talk_of self.new) }
+        ensures awaits { (r : Known) → IfSome result (Awaits r (talk_of self.new)) }
+        ensures listens { result ≡ None → IsListening (talk_of self.new) }
+    {
+        let step = self.answer_all(alloc, routes, clock, book);
+        if let Some(wants) = self.write_owed(writer) {
+            return Some(wants);
+        }
+        match step {
+            Step::Answered => Some(Wants::Turn),
+            Step::Waits => None,
+            Step::Closed => Some(Wants::Rest),
+            Step::Broke => Some(Wants::Nothing(Cause::Memory)),
+        }
+    }
+
+    // Answers what is held: `Answered` where there may be more to answer.
+    fn answer_all<C: Clock, B: Book>(
+        &mut self,
+        alloc: Global,
+        routes: &Routes,
+        clock: &mut C,
+        book: &mut B,
+    ) -> Step
+        ensures answers { AnswersMore
+            (point (C.tells clock.old) (B.state book.old))
+            (point (C.tells clock.new) (B.state book.new))
+            (talk_of self.old) (talk_of self.new) }
+        ensures stands { StandsAt (talk_of self.new) result }
+    {
+        let mut step = self.advance(alloc, routes, clock, book);
+        'steps: for _ in 1..MOST_STEPS {
+            if step != Step::Answered || self.owes() >= self.most_owed {
+                return step;
+            }
+            step = self.advance(alloc, routes, clock, book);
+        }
+        step
+    }
+
+    // Answers the message that stands first, if a whole one does.
+    fn advance<C: Clock, B: Book>(
+        &mut self,
+        alloc: Global,
+        routes: &Routes,
+        clock: &mut C,
+        book: &mut B,
+    ) -> Step
+        ensures answers { AnswersMore
+            (point (C.tells clock.old) (B.state book.old))
+            (point (C.tells clock.new) (B.state book.new))
+            (talk_of self.old) (talk_of self.new) }
+        ensures stands { StandsAt (talk_of self.new) result }
+    {
+        match self.stage {
+            Stage::Open => {}
+            Stage::Over => return Step::Closed,
+            Stage::Broken => return Step::Broke,
+        }
+        let (buffer, owed) = (&mut self.buffer, &mut self.owed);
+        let step = answer_next(alloc, &routes.router, buffer, owed, clock, book);
+        self.answered = count_after(self.answered, step);
+        match step {
+            Step::Answered | Step::Waits => {}
+            Step::Closed => self.stage = Stage::Over,
+            Step::Broke => self.stage = Stage::Broken,
+        }
+        step
+    }
+}
+
+// What came of one step.
+#[derive(Clone, Copy, Debug, PartialEq, Eq)]
+pub(crate) enum Step {
+    // A message was answered, and the next may be held whole.
+    Answered,
+    // No whole message is held.
+    Waits,
+    // The last reply is owed, or was written.
+    Closed,
+    // There was no memory for a reply.
+    Broke,
+}
+
+// How many messages were answered behind this step.
+fn count_after(count: u64, step: Step) -> u64 {
+    match step {
+        Step::Answered => count.saturating_add(1),
+        Step::Waits | Step::Closed | Step::Broke => count,
+    }
+}
+
+// Why a conversation ended whose input ended with these bytes behind the last message.
+fn end_cause(rest: &[u8]) -> Cause
+    ensures { result ≡ end_cause rest.now }
+{
+    if is_blank(rest) {
+        Cause::EndOfInput
+    } else {
+        Cause::Truncated
+    }
+}
+
+// Answers the message that stands first, or rejects what does.
+fn answer_next<W: Write, C: Clock, B: Book>(
+    alloc: Global,
+    router: &Router<Route>,
+    buffer: &mut Buffer,
+    writer: &mut W,
+    clock: &mut C,
+    book: &mut B,
+) -> Step
+    requires { router.now ≡ the_rows }
+    ensures { AnswersNext (W.contents writer.old) (W.contents writer.new)
+        (point (C.tells clock.old) (B.state book.old))
+        (point (C.tells clock.new) (B.state book.new))
+        (bytes_held buffer.old) (bytes_held buffer.new) result }
+{
+    match first(buffer.as_slice()) {
+        Next::Message(parts) => {
+            let bytes = buffer.as_slice();
+            if let Err(_) = answer(alloc, router, bytes, parts, writer, clock, book) {
+                return Step::Broke;
+            }
+            if parts.is_last {
+                return Step::Closed;
+            }
+            buffer.take(parts.end);
+            Step::Answered
+        }
+        Next::Rejected(rejection, head_alone) => match reject(writer, rejection, head_alone) {
+            Ok(_) => Step::Closed,
+            Err(_) => Step::Broke,
+        },
+        Next::Unfinished => Step::Waits,
+    }
+}

@@ -1,0 +1,86 @@
+//! What is still to be written to a client.
+ghost use Rattle.std.specs.Prelude.{◌≡◌, ℕ, ◌<◌, ◌≤◌, OnErr};
+ghost use Rattle.std.specs.Prelude.{List, [], ◌++◌, length, drop, vec_len};
+ghost use Rattle.std.specs.Io.KnownBytes.{Appends};
+
+use crate::buffer::is_not_now;
+use crate::reply::WriteFault;
+use std::alloc::Global;
+use std::io::Write;
+
+// Bytes that are to be written, in order. As a writer it keeps what is written to it, and fails
+// where there is no memory.
+#[derive(Drop)]
+pub(crate) struct Owed {
+    bytes: Vec<u8>,
+    sent: usize,
+    ghost fits: { sent ≤ vec_len bytes },
+}
+
+impl Owed {
+    ghost use Rattle.canary_wire.specs.Owing.{bytes_owed};
+
+    // Nothing.
+    pub(crate) fn new(alloc: Global) -> Owed
+        ensures { bytes_owed result ≡ [] }
+    {
+        Owed {
+            bytes: Vec::new(alloc),
+            sent: 0,
+        }
+    }
+
+    // What is still to be written.
+    pub(crate) fn as_slice(&self) -> &[u8]
+        ensures { result.now ≡ bytes_owed self.now }
+    {
+        &self.bytes[self.sent..]
+    }
+
+    // Writes once, if there is something: some of it, or nothing where the writer would block.
+    pub(crate) fn write_to<W: Write>(&mut self, writer: &mut W) -> Result<(), WriteFault>
+        ensures sent { (put : List ℕ) × (bytes_owed self.old ≡ put ++ bytes_owed self.new)
+            × Appends (W.contents writer.old) (W.contents writer.new) put }
+        ensures fault { OnErr result (0 < length (bytes_owed self.new)) }
+    {
+        if self.as_slice().is_empty() {
+            return Ok(());
+        }
+        match writer.write(self.as_slice()) {
+            Ok(0) => Err(WriteFault),
+            Ok(n) => {
+                self.go_on(n);
+                Ok(())
+            }
+            Err(error) if is_not_now(error.kind()) => Ok(()),
+            Err(_) => Err(WriteFault),
+        }
+    }
+
+    // So many more were written.
+    fn go_on(&mut self, n: usize)
+        requires { n ≤ length (bytes_owed self.old) }
+        ensures { bytes_owed self.new ≡ drop n (bytes_owed self.old) }
+    {
+        self.sent += n;
+        if self.sent == self.bytes.len() {
+            self.bytes.clear();
+            self.sent = 0;
+        }
+    }
+}
+
+impl Write for Owed {
+    ghost use Rattle.std.specs.Prelude.{Some};
+    ghost use Rattle.canary_wire.specs.Owing.{bytes_owed};
+
+    ghost contents = { λ o. Some (bytes_owed o) };
+
+    fn write(&mut self, buf: &[u8]) -> std::io::Result<usize> {
+        self.bytes.write(buf)
+    }
+
+    fn flush(&mut self) -> std::io::Result<()> {
+        Ok(())
+    }
+}
