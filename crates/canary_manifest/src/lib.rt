@@ -6,6 +6,6 @@
 #![tactic(auto)]
 
 pub mod command;
-mod member;
-mod rollout;
-mod template;
+pub mod member;
+pub mod rollout;
+pub mod template;

@@ -1,6 +1,7 @@
 //! The members of a manifest, and what they hold.
 //!
-//! A null member is as if absent, and a member that is not asked for is passed over.
+//! A null member is as if absent, and a member that is not asked for is passed over. These are the
+//! readers of the members alone, for whoever tells which of them is not read.
 ghost use Rattle.std.specs.Prelude.{◌≡◌, ◌<◌, ◌^◌, ◌==◌, IsTrue, option_map};
 ghost use Rattle.std.specs.Option.{SomeIff};
 ghost use Rattle.std.specs.Str.Parse.{digits_value};
@@ -27,8 +28,8 @@ const GREATEST_LIMIT: u32 = 1_000_000;
 // The longest pause, in seconds.
 const LONGEST_PAUSE: u32 = 31_536_000;
 
-// The member of that key, where it is there and not null.
-pub(crate) fn member_of<'a>(value: &'a Value, key: &str) -> Option<&'a Value>
+/// The member of that key, where it is there and not null.
+pub fn member_of<'a>(value: &'a Value, key: &str) -> Option<&'a Value>
     ensures { option_map (λ member. view member.now) result ≡ member_of key.now (view value.now) }
 {
     match value.get(key) {
@@ -77,8 +78,9 @@ fn count_up_to(value: &Value, greatest: u32) -> Option<u32>
     }
 }
 
-// The limit under that key, or this where it is absent.
-pub(crate) fn limit_at(value: &Value, key: &str, absent: u32) -> Option<u32>
+/// The limit under that key, or this where it is absent: a whole number or a text of digits, up to
+/// 1,000,000.
+pub fn limit_at(value: &Value, key: &str, absent: u32) -> Option<u32>
     ensures { result ≡ in_member_or key.now absent limit_in (view value.now) }
 {
     match member_of(value, key) {
@@ -87,8 +89,8 @@ pub(crate) fn limit_at(value: &Value, key: &str, absent: u32) -> Option<u32>
     }
 }
 
-// The count under that key, if there is one; 0 is as if absent.
-pub(crate) fn count_at(value: &Value, key: &str) -> Option<Option<u32>>
+/// The count under that key, if there is one: as a limit, where 0 is as if absent.
+pub fn count_at(value: &Value, key: &str) -> Option<Option<u32>>
     ensures { result ≡ in_member_or key.now None count_in (view value.now) }
 {
     let Some(count) = member_of(value, key) else {
@@ -98,12 +100,12 @@ pub(crate) fn count_at(value: &Value, key: &str) -> Option<Option<u32>>
     Some(if count == 0 { None } else { Some(count) })
 }
 
-// The condition under that key, if there is one; an empty one is as if absent.
-pub(crate) fn condition_at(
-    alloc: Global,
-    value: &Value,
-    key: &str,
-) -> Result<Option<Text>, FormFault>
+/// The condition under that key, if there is one; an empty one is as if absent. Whether it has a
+/// reading is not looked at.
+///
+/// # Errors
+/// `Unreadable` where it is no text; `Memory`.
+pub fn condition_at(alloc: Global, value: &Value, key: &str) -> Result<Option<Text>, FormFault>
     ensures { IsRead (in_member_or key.now None condition_in (view value.now)) result }
 {
     match member_of(value, key) {
@@ -122,8 +124,9 @@ fn condition_in(alloc: Global, value: &Value) -> Result<Option<Text>, FormFault>
     }
 }
 
-// The duration under that key, if there is one; an empty text is as if absent.
-pub(crate) fn duration_at(value: &Value, key: &str) -> Option<Option<Seconds>>
+/// The duration under that key, if there is one: a text such as `1h30m`; an empty one is as if
+/// absent.
+pub fn duration_at(value: &Value, key: &str) -> Option<Option<Seconds>>
     ensures { result ≡ in_member_or key.now None duration_in (view value.now) }
 {
     match member_of(value, key) {
@@ -142,8 +145,8 @@ fn duration_in(value: &Value) -> Option<Option<Seconds>>
     Some(Some(Seconds::read(text)?))
 }
 
-// The same, where what is absent is 0.
-pub(crate) fn delay_at(value: &Value, key: &str) -> Option<Seconds>
+/// The same, where what is absent is 0.
+pub fn delay_at(value: &Value, key: &str) -> Option<Seconds>
     ensures { result ≡ in_member_or key.now 0 delay_in (view value.now) }
 {
     match duration_at(value, key)? {
@@ -152,8 +155,8 @@ pub(crate) fn delay_at(value: &Value, key: &str) -> Option<Seconds>
     }
 }
 
-// How long a pause is: the text of a duration, or seconds as a whole number or a text of digits.
-pub(crate) fn pause_seconds(value: &Value) -> Option<Seconds>
+/// How long a pause is: the text of a duration, or seconds as a whole number or a text of digits.
+pub fn pause_seconds(value: &Value) -> Option<Seconds>
     ensures { result ≡ pause_seconds (view value.now) }
 {
     match count_up_to(value, LONGEST_PAUSE) {
@@ -162,8 +165,11 @@ pub(crate) fn pause_seconds(value: &Value) -> Option<Seconds>
     }
 }
 
-// A text of 1 to 63 bytes.
-pub(crate) fn short_text(alloc: Global, value: &Value) -> Result<Text, FormFault>
+/// A text of 1 to 63 bytes.
+///
+/// # Errors
+/// `Unreadable` where it is none; `Memory`.
+pub fn short_text(alloc: Global, value: &Value) -> Result<Text, FormFault>
     ensures { IsRead (short_text (view value.now)) result }
 {
     match value.as_str() {
@@ -174,15 +180,15 @@ pub(crate) fn short_text(alloc: Global, value: &Value) -> Result<Text, FormFault
     }
 }
 
-// Whether it is `true`.
-pub(crate) fn is_true(value: &Value) -> bool
+/// Whether it is `true`.
+pub fn is_true(value: &Value) -> bool
     ensures { result ≡ is_true (view value.now) }
 {
     value.as_bool().unwrap_or(false)
 }
 
-// Whether it is anything but that text.
-pub(crate) fn is_other_text(value: &Value, text: &str) -> bool
+/// Whether it is anything but that text.
+pub fn is_other_text(value: &Value, text: &str) -> bool
     ensures { result ≡ is_other_text text.now (view value.now) }
 {
     match value.as_str() {
@@ -191,9 +197,9 @@ pub(crate) fn is_other_text(value: &Value, text: &str) -> bool
     }
 }
 
-// Whether it is anything but an empty list.
+/// Whether it is anything but an empty list.
 #[tactic(auto, using(crate::proofs::Items::items_len_view))]
-pub(crate) fn is_no_empty_list(value: &Value) -> bool
+pub fn is_no_empty_list(value: &Value) -> bool
     ensures { result ≡ is_no_empty_list (view value.now) }
 {
     match value.as_array() {
@@ -224,8 +230,8 @@ fn are_zeros(text: &[u8]) -> bool
     text.iter().all(|digit| *digit == b'0')
 }
 
-// Whether it is a whole number below 0, or a text of one.
-pub(crate) fn is_negative(value: &Value) -> bool
+/// Whether it is a whole number below 0, or a text of one.
+pub fn is_negative(value: &Value) -> bool
     ensures { result ≡ is_negative (view value.now) }
 {
     match value {

@@ -55,8 +55,8 @@ pub(crate) fn rollout_background(
     canary_background(alloc, canary)
 }
 
-// The canary strategy of a manifest.
-fn canary_of(manifest: &Value) -> Option<&Value>
+/// The canary strategy of a manifest.
+pub fn canary_of(manifest: &Value) -> Option<&Value>
     ensures { option_map (λ canary. view canary.now) result
         ≡ in_canary (λ canary. Some canary) (view manifest.now) }
 {
@@ -98,8 +98,13 @@ fn steps_in(alloc: Global, list: &Vec<Value>) -> Result<Listed<Step>, FormFault>
     Ok(Listed::of(steps))
 }
 
+/// The step that it is.
+///
+/// # Errors
+/// `Unreadable` where it has none or several of `setWeight`, `pause` and `analysis`, or the one that
+/// it has is not read; `Memory`.
 #[tactic(auto, unfolding(crate::specs::Rollouts::step_in))]
-fn step_in(alloc: Global, step: &Value) -> Result<Step, FormFault>
+pub fn step_in(alloc: Global, step: &Value) -> Result<Step, FormFault>
     ensures { IsRead (step_in (view step.now)) result }
 {
     match (
@@ -120,8 +125,8 @@ fn step_in(alloc: Global, step: &Value) -> Result<Step, FormFault>
     }
 }
 
-// How long a pause is, if it says so.
-fn pause_in(pause: &Value) -> Option<Option<Seconds>>
+/// How long a pause is, if it says so.
+pub fn pause_in(pause: &Value) -> Option<Option<Seconds>>
     ensures { result ≡ pause_in (view pause.now) }
 {
     if !pause.is_object() {
@@ -157,7 +162,8 @@ fn template_names(alloc: Global, list: &Vec<Value>) -> Result<Listed<Name>, Form
     Ok(Listed::of(names))
 }
 
-fn template_name(template: &Value) -> Option<Name>
+/// The name of a template: the `templateName` of an item of an analysis's `templates`.
+pub fn template_name(template: &Value) -> Option<Name>
     ensures { result ≡ in_member (codes "templateName") name_in (view template.now) }
 {
     name_in(member_of(template, "templateName")?)
@@ -175,9 +181,12 @@ fn canary_background(alloc: Global, canary: &Value) -> Result<Option<Background>
     }
 }
 
-// The analysis beside the steps.
+/// The analysis beside the steps.
+///
+/// # Errors
+/// `Unreadable` where its templates or its `startingStep` are not read; `Memory`.
 #[tactic(auto, unfolding(crate::specs::Rollouts::background_in))]
-fn background_in(alloc: Global, analysis: &Value) -> Result<Background, FormFault>
+pub fn background_in(alloc: Global, analysis: &Value) -> Result<Background, FormFault>
     ensures { IsRead (background_in (view analysis.now)) result }
 {
     let templates = templates_in(alloc, analysis)?;
@@ -188,8 +197,8 @@ fn background_in(alloc: Global, analysis: &Value) -> Result<Background, FormFaul
     })
 }
 
-// The step from which on the analysis runs; the first where it does not say so.
-fn starting_step_in(analysis: &Value) -> Option<u32>
+/// The step from which on the analysis runs, 0 to 64; the first where it does not say so.
+pub fn starting_step_in(analysis: &Value) -> Option<u32>
     ensures { result
         ≡ in_member_or (codes "startingStep") 0 (number_up_to 64) (view analysis.now) }
 {
@@ -279,7 +288,8 @@ fn is_any_other(members: &Map<String, Value>) -> bool
     false
 }
 
-fn is_step_key(key: &str) -> bool
+/// Whether a step has a member of that key: `setWeight`, `pause` or `analysis`.
+pub fn is_step_key(key: &str) -> bool
     ensures { result ≡ is_step_key key.now }
 {
     key == "setWeight" || key == "pause" || key == "analysis"
@@ -314,7 +324,8 @@ fn is_any_of_the_cluster(list: &Vec<Value>) -> bool
     false
 }
 
-fn is_of_the_cluster(template: &Value) -> bool
+/// Whether it is a template of the cluster: its `clusterScope` is true.
+pub fn is_of_the_cluster(template: &Value) -> bool
     ensures { result ≡ has (codes "clusterScope") is_true (view template.now) }
 {
     member_of(template, "clusterScope").is_some_and(is_true)

@@ -116,7 +116,12 @@ fn dry_run_in(alloc: Global, list: &Vec<Value>) -> Result<Listed<Text>, FormFaul
     Ok(Listed::of(names))
 }
 
-fn dry_run_name(alloc: Global, value: &Value) -> Result<Text, FormFault>
+/// The name of a metric that is measured without counting, or `.*` for all: the `metricName` of an
+/// item of `dryRun`.
+///
+/// # Errors
+/// `Unreadable` where it is no text of 1 to 63 bytes; `Memory`.
+pub fn dry_run_name(alloc: Global, value: &Value) -> Result<Text, FormFault>
     ensures { IsRead (dry_run_name (view value.now)) result }
 {
     let name = member_of(value, "metricName").ok_or(FormFault::Unreadable)?;

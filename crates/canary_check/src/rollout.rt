@@ -1,0 +1,87 @@
+//! What is found in a Rollout.
+use crate::lines::{Lines, Place};
+use crate::step::{tell_background, tell_step};
+use crate::template::tell_name;
+use canary_base::error::Memory;
+use canary_manifest::member::{is_true, member_of};
+use canary_manifest::rollout::canary_of;
+use canary_plan::strategy::MOST_STEPS;
+use serde_json::Value;
+use std::alloc::Global;
+
+const CANARY: &str = "spec.strategy.canary";
+
+const STEPS: &str = "a list of at most 64 steps";
+
+/// Adds what is found in a Rollout, or `Memory`. Which templates a desk has is not looked at.
+pub(crate) fn tell_rollout(
+    alloc: Global,
+    lines: &mut Lines,
+    manifest: &Value,
+) -> Result<(), Memory> {
+    tell_name(alloc, lines, manifest)?;
+    if let Some(spec) = member_of(manifest, "spec") {
+        tell_unsupported(alloc, lines, spec)?;
+    }
+    match canary_of(manifest) {
+        Some(canary) if canary.is_object() => tell_canary(alloc, lines, canary),
+        _ => lines.tell(&Place::root(alloc), CANARY, "an object"),
+    }
+}
+
+fn tell_unsupported(alloc: Global, lines: &mut Lines, spec: &Value) -> Result<(), Memory> {
+    let place = Place::at(alloc, "spec")?;
+    if member_of(spec, "paused").is_some_and(is_true) {
+        lines.tell(&place, "paused", "false or none (true is unsupported)")?;
+    }
+    let blue_green = member_of(spec, "strategy").and_then(|s| member_of(s, "blueGreen"));
+    if blue_green.is_some() {
+        lines.tell(
+            &place,
+            "strategy.blueGreen",
+            "no such member, which is unsupported",
+        )?;
+    }
+    Ok(())
+}
+
+fn tell_canary(alloc: Global, lines: &mut Lines, canary: &Value) -> Result<(), Memory> {
+    let place = Place::at(alloc, CANARY)?;
+    if let Some(steps) = member_of(canary, "steps") {
+        tell_steps(alloc, lines, &place, steps)?;
+    }
+    match member_of(canary, "analysis") {
+        Some(analysis) => {
+            tell_background(alloc, lines, &place.member(alloc, "analysis")?, analysis)
+        }
+        None => Ok(()),
+    }
+}
+
+fn tell_steps(
+    alloc: Global,
+    lines: &mut Lines,
+    place: &Place,
+    steps: &Value,
+) -> Result<(), Memory> {
+    match steps.as_array() {
+        Some(list) => tell_listed_steps(alloc, lines, place, list),
+        None => lines.tell(place, "steps", STEPS),
+    }
+}
+
+fn tell_listed_steps(
+    alloc: Global,
+    lines: &mut Lines,
+    place: &Place,
+    list: &Vec<Value>,
+) -> Result<(), Memory> {
+    if list.len() > MOST_STEPS {
+        lines.tell(place, "steps", STEPS)?;
+    }
+    for (index, step) in list.iter().enumerate() {
+        let place = place.item(alloc, "steps", index)?;
+        tell_step(alloc, lines, &place, step)?;
+    }
+    Ok(())
+}

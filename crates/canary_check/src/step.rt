@@ -1,0 +1,185 @@
+//! What is found in a step of a Rollout, and in an analysis.
+use crate::lines::{Lines, Place};
+use crate::template::tell_if_filled;
+use crate::trial::{refusal_of_background, refusal_of_step};
+use canary_base::error::Memory;
+use canary_base::names::Label;
+use canary_canonical::form::FormFault;
+use canary_manifest::member::member_of;
+use canary_manifest::rollout::{
+    background_in, is_of_the_cluster, is_step_key, starting_step_in, step_in, template_name,
+};
+use canary_plan::refusal::Refusal;
+use canary_plan::step::Step;
+use serde_json::{Map, Value};
+use std::alloc::Global;
+
+const WEIGHT: &str = "a whole number, 0 to 100";
+
+const TEMPLATES: &str = "a list of 1 to 8 objects with templateName";
+
+const FORM: &str = "exactly one of setWeight, pause and analysis";
+
+const OTHER: &str = "no member but setWeight, pause or analysis: others are unsupported";
+
+const PAUSE: &str = "90s or 1h30m, or seconds as a number or a text of digits, 31,536,000 at most";
+
+const NAME: &str = "1 to 63 bytes of a-z 0-9 -, the first and the last no -";
+
+/// Adds what is found in a step, or `Memory`.
+pub(crate) fn tell_step(
+    alloc: Global,
+    lines: &mut Lines,
+    place: &Place,
+    step: &Value,
+) -> Result<(), Memory> {
+    if tell_other_members(lines, place, step)? {
+        return Ok(());
+    }
+    if let Some(analysis) = member_of(step, "analysis") {
+        tell_analysis(alloc, lines, &place.member(alloc, "analysis")?, analysis)?;
+    }
+    match step_in(alloc, step) {
+        Ok(step) => tell_refusal_of_step(alloc, lines, place, step),
+        Err(FormFault::Unreadable) => tell_form(lines, place, step),
+        Err(FormFault::Memory) => Err(Memory),
+    }
+}
+
+// Adds each member that no step of the desk has, and answers whether there is one.
+fn tell_other_members(lines: &mut Lines, place: &Place, step: &Value) -> Result<bool, Memory> {
+    match step.as_object() {
+        Some(members) => tell_others(lines, place, members),
+        None => Ok(false),
+    }
+}
+
+fn tell_others(
+    lines: &mut Lines,
+    place: &Place,
+    members: &Map<String, Value>,
+) -> Result<bool, Memory> {
+    let mut is_told = false;
+    for (key, value) in members.iter() {
+        if !is_step_key(key.as_str()) && !value.is_null() {
+            lines.tell(place, key_shown(key.as_str()), OTHER)?;
+            is_told = true;
+        }
+    }
+    Ok(is_told)
+}
+
+// The key where it is a plain word, else nothing.
+fn key_shown(key: &str) -> &str {
+    match Label::read(key.as_bytes()) {
+        Some(_) => key,
+        None => "",
+    }
+}
+
+// Adds why a step is none, but for what its analysis holds.
+fn tell_form(lines: &mut Lines, place: &Place, step: &Value) -> Result<(), Memory> {
+    match (
+        member_of(step, "setWeight"),
+        member_of(step, "pause"),
+        member_of(step, "analysis"),
+    ) {
+        (Some(_), None, None) => lines.tell(place, "setWeight", WEIGHT),
+        (None, Some(pause), None) => tell_pause(lines, place, pause),
+        (None, None, Some(_)) => Ok(()),
+        _ => lines.tell(place, "", FORM),
+    }
+}
+
+fn tell_pause(lines: &mut Lines, place: &Place, pause: &Value) -> Result<(), Memory> {
+    if pause.is_object() {
+        lines.tell(place, "pause.duration", PAUSE)
+    } else {
+        lines.tell(place, "pause", "an object, with or without a duration")
+    }
+}
+
+fn tell_refusal_of_step(
+    alloc: Global,
+    lines: &mut Lines,
+    place: &Place,
+    step: Step,
+) -> Result<(), Memory> {
+    let is_weight = matches!(&step, Step::SetWeight(_));
+    match refusal_of_step(alloc, step)? {
+        None => Ok(()),
+        Some(_) if is_weight => lines.tell(place, "setWeight", WEIGHT),
+        Some(refusal) => tell_refusal(lines, place, "analysis.templates", refusal),
+    }
+}
+
+fn tell_refusal(
+    lines: &mut Lines,
+    place: &Place,
+    key: &str,
+    refusal: Refusal,
+) -> Result<(), Memory> {
+    match refusal {
+        Refusal::DuplicateMetric => lines.tell(place, key, "each template once"),
+        _ => lines.tell(place, key, TEMPLATES),
+    }
+}
+
+/// Adds what is found in the analysis beside the steps, or `Memory`.
+pub(crate) fn tell_background(
+    alloc: Global,
+    lines: &mut Lines,
+    place: &Place,
+    analysis: &Value,
+) -> Result<(), Memory> {
+    tell_analysis(alloc, lines, place, analysis)?;
+    if starting_step_in(analysis).is_none() {
+        lines.tell(place, "startingStep", "a whole number, 0 to 64")?;
+    }
+    match background_in(alloc, analysis) {
+        Ok(background) => match refusal_of_background(alloc, background)? {
+            Some(refusal) => tell_refusal(lines, place, "templates", refusal),
+            None => Ok(()),
+        },
+        Err(FormFault::Unreadable) => Ok(()),
+        Err(FormFault::Memory) => Err(Memory),
+    }
+}
+
+// Adds what is found in an analysis, but for the number of its templates.
+fn tell_analysis(
+    alloc: Global,
+    lines: &mut Lines,
+    place: &Place,
+    analysis: &Value,
+) -> Result<(), Memory> {
+    tell_if_filled(lines, place, analysis, "dryRun")?;
+    tell_if_filled(lines, place, analysis, "measurementRetention")?;
+    match member_of(analysis, "templates").and_then(|templates| templates.as_array()) {
+        Some(list) => tell_templates(alloc, lines, place, list),
+        None => lines.tell(place, "templates", TEMPLATES),
+    }
+}
+
+fn tell_templates(
+    alloc: Global,
+    lines: &mut Lines,
+    place: &Place,
+    list: &Vec<Value>,
+) -> Result<(), Memory> {
+    for (index, template) in list.iter().enumerate() {
+        let place = place.item(alloc, "templates", index)?;
+        tell_named_template(lines, &place, template)?;
+    }
+    Ok(())
+}
+
+fn tell_named_template(lines: &mut Lines, place: &Place, template: &Value) -> Result<(), Memory> {
+    if is_of_the_cluster(template) {
+        lines.tell(place, "clusterScope", "false or none (true is unsupported)")?;
+    }
+    if template_name(template).is_none() {
+        lines.tell(place, "templateName", NAME)?;
+    }
+    Ok(())
+}

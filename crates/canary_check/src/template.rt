@@ -1,0 +1,166 @@
+//! What is found in an AnalysisTemplate.
+use crate::lines::{Lines, Place};
+use crate::metric::{metric_name, tell_metric};
+use crate::trial::refusal_of_names;
+use canary_base::error::Memory;
+use canary_base::lists::{Listed, Text};
+use canary_base::names::Label;
+use canary_canonical::form::{FormFault, name_in};
+use canary_manifest::member::{is_no_empty_list, member_of};
+use canary_manifest::template::dry_run_name;
+use canary_plan::analysis::{LEAST_METRICS, MOST_METRICS};
+use canary_plan::refusal::Refusal;
+use serde_json::Value;
+use std::alloc::Global;
+
+const METRICS: &str = "a list of 1 to 32 metrics";
+
+const DRY_RUN: &str = "the name of a metric of the template, or .* for all";
+
+/// Adds what is found in an AnalysisTemplate, or `Memory`.
+pub(crate) fn tell_template(
+    alloc: Global,
+    lines: &mut Lines,
+    manifest: &Value,
+) -> Result<(), Memory> {
+    tell_name(alloc, lines, manifest)?;
+    match member_of(manifest, "spec") {
+        Some(spec) => tell_spec(alloc, lines, spec),
+        None => lines.tell(&Place::root(alloc), "spec.metrics", METRICS),
+    }
+}
+
+/// Adds that a manifest has no name, or `Memory`.
+pub(crate) fn tell_name(alloc: Global, lines: &mut Lines, manifest: &Value) -> Result<(), Memory> {
+    let name = member_of(manifest, "metadata").and_then(|metadata| member_of(metadata, "name"));
+    if name.and_then(name_in).is_some() {
+        return Ok(());
+    }
+    let what = "1 to 63 bytes of a-z 0-9 -, the first and the last no -";
+    lines.tell(&Place::root(alloc), "metadata.name", what)
+}
+
+fn tell_spec(alloc: Global, lines: &mut Lines, spec: &Value) -> Result<(), Memory> {
+    let place = Place::at(alloc, "spec")?;
+    tell_if_filled(lines, &place, spec, "templates")?;
+    tell_if_filled(lines, &place, spec, "measurementRetention")?;
+    match member_of(spec, "metrics").and_then(|metrics| metrics.as_array()) {
+        Some(list) => tell_metrics(alloc, lines, &place, spec, list),
+        None => lines.tell(&place, "metrics", METRICS),
+    }
+}
+
+/// Adds that a list which is to be empty or absent is neither, or `Memory`.
+pub(crate) fn tell_if_filled(
+    lines: &mut Lines,
+    place: &Place,
+    value: &Value,
+    key: &str,
+) -> Result<(), Memory> {
+    if member_of(value, key).is_some_and(is_no_empty_list) {
+        lines.tell(place, key, "none or an empty list (others are unsupported)")?;
+    }
+    Ok(())
+}
+
+fn tell_metrics(
+    alloc: Global,
+    lines: &mut Lines,
+    place: &Place,
+    spec: &Value,
+    list: &Vec<Value>,
+) -> Result<(), Memory> {
+    if list.len() < LEAST_METRICS || list.len() > MOST_METRICS {
+        lines.tell(place, "metrics", METRICS)?;
+    }
+    let mut names = Vec::new(alloc);
+    for (index, metric) in list.iter().enumerate() {
+        let place = metric_place(alloc, place, index, metric)?;
+        tell_metric(alloc, lines, &place, metric)?;
+        names = with_name(alloc, lines, &place, names, metric)?;
+    }
+    tell_dry_run(alloc, lines, place, spec, names.as_slice())
+}
+
+fn metric_place(
+    alloc: Global,
+    place: &Place,
+    index: usize,
+    metric: &Value,
+) -> Result<Place, Memory> {
+    let place = place.item(alloc, "metrics", index)?;
+    match metric_name(metric) {
+        Some(name) => place.of_metric(alloc, name.as_str()),
+        None => Ok(place),
+    }
+}
+
+// The names with that of a metric behind them, unless it is one of them, which is told.
+fn with_name(
+    alloc: Global,
+    lines: &mut Lines,
+    place: &Place,
+    mut names: Vec<Label>,
+    metric: &Value,
+) -> Result<Vec<Label>, Memory> {
+    let Some(name) = metric_name(metric) else {
+        return Ok(names);
+    };
+    names.push(name)?;
+    let refusal = refusal_of_names(alloc, names.as_slice(), Listed::of(Vec::new(alloc)))?;
+    if matches!(refusal, Some(Refusal::DuplicateMetric)) {
+        lines.tell(place, "name", "a name that no metric before it has")?;
+        names.pop();
+    }
+    if names.len() > MOST_METRICS {
+        names.pop();
+    }
+    Ok(names)
+}
+
+fn tell_dry_run(
+    alloc: Global,
+    lines: &mut Lines,
+    place: &Place,
+    spec: &Value,
+    names: &[Label],
+) -> Result<(), Memory> {
+    let Some(marked) = member_of(spec, "dryRun") else {
+        return Ok(());
+    };
+    match marked.as_array() {
+        Some(list) => tell_marks(alloc, lines, place, list, names),
+        None => lines.tell(place, "dryRun", "a list of objects with metricName"),
+    }
+}
+
+fn tell_marks(
+    alloc: Global,
+    lines: &mut Lines,
+    place: &Place,
+    list: &Vec<Value>,
+    names: &[Label],
+) -> Result<(), Memory> {
+    for (index, item) in list.iter().enumerate() {
+        if !is_mark(alloc, item, names)? {
+            let place = place.item(alloc, "dryRun", index)?;
+            lines.tell(&place, "metricName", DRY_RUN)?;
+        }
+    }
+    Ok(())
+}
+
+// Whether it marks one of these metrics, or all.
+fn is_mark(alloc: Global, item: &Value, names: &[Label]) -> Result<bool, Memory> {
+    match dry_run_name(alloc, item) {
+        Ok(name) => is_known(alloc, name, names),
+        Err(FormFault::Unreadable) => Ok(false),
+        Err(FormFault::Memory) => Err(Memory),
+    }
+}
+
+fn is_known(alloc: Global, name: Text, names: &[Label]) -> Result<bool, Memory> {
+    let dry_run = Listed::of(vec![in alloc; name]?);
+    let refusal = refusal_of_names(alloc, names, dry_run)?;
+    Ok(refusal.is_none())
+}
