@@ -1,0 +1,124 @@
+-- Clients come, have turns and go, one after another.
+use Rattle.std.proofs.Common.{◌≡◌, ◌≢◌, ℕ, ◌+◌, ◌<◌, ◌≤◌, inl, inr, List, [], ◌∷◌, ◌++◌, refl, sym, ap, ◌∙◌, subst, arith}
+use Rattle.std.specs.Prelude.{Option, None, Some}
+use Rattle.std.specs.List.{AllByRecursion}
+use Rattle.std.proofs.lemmas.List.{append-nil, append_assoc}
+use Rattle.std.proofs.lemmas.Grind.{flat_map-append}
+use Rattle.std.proofs.lemmas.Bool.{cases_lt}
+use Rattle.std.proofs.lemmas.Bool.Decides.{eqb_tells}
+use Rattle.canary_wire.specs.Conversing.{Talk, begun, so_far, KeepsOrder}
+use Rattle.canary_wire.specs.Crowds.{Turn, Crowd, all_held, IsCrowd, IsNew, Becomes, Comes, HasTurn, Goes}
+use Rattle.canary_wire.specs.Exchanges.{Exchange, Point, Went, Holds}
+use Rattle.canary_listen.specs.Attending.{Attendance, attendance, nobody, IsServed, Keeps, Attends, IsTurn, Serves}
+
+-- ---- nothing, and one after another
+
+pub keeps_same : (a b : Attendance) → a ≡ b → Keeps a b
+keeps_same a b e turns s = subst (λ (x : Attendance). IsServed turns x) e s
+
+pub keeps_then : (a b c : Attendance) → Keeps a b → Keeps b c → Keeps a c
+keeps_then a b c x y turns s = y turns (x turns s)
+
+pub attends_kept : (p : Point) (a b : Attendance) → Went p p [] → Keeps a b → Attends p p a b
+attends_kept p a b none k = record {
+  turns = [];
+  went = none;
+  keeps = λ before s. subst (λ (t : List Turn). IsServed t b) (sym (append-nil before)) (k before s);
+}
+
+pub attends_and_keeps : (p q : Point) (a b c : Attendance) → Attends p q a b → Keeps b c → Attends p q a c
+attends_and_keeps p q a b c x k = record {
+  turns = x.turns;
+  went = x.went;
+  keeps = λ before s. k (before ++ x.turns) (x.keeps before s);
+}
+
+pub keeps_and_attends : (p q : Point) (a b c : Attendance) → Keeps a b → Attends p q b c → Attends p q a c
+keeps_and_attends p q a b c k x = record {
+  turns = x.turns;
+  went = x.went;
+  keeps = λ before s. x.keeps before (k before s);
+}
+
+-- what was held on two stretches was held on both together
+abbrev pub GoOn : Point → Point → Point → Type 0
+GoOn p q r = (xs ys : List Exchange) → Went p q xs → Went q r ys → Went p r (xs ++ ys)
+
+pub attends_then : (p q r : Point) (a b c : Attendance) → GoOn p q r → Attends p q a b → Attends q r b c → Attends p r a c
+attends_then p q r a b c on x y = record {
+  turns = x.turns ++ y.turns;
+  went = subst (Went p r) (sym (flat_map-append (λ (t : Turn). t.held) x.turns y.turns)) (on (all_held x.turns) (all_held y.turns) x.went y.went);
+  keeps = λ before s. subst (λ (t : List Turn). IsServed t c) (append_assoc before x.turns y.turns) (y.keeps (before ++ x.turns) (x.keeps before s));
+}
+
+-- ---- the whole
+
+served_nobody : IsServed [] nobody
+served_nobody = record {
+  crowd = λ client. (begun, so_far (record { whole = refl; each = tt }) refl, tt);
+  given = tt;
+  free = λ client h. refl;
+}
+
+pub serves_all : (p q : Point) (a b : Attendance) → a ≡ nobody → Attends p q a b → ((xs : List Exchange) → Went p q xs → Holds p q xs) → Serves p q
+serves_all p q a b e x on =
+    let s : IsServed x.turns b = x.keeps [] (subst (λ (t : Attendance). IsServed [] t) (sym e) served_nobody) in
+    record {
+      turns = x.turns;
+      order = λ client. let t = s.crowd client in (t.0, t.1);
+      holds = on (all_held x.turns) x.went;
+    }
+
+-- ---- one client
+
+below_is_new : (turns : List Turn) (n : ℕ) → AllByRecursion (λ (t : Turn). t.client < n) turns → IsNew n turns
+below_is_new [] n h = tt
+below_is_new (t ∷ turns) n h = (λ e. let l : t.client < n = h.0 in omega (arith, e), below_is_new turns n h.1)
+
+below_more : (turns : List Turn) (n : ℕ) → AllByRecursion (λ (t : Turn). t.client < n) turns → AllByRecursion (λ (t : Turn). t.client < n + 1) turns
+below_more [] n h = tt
+below_more (t ∷ turns) n h = (let l : t.client < n = h.0 in omega arith, below_more turns n h.1)
+
+below_one : (turns : List Turn) (one : Turn) (n : ℕ) → one.client < n → AllByRecursion (λ (t : Turn). t.client < n) turns → AllByRecursion (λ (t : Turn). t.client < n) (turns ++ one ∷ [])
+below_one [] one n l h = (l, tt)
+below_one (t ∷ turns) one n l h = (h.0, below_one turns one n l h.1)
+
+pub comes_keeps : Comes → (crowd new : Crowd) (next : ℕ) → Becomes crowd new next (Some begun) → Keeps (attendance crowd next) (attendance new (next + 1))
+comes_keeps law crowd new next becomes turns s = record {
+  crowd = law turns crowd new next s.crowd (below_is_new turns next s.given) becomes;
+  given = below_more turns next s.given;
+  free = λ client h. becomes.others client (λ e. omega (arith, e)) ∙ s.free client (omega arith);
+}
+
+none_or_other : (crowd new : Crowd) (n client : ℕ) → Becomes crowd new n None → crowd client ≡ None → new client ≡ None
+none_or_other crowd new n client becomes e = elim (eqb_tells client n) [
+  | inl h ↦ ap new h.1 ∙ becomes.changed
+  | inr h ↦ becomes.others client h.1 ∙ e
+]
+
+pub goes_keeps : Goes → (crowd new : Crowd) (n next : ℕ) → Becomes crowd new n None → Keeps (attendance crowd next) (attendance new next)
+goes_keeps law crowd new n next becomes turns s = record {
+  crowd = law turns crowd new n s.crowd becomes;
+  given = s.given;
+  free = λ client h. none_or_other crowd new n client becomes (s.free client h);
+}
+
+some_is_none : (o : Option Talk) (t : Talk) → o ≡ Some t → o ≡ None → ⊥
+some_is_none o t e h = cc (e, h)
+
+-- a client that is there has a number that was given
+there_below : (crowd : Crowd) (n next : ℕ) (t : Talk) → ((client : ℕ) → next ≤ client → crowd client ≡ None) → crowd n ≡ Some t → n < next
+there_below crowd n next t free there = elim (cases_lt n next) [ inl h ↦ h | inr h ↦ absurd (some_is_none (crowd n) t there (free n h)) ]
+
+pub turn_attends : HasTurn → (p q : Point) (crowd new : Crowd) (n next : ℕ) (a b : Talk) → crowd n ≡ Some a → IsTurn p q a b → Becomes crowd new n (Some b) → Attends p q (attendance crowd next) (attendance new next)
+turn_attends law p q crowd new n next a b there x becomes =
+    let one : Turn = record { client = n; got = x.got; put = x.put; held = x.held } in
+    record {
+      turns = one ∷ [];
+      went = subst (Went p q) (sym (append-nil x.held)) x.went;
+      keeps = λ before s. record {
+        crowd = law before one crowd new a b s.crowd there x.order becomes;
+        given = below_one before one next (there_below crowd n next a s.free there) s.given;
+        free = λ client h. becomes.others client (λ e. some_is_none (crowd client) a (ap crowd e ∙ there) (s.free client h)) ∙ s.free client h;
+      };
+    }

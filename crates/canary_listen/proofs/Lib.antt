@@ -1,0 +1,2 @@
+pub mod Attended
+pub mod CrowdMaps

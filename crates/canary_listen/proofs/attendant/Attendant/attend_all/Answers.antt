@@ -1,0 +1,18 @@
+use Rattle.canary_wire.specs.Exchanges.{point}
+use Rattle.canary_listen.specs.Crowd.{clients_attendance}
+use Rattle.canary_listen.proofs.Attended.{attends_kept, attends_then}
+use Rattle.canary_listen.proofs.attendant.Attendant.attend_all.Goals as goal
+
+pub events-init : goal.events-init
+events-init g c =
+    let a = clients_attendance c.args.self.now.clients in
+    attends_kept (point (g.C.Clock.tells c.args.clock.now) (g.B.Book.state c.args.book.now)) a a (c.going_on.ensures.none c.args.clock.now c.args.book.now) (λ turns s. s)
+
+pub events-preserved : goal.events-preserved
+events-preserved g c =
+    attends_then (point (g.C.Clock.tells c.args.clock.now) (g.B.Book.state c.args.book.now))
+    (point (g.C.Clock.tells c.events.clock) (g.B.Book.state c.events.book))
+    (point (g.C.Clock.tells c.attend.new.clock) (g.B.Book.state c.attend.new.book))
+    (clients_attendance c.args.self.now.clients) (clients_attendance c.events.self.clients) (clients_attendance c.attend.new.self.clients)
+    (c.going_on.ensures.then c.args.clock.now c.events.clock c.attend.new.clock c.args.book.now c.events.book c.attend.new.book)
+    c.events.invariant c.attend.ensures

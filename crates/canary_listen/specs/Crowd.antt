@@ -1,0 +1,24 @@
+-- The clients of the code as conversations.
+use Rattle.std.specs.Prelude.{ℕ, option_map}
+use Rattle.std.specs.Ordering.{nat_cmp}
+use Rattle.std.specs.BTreeMap.{get}
+use Rattle.canary_wire.specs.Conversing.{Talk}
+use Rattle.canary_wire.specs.Crowds.{Crowd}
+use Rattle.canary_wire.specs.Talks.{talk_of}
+use Rattle.canary_listen.specs.declared.client.Client.{Client}
+use Rattle.canary_listen.specs.declared.clients.Clients.{Clients}
+use Rattle.canary_listen.specs.declared.attendant.Attendant.{Attendant}
+use Rattle.canary_listen.specs.declared.listener.Listener.{Listener}
+use Rattle.canary_listen.specs.Attending.{Attendance, attendance}
+
+abbrev pub client_talk : Client → Talk
+client_talk c = talk_of c.conversation
+
+abbrev pub crowd_of : Clients → Crowd
+crowd_of c = λ client. option_map client_talk (get nat_cmp c.by_number client)
+
+abbrev pub clients_attendance : Clients → Attendance
+clients_attendance c = attendance (crowd_of c) c.next
+
+abbrev pub attendance_of : Listener → Attendance
+attendance_of l = clients_attendance l.attendant.clients

@@ -1,0 +1,3 @@
+pub mod Attending
+pub mod Crowd
+pub mod Moments

@@ -1,0 +1,211 @@
+//! A client: its connection, the conversation with it, and how long it may take.
+ghost use Rattle.std.specs.Prelude.{◌≡◌, IfOk};
+ghost use Rattle.canary_wire.specs.Conversing.{begun};
+ghost use Rattle.canary_wire.specs.Exchanges.{point};
+ghost use Rattle.canary_listen.specs.Attending.{IsTurn};
+ghost use Rattle.canary_listen.specs.Crowd.{client_talk};
+
+use crate::limits::Limits;
+use canary_base::error::Memory;
+use canary_once::book::Book;
+use canary_once::clock::Clock;
+use canary_wire::conversation::{Cause, Conversation, Routes, Wants};
+use mio::net::TcpStream;
+use mio::{Interest, Registry, Token};
+use std::alloc::Global;
+use std::io::{self, ErrorKind, Read};
+use std::net::Shutdown;
+
+// The most bytes that are read of a client behind its last reply: 16 MiB.
+const MOST_DRAINED: usize = 16_777_216;
+
+// How many of them at a time.
+const DRAINED_AT_ONCE: usize = 16_384;
+
+// What a client is waited for.
+#[derive(Clone, Copy, Debug, PartialEq, Eq)]
+enum Awaited {
+    // The first byte of its next message.
+    Message,
+    // The rest of a message.
+    Rest,
+    // To take what it is owed.
+    Reading,
+    // To end its sending side, behind its last reply.
+    Leaving,
+}
+
+// What becomes of a client behind its turn.
+#[derive(Clone, Copy)]
+pub(crate) enum Fate {
+    // It stays, and has its next turn when its connection is ready for this.
+    Stays(Interest),
+    // It goes, and this is why.
+    Goes(Cause),
+}
+
+// A client.
+#[derive(Drop)]
+pub(crate) struct Client {
+    stream: TcpStream,
+    conversation: Conversation,
+    awaited: Awaited,
+    // When it began to be waited for so, or its last message was answered, in seconds.
+    since: u64,
+    // How many of its messages were answered then.
+    answered: u64,
+    // How many bytes were read behind its last reply.
+    drained: usize,
+}
+
+impl Client {
+    // A client that came at this second.
+    pub(crate) fn new(
+        alloc: Global,
+        stream: TcpStream,
+        limits: Limits,
+        now: u64,
+    ) -> Result<Client, Memory>
+        ensures { IfOk result (λ client. client_talk client ≡ begun) }
+    {
+        let most_owed = usize::try_from(limits.owed_bytes).unwrap_or(usize::MAX);
+        let conversation = Conversation::new(alloc, most_owed)?;
+        Ok(Client {
+            stream,
+            conversation,
+            awaited: Awaited::Message,
+            since: now,
+            answered: 0,
+            drained: 0,
+        })
+    }
+
+    // Has its connection reported under this token where it is ready at first.
+    pub(crate) fn register(&mut self, registry: &Registry, token: Token) -> io::Result<()>
+        ensures { client_talk self.new ≡ client_talk self.old }
+    {
+        self.stream.set_nodelay(true)?;
+        registry.register(&mut self.stream, token, Interest::READABLE)
+    }
+
+    // Has it reported once more, also where it is ready already.
+    pub(crate) fn report(
+        &mut self,
+        registry: &Registry,
+        token: Token,
+        interest: Interest,
+    ) -> io::Result<()>
+        ensures { client_talk self.new ≡ client_talk self.old }
+    {
+        registry.reregister(&mut self.stream, token, interest)
+    }
+
+    // Its turn.
+    pub(crate) fn turn<C: Clock, B: Book>(
+        &mut self,
+        alloc: Global,
+        routes: &Routes,
+        clock: &mut C,
+        book: &mut B,
+        now: u64,
+    ) -> Fate
+        ensures { IsTurn (point (C.tells clock.old) (B.state book.old))
+            (point (C.tells clock.new) (B.state book.new))
+            (client_talk self.old) (client_talk self.new) }
+    {
+        let stream = &self.stream;
+        let wants = self
+            .conversation
+            .turn(alloc, routes, &mut &*stream, &mut &*stream, clock, book);
+        self.settle(wants, now)
+    }
+
+    // What becomes of it where its conversation waits for this.
+    fn settle(&mut self, wants: Wants, now: u64) -> Fate
+        ensures { client_talk self.new ≡ client_talk self.old }
+    {
+        match wants {
+            Wants::Read => {
+                let awaited = self.next_awaited();
+                self.wait_for(awaited, now);
+                Fate::Stays(Interest::READABLE)
+            }
+            Wants::Write => {
+                self.wait_for(Awaited::Reading, now);
+                Fate::Stays(Interest::WRITABLE)
+            }
+            Wants::Turn => {
+                self.wait_for(Awaited::Message, now);
+                Fate::Stays(Interest::READABLE | Interest::WRITABLE)
+            }
+            Wants::Rest => self.drain(now),
+            Wants::Nothing(cause) => Fate::Goes(cause),
+        }
+    }
+
+    // What of its input is waited for.
+    fn next_awaited(&self) -> Awaited {
+        if self.conversation.holds() == 0 {
+            Awaited::Message
+        } else {
+            Awaited::Rest
+        }
+    }
+
+    // Notes what it is waited for, from now on where that is new or a message was answered.
+    fn wait_for(&mut self, awaited: Awaited, now: u64)
+        ensures { client_talk self.new ≡ client_talk self.old }
+    {
+        let answered = self.conversation.answered();
+        if self.awaited != awaited || self.answered != answered {
+            self.awaited = awaited;
+            self.answered = answered;
+            self.since = now;
+        }
+    }
+
+    // Its last reply was written: its connection is ended on this side, and what it still sends is
+    // read and thrown away for a while. If it were closed at once, the system would answer what is
+    // still sent with a reset, and the reply could be lost.
+    fn drain(&mut self, now: u64) -> Fate
+        ensures { client_talk self.new ≡ client_talk self.old }
+    {
+        if self.awaited != Awaited::Leaving {
+            let _ = self.stream.shutdown(Shutdown::Write);
+            self.wait_for(Awaited::Leaving, now);
+        }
+        let mut bytes = [0u8; DRAINED_AT_ONCE];
+        match self.stream.read(&mut bytes) {
+            Ok(0) => return Fate::Goes(Cause::EndOfInput),
+            Ok(n) => self.drained = self.drained.saturating_add(n),
+            Err(error) => {
+                if !would_wait(error.kind()) {
+                    return Fate::Goes(Cause::EndOfInput);
+                }
+            }
+        }
+        if self.drained > MOST_DRAINED {
+            return Fate::Goes(Cause::EndOfInput);
+        }
+        Fate::Stays(Interest::READABLE)
+    }
+
+    // Why it is let go at this second, if it took too long.
+    pub(crate) fn overdue(&self, limits: Limits, now: u64) -> Option<Cause> {
+        let (most, cause) = match self.awaited {
+            Awaited::Message => (limits.idle_seconds, Cause::EndOfInput),
+            Awaited::Rest => (limits.message_seconds, Cause::Truncated),
+            Awaited::Reading => (limits.idle_seconds, Cause::Write),
+            Awaited::Leaving => (limits.message_seconds, Cause::EndOfInput),
+        };
+        if now.saturating_sub(self.since) <= most {
+            return None;
+        }
+        Some(cause)
+    }
+}
+
+// Whether a read that failed so may be tried again later.
+fn would_wait(kind: ErrorKind) -> bool {
+    kind == ErrorKind::WouldBlock || kind == ErrorKind::Interrupted
+}

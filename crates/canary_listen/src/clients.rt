@@ -1,0 +1,111 @@
+//! The clients that are being served, by the numbers of their connections.
+ghost use Rattle.std.specs.Prelude.{◌≡◌};
+ghost use Rattle.canary_wire.specs.Conversing.{begun};
+ghost use Rattle.canary_wire.specs.Exchanges.{point};
+ghost use Rattle.canary_listen.specs.Attending.{Attends, Keeps, nobody};
+ghost use Rattle.canary_listen.specs.Crowd.{client_talk, clients_attendance};
+
+use crate::client::{Client, Fate};
+use crate::limits::Limits;
+use canary_base::error::Memory;
+use canary_once::book::Book;
+use canary_once::clock::Clock;
+use canary_wire::conversation::{Cause, Routes};
+use canary_wire::laws::{crowds, going_on};
+use mio::{Interest, Registry, Token};
+use std::alloc::Global;
+use std::collections::BTreeMap;
+
+// Clients by number. No number is given twice.
+#[derive(Drop)]
+pub(crate) struct Clients {
+    by_number: BTreeMap<usize, Client>,
+    next: usize,
+}
+
+impl Clients {
+    // None.
+    pub(crate) fn new(alloc: Global) -> Clients
+        ensures { clients_attendance result ≡ nobody }
+    {
+        Clients {
+            by_number: BTreeMap::new(alloc),
+            next: 0,
+        }
+    }
+
+    // How many there are.
+    pub(crate) fn count(&self) -> usize {
+        self.by_number.len()
+    }
+
+    // The number of the next client.
+    pub(crate) fn next(&self) -> usize {
+        self.next
+    }
+
+    // Takes a client in, under the next number.
+    pub(crate) fn add(&mut self, client: Client) -> Result<(), Memory>
+        requires { client_talk client ≡ begun }
+        ensures { Keeps (clients_attendance self.old) (clients_attendance self.new) }
+    {
+        crowds();
+        let number = self.next;
+        let Some(next) = number.checked_add(1) else {
+            return Err(Memory);
+        };
+        self.by_number.insert(number, client)?;
+        self.next = next;
+        Ok(())
+    }
+
+    // The turn of a client; none where it has gone.
+    pub(crate) fn turn<C: Clock, B: Book>(
+        &mut self,
+        number: usize,
+        alloc: Global,
+        routes: &Routes,
+        clock: &mut C,
+        book: &mut B,
+        now: u64,
+    ) -> Option<Fate>
+        ensures { Attends (point (C.tells clock.old) (B.state book.old))
+            (point (C.tells clock.new) (B.state book.new))
+            (clients_attendance self.old) (clients_attendance self.new) }
+    {
+        crowds();
+        going_on::<C, B>();
+        let Some(client) = self.by_number.get_mut(&number) else {
+            return None;
+        };
+        Some(client.turn(alloc, routes, clock, book, now))
+    }
+
+    // Has a client's connection reported when it is ready for this. Says whether it could be done.
+    pub(crate) fn report(&mut self, registry: &Registry, number: usize, interest: Interest) -> bool
+        ensures { Keeps (clients_attendance self.old) (clients_attendance self.new) }
+    {
+        match self.by_number.get_mut(&number) {
+            Some(client) => client.report(registry, Token(number), interest).is_ok(),
+            None => false,
+        }
+    }
+
+    // Lets a client go: its connection is closed.
+    pub(crate) fn remove(&mut self, number: usize)
+        ensures { Keeps (clients_attendance self.old) (clients_attendance self.new) }
+    {
+        crowds();
+        let _ = self.by_number.remove(&number);
+    }
+
+    // The first client, from a number on, that takes too long, and why it is let go.
+    pub(crate) fn overdue(&self, from: usize, limits: Limits, now: u64) -> Option<(usize, Cause)> {
+        'clients: for (number, client) in self.by_number.range(from..) {
+            if let Some(cause) = client.overdue(limits, now) {
+                return Some((*number, cause));
+            }
+        }
+        None
+    }
+}

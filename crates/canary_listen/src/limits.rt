@@ -1,0 +1,33 @@
+//! What one client may take of a listener, and how many there may be.
+
+/// The most seconds of a limit: a day.
+pub const MOST_SECONDS: u64 = 86_400;
+/// The most clients at a time.
+pub const MOST_CLIENTS: u64 = 65_536;
+/// The most bytes that may be owed to a client before it is answered no more: a gibibyte.
+pub const MOST_OWED: u64 = 1_073_741_824;
+
+/// How long a client may take, how much may be owed to it, and how many there may be at a time.
+#[derive(Clone, Copy, Debug, PartialEq, Eq)]
+pub struct Limits {
+    /// The most seconds from the first byte of a message to its last, from 1 on.
+    pub message_seconds: u64,
+    /// The most seconds in which a client has nothing answered and does not take all that it is
+    /// owed, from 1 on.
+    pub idle_seconds: u64,
+    /// The most clients at a time, from 1 on; further ones wait to be accepted.
+    pub clients: u64,
+    /// While at least so many bytes are owed to a client, none of its messages is answered; from 1
+    /// on.
+    pub owed_bytes: u64,
+}
+
+impl Limits {
+    /// 10 seconds for a message, 60 seconds idle, 1,000 clients, and 65,536 bytes.
+    pub const DEFAULT: Limits = Limits {
+        message_seconds: 10,
+        idle_seconds: 60,
+        clients: 1_000,
+        owed_bytes: 65_536,
+    };
+}

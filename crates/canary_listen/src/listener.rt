@@ -1,0 +1,200 @@
+//! Serving clients on a socket.
+ghost use Rattle.std.specs.Prelude.{◌≡◌, IfOk};
+ghost use Rattle.canary_wire.specs.Exchanges.{point};
+ghost use Rattle.canary_listen.specs.Attending.{Attends, Serves, nobody};
+ghost use Rattle.canary_listen.specs.Crowd.{attendance_of};
+
+use crate::attendant::{Attendant, SOCKET};
+use crate::clients::Clients;
+use crate::limits::Limits;
+use canary_once::book::Book;
+use canary_once::clock::Clock;
+use canary_wire::conversation::Routes;
+use canary_wire::laws::going_on;
+use mio::net::TcpListener;
+use mio::{Events, Interest, Poll};
+use std::alloc::Global;
+use std::io::{self, Write};
+use std::net::{Net, SocketAddr};
+use std::time::{self, Duration, Instant};
+use thiserror::Error;
+
+// The most events that are taken at a time.
+const MOST_EVENTS: usize = 256;
+
+// How many seconds are waited at most before it is asked who takes too long.
+const WAIT_SECONDS: u64 = 1;
+
+/// Why no clients are served.
+#[derive(Clone, Copy, Debug, PartialEq, Eq, Error)]
+pub enum ListenFault {
+    /// An allocation was refused.
+    #[error("out of memory")]
+    Memory,
+    /// The address cannot be listened on.
+    #[error("the address cannot be listened on")]
+    Listen,
+    /// The system tells no more of the connections.
+    #[error("no more connections can be accepted")]
+    Accept,
+}
+
+/// A socket at which clients come, and those that came: one thread, which waits for none of them.
+///
+/// Each client has one conversation of HTTP (RFC 9112), whose messages are answered one after
+/// another. Whoever is ready has a turn, and all that are have one before any has the next.
+#[derive(Drop)]
+pub struct Listener {
+    attendant: Attendant,
+    events: Events<Global>,
+    start: Option<Instant>,
+}
+
+impl Listener {
+    /// Listens on an address; the system chooses the port where that is 0.
+    ///
+    /// # Errors
+    /// `Listen` where the address cannot be listened on, as where it is taken. `Memory` where an
+    /// allocation was refused.
+    pub fn bind<R: Net + AllocGlobal>(
+        rt: &R,
+        address: SocketAddr,
+        limits: Limits,
+    ) -> Result<Listener, ListenFault>
+        ensures { IfOk result (λ listener. attendance_of listener ≡ nobody) }
+    {
+        let Ok(events) = Events::with_capacity(rt.alloc(), MOST_EVENTS) else {
+            return Err(ListenFault::Memory);
+        };
+        let Ok(routes) = Routes::new(rt.alloc()) else {
+            return Err(ListenFault::Memory);
+        };
+        let Ok((poll, socket)) = listen(rt, address) else {
+            return Err(ListenFault::Listen);
+        };
+        let attendant = Attendant {
+            poll,
+            socket,
+            routes,
+            limits,
+            clients: Clients::new(rt.alloc()),
+            left: None,
+            has_waiting: false,
+            retry_at: 0,
+            now: 0,
+            swept: 0,
+        };
+        Ok(Listener {
+            attendant,
+            events,
+            start: None,
+        })
+    }
+
+    /// The address on which it listens, with the port that the system chose.
+    pub fn address(&self) -> io::Result<SocketAddr> {
+        self.attendant.socket.local_addr()
+    }
+
+    /// Serves so many connections to their ends, or as many as come.
+    ///
+    /// A client that takes too long, by the limits, is let go. What a connection ended with is told
+    /// by a line on `errors` where that is a fault: `canary: truncated`, `read`, `write` or
+    /// `memory`; the others are served on. A fault of `errors` itself is ignored. Where the system
+    /// has no descriptor left, those that come wait, and are accepted once there is one.
+    ///
+    /// # Errors
+    /// `Accept` where the system tells no more of the connections.
+    pub fn serve<R: time::Clock + AllocGlobal, C: Clock, B: Book, F: Write>(
+        &mut self,
+        rt: &R,
+        connections: Option<u64>,
+        clock: &mut C,
+        book: &mut B,
+        errors: &mut F,
+    ) -> Result<(), ListenFault>
+        ensures attends { Attends (point (C.tells clock.old) (B.state book.old))
+            (point (C.tells clock.new) (B.state book.new))
+            (attendance_of self.old) (attendance_of self.new) }
+        ensures serves { attendance_of self.old ≡ nobody
+            → Serves (point (C.tells clock.old) (B.state book.old))
+            (point (C.tells clock.new) (B.state book.new)) }
+    {
+        going_on::<C, B>();
+        self.attendant.left = connections;
+        let wait = Duration::from_secs(WAIT_SECONDS);
+        'rounds: for _ in 0..u64::MAX {
+            if self.attendant.is_done() {
+                return Ok(());
+            }
+            if let Err(fault) = self.round(rt, wait, clock, book, errors) {
+                return Err(fault);
+            }
+        }
+        Ok(())
+    }
+
+    /// Waits until something comes, at most so long, and gives each client that is ready one turn.
+    /// Then those that take too long are let go, and some of those that wait are accepted.
+    ///
+    /// # Errors
+    /// `Accept` where the system tells no more of the connections.
+    pub fn round<R: time::Clock + AllocGlobal, C: Clock, B: Book, F: Write>(
+        &mut self,
+        rt: &R,
+        wait: Duration,
+        clock: &mut C,
+        book: &mut B,
+        errors: &mut F,
+    ) -> Result<(), ListenFault>
+        ensures { Attends (point (C.tells clock.old) (B.state book.old))
+            (point (C.tells clock.new) (B.state book.new))
+            (attendance_of self.old) (attendance_of self.new) }
+    {
+        going_on::<C, B>();
+        if self.wait(wait).is_err() {
+            return Err(ListenFault::Accept);
+        }
+        self.look_at_clock(rt);
+        self.attendant
+            .attend_all(rt.alloc(), &self.events, clock, book, errors);
+        self.attendant.sweep(errors);
+        self.attendant.accept_some(rt.alloc());
+        Ok(())
+    }
+
+    // Waits until something comes, at most so long; not at all where somebody may be accepted.
+    fn wait(&mut self, wait: Duration) -> io::Result<()>
+        ensures { attendance_of self.new ≡ attendance_of self.old }
+    {
+        let wait = if self.attendant.may_accept() {
+            Duration::ZERO
+        } else {
+            wait
+        };
+        self.attendant.poll.poll(&mut self.events, Some(wait))
+    }
+
+    // Notes the present second, counted from the first round. It stays where the clock cannot be
+    // read.
+    fn look_at_clock<R: time::Clock>(&mut self, rt: &R)
+        ensures { attendance_of self.new ≡ attendance_of self.old }
+    {
+        let Some(start) = self.start else {
+            self.start = Instant::now(rt).ok();
+            return;
+        };
+        if let Ok(passed) = start.elapsed(rt) {
+            self.attendant.now = passed.as_secs();
+        }
+    }
+}
+
+// A socket on that address, and what reports who comes there.
+fn listen<R: Net>(rt: &R, address: SocketAddr) -> io::Result<(Poll, TcpListener)> {
+    let poll = Poll::new(rt)?;
+    let mut socket = TcpListener::bind(rt, address)?;
+    poll.registry()
+        .register(&mut socket, SOCKET, Interest::READABLE)?;
+    Ok((poll, socket))
+}
