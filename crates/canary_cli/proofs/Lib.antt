@@ -1,4 +1,5 @@
 pub mod Walks
+pub mod Chains
 pub mod Spelled
 pub mod Served
 pub mod TurnedAway

@@ -1,9 +1,11 @@
--- What the words spell where clap finds no fault in them: the command `pipe`, with both of its moments.
+-- What the words spell where clap finds no fault in them: one of the commands, with all that it has to be given.
 use Rattle.std.proofs.Common.{inl, inr, ◌≡◌, ◌≤◌, ℕ, Result, Ok, Err, ◌∙◌, ap, subst, sym, ◌||◌, Bool, true, false, not, cond, List, [], ◌∷◌, Option, Some, None, is_some, codes, refl}
-use Rattle.std.specs.Prelude.{IsSome, slice_get, unwrap_or, option_and_then, option_map}
+use Rattle.std.specs.Prelude.{IfSome, IsSome, slice_get, unwrap_or, option_and_then, option_map}
 use Rattle.std.specs.Option.{SomeIff, option_map_or}
 use Rattle.std.specs.Str.Parse.{ParsesUnsigned, digits_value, without_leading_plus}
-use Rattle.clap.specs.Words.{IsUnsignedIn, ReadsOne, Row, Shape, Text, built, is_simple_and_free, one_text, rows_of, subcommand_of}
+use Rattle.std.specs.Borrow.{Bor}
+use Rattle.clap.specs.ValueTests.{accepts}
+use Rattle.clap.specs.Words.{IsUnsignedIn, ReadsOne, Row, Shape, Text, built, first_value, is_simple_and_free, one_of, one_text, rows_of, subcommand_of}
 use Rattle.clap.specs.Walk.{answers_to, nothing_held, rows_after, stop_after}
 use Rattle.clap.specs.Simple.{argument_words, entered, names_of, rows_at}
 use Rattle.clap.specs.Takes.{is_given}
@@ -15,48 +17,119 @@ use Rattle.clap.specs.declared.error.kind.ErrorKind.TheVariants.{MissingSubcomma
 use Rattle.clap.specs.declared.parser.matches.Found.{Found}
 use Rattle.std.specs.Str.{bytes_eq}
 use Rattle.std.proofs.lemmas.Slice.Eq.{bytes_eq-Decides}
-use Rattle.clap.proofs.WalkLemmas.{one_text-rows}
+use Rattle.clap.proofs.WalkLemmas.{first_value-rows, one_text-rows}
 use Rattle.clap.proofs.ValueTestLemmas.{accepts-Accepts}
-use Rattle.canary_cli.specs.CommandLine.{desk_command, pipe_command, faults_of, number_given, pipe_of, program_in, program_of, HasMoment, HasPipe}
-use Rattle.canary_cli.proofs.Walks.{AreOptions, IsNoHelp, below_none, given_text, read-level, stop-no_help}
+use Rattle.canary_cli.specs.CommandLine.{desk_command, pipe_command, faults_of, limits_of, number_given, pipe_of, piped, program_in, program_of, text_given, HasListener, HasMoment, HasMoments, HasProgram, HasText, MayHaveNumber}
+use Rattle.canary_cli.specs.declared.words.Program.TheVariants.{Serve, Check}
+use Rattle.canary_cli.proofs.Walks.{AreOptions, IsNoHelp, below_none, given_text, optional_text, read-level, stop-no_help}
 
--- the desk and its command `pipe`, as they are built
+-- the desk and its commands, as they are built
 abbrev desk : Shape
 desk = (built desk_command).top
 
+abbrev built_at : ℕ → Shape
+built_at i = unwrap_or (slice_get (built desk_command).subs i) pipe_command.top
+
 abbrev pipe : Shape
-pipe = unwrap_or (slice_get (built desk_command).subs 0) pipe_command.top
+pipe = built_at 0
+
+abbrev serve : Shape
+serve = built_at 1
+
+abbrev check : Shape
+check = built_at 2
+
+abbrev help : Shape
+help = built_at 3
 
 pub desk_is_simple : is_simple_and_free desk_command ≡ true
 desk_is_simple = refl
 
-options : AreOptions pipe.rules pipe.rules
-options = (record { own = refl; plain = refl; takes = inl (refl, refl) }, (record { own = refl; plain = refl; takes = inl (refl, refl) }, (record { own = refl; plain = refl; takes = inr refl }, tt)))
+-- ---- what each command has to be given
 
--- both of the required options are given
+pipe_options : AreOptions pipe.rules pipe.rules
+pipe_options = (record { own = refl; plain = refl; takes = inl (refl, refl) }, (record { own = refl; plain = refl; takes = inl (refl, refl) }, (record { own = refl; plain = refl; takes = inr refl }, tt)))
+
+serve_options : AreOptions serve.rules serve.rules
+serve_options = (
+  record { own = refl; plain = refl; takes = inl (refl, refl) },
+  (
+    record { own = refl; plain = refl; takes = inl (refl, refl) },
+    (
+      record { own = refl; plain = refl; takes = inl (refl, refl) },
+      (
+        record { own = refl; plain = refl; takes = inl (refl, refl) },
+        (
+          record { own = refl; plain = refl; takes = inl (refl, refl) },
+          (
+            record { own = refl; plain = refl; takes = inl (refl, refl) },
+            (record { own = refl; plain = refl; takes = inr refl }, tt),
+          ),
+        ),
+      ),
+    ),
+  ),
+)
+
+check_options : AreOptions check.rules check.rules
+check_options = (record { own = refl; plain = refl; takes = inl (refl, refl) }, (record { own = refl; plain = refl; takes = inr refl }, tt))
+
+-- what is required is given
 both_given : (at step : Bool) → check_kinds false false (not at || (not step || false)) ≡ [] → (at ≡ true) × (step ≡ true)
 both_given true true none = (refl, refl)
 both_given true false none = cc
 both_given false step none = cc
 
+one_given : (given : Bool) → check_kinds false false (not given || false) ≡ [] → given ≡ true
+one_given true none = refl
+one_given false none = cc
+
 -- the rows of `pipe`
-pipe_rows : (words : List Text) → level_fault pipe [] nothing_held words false [] ≡ [] → HasMoment (codes "at") (rows_after pipe.rules [] words) × HasMoment (codes "step") (rows_after pipe.rules [] words)
+pipe_rows : (words : List Text) → level_fault pipe [] nothing_held words false [] ≡ [] → HasMoments (rows_after pipe.rules [] words)
 pipe_rows words none =
-    let level = read-level pipe [] words false [] options none in
+    let level = read-level pipe [] words false [] pipe_options none in
     let rows : List Row = rows_after pipe.rules [] words in
     let given = both_given (is_given (codes "at") rows) (is_given (codes "step") rows) level.1 in
     let at = given_text pipe.rules (codes "at") _ rows refl level.0 given.0 in
     let step = given_text pipe.rules (codes "step") _ rows refl level.0 given.1 in (
-      (at.0, at.1, accepts-Accepts false (Unsigned 0 253370764799) at.0 at.2),
-      (step.0, step.1, accepts-Accepts false (Unsigned 0 253370764799) step.0 step.2),
+      (at.0, at.1, accepts-Accepts false (Unsigned 0 253370764799) at.0 at.3),
+      (step.0, step.1, accepts-Accepts false (Unsigned 0 253370764799) step.0 step.3),
     )
+
+-- a text that passed the parser of a number is one
+number_passed : (most : ℕ) (o : Option Text) → IfSome o (λ t. (text : Text) × (t ≡ text) × (accepts false (Unsigned 1 most) text ≡ true)) → IfSome o (IsUnsignedIn 1 most)
+number_passed most None passed = tt
+number_passed most (Some t) passed =
+    subst (IsUnsignedIn 1 most) (sym passed.1) (accepts-Accepts false (Unsigned 1 most) passed.0 passed.2)
+
+-- the rows of `serve`
+serve_rows : (words : List Text) → level_fault serve [] nothing_held words false [] ≡ [] → HasListener (rows_after serve.rules [] words)
+serve_rows words none =
+    let level = read-level serve [] words false [] serve_options none in
+    let rows : List Row = rows_after serve.rules [] words in
+    let listen = given_text serve.rules (codes "listen") _ rows refl level.0 (one_given (is_given (codes "listen") rows) level.1) in (
+      (listen.0, listen.2),
+      number_passed 1000000 (one_of (codes "connections") rows) (optional_text serve.rules (codes "connections") _ rows refl level.0),
+      (
+        number_passed 86400 (one_of (codes "message") rows) (optional_text serve.rules (codes "message") _ rows refl level.0),
+        number_passed 86400 (one_of (codes "idle") rows) (optional_text serve.rules (codes "idle") _ rows refl level.0),
+        number_passed 65536 (one_of (codes "clients") rows) (optional_text serve.rules (codes "clients") _ rows refl level.0),
+        number_passed 1073741824 (one_of (codes "owed") rows) (optional_text serve.rules (codes "owed") _ rows refl level.0),
+      ),
+    )
+
+-- the rows of `check`
+check_rows : (words : List Text) → level_fault check [] nothing_held words false [] ≡ [] → HasText (codes "file") (rows_after check.rules [] words)
+check_rows words none =
+    let level = read-level check [] words false [] check_options none in
+    let rows : List Row = rows_after check.rules [] words in
+    let file = given_text check.rules (codes "file") _ rows refl level.0 (one_given (is_given (codes "file") rows) level.1) in
+    (file.0, file.2)
+
+-- ---- which command was met
 
 never : {P : Type 0} (k : ErrorKind) → k ∷ [] ≡ [] → P
 never k none = cc
-
--- the command `help`, as it is built
-abbrev help : Shape
-help = unwrap_or (slice_get (built desk_command).subs 1) pipe_command.top
 
 no_help : (name : Text) → bytes_eq name (codes "help") ≡ false → answers_to name (codes "help", []) ≡ false
 no_help name other = go (bytes_eq (codes "help") name) (bytes_eq-Decides (codes "help") name).0
@@ -67,51 +140,79 @@ no_help name other = go (bytes_eq (codes "help") name) (bytes_eq-Decides (codes 
         cc
     go false same = refl
 
-named : (found helped : Bool) (words : List Text) (rows : List Row) → helped ≡ false
-    → check_fault desk rows (is_some (option_map (λ s. rows_at s words) (cond found (Some pipe) (cond helped (Some help) None)))) ≡ []
-    → option_map_or (λ s. level_fault s [] nothing_held words false []) (cond found (Some pipe) (cond helped (Some help) None)) [] ≡ []
-    → HasPipe (option_map (λ s. rows_at s words) (cond found (Some pipe) (cond helped (Some help) None)))
-named false true words rows other checks none = cc
-named false false words rows other checks none = cc
-named true helped words rows other checks none =
-    let given = pipe_rows words none in
-    (rows_after pipe.rules [] words, refl, given.0, given.1)
+-- the first of the desk's commands whose test holds
+abbrev first_met : Bool → Bool → Bool → Bool → Option Shape
+first_met is_pipe is_serve is_check is_help = cond is_pipe (Some pipe) (cond is_serve (Some serve) (cond is_check (Some check) (cond is_help (Some help) None)))
+
+named : (is_pipe is_serve is_check is_help : Bool) (words : List Text) (rows : List Row) → is_help ≡ false
+    → check_fault desk rows (is_some (option_map (λ s. rows_at s words) (first_met is_pipe is_serve is_check is_help))) ≡ []
+    → option_map_or (λ s. level_fault s [] nothing_held words false []) (first_met is_pipe is_serve is_check is_help) [] ≡ []
+    → HasProgram (option_map (λ s. rows_at s words) (first_met is_pipe is_serve is_check is_help))
+named true is_serve is_check is_help words rows other checks none = inl (rows_after pipe.rules [] words, refl, pipe_rows words none)
+named false true is_check is_help words rows other checks none = inr (inl (rows_after serve.rules [] words, refl, serve_rows words none))
+named false false true is_help words rows other checks none = inr (inr (rows_after check.rules [] words, refl, check_rows words none))
+named false false false true words rows other checks none = cc
+named false false false false words rows other checks none = cc
 
 met : (o : Option (Text × List Text)) (words : List Text) → IsNoHelp o
     → level_fault desk (names_of (built desk_command)) nothing_held words (is_some (entered (built desk_command) o)) (entered_fault (built desk_command) o) ≡ []
-    → HasPipe (entered (built desk_command) o)
+    → HasProgram (entered (built desk_command) o)
 met None words other none =
     let checks = (below_none desk (names_of (built desk_command)) words false [] none).1 in
     never MissingSubcommand checks
 met (Some p) words other none =
     let top = below_none desk (names_of (built desk_command)) words _ _ none in
-    named (answers_to p.0 (codes "pipe", [])) (answers_to p.0 (codes "help", [])) p.1 (rows_after desk.rules (names_of (built desk_command)) words) (no_help p.0 other) top.1 top.0
+    named (answers_to p.0 (codes "pipe", [])) (answers_to p.0 (codes "serve", [])) (answers_to p.0 (codes "check", [])) (answers_to p.0 (codes "help", [])) p.1
+    (rows_after desk.rules (names_of (built desk_command)) words) (no_help p.0 other) top.1 top.0
 
--- the number that is read of a text that passed the parser of a moment
-number_read : (E : Type 0) (G : List ℕ → Result ℕ E → Type 0) (text : Text) (r : Option ℕ) → ReadsOne G text r
-    → ((t : List ℕ) (x : Result ℕ E) → G t x → ParsesUnsigned 64 10 t x) → IsUnsignedIn 0 253370764799 text
-    → (n : ℕ) × (r ≡ Some n) × (n ≡ digits_value 10 (without_leading_plus text)) × (n ≤ 253370764799)
-number_read E G text (Some n) read only passed =
+-- ---- numbers and texts
+
+-- the number that is read of a text that passed the parser of a number
+number_read : (E : Type 0) (G : List ℕ → Result ℕ E → Type 0) (least most : ℕ) (text : Text) (r : Option ℕ) → ReadsOne G text r
+    → ((t : List ℕ) (x : Result ℕ E) → G t x → ParsesUnsigned 64 10 t x) → IsUnsignedIn least most text
+    → (n : ℕ) × (r ≡ Some n) × (n ≡ digits_value 10 (without_leading_plus text)) × (n ≤ most)
+number_read E G least most text (Some n) read only passed =
     let parsed = only text (Ok n) read in
     (n, refl, parsed.1, rw parsed.1 passed.3)
-number_read E G text None read only passed = absurd (only text (Err read.0) read.1 (passed.0, passed.1))
+number_read E G least most text None read only passed = absurd (only text (Err read.0) read.1 (passed.0, passed.1))
 
 -- the number that is read of an option that was given
 pub moment_read : (E : Type 0) (G : List ℕ → Result ℕ E → Type 0) (f : Found) (name : Text) (r : Option ℕ) → HasMoment name (rows_of f)
     → ((t : List ℕ) → one_text f name ≡ Some t → ReadsOne G t r) → ((t : List ℕ) (x : Result ℕ E) → G t x → ParsesUnsigned 64 10 t x)
     → (n : ℕ) × (r ≡ Some n) × (number_given name (rows_of f) ≡ Some n) × (n ≤ 253370764799)
 moment_read E G f name r given reads only =
-    let number = number_read E G given.0 r (reads given.0 (one_text-rows f name ∙ given.1)) only given.2 in
+    let number = number_read E G 0 253370764799 given.0 r (reads given.0 (one_text-rows f name ∙ given.1)) only given.2 in
     let spelled_number : number_given name (rows_of f) ≡ Some (digits_value 10 (without_leading_plus given.0)) = ap (option_map (λ t. digits_value 10 (without_leading_plus t))) given.1 in
     (number.0, number.1, spelled_number ∙ ap (λ n. Some n) (sym number.2), number.3)
+
+-- and of one that may be left out
+pub optional_read : (E : Type 0) (G : List ℕ → Result ℕ E → Type 0) (f : Found) (name : Text) (r : Option ℕ) → (most : ℕ) × MayHaveNumber name most (rows_of f)
+    → (one_text f name ≡ None → r ≡ None) → ((t : List ℕ) → one_text f name ≡ Some t → ReadsOne G t r)
+    → ((t : List ℕ) (x : Result ℕ E) → G t x → ParsesUnsigned 64 10 t x)
+    → r ≡ number_given name (rows_of f)
+optional_read E G f name r may none reads only = go (one_of name (rows_of f)) refl may.1
+  where
+    go : (o : Option Text) → one_of name (rows_of f) ≡ o → IfSome o (IsUnsignedIn 1 may.0) → r ≡ option_map (λ text. digits_value 10 (without_leading_plus text)) (one_of name (rows_of f))
+    go None is fits = none (one_text-rows f name ∙ is) ∙ sym (ap (option_map (λ text. digits_value 10 (without_leading_plus text))) is)
+    go (Some text) is fits =
+        let number = number_read E G 1 may.0 text r (reads text (one_text-rows f name ∙ is)) only fits in
+        number.1 ∙ (ap (λ n. Some n) number.2 ∙ sym (ap (option_map (λ text. digits_value 10 (without_leading_plus text))) is))
+
+-- the text that was given, as it is got
+pub text_met : (f : Found) (name : Text) (r : Option (Bor Text)) → HasText name (rows_of f) → option_map (λ s. s.now) r ≡ first_value f name
+    → (s : Bor Text) × (r ≡ Some s) × (text_given name (rows_of f) ≡ Some s.now)
+text_met f name None has got = let none : None ≡ Some has.0 = got ∙ (first_value-rows f name ∙ has.1) in cc
+text_met f name (Some s) has got = (s, refl, sym (first_value-rows f name) ∙ sym got)
 
 -- a moment is made of such a number
 pub moment_made : (n : ℕ) (r : Option ℕ) → SomeIff r (n ≤ 253370764799) n → n ≤ 253370764799 → r ≡ Some n
 moment_made n None made small = absurd (made small)
 moment_made n (Some m) made small = ap (λ k. Some k) made.1
 
--- where clap finds no fault, the words have met `pipe`, with a moment for each of its options
-pub spelled : (words : List Text) → faults_of words ≡ [] → HasPipe (subcommand_of desk_command words)
+-- ---- the program
+
+-- where clap finds no fault, the words have met one of the commands
+pub spelled : (words : List Text) → faults_of words ≡ [] → HasProgram (subcommand_of desk_command words)
 spelled words none =
     let stop = stop_after desk.rules (names_of (built desk_command)) (argument_words desk_command words) in
     met stop (argument_words desk_command words) (stop-no_help desk (names_of (built desk_command)) (argument_words desk_command words) _ _ refl none) none
@@ -119,13 +220,27 @@ spelled words none =
 number_is : (name : Text) (rows : List Row) (h : HasMoment name rows) → number_given name rows ≡ Some (digits_value 10 (without_leading_plus h.0))
 number_is name rows h = ap (option_map (λ text. digits_value 10 (without_leading_plus text))) h.1
 
+-- the moments of `pipe` spell its program
+pipe_spelled : (rows : List Row) → HasMoments rows → IsSome (pipe_of rows)
+pipe_spelled rows h =
+    let at : ℕ = digits_value 10 (without_leading_plus h.0.0) in
+    let step : ℕ = digits_value 10 (without_leading_plus h.1.0) in
+    let is : pipe_of rows ≡ piped (Some at) (Some step) =
+    ap (λ o. piped o (number_given (codes "step") rows)) (number_is (codes "at") rows h.0) ∙ ap (piped (Some at)) (number_is (codes "step") rows h.1) in
+    subst IsSome (sym is) refl
+
+-- a text that was given is made into something
+made : {X : Type 0} (f : Text → X) (name : Text) (rows : List Row) → HasText name rows → IsSome (option_map f (text_given name rows))
+made f name rows h = subst (λ (o : Option Text). IsSome (option_map f o)) (sym h.1) refl
+
+-- what was met spells a program
+program_met : (met : Option (Text × List Row)) → HasProgram met → IsSome (option_and_then program_in met)
+program_met met (inl h) = subst (λ (o : Option (Text × List Row)). IsSome (option_and_then program_in o)) (sym h.1) (pipe_spelled h.0 h.2)
+program_met met (inr (inl h)) =
+    subst (λ (o : Option (Text × List Row)). IsSome (option_and_then program_in o)) (sym h.1) (made (λ address. Serve address (number_given (codes "connections") h.0) (limits_of h.0)) (codes "listen") h.0 h.2.0)
+program_met met (inr (inr h)) =
+    subst (λ (o : Option (Text × List Row)). IsSome (option_and_then program_in o)) (sym h.1) (made (λ file. Check file) (codes "file") h.0 h.2)
+
 -- so they spell a program
 pub some_program : (words : List Text) → faults_of words ≡ [] → IsSome (program_of words)
-some_program words none =
-    let h = spelled words none in
-    let at : ℕ = digits_value 10 (without_leading_plus h.2.0) in
-    let step : ℕ = digits_value 10 (without_leading_plus h.3.0) in
-    let is : program_of words ≡ pipe_of (Some at) (Some step) =
-    ap (option_and_then program_in) h.1
-    ∙ (ap (λ o. pipe_of o (number_given (codes "step") h.0)) (number_is (codes "at") h.0 h.2) ∙ ap (pipe_of (Some at)) (number_is (codes "step") h.0 h.3)) in
-    subst IsSome (sym is) refl
+some_program words none = program_met (subcommand_of desk_command words) (spelled words none)

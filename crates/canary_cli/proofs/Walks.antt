@@ -1,14 +1,14 @@
 -- What clap's walk over words holds where it meets no fault: each row has a first value that passed the parser of its option.
 -- This is for options that take one value each and have no default, and for flags that ask for help. And where a walk that meets no fault stops at a subcommand, that is not `help`.
 use Rattle.std.proofs.Common.{◌≡◌, ◌∙◌, ◌⊎◌, ◌++◌, ◌&&◌, ℕ, zero, suc, Bool, true, false, not, codes, cond, List, [], ◌∷◌, length, drop, fold, Option, Some, None, is_some, refl, sym, ap, subst, inl, inr}
-use Rattle.std.specs.Prelude.{find, slice_get, encode_utf8, unwrap_or, option_map, option_and_then, if◌then◌else◌}
+use Rattle.std.specs.Prelude.{find, slice_get, encode_utf8, unwrap_or, option_map, option_and_then, IfSome, if◌then◌else◌}
 use Rattle.std.specs.Option.{option_map_or}
 use Rattle.std.specs.Str.{bytes_eq, chars}
 use Rattle.std.proofs.lemmas.Slice.Eq.{bytes_eq-Decides}
 use Rattle.clap.specs.Lexer.{long_of, short_of}
 use Rattle.clap.specs.Facts.{explicit_source, parser_of_value, unwrap_or_range}
 use Rattle.clap.specs.Values.{read_as, refused_kind}
-use Rattle.clap.specs.Walk.{Held, Names, Outcome, Row, Rule, Step, Text, Waiting, Walk, action_of, after_flag, after_step, arg_by_id, arg_by_index, arg_by_long, arg_by_short, at_row, attached_value, bundle, bundle_met, bundle_step, default_rows, done, flag_met, has_row, idle, is_pending, long_met, long_or_other, more_values, most_values, next, nothing_held, one_of, option, option_met, option_word, plain, plain_word, positional, reacted, reading_by, refused, row_text, rows_after, settled, settled_rows, short_met, short_or_plain, stop_after, subcommand, subcommand_met, subcommand_or_other, takes_several, takes_values, to_positional, trailing, used, used_as, used_by_id, value, values_or_missing, waits, walk, walk_from, walked, walked_from, with_default, without, word_met}
+use Rattle.clap.specs.Walk.{Held, Names, Outcome, Row, Rule, Step, Text, Waiting, Walk, action_of, after_flag, after_step, arg_by_id, arg_by_index, arg_by_long, arg_by_short, at_row, attached_value, bundle, bundle_met, bundle_step, default_rows, done, first_of, flag_met, has_row, idle, is_pending, long_met, long_or_other, more_values, most_values, next, nothing_held, one_of, option, option_met, option_word, plain, plain_word, positional, reacted, reading_by, refused, row_text, rows_after, settled, settled_rows, short_met, short_or_plain, stop_after, subcommand, subcommand_met, subcommand_or_other, takes_several, takes_values, to_positional, trailing, used, used_as, used_by_id, value, values_or_missing, waits, walk, walk_from, walked, walked_from, with_default, without, word_met}
 use Rattle.clap.specs.Simple.{Shape}
 use Rattle.clap.specs.Takes.{is_given, value_passes}
 use Rattle.clap.specs.Kinds.{Kinds, or_else, range_kinds, request_kinds, value_kinds}
@@ -463,23 +463,41 @@ pub stop-no_help : (s : Shape) (names : Names) (words : List Text) (has_subcomma
 stop-no_help s names words has_subcommand below on none =
     no_help-walk s names (walk_from nothing_held) words on (level_parts s names words has_subcommand below none).walk tt
 
--- an option that was given has a text that passed its parser
+-- the text of a row, which passed the parser of its option
+text_of : (c : List Rule) (id : Text) (a : Rule) (rows : List Row) (r : Row) → arg_by_id c id ≡ Some a → find (λ r. bytes_eq r.id id) rows ≡ Some r
+    → IsRead c r × (bytes_eq r.id id ≡ true)
+    → (text : Text) × (one_of id rows ≡ Some (read_as (reading_by a) text)) × (first_of id rows ≡ Some text) × (value_passes a text ≡ true)
+text_of c id a rows r is_a found is =
+    let same : r.id ≡ id = (bytes_eq-Decides r.id id).0 is.1 in
+    let rule_is : is.0.rule ≡ a = found_one is.0.rule a (sym is.0.by_id ∙ (ap (arg_by_id c) same ∙ is_a)) in
+    let how : r.reading ≡ reading_by a = is.0.reading ∙ ap reading_by rule_is in
+    let first : slice_get r.values 0 ≡ Some is.0.first = ap (λ vs. slice_get vs 0) is.0.values in
+    let text : row_text r ≡ Some (read_as (reading_by a) is.0.first) =
+    ap (option_map (read_as r.reading)) first ∙ ap (λ h. Some (read_as h is.0.first)) how in (
+      is.0.first,
+      ap (option_and_then row_text) found ∙ text,
+      ap (option_and_then (λ r. slice_get r.values 0)) found ∙ first,
+      subst (λ (x : Rule). value_passes x is.0.first ≡ true) rule_is is.0.passed,
+    )
+
+-- an argument that was given has a text that passed its parser
 pub given_text : (c : List Rule) (id : Text) (a : Rule) (rows : List Row) → arg_by_id c id ≡ Some a → AreRead c rows → is_given id rows ≡ true
-    → (text : Text) × (one_of id rows ≡ Some (read_as (reading_by a) text)) × (value_passes a text ≡ true)
+    → (text : Text) × (one_of id rows ≡ Some (read_as (reading_by a) text)) × (first_of id rows ≡ Some text) × (value_passes a text ≡ true)
 given_text c id a rows is_a read given = go (find (λ r. bytes_eq r.id id) rows) refl given
   where
-    text_of : (r : Row) → find (λ r. bytes_eq r.id id) rows ≡ Some r → IsRead c r × (bytes_eq r.id id ≡ true)
-        → (text : Text) × (one_of id rows ≡ Some (read_as (reading_by a) text)) × (value_passes a text ≡ true)
-    text_of r found is =
-        let same : r.id ≡ id = (bytes_eq-Decides r.id id).0 is.1 in
-        let rule_is : is.0.rule ≡ a = found_one is.0.rule a (sym is.0.by_id ∙ (ap (arg_by_id c) same ∙ is_a)) in
-        let how : r.reading ≡ reading_by a = is.0.reading ∙ ap reading_by rule_is in
-        let first : slice_get r.values 0 ≡ Some is.0.first = ap (λ vs. slice_get vs 0) is.0.values in
-        let text : row_text r ≡ Some (read_as (reading_by a) is.0.first) =
-        ap (option_map (read_as r.reading)) first ∙ ap (λ h. Some (read_as h is.0.first)) how in
-        (is.0.first, ap (option_and_then row_text) found ∙ text, subst (λ (x : Rule). value_passes x is.0.first ≡ true) rule_is is.0.passed)
-
     go : (o : Option Row) → find (λ r. bytes_eq r.id id) rows ≡ o → option_map_or (λ r. explicit_source r.source) o false ≡ true
-        → (text : Text) × (one_of id rows ≡ Some (read_as (reading_by a) text)) × (value_passes a text ≡ true)
+        → (text : Text) × (one_of id rows ≡ Some (read_as (reading_by a) text)) × (first_of id rows ≡ Some text) × (value_passes a text ≡ true)
     go None found given = cc
-    go (Some r) found given = text_of r found (find_row c (λ r. bytes_eq r.id id) rows r read found)
+    go (Some r) found given = text_of c id a rows r is_a found (find_row c (λ r. bytes_eq r.id id) rows r read found)
+
+-- and so has one that may be left out, if it was given
+pub optional_text : (c : List Rule) (id : Text) (a : Rule) (rows : List Row) → arg_by_id c id ≡ Some a → AreRead c rows
+    → IfSome (one_of id rows) (λ t. (text : Text) × (t ≡ read_as (reading_by a) text) × (value_passes a text ≡ true))
+optional_text c id a rows is_a read = go (find (λ r. bytes_eq r.id id) rows) refl
+  where
+    go : (o : Option Row) → find (λ r. bytes_eq r.id id) rows ≡ o
+        → IfSome (one_of id rows) (λ t. (text : Text) × (t ≡ read_as (reading_by a) text) × (value_passes a text ≡ true))
+    go None found = subst (λ (o : Option Text). IfSome o (λ t. (text : Text) × (t ≡ read_as (reading_by a) text) × (value_passes a text ≡ true))) (sym (ap (option_and_then row_text) found)) tt
+    go (Some r) found =
+        let text = text_of c id a rows r is_a found (find_row c (λ r. bytes_eq r.id id) rows r read found) in
+        subst (λ (o : Option Text). IfSome o (λ t. (text : Text) × (t ≡ read_as (reading_by a) text) × (value_passes a text ≡ true))) (sym text.1) (text.0, refl, text.3)

@@ -1,7 +1,7 @@
 -- What a command line comes to: what is read, what is written, and the exit status.
-use Rattle.std.specs.Prelude.{◌≡◌, ◌⊎◌, ◌++◌, ℕ, true, List, [], ◌∷◌, Result, Ok, Err, codes, string_bytes}
+use Rattle.std.specs.Prelude.{◌≡◌, ◌⊎◌, ◌++◌, ℕ, true, List, [], ◌∷◌, Option, Some, None, Result, Ok, Err, codes, string_bytes}
 use Rattle.std.specs.Io.KnownBytes.{Appends}
-use Rattle.clap.specs.Words.{Kinds}
+use Rattle.clap.specs.Words.{Kinds, Text}
 use Rattle.canary_once.specs.Contents.{Contents, no_contents}
 use Rattle.canary_once.specs.Ticks.{TellsSteps}
 use Rattle.canary_wire.specs.Exchanges.{Point, point}
@@ -13,11 +13,13 @@ use Rattle.canary_wire.specs.declared.serve.ServeFault.{ServeFault}
 use Rattle.canary_wire.specs.declared.serve.ServeFault.TheVariants.{Read, Write, Memory}
 use Rattle.canary_cli.specs.declared.perform.Fault.{Fault}
 use Rattle.canary_cli.specs.declared.perform.Fault.TheVariants as fault
+use Rattle.canary_cli.specs.declared.perform.Outcome.{Outcome}
+use Rattle.canary_cli.specs.declared.perform.Outcome.TheVariants.{Done, Findings}
 use Rattle.canary_cli.specs.declared.words.Program.{Program}
-use Rattle.canary_cli.specs.declared.words.Program.TheVariants.{Pipe}
+use Rattle.canary_cli.specs.declared.words.Program.TheVariants.{Pipe, Serve, Check}
 use Rattle.canary_cli.specs.declared.words.WordsFault.{WordsFault}
 use Rattle.canary_cli.specs.declared.words.WordsFault.TheVariants.{Help, Usage, Memory as NoMemory}
-use Rattle.canary_cli.specs.CommandLine.{IsFor}
+use Rattle.canary_cli.specs.CommandLine.{IsFor, faults_of, program_of}
 
 -- ---- faults and statuses
 
@@ -27,24 +29,28 @@ word_of fault.Read = codes "read"
 word_of fault.Write = codes "write"
 word_of fault.Truncated = codes "truncated"
 word_of fault.TurnsSpent = codes "turns-spent"
+word_of fault.Listen = codes "listen"
+word_of fault.Accept = codes "accept"
+word_of fault.File = codes "file"
 
 -- `canary: WORD` and a line end
 abbrev pub line_of : Fault → List ℕ
 line_of f = codes "canary: " ++ word_of f ++ 10 ∷ []
 
 -- whether a stream that was served so was served to its end, or the fault
-abbrev pub done_of : Result Ended ServeFault → Result (Unit {0}) Fault
-done_of (Ok EndOfInput) = Ok tt
-done_of (Ok Closed) = Ok tt
+abbrev pub done_of : Result Ended ServeFault → Result Outcome Fault
+done_of (Ok EndOfInput) = Ok Done
+done_of (Ok Closed) = Ok Done
 done_of (Ok Truncated) = Err fault.Truncated
 done_of (Ok TurnsSpent) = Err fault.TurnsSpent
 done_of (Err Read) = Err fault.Read
 done_of (Err Write) = Err fault.Write
 done_of (Err Memory) = Err fault.Memory
 
--- 0 where it was done, and 1 for a fault
-abbrev pub status_of : Result (Unit {0}) Fault → ℕ
-status_of (Ok done) = 0
+-- 0 where it was done, and 1 for findings or a fault
+abbrev pub status_of : Result Outcome Fault → ℕ
+status_of (Ok Done) = 0
+status_of (Ok Findings) = 1
 status_of (Err f) = 1
 
 -- ---- what `pipe` does
@@ -74,18 +80,37 @@ IsServed r new_r w new_w start (Err Write) =
 IsServed r new_r w new_w start (Err Memory) = (new_r ≡ r) × (new_w ≡ w)
 
 -- `pipe` served its input on its output from a fresh desk, and this says whether to its end
-abbrev pub IsPiped : Known → Known → Known → Known → ℕ → ℕ → Result (Unit {0}) Fault → Type 0
+abbrev pub IsPiped : Known → Known → Known → Known → ℕ → ℕ → Result Outcome Fault → Type 0
 IsPiped r new_r w new_w at step done = (served : Result Ended ServeFault)
     × (done ≡ done_of served) × IsServed r new_r w new_w (fresh at step) served
 
--- the program was run so
-abbrev pub IsRun : Known → Known → Known → Known → Program → Result (Unit {0}) Fault → Type 0
+-- where a check found nothing, it wrote `ok`
+abbrev pub IsChecked : Known → Known → Result Outcome Fault → Type 0
+IsChecked w new_w done = done ≡ Ok Done → Appends w new_w (codes "ok\n")
+
+-- the program was run so; `pipe` alone reads the input
+abbrev pub IsRun : Known → Known → Known → Known → Program → Result Outcome Fault → Type 0
 IsRun r new_r w new_w (Pipe at step) done = IsPiped r new_r w new_w at step done
+IsRun r new_r w new_w (Serve listen connections limits) done = new_r ≡ r
+IsRun r new_r w new_w (Check file) done = (new_r ≡ r) × IsChecked w new_w done
 
 -- `pipe` ended with this exit status
 abbrev pub IsPipedTo : Known → Known → Known → Known → ℕ → ℕ → ℕ → Type 0
-IsPipedTo r new_r w new_w at step status = (done : Result (Unit {0}) Fault)
+IsPipedTo r new_r w new_w at step status = (done : Result Outcome Fault)
     × (status ≡ status_of done) × IsPiped r new_r w new_w at step done
+
+-- it serves clients on a socket
+abbrev pub IsServer : Program → Type 0
+IsServer (Serve listen connections limits) = Unit {0}
+IsServer _ = ⊥
+
+abbrev pub IsSomeServer : Option Program → Type 0
+IsSomeServer None = ⊥
+IsSomeServer (Some program) = IsServer program
+
+-- the words are those of `serve`
+abbrev pub Serves : List Text → Type 0
+Serves words = (faults_of words ≡ []) × IsSomeServer (program_of words)
 
 -- ---- what comes of words that have no program
 

@@ -1,49 +1,42 @@
 //! The words of a command line.
-ghost use Rattle.std.specs.Prelude.{◌≡◌, Some, [], map, false, IfOk, IfErr, IsSome, string_bytes};
-ghost use Rattle.std.specs.Prelude.{option_and_then};
-ghost use Rattle.clap.specs.Words.{app_of, found_of, kind_of, rows_of, rule_of, subcommand_rows_of};
-ghost use Rattle.canary_cli.specs.CommandLine.{desk_command, pipe_command, moment_option};
+ghost use Rattle.std.specs.Prelude.{◌≡◌, ℕ, Some, [], map, IfOk, IfErr, IsSome, string_bytes};
+ghost use Rattle.std.specs.Prelude.{option_and_then, codes};
+ghost use Rattle.clap.specs.Words.{found_of, kind_of, rows_of, subcommand_rows_of};
+ghost use Rattle.clap.specs.Words.{HasKind, Kinds};
 ghost use Rattle.canary_cli.specs.CommandLine.{faults_of, program_of, program_in, number_given};
-ghost use Rattle.canary_cli.specs.CommandLine.{IsFor, HasPipe, HasMoment};
-ghost use Rattle.clap.specs.Words.{HasKind, Kinds, with_subcommand};
+ghost use Rattle.canary_cli.specs.CommandLine.{text_given, limits_of, pipe_of, serve_of, check_of};
+ghost use Rattle.canary_cli.specs.CommandLine.{IsFor, HasProgram, HasMoment, HasText};
+ghost use Rattle.canary_cli.specs.CommandLine.{MayHaveNumber, HasMoments, HasListener, HasLimits};
 
-use canary_base::moments::{LAST_MOMENT, Moment};
-use clap::builder::ValueParser;
+use crate::commands::desk_command;
+use canary_base::lists::Text;
+use canary_base::moments::Moment;
+use canary_listen::limits::Limits;
 use clap::error::ErrorKind;
-use clap::{Arg, ArgAction, ArgMatches, Command, Error};
+use clap::{ArgMatches, Error};
 use std::alloc::{AllocError, Global};
 use std::fmt;
 
-const VERSION: &str = "0.1.0";
-
-const PIPE_USAGE: &str = concat!(
-    "canary pipe --at <SECONDS> --step <SECONDS>\n\n",
-    "SECONDS: a whole number from 0 to 253370764799"
-);
-
-const AT_HELP: &str =
-    "The moment of the first request, in seconds since 1970-01-01T00:00:00Z (UTC)";
-
-const STEP_HELP: &str = "How many seconds each further request comes after the one before it";
-
-const STATUS_HELP: &str = "Exit status: 0 when done, 1 for a fault, 2 for a mistake in the words.";
-
-const FAULTS_HELP: &str = concat!(
-    "Exit status: 0 when the input was answered to its end or a reply closed the stream, 2 for a\n",
-    "mistake in the words, and 1 for a fault, which a line on standard error names:\n",
-    "  canary: truncated    the input ended in the midst of a message\n",
-    "  canary: turns-spent  the input went on after 1,000,000,000 reads\n",
-    "  canary: read         the input failed\n",
-    "  canary: write        the output failed or was closed\n",
-    "  canary: memory       out of memory before the first read"
-);
-
 /// What a command line asks for.
-#[derive(Clone, Copy, Debug, PartialEq, Eq)]
+#[derive(Debug, Drop)]
 pub enum Program {
     /// HTTP from standard input to standard output, with the records in memory. The first message
     /// is at the moment `at`, and each later one `step` seconds after the one before it.
-    Pipe { at: Moment, step: Moment },
+    Pipe {
+        at: Moment,
+        step: Moment,
+    },
+    /// HTTP on the address that `listen` spells, with the records in memory, within these limits
+    /// for its clients; and its end after so many connections, or never.
+    Serve {
+        listen: Text,
+        connections: Option<u64>,
+        limits: Limits,
+    },
+    /// What the desk would refuse of the manifest in the file of this name.
+    Check {
+        file: Text,
+    },
 }
 
 /// Why a command line gives no program.
@@ -69,66 +62,90 @@ pub fn read_words(alloc: Global, words: &[String]) -> Result<Program, WordsFault
         return Err(WordsFault::Memory);
     };
     match command.try_get_matches_from(words) {
-        Ok(matches) => Ok(program_of(&matches)),
+        Ok(matches) => match program_of(alloc, &matches) {
+            Ok(program) => Ok(program),
+            Err(_) => Err(WordsFault::Memory),
+        },
         Err(error) => Err(fault_of(alloc, &error)),
     }
 }
 
-// What the desk takes: one of its commands, with that command's options.
-fn desk_command<'a>(alloc: Global) -> Result<Command<'a>, AllocError>
-    ensures { IfOk result (λ c. app_of c ≡ desk_command) }
-{
-    let desk = Command::new(alloc, "canary")
-        .bin_name("canary")?
-        .no_binary_name(true)
-        .version(VERSION)
-        .about("Judges canary releases: settles numbered requests, each once, and answers them")
-        .after_help(STATUS_HELP)
-        .subcommand_required(true);
-    with_pipe(alloc, desk)
-}
-
-// The desk's command with `pipe --at SECONDS --step SECONDS`.
-fn with_pipe<'a>(alloc: Global, desk: Command<'a>) -> Result<Command<'a>, AllocError>
-    ensures { IfOk result (λ c. app_of c ≡ with_subcommand (app_of desk.entry) pipe_command.top) }
-{
-    let at = moment_option(alloc, "at", AT_HELP);
-    let step = moment_option(alloc, "step", STEP_HELP);
-    let pipe = Command::new(alloc, "pipe")
-        .about(
-            "Answers HTTP requests from standard input on standard output, with records in memory",
-        )
-        .override_usage(PIPE_USAGE)
-        .after_help(FAULTS_HELP)
-        .arg(at)?
-        .arg(step)?;
-    desk.subcommand(pipe)
-}
-
-// The option `--NAME SECONDS`, which has to be given, with the seconds of a moment.
-fn moment_option<'a>(alloc: Global, name: &'a str, help: &'a str) -> Arg<'a>
-    ensures rule { rule_of result ≡ moment_option name.entry.now }
-    ensures local { result.global ≡ false }
-{
-    Arg::new(alloc, name)
-        .long(name)
-        .help(help)
-        .value_name("SECONDS")
-        .required(true)
-        .action(ArgAction::Set)
-        .value_parser(ValueParser::unsigned(0, LAST_MOMENT))
-}
-
 // The program that the matches name.
-fn program_of(matches: &ArgMatches<'_>) -> Program
-    requires { HasPipe (subcommand_rows_of matches.now) }
-    ensures { option_and_then program_in (subcommand_rows_of matches.now) ≡ Some result }
+fn program_of(alloc: Global, matches: &ArgMatches<'_>) -> Result<Program, AllocError>
+    requires { HasProgram (subcommand_rows_of matches.now) }
+    ensures { IfOk result (λ p.
+        option_and_then program_in (subcommand_rows_of matches.now) ≡ Some p) }
 {
-    let pipe = matches.subcommand_matches("pipe").unwrap();
+    if let Some(pipe) = matches.subcommand_matches("pipe") {
+        return Ok(pipe_of(pipe));
+    }
+    if let Some(serve) = matches.subcommand_matches("serve") {
+        return serve_of(alloc, serve);
+    }
+    check_of(alloc, matches.subcommand_matches("check").unwrap())
+}
+
+// The program of `pipe` with these matches.
+fn pipe_of(pipe: &ArgMatches<'_>) -> Program
+    requires { HasMoments (rows_of (found_of pipe.now)) }
+    ensures { pipe_of (rows_of (found_of pipe.now)) ≡ Some result }
+{
     Program::Pipe {
         at: moment_given(pipe, "at"),
         step: moment_given(pipe, "step"),
     }
+}
+
+// The program of `serve` with these matches.
+fn serve_of(alloc: Global, serve: &ArgMatches<'_>) -> Result<Program, AllocError>
+    requires { HasListener (rows_of (found_of serve.now)) }
+    ensures { IfOk result (λ p. serve_of (rows_of (found_of serve.now)) ≡ Some p) }
+{
+    Ok(Program::Serve {
+        listen: text_given(alloc, serve, "listen")?,
+        connections: number_given(serve, "connections"),
+        limits: limits_of(serve),
+    })
+}
+
+// The program of `check` with these matches.
+fn check_of(alloc: Global, check: &ArgMatches<'_>) -> Result<Program, AllocError>
+    requires { HasText (codes "file") (rows_of (found_of check.now)) }
+    ensures { IfOk result (λ p. check_of (rows_of (found_of check.now)) ≡ Some p) }
+{
+    let file = text_given(alloc, check, "file")?;
+    Ok(Program::Check { file })
+}
+
+// The limits that were given, each as by default where it was not.
+fn limits_of(serve: &ArgMatches<'_>) -> Limits
+    requires { HasLimits (rows_of (found_of serve.now)) }
+    ensures { result ≡ limits_of (rows_of (found_of serve.now)) }
+{
+    let standard = Limits::DEFAULT;
+    Limits {
+        message_seconds: number_given(serve, "message").unwrap_or(standard.message_seconds),
+        idle_seconds: number_given(serve, "idle").unwrap_or(standard.idle_seconds),
+        clients: number_given(serve, "clients").unwrap_or(standard.clients),
+        owed_bytes: number_given(serve, "owed").unwrap_or(standard.owed_bytes),
+    }
+}
+
+// The number that was given to the option of this name, if one was.
+fn number_given(matches: &ArgMatches<'_>, name: &str) -> Option<u64>
+    requires { (most : ℕ) × MayHaveNumber name.now most (rows_of (found_of matches.now)) }
+    ensures { result ≡ number_given name.now (rows_of (found_of matches.now)) }
+{
+    matches.get_one::<u64>(name)
+}
+
+// The text that was given under this name.
+fn text_given(alloc: Global, matches: &ArgMatches<'_>, name: &str) -> Result<Text, AllocError>
+    requires { HasText name.now (rows_of (found_of matches.now)) }
+    ensures { IfOk result (λ t. text_given name.now (rows_of (found_of matches.now)) ≡ Some t) }
+{
+    let text = matches.get_str(name).unwrap();
+    Ok(Text::of(String::from_str(alloc, text)?))
 }
 
 // The moment that was given to the option of this name.

@@ -1,5 +1,5 @@
-//! The desk as a program: hands `perform` the words of the command line and the process's own
-//! streams.
+//! The desk as a program: hands `perform` the machine, the words of the command line and the
+//! process's own streams.
 #![tactic(auto)]
 
 use canary_cli::perform::{perform, refuse};
@@ -10,7 +10,7 @@ fn main(rt: HostRuntime) -> ExitCode {
     let mut errors = rt.stderr();
     let status = match words_of(&rt, rt.alloc()) {
         Ok(words) => perform(
-            rt.alloc(),
+            &rt,
             words.as_slice(),
             &mut rt.stdin(),
             &mut rt.stdout(),

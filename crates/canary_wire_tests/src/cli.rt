@@ -4,6 +4,7 @@ use canary_base::moments::Moment;
 use canary_cli::perform::{perform, refuse};
 use canary_cli::process::words_of;
 use canary_cli::words::{Program, WordsFault, read_words};
+use canary_listen::limits::Limits;
 use canary_rows::rows::{lined, split};
 use std::alloc::Global;
 use std::env::{Env, FillError};
@@ -79,11 +80,12 @@ fn words_in(alloc: Global, text: &str) -> Result<Vec<String>, Memory> {
 }
 
 // A command line on this input.
-fn outcome_of<R: Read>(alloc: Global, words: &str, input: &mut R) -> Result<Outcome, Memory> {
+fn outcome_of<R: Read>(rt: &HostRuntime, words: &str, input: &mut R) -> Result<Outcome, Memory> {
+    let alloc = rt.alloc();
     let words = words_in(alloc, words)?;
     let mut output = Vec::new(alloc);
     let mut errors = Vec::new(alloc);
-    let status = perform(alloc, words.as_slice(), input, &mut output, &mut errors);
+    let status = perform(rt, words.as_slice(), input, &mut output, &mut errors);
     if errors.as_slice() == b"canary: memory\n".as_slice() {
         return Err(Memory);
     }
@@ -113,14 +115,24 @@ pipe --at -5 --step 1 => unexpected argument '-5' found||Usage: canary pipe --at
 pipe --at -5 --step 1 => SECONDS: a whole number from 0 to 253370764799
 pipe --at 1 --step 253370764800 => 253370764800 is not in 0..=253370764799
 pipe --at 1 --at 1 --step 1 => cannot be used multiple times
-pipe --at 1 --step 1 x => unexpected argument 'x' found";
+pipe --at 1 --step 1 x => unexpected argument 'x' found
+serve => not provided:|  --listen <ADDRESS>|
+serve --listen => a value is required for '--listen <ADDRESS>'
+serve --listen x y => unexpected argument 'y' found
+serve --listen x --connections 1000001 => 1000001 is not in 1..=1000000
+serve --listen x --message 0 => 0 is not in 1..=86400
+serve --listen x --idle 86401 => 86401 is not in 1..=86400
+serve --listen x --clients 65537 => 65537 is not in 1..=65536
+serve --listen x --owed 1073741825 => 1073741825 is not in 1..=1073741824
+check => not provided:|  <FILE>|
+check a b => unexpected argument 'b' found";
 
 // Whether a row's words are refused for its reason, and nothing is read or written for them.
-fn is_mistake(alloc: Global, row: &str) -> Result<bool, Fail> {
+fn is_mistake(rt: &HostRuntime, row: &str) -> Result<bool, Fail> {
     let (words, why) = split(row)?;
-    let why = lined(alloc, why, "\n")?;
+    let why = lined(rt.alloc(), why, "\n")?;
     let mut input = REQUEST.as_bytes();
-    let done = outcome_of(alloc, words, &mut input)?;
+    let done = outcome_of(rt, words, &mut input)?;
     let is_told = has(&done.errors, "error: ") && has(&done.errors, why.as_str());
     Ok(is_told && done.status == 2 && done.output.is_empty() && input == REQUEST.as_bytes())
 }
@@ -128,7 +140,7 @@ fn is_mistake(alloc: Global, row: &str) -> Result<bool, Fail> {
 #[test]
 fn refuses_what_it_does_not_take(rt: HostRuntime) -> Result<(), Fail> {
     for row in MISTAKES.lines() {
-        assert!(rt; is_mistake(rt.alloc(), row)?, "{row}");
+        assert!(rt; is_mistake(&rt, row)?, "{row}");
     }
     Ok(())
 }
@@ -139,16 +151,20 @@ const HELP: &str = "--help => Usage: canary <COMMAND>| => Exit status: 0
 help => Usage: canary <COMMAND>| => Exit status: 0
 pipe --help => Usage: canary pipe --at <SECONDS> --step <SECONDS>| => |  canary: truncated
 help pipe => Usage: canary pipe --at <SECONDS> --step <SECONDS>| => |  canary: truncated
+serve --help => Usage: canary serve [OPTIONS] --listen <ADDRESS>| => |  canary: accept
+help serve => Usage: canary serve [OPTIONS] --listen <ADDRESS>| => |  canary: accept
+check --help => Usage: canary check <FILE>| => |  canary: file
+help check => Usage: canary check <FILE>| => |  canary: file
 --version => canary  => 0.1.0|
 -V => canary  => 0.1.0|";
 
 // Whether a row's words print help that has its parts.
-fn is_helped(alloc: Global, row: &str) -> Result<bool, Fail> {
+fn is_helped(rt: &HostRuntime, row: &str) -> Result<bool, Fail> {
     let (words, parts) = split(row)?;
     let (usage, statuses) = split(parts)?;
-    let usage = lined(alloc, usage, "\n")?;
-    let statuses = lined(alloc, statuses, "\n")?;
-    let done = outcome_of(alloc, words, &mut REQUEST.as_bytes())?;
+    let usage = lined(rt.alloc(), usage, "\n")?;
+    let statuses = lined(rt.alloc(), statuses, "\n")?;
+    let done = outcome_of(rt, words, &mut REQUEST.as_bytes())?;
     let is_told = has(&done.output, usage.as_str()) && has(&done.output, statuses.as_str());
     Ok(is_told && done.status == 0 && done.errors.is_empty())
 }
@@ -156,22 +172,22 @@ fn is_helped(alloc: Global, row: &str) -> Result<bool, Fail> {
 #[test]
 fn prints_its_help(rt: HostRuntime) -> Result<(), Fail> {
     for row in HELP.lines() {
-        assert!(rt; is_helped(rt.alloc(), row)?, "{row}");
+        assert!(rt; is_helped(&rt, row)?, "{row}");
     }
     Ok(())
 }
 
 // Whether nothing is written for the moments of that text.
-fn is_taken(alloc: Global, seconds: &str) -> Result<bool, Fail> {
-    let words = format!(in alloc; "pipe --step {seconds} --at {seconds}")?;
-    let done = outcome_of(alloc, words.as_str(), &mut "".as_bytes())?;
+fn is_taken(rt: &HostRuntime, seconds: &str) -> Result<bool, Fail> {
+    let words = format!(in rt.alloc(); "pipe --step {seconds} --at {seconds}")?;
+    let done = outcome_of(rt, words.as_str(), &mut "".as_bytes())?;
     Ok(done.status == 0 && done.output.is_empty() && done.errors.is_empty())
 }
 
 #[test]
 fn takes_every_moment(rt: HostRuntime) -> Result<(), Fail> {
     for seconds in "0 +5 1767225600 253370764799".split(' ') {
-        assert!(rt; is_taken(rt.alloc(), seconds)?, "{seconds}");
+        assert!(rt; is_taken(&rt, seconds)?, "{seconds}");
     }
     Ok(())
 }
@@ -187,22 +203,19 @@ const CUT: &str = "PUT /callers/ops
 PUT /callers/ops/requests/1 HTTP/1.1|Content-Length: 3||{}";
 
 // Whether the program ends with that status and that line where a row is its input.
-fn ends_so(alloc: Global, row: &str, status: u8, line: &str) -> Result<bool, Fail> {
-    let input = lined(alloc, row, "\r\n")?;
-    let done = outcome_of(alloc, PIPE, &mut input.as_bytes())?;
+fn ends_so(rt: &HostRuntime, row: &str, status: u8, line: &str) -> Result<bool, Fail> {
+    let input = lined(rt.alloc(), row, "\r\n")?;
+    let done = outcome_of(rt, PIPE, &mut input.as_bytes())?;
     Ok(done.status == status && done.errors.as_slice() == line.as_bytes())
 }
 
 #[test]
 fn tells_how_a_stream_ended(rt: HostRuntime) -> Result<(), Fail> {
     for row in SERVED.lines() {
-        assert!(rt; ends_so(rt.alloc(), row, 0, "")?, "{row}");
+        assert!(rt; ends_so(&rt, row, 0, "")?, "{row}");
     }
     for row in CUT.lines() {
-        assert!(rt;
-            ends_so(rt.alloc(), row, 1, "canary: truncated\n")?,
-            "{row}"
-        );
+        assert!(rt; ends_so(&rt, row, 1, "canary: truncated\n")?, "{row}");
     }
     Ok(())
 }
@@ -212,7 +225,7 @@ fn tells_of_a_reader_that_fails(rt: HostRuntime) -> Result<(), Fail> {
     let mut input = Failing {
         rest: REQUEST.as_bytes(),
     };
-    let done = outcome_of(rt.alloc(), PIPE, &mut input)?;
+    let done = outcome_of(&rt, PIPE, &mut input)?;
     assert!(rt; done.status == 1);
     assert!(rt; done.output.as_slice() == UNREADABLE.as_bytes());
     assert!(rt; done.errors.as_slice() == "canary: read\n".as_bytes());
@@ -220,7 +233,8 @@ fn tells_of_a_reader_that_fails(rt: HostRuntime) -> Result<(), Fail> {
 }
 
 // Whether words whose output takes so many bytes end for that, with so many bytes written.
-fn is_cut_off(alloc: Global, words: &str, writes: usize) -> Result<bool, Memory> {
+fn is_cut_off(rt: &HostRuntime, words: &str, writes: usize) -> Result<bool, Memory> {
+    let alloc = rt.alloc();
     let words = words_in(alloc, words)?;
     let mut output = Full {
         bytes: Vec::new(alloc),
@@ -228,13 +242,7 @@ fn is_cut_off(alloc: Global, words: &str, writes: usize) -> Result<bool, Memory>
     };
     let mut errors = Vec::new(alloc);
     let mut input = REQUEST.as_bytes();
-    let status = perform(
-        alloc,
-        words.as_slice(),
-        &mut input,
-        &mut output,
-        &mut errors,
-    );
+    let status = perform(rt, words.as_slice(), &mut input, &mut output, &mut errors);
     let is_told = errors.as_slice() == "canary: write\n".as_bytes();
     let is_refused = errors.as_slice() == "canary: memory\n".as_bytes();
     Ok((is_told || is_refused) && status == 1 && output.bytes.len() == writes)
@@ -243,14 +251,15 @@ fn is_cut_off(alloc: Global, words: &str, writes: usize) -> Result<bool, Memory>
 #[test]
 fn tells_of_a_writer_that_fails(rt: HostRuntime) -> Result<(), Fail> {
     for writes in 0..8 {
-        assert!(rt; is_cut_off(rt.alloc(), PIPE, writes)?, "{writes}");
-        assert!(rt; is_cut_off(rt.alloc(), "--help", writes)?, "{writes}");
+        assert!(rt; is_cut_off(&rt, PIPE, writes)?, "{writes}");
+        assert!(rt; is_cut_off(&rt, "--help", writes)?, "{writes}");
     }
     Ok(())
 }
 
 // The status of words that are refused, where the error stream takes three bytes.
-fn status_unheard(alloc: Global, words: &str) -> Result<u8, Memory> {
+fn status_unheard(rt: &HostRuntime, words: &str) -> Result<u8, Memory> {
+    let alloc = rt.alloc();
     let words = words_in(alloc, words)?;
     let mut output = Vec::new(alloc);
     let mut errors = Full {
@@ -258,21 +267,14 @@ fn status_unheard(alloc: Global, words: &str) -> Result<u8, Memory> {
         writes: 3,
     };
     let mut input = "".as_bytes();
-    Ok(perform(
-        alloc,
-        words.as_slice(),
-        &mut input,
-        &mut output,
-        &mut errors,
-    ))
+    Ok(perform(rt, words.as_slice(), &mut input, &mut output, &mut errors))
 }
 
 // Asked again where memory was refused.
 #[test]
 fn ignores_a_fault_of_the_error_stream(rt: HostRuntime) -> Result<(), Fail> {
-    let alloc = rt.alloc();
-    let status = status_unheard(alloc, "--nothing")?;
-    assert!(rt; status == 2 || status_unheard(alloc, "--nothing")? == 2);
+    let status = status_unheard(&rt, "--nothing")?;
+    assert!(rt; status == 2 || status_unheard(&rt, "--nothing")? == 2);
     Ok(())
 }
 
@@ -360,6 +362,43 @@ fn reads_the_moments_of_pipe(rt: HostRuntime) -> Result<(), Fail> {
     let at = Moment::new(1_767_225_600).ok_or("a moment")?;
     let step = Moment::new(60).ok_or("a moment")?;
     let words = "pipe --step=60 --at 1767225600";
-    assert!(rt; program(rt.alloc(), words)? == Some(Program::Pipe { at, step }));
+    let read = program(rt.alloc(), words)?;
+    assert!(rt; matches!(read, Some(Program::Pipe { at: a, step: s }) if a == at && s == step));
+    Ok(())
+}
+
+// Whether the words are those of `serve` with that many connections and these limits.
+fn is_server(alloc: Global, words: &str, count: Option<u64>, want: Limits) -> Result<bool, Memory> {
+    Ok(match program(alloc, words)? {
+        Some(
+            Program::Serve {
+                listen,
+                connections,
+                limits,
+            },
+        ) => listen.as_str() == "[::1]:0" && connections == count && limits == want,
+        _ => false,
+    })
+}
+
+#[test]
+fn reads_the_limits_of_serve(rt: HostRuntime) -> Result<(), Fail> {
+    let words = "serve --listen [::1]:0";
+    assert!(rt; is_server(rt.alloc(), words, None, Limits::DEFAULT)?);
+    let words = "serve --owed 4 --clients=3 --listen [::1]:0 --idle 2 --message 1 --connections 5";
+    let limits = Limits {
+        message_seconds: 1,
+        idle_seconds: 2,
+        clients: 3,
+        owed_bytes: 4,
+    };
+    assert!(rt; is_server(rt.alloc(), words, Some(5), limits)?);
+    Ok(())
+}
+
+#[test]
+fn reads_the_file_of_check(rt: HostRuntime) -> Result<(), Fail> {
+    let read = program(rt.alloc(), "check -- -a")?;
+    assert!(rt; matches!(read, Some(Program::Check { file }) if file.as_str() == "-a"));
     Ok(())
 }

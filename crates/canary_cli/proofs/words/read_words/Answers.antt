@@ -1,6 +1,6 @@
 use Rattle.std.proofs.Common.{◌≡◌, ◌∙◌, [], ap, map, subst, sym, refl, string_bytes}
 use Rattle.clap.specs.Words.{App, HasKind, fault_of, is_simple, is_simple_and_free, subcommand_of}
-use Rattle.canary_cli.specs.CommandLine.{faults_of, HasPipe}
+use Rattle.canary_cli.specs.CommandLine.{faults_of, HasProgram}
 use Rattle.canary_cli.proofs.Spelled.{desk_is_simple, some_program, spelled}
 use Rattle.canary_cli.proofs.words.read_words.Goals as goal
 
@@ -10,10 +10,10 @@ program_of-requires c =
     let ours = c.in-Ok.ensures in
     let none = subst (λ (a : App). fault_of a words ≡ []) ours (c.in-Ok-try_get_matches_from.ensures.kinds (ap is_simple_and_free ours ∙ desk_is_simple)) in
     let met = (c.in-Ok-try_get_matches_from.ensures.matches (ap is_simple ours ∙ refl)).1 in
-    subst HasPipe (sym (met ∙ ap (λ (a : App). subcommand_of a words) ours)) (spelled words none)
+    subst HasProgram (sym (met ∙ ap (λ (a : App). subcommand_of a words) ours)) (spelled words none)
 
-pub returns-in-Err-clause-fault : goal.returns-in-Err-clause-fault
-returns-in-Err-clause-fault c =
+pub returns-clause-fault : goal.returns-clause-fault
+returns-clause-fault c =
     let words = map string_bytes c.args.words.now in
     let ours = c.in-Ok.ensures in
     c.fault_of.ensures (faults_of words)
@@ -25,5 +25,5 @@ returns-in_default-clause-spelled c = some_program (map string_bytes c.args.word
 pub returns-in-Ok-try_get_matches_from-clause-spelled : goal.returns-in-Ok-try_get_matches_from-clause-spelled
 returns-in-Ok-try_get_matches_from-clause-spelled c = some_program (map string_bytes c.args.words.now)
 
-pub returns-in-Err-clause-spelled : goal.returns-in-Err-clause-spelled
-returns-in-Err-clause-spelled c = some_program (map string_bytes c.args.words.now)
+pub returns-clause-spelled : goal.returns-clause-spelled
+returns-clause-spelled c = some_program (map string_bytes c.args.words.now)

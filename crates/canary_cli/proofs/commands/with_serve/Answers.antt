@@ -1,0 +1,16 @@
+use Rattle.std.proofs.Common.{rules, ◌≡◌, ◌∙◌, ap, codes}
+use Rattle.clap.specs.Words.{app_of, new_app, with_subcommand}
+use Rattle.canary_cli.proofs.Chains.{none_global, ok_then, one_more}
+use Rattle.canary_cli.proofs.commands.with_serve.Goals as goal
+
+pub returns : goal.returns
+returns c =
+    let begun : app_of c.after_help.result ≡ new_app (codes "serve") = search rules in
+    let one = one_more _ _ _ _ _ (c.in_ok-arg.ensures.shape c.text_option-listen.ensures.local) c.text_option-listen.ensures.rule begun in
+    let two = one_more _ _ _ _ _ (c.in_ok-arg-2.ensures.shape c.number_option-connections.ensures.local) c.number_option-connections.ensures.rule one in
+    let three = one_more _ _ _ _ _ (c.in_ok-arg-3.ensures.shape c.number_option-message.ensures.local) c.number_option-message.ensures.rule two in
+    let four = one_more _ _ _ _ _ (c.in_ok-arg-4.ensures.shape c.number_option-idle.ensures.local) c.number_option-idle.ensures.rule three in
+    let five = one_more _ _ _ _ _ (c.in_ok-arg-5.ensures.shape c.number_option-clients.ensures.local) c.number_option-clients.ensures.rule four in
+    let six = one_more _ _ _ _ _ (c.in_ok-serve.ensures.shape c.number_option-owed.ensures.local) c.number_option-owed.ensures.rule five in
+    let plain = none_global _ _ _ _ (ap (λ a. a.top.is_plain) six) in
+    ok_then c.subcommand.result _ _ (λ d added. added.shape plain ∙ ap (λ a. with_subcommand (app_of c.args.desk) a.top) six) c.subcommand.ensures

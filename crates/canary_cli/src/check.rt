@@ -1,0 +1,49 @@
+//! `check`: what the desk would refuse of a manifest.
+ghost use Rattle.std.specs.Prelude.{◌≡◌, Ok, codes};
+ghost use Rattle.std.specs.Io.KnownBytes.{Appends};
+
+use crate::perform::{Fault, Outcome, show};
+use std::fs::{File, Files};
+use std::io::{self, ErrorKind, Read, Write};
+
+// The most bytes of a file: 16 MiB.
+const MOST_BYTES: usize = 16_777_216;
+
+// Writes `ok` where the desk takes the manifest in the file of this name, and otherwise what it
+// would refuse of it.
+pub(crate) fn check<P: Files + AllocGlobal, W: Write>(
+    rt: &P,
+    file: &str,
+    output: &mut W,
+) -> Result<Outcome, Fault>
+    ensures { result ≡ Ok Outcome.Done
+        → Appends (W.contents output.old) (W.contents output.new) (codes "ok\n") }
+{
+    let manifest = read_file(rt, file)?;
+    let Ok(findings) = canary_check::check::check(rt.alloc(), manifest.as_slice()) else {
+        return Err(Fault::Memory);
+    };
+    show(findings.text(), output)?;
+    if findings.is_ok() {
+        Ok(Outcome::Done)
+    } else {
+        Ok(Outcome::Findings)
+    }
+}
+
+// The bytes of the file of this name.
+fn read_file<P: Files + AllocGlobal>(rt: &P, file: &str) -> Result<Vec<u8>, Fault> {
+    let mut bytes = Vec::new(rt.alloc());
+    match fill(rt, file, &mut bytes) {
+        Ok(()) if bytes.len() <= MOST_BYTES => Ok(bytes),
+        Err(error) if error.kind() == ErrorKind::OutOfMemory => Err(Fault::Memory),
+        _ => Err(Fault::File),
+    }
+}
+
+// Reads the file of this name, as far as its length shows whether it is too long.
+fn fill<P: Files>(files: &P, file: &str, bytes: &mut Vec<u8>) -> io::Result<()> {
+    let mut manifest = File::open(files, file)?.take(MOST_BYTES as u64 + 1);
+    manifest.read_to_end(bytes)?;
+    Ok(())
+}
