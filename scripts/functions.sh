@@ -15,13 +15,18 @@ need_rt() {
 run_guarded() {
     "$@" <&0 &
     guarded=$!
-    trap 'end_guarded 143' TERM
-    trap 'end_guarded 130' INT
-    trap 'end_guarded 129' HUP
+    guard
     local status=0
     wait "$guarded" || status=$?
     trap - TERM INT HUP
     return "$status"
+}
+
+# From now on the process `guarded` is ended where this script is told to end.
+guard() {
+    trap 'end_guarded 143' TERM
+    trap 'end_guarded 130' INT
+    trap 'end_guarded 129' HUP
 }
 
 end_guarded() {
@@ -32,6 +37,8 @@ end_guarded() {
 }
 
 program=$root/crates/canary_desk/out/canary_desk
+# The same, built without proofs.
+unproved_program=$root/crates/canary_desk/out/canary_unproved
 
 # The crates that the program is built of; crates.txt has the lowest first.
 crates_of_program() {
@@ -40,9 +47,10 @@ crates_of_program() {
         $1 in needed { print $1; for (i = 2; i <= NF; i++) needed[$i] = 1 }'
 }
 
-# The program is there, and nothing that it is built of is newer.
+# The program, or the file $1 of it, is there, and nothing that it is built of is newer.
 is_current() {
-    [ -x "$program" ] || return 1
+    local built=${1:-$program}
+    [ -x "$built" ] || return 1
     local sources=("$root/crates.txt") crate folder
     for crate in $(crates_of_program); do
         for folder in "$root/crates/$crate"/{src,specs,proofs}; do
@@ -51,5 +59,5 @@ is_current() {
             fi
         done
     done
-    [ -z "$(find "${sources[@]}" -newer "$program" -print -quit)" ]
+    [ -z "$(find "${sources[@]}" -newer "$built" -print -quit)" ]
 }
