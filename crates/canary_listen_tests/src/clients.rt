@@ -47,6 +47,7 @@ pub(crate) struct Desk {
     book: MemoryBook,
     errors: Vec<u8>,
     machine: (Machine, Global),
+    rounds: usize,
 }
 
 impl Desk {
@@ -61,6 +62,7 @@ impl Desk {
             book: MemoryBook::new(rt.alloc()),
             errors: Vec::new(rt.alloc()),
             machine: (Machine { seconds: 0 }, rt.alloc()),
+            rounds: 0,
         })
     }
 
@@ -82,10 +84,16 @@ impl Desk {
 
     /// One round.
     pub(crate) fn round(&mut self) -> Result<(), ListenFault> {
+        self.rounds = self.rounds.saturating_add(1);
         let wait = Duration::from_millis(MILLISECONDS);
         let (clock, book, errors) = (&mut self.clock, &mut self.book, &mut self.errors);
         self.listener
             .round(&self.machine, wait, clock, book, errors)
+    }
+
+    /// How many rounds there were.
+    pub(crate) fn count_rounds(&self) -> usize {
+        self.rounds
     }
 
     /// Some rounds.
@@ -184,6 +192,14 @@ impl Client {
             Ok(count) => self.got.extend_from_slice(&piece[..count])?,
             Err(error) if error.kind() == ErrorKind::WouldBlock => {}
             Err(error) => return Err(error),
+        }
+        Ok(())
+    }
+
+    /// Takes all that has come, a megabyte at most.
+    pub(crate) fn take_all(&mut self) -> io::Result<()> {
+        for _ in 0..256 {
+            self.take()?;
         }
         Ok(())
     }

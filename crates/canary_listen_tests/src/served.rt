@@ -12,6 +12,9 @@ const TOO_LONG: &str = concat!(
 
 const FIVE_MEGABYTES: usize = 5_000_000;
 
+// The most messages that are answered in one turn.
+const MOST_OF_A_TURN: usize = 128;
+
 // So many copies of a text.
 fn times(alloc: Global, text: &str, count: usize) -> Result<String, Fail> {
     let mut all = String::new(alloc);
@@ -210,8 +213,11 @@ fn gives_a_fast_client_one_turn_at_a_time(rt: HostRuntime) -> Result<(), Fail> {
     desk.rounds(4)?;
     client.take()?;
     assert!(rt; client.got() == NO_ROUTE.as_bytes());
-    fast.take()?;
-    assert!(rt; fast.got().len() < 3_000 * NO_ROUTE.len());
+    fast.take_all()?;
+    let most = desk
+        .count_rounds()
+        .saturating_mul(MOST_OF_A_TURN * NO_ROUTE.len());
+    assert!(rt; !fast.got().is_empty() && fast.got().len() <= most);
     assert!(rt; desk.sends(&mut fast, 3_000 * NO_ROUTE.len()));
     Ok(())
 }

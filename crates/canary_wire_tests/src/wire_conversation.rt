@@ -147,7 +147,7 @@ fn answers_in_any_pieces(rt: HostRuntime) -> Result<(), Fail> {
 fn tells_how_it_ended(rt: HostRuntime) -> Result<(), Fail> {
     let script = release(rt.alloc(), ALL)?;
     let all = script.stream.as_bytes();
-    let mut reader = reading(&all[..all.len() - 1], 1000);
+    let mut reader = reading(&all[..all.len().saturating_sub(1)], 1000);
     let mut writer = writing(rt.alloc(), 50);
     let ran = run(rt.alloc(), &mut reader, &mut writer, 300)?;
     assert!(rt; ran.wants == Wants::Nothing(Cause::Truncated));
