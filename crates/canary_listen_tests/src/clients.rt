@@ -142,7 +142,7 @@ impl Desk {
         let mut rest = bytes;
         for _ in 0..MOST_ROUNDS {
             match client.put(rest) {
-                Ok(count) => rest = &rest[count..],
+                Ok(count) => rest = &rest[count.min(rest.len())..],
                 Err(_) => return false,
             }
             if rest.is_empty() {
