@@ -189,7 +189,9 @@ impl Attendant {
         ensures { Keeps (clients_attendance self.old.clients)
             (clients_attendance self.new.clients) }
     {
-        let mut client = Client::new(alloc, stream, self.limits, self.now)?;
+        let most_owed = usize::try_from(self.limits.owed_bytes).unwrap_or(usize::MAX);
+        let conversation = self.clients.conversation(alloc, most_owed)?;
+        let mut client = Client::new(stream, conversation, self.now);
         let token = Token(self.clients.next());
         if client.register(self.poll.registry(), token).is_err() {
             return Ok(());

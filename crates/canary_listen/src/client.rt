@@ -1,12 +1,11 @@
 //! A client: its connection, the conversation with it, and how long it may take.
-ghost use Rattle.std.specs.Prelude.{◌≡◌, IfOk};
-ghost use Rattle.canary_wire.specs.Conversing.{begun};
+ghost use Rattle.std.specs.Prelude.{◌≡◌};
 ghost use Rattle.canary_wire.specs.Exchanges.{point};
+ghost use Rattle.canary_wire.specs.Talks.{talk_of};
 ghost use Rattle.canary_listen.specs.Attending.{IsTurn};
 ghost use Rattle.canary_listen.specs.Crowd.{client_talk};
 
 use crate::limits::Limits;
-use canary_base::error::Memory;
 use canary_once::book::Book;
 use canary_once::clock::Clock;
 use canary_wire::conversation::{Cause, Conversation, Routes, Wants};
@@ -59,25 +58,23 @@ pub(crate) struct Client {
 }
 
 impl Client {
-    // A client that came at this second.
-    pub(crate) fn new(
-        alloc: Global,
-        stream: TcpStream,
-        limits: Limits,
-        now: u64,
-    ) -> Result<Client, Memory>
-        ensures { IfOk result (λ client. client_talk client ≡ begun) }
+    // A client that came at this second, with whom this conversation is held.
+    pub(crate) fn new(stream: TcpStream, conversation: Conversation, now: u64) -> Client
+        ensures { client_talk result ≡ talk_of conversation }
     {
-        let most_owed = usize::try_from(limits.owed_bytes).unwrap_or(usize::MAX);
-        let conversation = Conversation::new(alloc, most_owed)?;
-        Ok(Client {
+        Client {
             stream,
             conversation,
             awaited: Awaited::Message,
             since: now,
             answered: 0,
             drained: 0,
-        })
+        }
+    }
+
+    // Its conversation, where the client has gone: its connection is closed.
+    pub(crate) fn into_conversation(self) -> Conversation {
+        self.conversation
     }
 
     // Has its connection reported under this token where it is ready at first.

@@ -1,7 +1,8 @@
 //! The clients that are being served, by the numbers of their connections.
-ghost use Rattle.std.specs.Prelude.{◌≡◌};
+ghost use Rattle.std.specs.Prelude.{◌≡◌, IfOk};
 ghost use Rattle.canary_wire.specs.Conversing.{begun};
 ghost use Rattle.canary_wire.specs.Exchanges.{point};
+ghost use Rattle.canary_wire.specs.Talks.{talk_of};
 ghost use Rattle.canary_listen.specs.Attending.{Attends, Keeps, nobody};
 ghost use Rattle.canary_listen.specs.Crowd.{client_talk, clients_attendance};
 
@@ -10,17 +11,22 @@ use crate::limits::Limits;
 use canary_base::error::Memory;
 use canary_once::book::Book;
 use canary_once::clock::Clock;
-use canary_wire::conversation::{Cause, Routes};
+use canary_wire::conversation::{Cause, Conversation, Routes};
 use canary_wire::laws::{crowds, going_on};
 use mio::{Interest, Registry, Token};
 use std::alloc::Global;
 use std::collections::BTreeMap;
+
+// The most conversations that are kept for clients to come: their buffers, five megabytes in all,
+// are neither taken nor cleared again.
+const MOST_SPARE: usize = 64;
 
 // Clients by number. No number is given twice.
 #[derive(Drop)]
 pub(crate) struct Clients {
     by_number: BTreeMap<usize, Client>,
     next: usize,
+    spare: Vec<Conversation>,
 }
 
 impl Clients {
@@ -31,6 +37,7 @@ impl Clients {
         Clients {
             by_number: BTreeMap::new(alloc),
             next: 0,
+            spare: Vec::new(alloc),
         }
     }
 
@@ -42,6 +49,30 @@ impl Clients {
     // The number of the next client.
     pub(crate) fn next(&self) -> usize {
         self.next
+    }
+
+    // A conversation for a client to come, in which nothing was said.
+    pub(crate) fn conversation(
+        &mut self,
+        alloc: Global,
+        most_owed: usize,
+    ) -> Result<Conversation, Memory>
+        ensures begun { IfOk result (λ conversation. talk_of conversation ≡ begun) }
+        ensures same { clients_attendance self.new ≡ clients_attendance self.old }
+    {
+        match self.spare.pop() {
+            Some(conversation) => Ok(conversation.renewed(alloc, most_owed)),
+            None => Conversation::new(alloc, most_owed),
+        }
+    }
+
+    // Keeps the conversation of a client that has gone for another, where there are not enough.
+    fn keep(&mut self, client: Client)
+        ensures { clients_attendance self.new ≡ clients_attendance self.old }
+    {
+        if self.spare.len() < MOST_SPARE {
+            let _ = self.spare.push(client.into_conversation());
+        }
     }
 
     // Takes a client in, under the next number.
@@ -96,7 +127,9 @@ impl Clients {
         ensures { Keeps (clients_attendance self.old) (clients_attendance self.new) }
     {
         crowds();
-        let _ = self.by_number.remove(&number);
+        if let Some(client) = self.by_number.remove(&number) {
+            self.keep(client);
+        }
     }
 
     // The first client, from a number on, that takes too long, and why it is let go.

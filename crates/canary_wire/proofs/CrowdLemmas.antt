@@ -53,10 +53,10 @@ begun_by turns who fresh =
 pub comes : Comes
 comes turns old new who crowd fresh becomes w = elim (eqb_tells w who) [
   | inl h ↦ (
-      begun,
-      subst (λ k. InOrderBy turns k begun) (sym h.1) (begun_by turns who fresh),
-      subst (λ o. IsTalk o begun) (sym (ap new h.1 ∙ becomes.changed)) refl,
-      )
+    begun,
+    subst (λ k. InOrderBy turns k begun) (sym h.1) (begun_by turns who fresh),
+    subst (λ o. IsTalk o begun) (sym (ap new h.1 ∙ becomes.changed)) refl,
+  )
   | inr h ↦ (let t = crowd w in (t.0, t.1, subst (λ o. IsTalk o t.0) (sym (becomes.others w h.1)) t.2))
 ]
 

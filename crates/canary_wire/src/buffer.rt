@@ -61,6 +61,14 @@ impl Buffer {
         self.start += count;
     }
 
+    // Lets all bytes go.
+    pub(crate) fn clear(&mut self)
+        ensures { bytes_held self.new ≡ [] }
+    {
+        self.start = 0;
+        self.end = 0;
+    }
+
     // Reads more bytes behind those that it holds, and says how many: none only at the end of the
     // input. It holds nothing then that can be answered: what is whole is answered before more is
     // waited for. On a fault nothing was read.

@@ -125,6 +125,21 @@ impl Conversation {
         })
     }
 
+    /// One in which nothing was said, with the buffer of this one, so that it takes no memory.
+    pub fn renewed(self, alloc: Global, most_owed: usize) -> Conversation
+        ensures { talk_of result ≡ begun }
+    {
+        let mut buffer = self.buffer;
+        buffer.clear();
+        Conversation {
+            buffer,
+            owed: Owed::new(alloc),
+            stage: Stage::Open,
+            most_owed,
+            answered: 0,
+        }
+    }
+
     /// How many bytes were read that are not answered yet.
     pub fn holds(&self) -> usize
         ensures { result ≡ length (talk_of self.now).held }
