@@ -356,34 +356,48 @@ fn program(alloc: Global, words: &str) -> Result<Option<Program>, Memory> {
     }
 }
 
-// Whether the words are those of `pipe` with these moments.
-fn is_pipe(alloc: Global, words: &str, at: u64, step: u64) -> Result<bool, Memory> {
-    Ok(match program(alloc, words)? {
-        Some(Program::Pipe { at: a, step: s }) => a.get() == at && s.get() == step,
-        _ => false,
-    })
+// Whether it is `pipe` with these moments.
+fn pipes(read: &Program, at: u64, step: u64) -> bool {
+    match read {
+        Program::Pipe { at: a, step: s } => a.get() == at && s.get() == step,
+        Program::Serve { .. } | Program::Check { .. } => false,
+    }
+}
+
+// Whether it is `serve` on this address, with that many connections and these limits.
+fn serves(read: &Program, address: &str, count: Option<u64>, want: Limits) -> bool {
+    match read {
+        Program::Serve {
+            listen,
+            connections,
+            limits,
+        } => listen.as_str() == address && *connections == count && *limits == want,
+        Program::Pipe { .. } | Program::Check { .. } => false,
+    }
+}
+
+// Whether it is `check` of this file.
+fn checks(read: &Program, name: &str) -> bool {
+    match read {
+        Program::Check { file } => file.as_str() == name,
+        Program::Pipe { .. } | Program::Serve { .. } => false,
+    }
 }
 
 #[test]
 fn reads_the_moments_of_pipe(rt: HostRuntime) -> Result<(), Fail> {
-    let words = "pipe --step=60 --at 1767225600";
-    assert!(rt; is_pipe(rt.alloc(), words, 1_767_225_600, 60)?);
-    assert!(rt; !is_pipe(rt.alloc(), words, 60, 1_767_225_600)?);
+    let read = program(rt.alloc(), "pipe --step=60 --at 1767225600")?;
+    let read = read.ok_or("a program")?;
+    assert!(rt; pipes(&read, 1_767_225_600, 60));
     Ok(())
 }
 
 // Whether the words are those of `serve` with that many connections and these limits.
 fn is_server(alloc: Global, words: &str, count: Option<u64>, want: Limits) -> Result<bool, Memory> {
-    Ok(match program(alloc, words)? {
-        Some(
-            Program::Serve {
-                listen,
-                connections,
-                limits,
-            },
-        ) => listen.as_str() == "[::1]:0" && connections == count && limits == want,
-        _ => false,
-    })
+    match program(alloc, words)? {
+        Some(read) => Ok(serves(&read, "[::1]:0", count, want)),
+        None => Ok(false),
+    }
 }
 
 #[test]
@@ -404,6 +418,7 @@ fn reads_the_limits_of_serve(rt: HostRuntime) -> Result<(), Fail> {
 #[test]
 fn reads_the_file_of_check(rt: HostRuntime) -> Result<(), Fail> {
     let read = program(rt.alloc(), "check -- -a")?;
-    assert!(rt; matches!(read, Some(Program::Check { file }) if file.as_str() == "-a"));
+    let read = read.ok_or("a program")?;
+    assert!(rt; checks(&read, "-a"));
     Ok(())
 }
