@@ -29,7 +29,7 @@ fn is_answered(desk: &mut Desk, client: &mut Client, count: usize) -> bool {
     let before = client.got().len();
     desk.takes(client, NOBODY.as_bytes())
         && desk.sends(client, before + NO_ROUTE.len())
-        && client.got().len() == count * NO_ROUTE.len()
+        && client.got().len() == count.saturating_mul(NO_ROUTE.len())
         && client.got().ends_with(NO_ROUTE.as_bytes())
 }
 
