@@ -77,7 +77,7 @@ fn serves_so_many_connections_and_ends(rt: HostRuntime) -> Result<(), Fail> {
     last.put(NOBODY.as_bytes())?;
     last.finish()?;
     desk.serve(1)?;
-    assert!(rt; desk.ends(&mut last));
+    last.take_all()?;
     assert!(rt; last.got().len() == NO_ROUTE.len());
     assert!(rt; count_answered(&mut desk, clients.as_mut_slice()) == 3);
     Ok(())
