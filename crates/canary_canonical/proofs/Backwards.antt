@@ -27,7 +27,7 @@ use Rattle.canary_plan.specs.declared.command.Command.{Command}
 use Rattle.canary_plan.specs.declared.command.Command.TheVariants as command
 use Rattle.canary_canonical.specs.Texts.{whole_data, signed_data, data_or_null, list_data, metric_data, template_data, step_data, background_data, service_data, result_data, entry_with, entry_data, report_data, start_data, service_alone, command_data, command_text}
 use Rattle.canary_canonical.specs.Forms.{◌⊛◌, at, is_object_of, name_in, label_in, number_up_to, signed_in, null_or, each, list_of, where_kept}
-use Rattle.canary_canonical.specs.Readings.{seconds_in, moment_in, word_in, metric_with, metric_in, template_with, template_in, step_in, background_with, background_in, service_with, service_in, values_with, result_in, outcome_in, entry_of, entry_in, report_with, report_in, start_with, start_in, named_in, plain_of_kind, command_of_kind, command_in, no_command, command_of, if_text_of, canonical_in}
+use Rattle.canary_canonical.specs.Readings.{seconds_in, moment_in, word_in, metric_with, metric_in, template_with, template_in, step_in, background_with, background_in, service_with, service_in, values_with, result_in, outcome_in, entry_of, entry_in, report_with, report_in, start_with, start_in, named_in, plain_of_kind, command_of_kind, command_in, if_text_of, canonical_in}
 use Rattle.canary_canonical.specs.Laws.{is_duration, is_word, is_signed_word, all_of, keeps_metric, keeps_template, keeps_step, keeps_background, keeps_service, keeps_outcome, keeps_entry, keeps_report, keeps_limits, KeepsLimits, ReadsBack, OneText}
 use Rattle.canary_canonical.proofs.Kept.{made_where_kept}
 use Rattle.canary_canonical.proofs.Regular.{written_is_read}
@@ -221,10 +221,6 @@ command_back (command.Report report) h = ap (option_map command.Report) (report_
 -- ---- texts
 
 -- a text that is read as what a command is in JSON is read as the command
-pub command_read : (text : List ℕ) (c : Command) → KeepsLimits c → read text ≡ Some (command_data c) → command_of text ≡ c
-unfolding command_of
-command_read text c h e = ap (λ o. unwrap_or (option_and_then command_in o) no_command) e ∙ ap (λ o. unwrap_or o no_command) (command_back c h)
-
 -- and where it is the command's text, it is canonical
 pub canonical_read : (text : List ℕ) (c : Command) → KeepsLimits c → read text ≡ Some (command_data c) → text ≡ command_text c → canonical_in text ≡ Some c
 unfolding canonical_in

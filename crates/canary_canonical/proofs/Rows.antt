@@ -13,7 +13,7 @@ use Rattle.canary_plan.specs.declared.report.Entry.{Entry}
 use Rattle.canary_plan.specs.declared.command.Command.{Command}
 use Rattle.canary_plan.specs.declared.command.Command.TheVariants as command
 use Rattle.canary_canonical.specs.Texts.{metric_data, template_data, step_data, background_data, service_data, entry_data, report_data, start_data, command_data, command_text}
-use Rattle.canary_canonical.specs.Readings.{service_in, step_in, entry_in, report_in, start_in, plain_of_kind, command_of_kind, no_command, command_of, canonical_in}
+use Rattle.canary_canonical.specs.Readings.{service_in, step_in, entry_in, report_in, start_in, plain_of_kind, command_of_kind, spelt_in, canonical_in}
 
 abbrev web : List ℕ
 web = codes "web"
@@ -114,13 +114,13 @@ report = refl
 
 -- What is read.
 
-tick_read : command_of (codes "{\"tick\":{\"service\":\"web\"}}") ≡ command.Tick web
-unfolding serde_json_on_literals command_of command_of_kind plain_of_kind
+tick_read : spelt_in (codes "{\"tick\":{\"service\":\"web\"}}") ≡ Some (command.Tick web)
+unfolding serde_json_on_literals command_of_kind plain_of_kind
 tick_read = refl
 
 -- a text with a space is read, and is not canonical
-spaced : command_of (codes "{\"tick\": {\"service\":\"web\"}}") ≡ command.Tick web
-unfolding serde_json_on_literals command_of command_of_kind plain_of_kind
+spaced : spelt_in (codes "{\"tick\": {\"service\":\"web\"}}") ≡ Some (command.Tick web)
+unfolding serde_json_on_literals command_of_kind plain_of_kind
 spaced = refl
 
 not_canonical : canonical_in (codes "{\"tick\": {\"service\":\"web\"}}") ≡ None
@@ -136,13 +136,13 @@ canonical = refl
 abbrev pausing : List ℕ → List ℕ
 pausing seconds = codes "{\"service\":{\"analysis\":null,\"name\":\"web\",\"steps\":[{\"pause\":" ++ seconds ++ codes "}],\"version\":\"v1\"}}"
 
-longest : command_of (pausing (codes "31536000")) ≡ command.Service (record { name = web; version = codes "v1"; steps = Pause (Some 31536000) ∷ []; background = None })
-unfolding serde_json_on_literals command_of command_of_kind service_in step_in
+longest : spelt_in (pausing (codes "31536000")) ≡ Some (command.Service (record { name = web; version = codes "v1"; steps = Pause (Some 31536000) ∷ []; background = None }))
+unfolding serde_json_on_literals command_of_kind service_in step_in
 longest = refl
 
 -- and one that is too long
-too_long : command_of (pausing (codes "31536001")) ≡ no_command
-unfolding serde_json_on_literals command_of command_of_kind service_in step_in
+too_long : spelt_in (pausing (codes "31536001")) ≡ None
+unfolding serde_json_on_literals command_of_kind service_in step_in
 too_long = refl
 
 -- a report, with this result
@@ -153,43 +153,43 @@ abbrev reported : Outcome → Command
 reported outcome = command.Report (record { service = web; run = 2; entries = measurement 1000 outcome ∷ []; within = refl })
 
 greatest : command_of (reporting (codes "9223372036854775807")) ≡ reported (Brought (Whole (pos 9223372036854775807)))
-unfolding serde_json_on_literals command_of command_of_kind plain_of_kind report_in entry_in
+unfolding serde_json_on_literals command_of_kind plain_of_kind report_in entry_in
 greatest = refl
 
 least : command_of (reporting (codes "-9223372036854775808")) ≡ reported (Brought (Whole (negsuc 9223372036854775807)))
-unfolding serde_json_on_literals command_of command_of_kind plain_of_kind report_in entry_in
+unfolding serde_json_on_literals command_of_kind plain_of_kind report_in entry_in
 least = refl
 
 -- no signed word of 64 bits holds it
-not_held : command_of (reporting (codes "9223372036854775808")) ≡ no_command
-unfolding serde_json_on_literals command_of command_of_kind plain_of_kind report_in entry_in
+not_held : spelt_in (reporting (codes "9223372036854775808")) ≡ None
+unfolding serde_json_on_literals command_of_kind plain_of_kind report_in entry_in
 not_held = refl
 
 -- a list of numbers has one at least
-no_numbers : command_of (reporting (codes "[]")) ≡ no_command
-unfolding serde_json_on_literals command_of command_of_kind plain_of_kind report_in entry_in
+no_numbers : spelt_in (reporting (codes "[]")) ≡ None
+unfolding serde_json_on_literals command_of_kind plain_of_kind report_in entry_in
 no_numbers = refl
 
 -- a name has no capital letter, and a label may have one
-no_name : command_of (codes "{\"start\":{\"service\":\"Web\",\"version\":\"V1\"}}") ≡ no_command
-unfolding serde_json_on_literals command_of command_of_kind plain_of_kind start_in
+no_name : spelt_in (codes "{\"start\":{\"service\":\"Web\",\"version\":\"V1\"}}") ≡ None
+unfolding serde_json_on_literals command_of_kind plain_of_kind start_in
 no_name = refl
 
-label : command_of (codes "{\"start\":{\"service\":\"web\",\"version\":\"V1\"}}") ≡ command.Start web (codes "V1")
-unfolding serde_json_on_literals command_of command_of_kind plain_of_kind start_in
+label : spelt_in (codes "{\"start\":{\"service\":\"web\",\"version\":\"V1\"}}") ≡ Some (command.Start web (codes "V1"))
+unfolding serde_json_on_literals command_of_kind plain_of_kind start_in
 label = refl
 
 -- a member beside those of the command
-one_member_more : command_of (codes "{\"tick\":{\"service\":\"web\",\"version\":\"v1\"}}") ≡ no_command
-unfolding serde_json_on_literals command_of command_of_kind plain_of_kind
+one_member_more : spelt_in (codes "{\"tick\":{\"service\":\"web\",\"version\":\"v1\"}}") ≡ None
+unfolding serde_json_on_literals command_of_kind plain_of_kind
 one_member_more = refl
 
 -- an object of two members is no command
-two_kinds : command_of (codes "{\"abort\":{\"service\":\"web\"},\"tick\":{\"service\":\"web\"}}") ≡ no_command
-unfolding serde_json_on_literals command_of command_of_kind plain_of_kind
+two_kinds : spelt_in (codes "{\"abort\":{\"service\":\"web\"},\"tick\":{\"service\":\"web\"}}") ≡ None
+unfolding serde_json_on_literals command_of_kind plain_of_kind
 two_kinds = refl
 
 -- a limit that the type of a report promises
-too_great : command_of (codes "{\"report\":{\"entries\":[],\"run\":2,\"service\":\"web\"}}") ≡ no_command
-unfolding serde_json_on_literals command_of command_of_kind plain_of_kind report_in
+too_great : spelt_in (codes "{\"report\":{\"entries\":[],\"run\":2,\"service\":\"web\"}}") ≡ None
+unfolding serde_json_on_literals command_of_kind plain_of_kind report_in
 too_great = refl

@@ -1,5 +1,5 @@
 -- The command that a text is: each name in it is a name, each label a label, and each number within its limit.
-use Rattle.std.specs.Prelude.{◌≡◌, ℕ, ℤ, List, [], ◌&&◌, nat_le, if◌then◌else◌, length, Option, Some, None, option_map, option_and_then, unwrap_or, codes}
+use Rattle.std.specs.Prelude.{ℕ, ℤ, List, [], ◌&&◌, nat_le, if◌then◌else◌, length, Option, Some, None, option_map, option_and_then, unwrap_or, IsSome, codes}
 use Rattle.std.specs.Option.{option_flatten, option_or}
 use Rattle.std.specs.Str.{bytes_eq}
 use Rattle.serde_json.specs.Data.{Data}
@@ -186,20 +186,24 @@ command_in d = by_key command_of_kind d
 
 -- ---- texts
 
--- what stands for a text that is no command: a Tick of a service whose name is empty, as no name is
-abbrev pub no_command : Command
-no_command = command.Tick []
-
-unfoldable pub command_of : List ℕ → Command
-command_of text = unwrap_or (option_and_then command_in (read text)) no_command
-
--- it is the text of the command that it is read as
-abbrev pub IsCanonical : List ℕ → Type 0
-IsCanonical text = command_text (command_of text) ≡ text
+-- the command that a text is in JSON, canonical or not
+abbrev pub spelt_in : List ℕ → Option Command
+spelt_in text = option_and_then command_in (read text)
 
 abbrev pub if_text_of : List ℕ → Command → Option Command
 if_text_of text command = if bytes_eq (command_text command) text then Some command else None
 
 -- the command with this canonical text, if one has it
 unfoldable pub canonical_in : List ℕ → Option Command
-canonical_in text = option_and_then (if_text_of text) (option_and_then command_in (read text))
+canonical_in text = option_and_then (if_text_of text) (spelt_in text)
+
+-- what stands for a text that is no command's: a Tick of a service whose name is empty, as no name is
+abbrev pub no_command : Command
+no_command = command.Tick []
+
+abbrev pub command_of : List ℕ → Command
+command_of text = unwrap_or (canonical_in text) no_command
+
+-- some command has this canonical text
+abbrev pub IsCanonical : List ℕ → Type 0
+IsCanonical text = IsSome (canonical_in text)

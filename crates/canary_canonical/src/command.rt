@@ -1,8 +1,8 @@
 //! Commands as a store keeps them: by their canonical text.
-ghost use Rattle.std.specs.Prelude.{◌≡◌, IfOk};
+ghost use Rattle.std.specs.Prelude.{◌≡◌, IfOk, Some};
 ghost use Rattle.canary_plan.specs.Commands.{same_command};
 ghost use Rattle.canary_canonical.specs.Texts.{command_text};
-ghost use Rattle.canary_canonical.specs.Readings.{command_of, IsCanonical};
+ghost use Rattle.canary_canonical.specs.Readings.{canonical_in, IsCanonical};
 
 use crate::writing;
 use canary_base::error::Memory;
@@ -42,7 +42,7 @@ impl CanonicalCommand {
     /// is not read.
     pub fn known(text: Text) -> CanonicalCommand
         requires { IsCanonical text }
-        ensures { result ≡ command_of text }
+        ensures { canonical_in text ≡ Some result }
     {
         CanonicalCommand { text }
     }
@@ -50,7 +50,7 @@ impl CanonicalCommand {
     /// Its canonical text.
     pub fn text(&self) -> &str
         ensures value { result.now ≡ command_text self.now }
-        ensures read { command_of result.now ≡ self.now }
+        ensures read { canonical_in result.now ≡ Some self.now }
     {
         self.text.as_str()
     }

@@ -1,8 +1,7 @@
 //! The command that a canonical text is.
-ghost use Rattle.std.specs.Prelude.{◌≡◌, option_and_then};
-ghost use Rattle.serde_json.specs.Read.{read};
+ghost use Rattle.std.specs.Prelude.{◌≡◌};
 ghost use Rattle.serde_json.specs.View.{view};
-ghost use Rattle.canary_canonical.specs.Readings.{command_of_kind, command_in, canonical_in};
+ghost use Rattle.canary_canonical.specs.Readings.{command_of_kind, command_in, spelt_in, canonical_in};
 ghost use Rattle.canary_canonical.specs.Reads.{IsRead};
 
 use crate::form::{FormFault, only_member};
@@ -34,7 +33,7 @@ pub fn from_canonical(alloc: Global, text: &str) -> Result<Command, FormFault>
 
 // The command that the text is in JSON, canonical or not.
 fn command_read(alloc: Global, text: &str) -> Result<Command, FormFault>
-    ensures { IsRead (option_and_then command_in (read text.now)) result }
+    ensures { IsRead (spelt_in text.now) result }
 {
     match Value::from_str(alloc, text) {
         Ok(value) => command_in(alloc, &value),

@@ -5,7 +5,7 @@ ghost use Rattle.serde_json.specs.Read.{read};
 ghost use Rattle.serde_json.specs.View.{view};
 ghost use Rattle.canary_canonical.specs.Texts.{start_data, service_alone};
 ghost use Rattle.canary_canonical.specs.Texts.{command_data, command_text};
-ghost use Rattle.canary_canonical.specs.Readings.{command_of, canonical_in};
+ghost use Rattle.canary_canonical.specs.Readings.{canonical_in};
 ghost use Rattle.canary_canonical.specs.Laws.{KeepsLimits};
 
 use crate::parts::only;
@@ -24,7 +24,6 @@ use std::alloc::{AllocError, Global};
 /// command's.
 pub fn text(alloc: Global, command: &Command) -> Result<Text, Memory>
     ensures value { IfOk result (λ text. text ≡ command_text command.now) }
-    ensures read { IfOk result (λ text. command_of text ≡ command.now) }
     ensures back { IfOk result (λ text. canonical_in text ≡ Some command.now) }
     ensures kept { IfOk result (λ _. KeepsLimits command.now) }
 {

@@ -1,8 +1,10 @@
 //! Lines of a service's history.
-ghost use Rattle.std.specs.Prelude.{◌≡◌, ◌+◌, ◌<◌, ◌++◌, length, Some, IfSome, OnOk, OnErr};
+ghost use Rattle.std.specs.Prelude.{◌≡◌, ◌+◌, ◌<◌, ◌++◌, length, Some, IfSome, option_map};
+ghost use Rattle.std.specs.Prelude.{OnOk, OnErr};
 ghost use Rattle.std.specs.Prelude.{string_bytes, string_capacity, string_len};
 ghost use Rattle.canary_plan.specs.declared.line.LineEvent.{LineEvent};
 ghost use Rattle.canary_plan.specs.Lines.{words, line_at, IsLineEvent};
+ghost use Rattle.canary_plan.specs.LineReading.{event_of};
 
 use crate::line_words;
 use canary_base::durations::Seconds;
@@ -61,12 +63,14 @@ impl Line {
     /// Appends the words of its event, without the moment: `step 2 setWeight 50`, `run 1 Failed`.
     /// `Memory` comes only where the text's capacity does not suffice, and the text is then as
     /// before.
+    #[tactic(auto, using(crate::proofs::LineLemmas::event_again))]
     pub fn words(&self, out: &mut String) -> Result<(), Memory>
         ensures ok { OnOk result
             (string_bytes out.new ≡ string_bytes out.old ++ words self.now.event) }
         ensures err { OnErr result (string_bytes out.new ≡ string_bytes out.old) }
         ensures full { OnErr result
             (string_capacity out.old < string_len out.old + length (words self.now.event)) }
+        ensures back { event_of (words self.now.event) ≡ Some self.now.event }
     {
         out.push_str(line_words::words(&self.event).as_str())?;
         Ok(())
@@ -75,6 +79,7 @@ impl Line {
     /// The line of that moment with these words, or none: exactly the words that `words` writes
     /// are read.
     pub fn read(moment: Moment, text: &str) -> Option<Line>
+        ensures value { result ≡ option_map (line_at moment) (event_of text.now) }
         ensures moment { IfSome result (λ line. line.moment ≡ moment) }
         ensures sound { IfSome result (λ line. words line.event ≡ text.now) }
         ensures complete { (event : LineEvent) → IsLineEvent event

@@ -1,8 +1,9 @@
 //! The words of a history's lines, written and read.
 ghost use Rattle.arrayvec.specs.ArrayString.{array_string_len};
-ghost use Rattle.std.specs.Prelude.{◌≡◌, ◌+◌, ◌≤◌, ◌++◌, List, ℕ, length, Some, None, MatchOption};
+ghost use Rattle.std.specs.Prelude.{◌≡◌, ◌+◌, ◌≤◌, ◌++◌, List, ℕ, length, Some, None, MatchOption, IsTrue};
 ghost use Rattle.std.specs.Prelude.{codes, decimal};
-ghost use Rattle.canary_plan.specs.Lines.{words};
+ghost use Rattle.canary_base.specs.Names.{is_label};
+ghost use Rattle.canary_plan.specs.Lines.{words, IsLineEvent};
 ghost use Rattle.canary_plan.specs.LineReading.{cut, version_of, number_of, before_s, seconds_of};
 ghost use Rattle.canary_plan.specs.LineReading.{numbered, event_alone, entered_as, entered};
 ghost use Rattle.canary_plan.specs.LineReading.{closed, after_number, held, promoted};
@@ -22,7 +23,8 @@ const MOST_WORDS: usize = 71;
 
 // The words of an event.
 pub(crate) fn words(event: &LineEvent) -> ArrayString<MOST_WORDS>
-    ensures { result.bytes ≡ words event.now }
+    ensures value { result.bytes ≡ words event.now }
+    ensures kept { IsLineEvent event.now }
 {
     match event {
         LineEvent::Created { version } => with_label("created ", version),
@@ -58,7 +60,8 @@ fn alone(text: &str) -> ArrayString<MOST_WORDS>
 // A text, and a label.
 fn with_label(text: &str, label: &Label) -> ArrayString<MOST_WORDS>
     requires { length text.now ≤ 8 }
-    ensures { result.bytes ≡ text.now ++ label.now }
+    ensures bytes { result.bytes ≡ text.now ++ label.now }
+    ensures label { IsTrue (is_label label.now) }
 {
     // A label has 63 bytes at most.
     prove!(label.as_bytes().len() <= 63);
@@ -99,8 +102,9 @@ fn of_pause(step: u32) -> ArrayString<MOST_WORDS>
 }
 
 fn of_timed_pause(step: u32, seconds: Seconds) -> ArrayString<MOST_WORDS>
-    ensures { result.bytes ≡ codes "step "
+    ensures bytes { result.bytes ≡ codes "step "
         ++ (decimal step ++ (codes " pause " ++ (decimal seconds ++ codes "s"))) }
+    ensures limit { seconds ≤ 31536000 }
 {
     let mut words = of_step(step, " pause ", seconds.get());
     words.push_str("s");

@@ -17,7 +17,7 @@ use canary_plan::line::Line;
 use canary_plan::templates::Templates;
 use canary_release::effect::Recorded;
 use canary_release::service::Service;
-use canary_rows::rows::{split, unfolded};
+use canary_testing::rows::{split, unfolded};
 use std::alloc::Global;
 use std::process::Abort;
 use std::test::Fail;

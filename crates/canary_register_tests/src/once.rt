@@ -19,8 +19,8 @@ use canary_once::post::post;
 use canary_once::run::run;
 use canary_release::decide::DeskChange;
 use canary_release::reply::{Reply, ReplyStatus};
-use canary_rows::asked::{B, command};
-use canary_rows::rows::says;
+use canary_testing::asked::{B, command};
+use canary_testing::rows::says;
 use std::alloc::Global;
 use std::test::Fail;
 

@@ -1,6 +1,5 @@
-//! What tests are written in: rows of a text, and commands and replies in short forms. It is a
-//! library of tests alone, which no program rests on.
+//! The rows of the desk's tables, each without its rowid: names, numbers and texts, as a person
+//! reads them with `sqlite3`. What they stand for is not said here.
 #![tactic(auto)]
 
-pub mod asked;
 pub mod rows;

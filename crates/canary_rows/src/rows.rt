@@ -1,47 +1,104 @@
-//! Rows of a table that stands in one text, a row a line: so a table is proved as quickly as its
-//! reader.
-use canary_base::error::Memory;
-use std::alloc::Global;
-use std::fmt::Display;
+//! A row of each table. Moments are seconds since 1970 (UTC), texts are canonical ones.
+use canary_base::lists::Text;
+use canary_base::moments::Moment;
+use canary_base::names::{Label, Name};
+use canary_metric::tally::Tally;
 
-/// A row has no ` => `.
-#[derive(Clone, Copy, Debug)]
-pub struct NoRow;
-
-/// What stands before the first ` => ` of a row, and behind it.
-pub fn split(row: &str) -> Result<(&str, &str), NoRow> {
-    row.split_once(" => ").ok_or(NoRow)
+/// A caller, and how many of its requests are settled.
+#[derive(Clone, Copy)]
+pub struct CallerRow {
+    pub name: Name,
+    pub settled: u32,
 }
 
-/// The text, in which a line that begins with four spaces goes on with the row before it.
-pub fn unfolded(alloc: Global, text: &str) -> Result<String, Memory> {
-    let mut rows = String::new(alloc);
-    for part in text.split("\n    ") {
-        rows.push_str(part)?;
-    }
-    Ok(rows)
+/// What is kept of a settled request: its command, and the status and the body of its reply.
+#[derive(Drop)]
+pub struct KeptRow {
+    pub caller: Name,
+    pub number: u32,
+    pub command: Text,
+    pub status: u32,
+    pub body: Text,
 }
 
-/// The text with this end of line for each `|`.
-pub fn lined(alloc: Global, text: &str, end: &str) -> Result<String, Memory> {
-    let mut lined = String::new(alloc);
-    for (at, line) in text.split('|').enumerate() {
-        if at > 0 {
-            lined.push_str(end)?;
-        }
-        lined.push_str(line)?;
-    }
-    Ok(lined)
+/// A template, by the command that added it.
+#[derive(Drop)]
+pub struct TemplateRow {
+    pub name: Name,
+    pub spec: Text,
 }
 
-fn is_printed<T: Display>(alloc: Global, value: &T, words: &str) -> Result<bool, Memory> {
-    Ok(format!(in alloc; "{value}")?.as_str() == words)
+/// How a service stands. The state is 0 in progress, 1 aborted, 2 done; the hold is 0 none, 1 of the
+/// step, 2 of the background, 3 both; the background is 1 where its run was opened in the present
+/// attempt, else 0.
+#[derive(Clone, Copy)]
+pub struct Standing {
+    pub stable: Label,
+    pub version: Label,
+    pub state: u32,
+    pub step: u32,
+    pub entered: Moment,
+    pub hold: u32,
+    pub background: u32,
+    pub runs: u32,
+    pub last: Moment,
 }
 
-/// Whether the value is printed so; it is printed again where memory was refused.
-pub fn says<T: Display>(alloc: Global, value: &T, words: &str) -> Result<bool, Memory> {
-    match is_printed(alloc, value, words) {
-        Ok(is_so) => Ok(is_so),
-        Err(_) => is_printed(alloc, value, words),
-    }
+/// A service, by the command that made it, and how it stands.
+#[derive(Drop)]
+pub struct ServiceRow {
+    pub name: Name,
+    pub spec: Text,
+    pub standing: Standing,
+}
+
+/// How a run was closed: when, whether from outside (1, else 0), and at which verdict. An open run
+/// has no moment, 0 and 0. Verdicts have the numbers of phases: 0 Running, 1 Successful, 2
+/// Inconclusive, 3 Error, 4 Failed.
+#[derive(Clone, Copy)]
+pub struct Ending {
+    pub closed: Option<Moment>,
+    pub outside: u32,
+    pub verdict: u32,
+}
+
+/// A run of a service: of the analysis at a step, or of the background (none).
+#[derive(Clone, Copy)]
+pub struct RunRow {
+    pub service: Name,
+    pub number: u32,
+    pub step: Option<u32>,
+    pub started: Moment,
+    pub ending: Ending,
+}
+
+/// A measurement of a run: the place of its metric in the run, from 0, and its number for that
+/// metric, from 1. The phase has its number, and the outcome is a result's text or `!` and a
+/// failure's.
+#[derive(Drop)]
+pub struct MeasurementRow {
+    pub service: Name,
+    pub run: u32,
+    pub metric: u32,
+    pub ordinal: u32,
+    pub taken: Moment,
+    pub phase: u32,
+    pub outcome: Text,
+}
+
+/// The counts of a metric's measurements in a run.
+#[derive(Clone, Copy)]
+pub struct TallyRow {
+    pub service: Name,
+    pub run: u32,
+    pub metric: u32,
+    pub counts: Tally,
+}
+
+/// A line of a service's history: its moment, and its words.
+#[derive(Drop)]
+pub struct HistoryRow {
+    pub service: Name,
+    pub moment: Moment,
+    pub line: Text,
 }

@@ -4,8 +4,8 @@ use canary_canonical::command::CanonicalCommand;
 use canary_canonical::form::FormFault;
 use canary_canonical::reading::from_canonical;
 use canary_plan::command::Command;
-use canary_rows::asked::command;
-use canary_rows::rows::unfolded;
+use canary_testing::asked::command;
+use canary_testing::rows::unfolded;
 use std::alloc::Global;
 use std::test::Fail;
 

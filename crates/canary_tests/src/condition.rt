@@ -5,7 +5,7 @@ use canary_condition::condition::{Condition, ConditionFault, Verdict3};
 use canary_condition::explanation::{Expected, Explained, Why, explain};
 use canary_condition::measurement::measure;
 use canary_condition::outcome::{FailureText, Outcome, Phase, Value};
-use canary_rows::rows::split;
+use canary_testing::rows::split;
 use std::alloc::{AllocError, Global};
 use std::process::Abort;
 use std::test::Fail;

@@ -13,7 +13,7 @@ use canary_plan::strategy::Strategy;
 use canary_plan::template::{BadCondition, ConditionKey, Template};
 use canary_plan::template_spec::{MetricSpec, TemplateSpec};
 use canary_plan::templates::Templates;
-use canary_rows::rows::says;
+use canary_testing::rows::says;
 use std::alloc::Global;
 use std::test::Fail;
 

@@ -13,8 +13,8 @@ use canary_release::reply::Reply;
 use canary_release::runs::Runs;
 use canary_release::service::{Service, ServiceParts};
 use canary_release::stand::{State, Status};
-use canary_rows::asked::{B, body, command, moment};
-use canary_rows::rows::{says, split};
+use canary_testing::asked::{B, body, command, moment};
+use canary_testing::rows::{says, split};
 use std::alloc::Global;
 use std::test::Fail;
 

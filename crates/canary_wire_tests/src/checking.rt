@@ -5,7 +5,7 @@ use canary_manifest::command::{WireFault, command_from_json};
 use canary_plan::command::Command;
 use canary_plan::fault::BindFault;
 use canary_plan::template::Template;
-use canary_rows::rows::{split, unfolded};
+use canary_testing::rows::{split, unfolded};
 use std::alloc::Global;
 use std::process::Abort;
 use std::test::Fail;

@@ -4,7 +4,7 @@ use canary_cli::perform::{perform, refuse};
 use canary_cli::process::words_of;
 use canary_cli::words::{Program, WordsFault, read_words};
 use canary_listen::limits::Limits;
-use canary_rows::rows::{lined, split};
+use canary_testing::rows::{lined, split};
 use std::alloc::Global;
 use std::env::{Env, FillError};
 use std::io;

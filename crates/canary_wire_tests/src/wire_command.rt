@@ -2,7 +2,7 @@
 use canary_base::error::Memory;
 use canary_manifest::command::{WireFault, command_from_json};
 use canary_plan::command::Command;
-use canary_rows::rows::unfolded;
+use canary_testing::rows::unfolded;
 use std::alloc::Global;
 use std::process::Abort;
 use std::test::Fail;

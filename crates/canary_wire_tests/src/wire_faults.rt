@@ -15,7 +15,7 @@ use canary_plan::line::Line;
 use canary_plan::templates::Templates;
 use canary_release::effect::Recorded;
 use canary_release::service::Service;
-use canary_rows::rows::says;
+use canary_testing::rows::says;
 use canary_wire::serve::{Ended, ServeFault, serve};
 use std::alloc::Global;
 use std::cell::Cell;

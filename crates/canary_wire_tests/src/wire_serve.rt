@@ -3,7 +3,7 @@ use canary_base::error::Memory;
 use canary_base::moments::Moment;
 use canary_once::clock::StepClock;
 use canary_once::memory::MemoryBook;
-use canary_rows::rows::{lined, split, unfolded};
+use canary_testing::rows::{lined, split, unfolded};
 use canary_wire::serve::{Ended, ServeFault, serve};
 use std::alloc::Global;
 use std::io;

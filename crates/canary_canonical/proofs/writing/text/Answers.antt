@@ -1,12 +1,7 @@
 use Rattle.std.proofs.Common.{ap, ◌∙◌, sym, string_bytes}
-use Rattle.canary_canonical.specs.Readings.{command_of, canonical_in}
-use Rattle.canary_canonical.proofs.Backwards.{command_read, canonical_read}
+use Rattle.canary_canonical.specs.Readings.{canonical_in}
+use Rattle.canary_canonical.proofs.Backwards.{canonical_read}
 use Rattle.canary_canonical.proofs.writing.text.Goals as goal
-
-pub returns-clause-read : goal.returns-clause-read
-returns-clause-read c =
-    let written = c.in_ok-written.ensures in
-    ap command_of c.of.ensures ∙ command_read (string_bytes c.in_ok-written.field-0) c.args.command.now written.kept written.read
 
 pub returns-clause-back : goal.returns-clause-back
 returns-clause-back c =

@@ -1,0 +1,62 @@
+-- What one statement changes of the tables.
+use Rattle.std.specs.Prelude.{ℕ, Bool, if◌then◌else◌, List, [], ◌∷◌, ◌++◌, map}
+use Rattle.canary_condition.specs.declared.outcome.Phase.{Phase}
+use Rattle.canary_metric.specs.Counts.{with_one_more}
+use Rattle.canary_rows.specs.declared.rows.CallerRow.{CallerRow}
+use Rattle.canary_rows.specs.declared.rows.KeptRow.{KeptRow}
+use Rattle.canary_rows.specs.declared.rows.TemplateRow.{TemplateRow}
+use Rattle.canary_rows.specs.declared.rows.Standing.{Standing}
+use Rattle.canary_rows.specs.declared.rows.ServiceRow.{ServiceRow}
+use Rattle.canary_rows.specs.declared.rows.Ending.{Ending}
+use Rattle.canary_rows.specs.declared.rows.RunRow.{RunRow}
+use Rattle.canary_rows.specs.declared.rows.TallyRow.{TallyRow}
+use Rattle.canary_rows.specs.declared.rows.MeasurementRow.{MeasurementRow}
+use Rattle.canary_rows.specs.declared.rows.HistoryRow.{HistoryRow}
+use Rattle.canary_rows.specs.Tables.{Tables, is_caller, is_service, is_run, is_tally}
+
+-- INSERT: one row more, behind the others
+
+abbrev pub with_caller : CallerRow → Tables → Tables
+with_caller row t = record t { callers = t.callers ++ row ∷ [] }
+
+abbrev pub with_kept : KeptRow → Tables → Tables
+with_kept row t = record t { kept = t.kept ++ row ∷ [] }
+
+abbrev pub with_template : TemplateRow → Tables → Tables
+with_template row t = record t { templates = t.templates ++ row ∷ [] }
+
+abbrev pub with_service : ServiceRow → Tables → Tables
+with_service row t = record t { services = t.services ++ row ∷ [] }
+
+abbrev pub with_run : RunRow → Tables → Tables
+with_run row t = record t { runs = t.runs ++ row ∷ [] }
+
+abbrev pub with_tally : TallyRow → Tables → Tables
+with_tally row t = record t { tallies = t.tallies ++ row ∷ [] }
+
+abbrev pub with_measurement : MeasurementRow → Tables → Tables
+with_measurement row t = record t { measurements = t.measurements ++ row ∷ [] }
+
+abbrev pub with_line : HistoryRow → Tables → Tables
+with_line row t = record t { history = t.history ++ row ∷ [] }
+
+-- UPDATE: the rows that pass a test are changed
+
+abbrev pub change_where : {R : Type 0} → (R → Bool) → (R → R) → List R → List R
+change_where test change = map (λ row. if test row then change row else row)
+
+-- so many requests of a caller are settled
+abbrev pub with_settled : List ℕ → ℕ → Tables → Tables
+with_settled name settled t = record t { callers = change_where (is_caller name) (λ (row : CallerRow). record row { settled = settled }) t.callers }
+
+-- a service stands so
+abbrev pub with_standing : List ℕ → Standing → Tables → Tables
+with_standing name standing t = record t { services = change_where (is_service name) (λ (row : ServiceRow). record row { standing = standing }) t.services }
+
+-- a run is closed
+abbrev pub with_ending : List ℕ → ℕ → Ending → Tables → Tables
+with_ending service number ending t = record t { runs = change_where (is_run service number) (λ (row : RunRow). record row { ending = ending }) t.runs }
+
+-- a metric of a run has one measurement more, of that phase, taken at that moment
+abbrev pub with_counted : List ℕ → ℕ → ℕ → Phase → ℕ → Tables → Tables
+with_counted service run metric phase taken t = record t { tallies = change_where (is_tally service run metric) (λ (row : TallyRow). record row { counts = with_one_more row.counts phase taken }) t.tallies }

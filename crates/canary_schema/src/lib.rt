@@ -1,0 +1,2 @@
+//! The schema of the desk's database, and when a database stores rows.
+#![tactic(auto)]

@@ -1,0 +1,6 @@
+//! What tests are written in: rows of a text, and commands and replies in short forms. It is a
+//! library of tests alone, which no program rests on.
+#![tactic(auto)]
+
+pub mod asked;
+pub mod rows;
