@@ -1,7 +1,7 @@
 -- What one statement changes of the tables.
-use Rattle.std.specs.Prelude.{ℕ, Bool, if◌then◌else◌, List, [], ◌∷◌, ◌++◌, map}
+use Rattle.std.specs.Prelude.{◌≡◌, ◌+◌, ◌≤◌, ℕ, Bool, if◌then◌else◌, List, [], ◌∷◌, ◌++◌, map, filter}
 use Rattle.canary_condition.specs.declared.outcome.Phase.{Phase}
-use Rattle.canary_metric.specs.Counts.{with_one_more}
+use Rattle.canary_metric.specs.Counts.{size, with_one_more}
 use Rattle.canary_rows.specs.declared.rows.CallerRow.{CallerRow}
 use Rattle.canary_rows.specs.declared.rows.KeptRow.{KeptRow}
 use Rattle.canary_rows.specs.declared.rows.TemplateRow.{TemplateRow}
@@ -60,3 +60,24 @@ with_ending service number ending t = record t { runs = change_where (is_run ser
 -- a metric of a run has one measurement more, of that phase, taken at that moment
 abbrev pub with_counted : List ℕ → ℕ → ℕ → Phase → ℕ → Tables → Tables
 with_counted service run metric phase taken t = record t { tallies = change_where (is_tally service run metric) (λ (row : TallyRow). record row { counts = with_one_more row.counts phase taken }) t.tallies }
+
+-- What an UPDATE asks of the tables.
+
+-- just one row passes the test
+abbrev pub IsOne : {R : Type 0} → (R → Bool) → List R → Type 0
+IsOne {R} test rows = (row : R) × (filter test rows ≡ row ∷ [])
+
+abbrev pub HasCaller : List ℕ → Tables → Type 0
+HasCaller name t = IsOne (is_caller name) t.callers
+
+abbrev pub HasService : List ℕ → Tables → Type 0
+HasService name t = IsOne (is_service name) t.services
+
+abbrev pub HasRun : List ℕ → ℕ → Tables → Type 0
+HasRun service number t = IsOne (is_run service number) t.runs
+
+-- the tally is there, and has room
+pub record HasTally (service : List ℕ) (run metric : ℕ) (t : Tables) : Type 0 where
+  pub row : TallyRow
+  pub one : filter (is_tally service run metric) t.tallies ≡ row ∷ []
+  pub room : size row.counts + 1 ≤ 1000000

@@ -1,0 +1,109 @@
+-- What the statements of one settled request make of the tables, and what they ask of them.
+use Rattle.std.specs.Prelude.{◌≡◌, ◌==◌, ℕ, zero, suc, Bool, true, false, if◌then◌else◌, List, [], ◌∷◌, Some, None}
+use Rattle.std.specs.List.{AllByRecursion, list_any}
+use Rattle.canary_condition.specs.PhaseTexts.{phase_of_number}
+use Rattle.canary_metric.specs.Counts.{counts}
+use Rattle.canary_plan.specs.declared.command.Command.{Command}
+use Rattle.canary_canonical.specs.Texts.{command_text}
+use Rattle.canary_release.specs.declared.effect.Effect.{Effect}
+use Rattle.canary_release.specs.declared.effect.Effect.TheVariants.{Told, Opened, Measured, Closed}
+use Rattle.canary_release.specs.declared.effect.Opening.{Opening}
+use Rattle.canary_release.specs.declared.service.ServiceParts.{ServiceParts}
+use Rattle.canary_release.specs.declared.decide.DeskChange.{DeskChange}
+use Rattle.canary_release.specs.declared.decide.DeskChange.TheVariants.{Nothing, Template as AddsTemplate, Service as Updates}
+use Rattle.canary_once.specs.declared.book.Settlement.{Settlement}
+use Rattle.canary_rows.specs.Tables.{Tables, is_service}
+use Rattle.canary_rows.specs.Changes.{with_caller, with_settled, with_kept, with_template, with_service, with_standing, with_run, with_tally, with_measurement, with_counted, with_ending, with_line, HasCaller, HasService, HasRun, HasTally}
+use Rattle.canary_stored.specs.Numbers.{phase_column}
+use Rattle.canary_stored.specs.Values.{caller_row, kept_row, standing_of, ending_of, tally_row, measurement_row, history_row}
+use Rattle.canary_stored.specs.Tables.{IsReadableCommand, IsReadableMeasurement, IsReadableLine}
+
+-- so many requests of the caller are settled now
+abbrev pub caller_settled : List ℕ → ℕ → Tables → Tables
+caller_settled name number t = if number == 1 then with_caller (caller_row name 1) t else with_settled name number t
+
+-- a tally of no measurements for each of these metrics of a run, from this one on
+abbrev pub tallies_opened : List ℕ → ℕ → ℕ → ℕ → Tables → Tables
+tallies_opened name run metric zero t = t
+tallies_opened name run metric (suc n) t = tallies_opened name run (suc metric) n (with_tally (tally_row name run metric (counts [])) t)
+
+abbrev pub run_opened : List ℕ → Opening → Tables → Tables
+run_opened name x t =
+    tallies_opened name x.run 0 x.metrics (with_run (record { service = name; number = x.run; step = x.step; started = x.started; ending = ending_of None }) t)
+
+-- one thing happens to the service of that name
+abbrev pub happened : List ℕ → Effect → Tables → Tables
+happened name (Told line) t = with_line (history_row name line) t
+happened name (Opened x) t = run_opened name x t
+happened name (Measured x) t = with_counted name x.run x.metric x.phase x.taken (with_measurement (measurement_row name x) t)
+happened name (Closed x tallies) t = with_ending name x.run (ending_of (Some x)) t
+
+abbrev pub all_happened : List ℕ → List Effect → Tables → Tables
+all_happened name [] t = t
+all_happened name (x ∷ xs) t = all_happened name xs (happened name x t)
+
+abbrev pub has_service : List ℕ → Tables → Bool
+has_service name t = list_any (is_service name) t.services
+
+-- the service stands so: it is there, or was made by this command
+abbrev pub service_put : Command → ServiceParts → Tables → Tables
+service_put command s t =
+    let name = s.stand.name in
+    let standing = standing_of s.stand s.runs.count in
+    if has_service name t then with_standing name standing t
+    else with_service (record { name = name; spec = command_text command; standing = standing }) t
+
+-- what a command changes of the desk
+abbrev pub desk_changed : Command → DeskChange → Tables → Tables
+desk_changed command Nothing t = t
+desk_changed command (AddsTemplate template) t = with_template (record { name = template.spec.name; spec = command_text command }) t
+desk_changed command (Updates s effects) t = all_happened s.stand.name effects (service_put command s t)
+
+-- the tables after a settled request
+abbrev pub request_settled : Settlement → Tables → Tables
+request_settled s t = desk_changed s.receipt.command s.change (with_kept (kept_row s.caller s.number s.receipt) (caller_settled s.caller s.number t))
+
+-- What the statements ask of the tables that they come to.
+
+abbrev pub Asks : List ℕ → Effect → Tables → Type 0
+Asks name (Told line) t = Unit {0}
+Asks name (Opened x) t = Unit {0}
+Asks name (Measured x) t = HasTally name x.run x.metric t
+Asks name (Closed x tallies) t = HasRun name x.run t
+
+abbrev pub AllAsk : List ℕ → List Effect → Tables → Type 0
+AllAsk name [] t = Unit {0}
+AllAsk name (x ∷ xs) t = Asks name x t × AllAsk name xs (happened name x t)
+
+abbrev pub CallerAsks : List ℕ → ℕ → Tables → Type 0
+CallerAsks name number t = (number == 1) ≡ false → HasCaller name t
+
+pub record ServiceAsks (command : Command) (s : ServiceParts) (effects : List Effect) (t : Tables) : Type 0 where
+  pub service : has_service s.stand.name t ≡ true → HasService s.stand.name t
+  pub effects_ask : AllAsk s.stand.name effects (service_put command s t)
+
+abbrev pub DeskAsks : Command → DeskChange → Tables → Type 0
+DeskAsks command Nothing t = Unit {0}
+DeskAsks command (AddsTemplate template) t = Unit {0}
+DeskAsks command (Updates s effects) t = ServiceAsks command s effects t
+
+pub record RequestAsks (s : Settlement) (t : Tables) : Type 0 where
+  pub caller : CallerAsks s.caller s.number t
+  pub desk : DeskAsks s.receipt.command s.change (with_kept (kept_row s.caller s.number s.receipt) (caller_settled s.caller s.number t))
+
+-- What of a request must be read back.
+
+abbrev pub IsReadableEffect : Effect → Type 0
+IsReadableEffect (Told line) = IsReadableLine line
+IsReadableEffect (Opened x) = Unit {0}
+IsReadableEffect (Measured x) = IsReadableMeasurement x
+IsReadableEffect (Closed x tallies) = phase_of_number (phase_column x.verdict) ≡ Some x.verdict
+
+abbrev pub IsReadableChange : DeskChange → Type 0
+IsReadableChange Nothing = Unit {0}
+IsReadableChange (AddsTemplate template) = Unit {0}
+IsReadableChange (Updates s effects) = AllByRecursion IsReadableEffect effects
+
+pub record IsReadableSettlement (s : Settlement) : Type 0 where
+  pub command : IsReadableCommand s.receipt.command
+  pub change : IsReadableChange s.change
