@@ -1,9 +1,8 @@
 -- What a command that keeps its limits is in JSON is decoded as the command, and so its text is.
-use Rattle.std.proofs.Common.{◌≡◌, ℕ, ℤ, pos, negsuc, List, [], ◌∷◌, map, Bool, true, false, Option, Some, None, IsTrue, refl, sym, ap, ◌∙◌, ◌≤◌, subst, true≢false}
+use Rattle.std.proofs.Common.{◌≡◌, ℕ, ℤ, pos, negsuc, List, [], ◌∷◌, map, Bool, true, false, Option, Some, None, IsTrue, refl, sym, ap, ◌∙◌, ◌≤◌, subst}
 use Rattle.std.specs.Prelude.{codes, nat_le, if◌then◌else◌, option_map, option_and_then, unwrap_or}
 use Rattle.std.specs.Option.{option_flatten, option_or}
 use Rattle.std.specs.List.{list_all}
-use Rattle.std.proofs.Props.{props}
 use Rattle.std.proofs.lemmas.Slice.Eq.{bytes_eq-Decides}
 use Rattle.serde_json.specs.Data.{Data, string, depth}
 use Rattle.serde_json.specs.Find.{as_str}
@@ -26,7 +25,7 @@ use Rattle.canary_plan.specs.declared.report.Report.{Report}
 use Rattle.canary_plan.specs.declared.command.Command.{Command}
 use Rattle.canary_plan.specs.declared.command.Command.TheVariants as command
 use Rattle.canary_canonical.specs.Texts.{whole_data, signed_data, data_or_null, list_data, metric_data, template_data, step_data, background_data, service_data, result_data, entry_with, entry_data, report_data, start_data, service_alone, command_data, command_text}
-use Rattle.canary_canonical.specs.Forms.{◌⊛◌, at, is_object_of, name_in, label_in, number_up_to, signed_in, null_or, each, list_of, where_kept}
+use Rattle.canary_canonical.specs.Forms.{◌⊛◌, at, is_object_of, name_in, label_in, number_up_to, signed_in, null_or, each, list_of}
 use Rattle.canary_canonical.specs.Readings.{seconds_in, moment_in, word_in, metric_with, metric_in, template_with, template_in, step_in, background_with, background_in, service_with, service_in, values_with, result_in, outcome_in, entry_of, entry_in, report_with, report_in, start_with, start_in, named_in, plain_of_kind, command_of_kind, command_in, if_text_of, canonical_in}
 use Rattle.canary_canonical.specs.Laws.{is_duration, is_word, is_signed_word, all_of, keeps_metric, keeps_template, keeps_step, keeps_background, keeps_service, keeps_outcome, keeps_entry, keeps_report, keeps_limits, KeepsLimits, ReadsBack, OneText}
 use Rattle.canary_canonical.proofs.Kept.{made_where_kept}

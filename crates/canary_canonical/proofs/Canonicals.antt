@@ -16,7 +16,8 @@ text_found : (s : List ℕ) (o : Option Command) → let found : Option Command 
 text_found s None some = absurd (true≢false (sym some))
 text_found s (Some c) some = text_tested s c (bytes_eq (command_text c) s) refl some
 
-text_is : (s : List ℕ) → IsCanonical s → command_text (command_of s) ≡ s
+-- a canonical text is that of the command which it is
+pub text_is : (s : List ℕ) → IsCanonical s → command_text (command_of s) ≡ s
 unfolding canonical_in
 text_is s is = text_found s (spelt_in s) is
 

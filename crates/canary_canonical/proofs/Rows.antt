@@ -152,11 +152,11 @@ reporting result = codes "{\"report\":{\"entries\":[{\"metric\":\"m\",\"ordinal\
 abbrev reported : Outcome → Command
 reported outcome = command.Report (record { service = web; run = 2; entries = measurement 1000 outcome ∷ []; within = refl })
 
-greatest : command_of (reporting (codes "9223372036854775807")) ≡ reported (Brought (Whole (pos 9223372036854775807)))
+greatest : spelt_in (reporting (codes "9223372036854775807")) ≡ Some (reported (Brought (Whole (pos 9223372036854775807))))
 unfolding serde_json_on_literals command_of_kind plain_of_kind report_in entry_in
 greatest = refl
 
-least : command_of (reporting (codes "-9223372036854775808")) ≡ reported (Brought (Whole (negsuc 9223372036854775807)))
+least : spelt_in (reporting (codes "-9223372036854775808")) ≡ Some (reported (Brought (Whole (negsuc 9223372036854775807))))
 unfolding serde_json_on_literals command_of_kind plain_of_kind report_in entry_in
 least = refl
 

@@ -48,6 +48,7 @@ impl CanonicalCommand {
     }
 
     /// Its canonical text.
+    #[tactic(auto, using(crate::proofs::Canonicals::text_is))]
     pub fn text(&self) -> &str
         ensures value { result.now ≡ command_text self.now }
         ensures read { canonical_in result.now ≡ Some self.now }

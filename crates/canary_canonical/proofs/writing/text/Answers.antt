@@ -1,4 +1,4 @@
-use Rattle.std.proofs.Common.{ap, ◌∙◌, sym, string_bytes}
+use Rattle.std.proofs.Common.{ap, ◌∙◌, string_bytes}
 use Rattle.canary_canonical.specs.Readings.{canonical_in}
 use Rattle.canary_canonical.proofs.Backwards.{canonical_read}
 use Rattle.canary_canonical.proofs.writing.text.Goals as goal
