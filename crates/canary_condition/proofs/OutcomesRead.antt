@@ -149,13 +149,6 @@ pub failure_back : (text : List ℕ) → 1 ≤ length text → length text ≤ 2
 unfolding outcome_in
 failure_back text some most = ap (λ (b : Bool). if b then Some (Failure text) else None) ((limits_decide text).1 (some, most))
 
--- a failure with this text, where it is one
-pub failure_made : (text : List ℕ) (made : Option (List ℕ)) → SomeIff made ((1 ≤ length text) × (length text ≤ 200)) text → option_map (λ (t : List ℕ). Failure t) made ≡ failure_with text
-failure_made text None none =
-    ap (λ (b : Bool). if b then Some (Failure text) else None) (sym (not_true (nat_le 1 (length text) && nat_le (length text) 200) (λ e. none ((limits_decide text).0 e))))
-failure_made text (Some t) h =
-    ap (λ (t : List ℕ). Some (Failure t)) h.1 ∙ ap (λ (b : Bool). if b then Some (Failure text) else None) (sym ((limits_decide text).1 h.0))
-
 pub failure_read : (text rest : List ℕ) → text ≡ 33 ∷ rest → failure_with rest ≡ outcome_in text
 unfolding outcome_in
 failure_read text rest e = sym (ap outcome_in e)
