@@ -1,24 +1,21 @@
 -- The texts of outcomes are read back, and no others.
-use Rattle.std.proofs.Common.{◌≡◌, ◌≢◌, ℕ, zero, suc, ◌-◌, ◌^◌, ◌<◌, ◌≤◌, ℤ, pos, negsuc, neg_ℤ, Bool, true, false, cond, List, [], ◌∷◌, ◌++◌, length, take, drop, map, get_or, refl, sym, ap, ◌∙◌, subst, arith, rules, Option, Some, None, length-append}
-use Rattle.std.specs.Prelude.{All, FitsSigned, IfSome, MatchOption, ◌==◌, nat_le, nat_lt, ◌&&◌, if◌then◌else◌, option_map, slice_index}
+use Rattle.std.proofs.Common.{◌≡◌, ◌≢◌, ℕ, suc, ◌-◌, ◌^◌, ◌<◌, ◌≤◌, ℤ, pos, negsuc, neg_ℤ, Bool, true, false, cond, List, [], ◌∷◌, ◌++◌, length, take, drop, map, get_or, refl, sym, ap, ◌∙◌, subst, arith, Option, Some, None, length-append}
+use Rattle.std.specs.Prelude.{All, FitsSigned, IfSome, ◌==◌, nat_le, nat_lt, ◌&&◌, if◌then◌else◌, option_map}
 use Rattle.std.specs.Int.{w64}
 use Rattle.std.specs.Bool.{Decides}
-use Rattle.std.specs.Option.{SomeIff}
 use Rattle.std.specs.Str.{bytes_eq}
 use Rattle.std.specs.Str.Parse.{signed_digits_value, digits_value, without_leading_sign}
 use Rattle.std.specs.List.{slice_split, list_all}
 use Rattle.std.specs.Fmt.{decimal, signed_decimal}
 use Rattle.std.proofs.lemmas.Bool.Decides.{nat_tests, Decides-ltb, Decides-by_and, Decides-and, Decides-eqb, Decides-like}
-use Rattle.std.proofs.lemmas.Bool.{false≢true}
 use Rattle.std.proofs.lemmas.Fmt.{decimal_nonempty}
 use Rattle.std.proofs.lemmas.Slice.Eq.{bytes_eq-Decides}
 use Rattle.std.proofs.lemmas.List.{take_at}
 use Rattle.canary_condition.specs.declared.outcome.Value.{Value}
 use Rattle.canary_condition.specs.declared.outcome.Value.TheVariants.{Whole, List as ListResult}
-use Rattle.canary_condition.specs.declared.outcome.Outcome.{Outcome}
 use Rattle.canary_condition.specs.declared.outcome.Outcome.TheVariants.{Result as Brought, Failure}
 use Rattle.canary_condition.specs.Results.{joined, IsResult, list_result, list_words, bracketed, words_of}
-use Rattle.canary_condition.specs.OutcomeTexts.{outcome_text, is_signed_word, is_result, spelled_list, spelled, value_in, failure_with, outcome_in}
+use Rattle.canary_condition.specs.OutcomeTexts.{is_signed_word, is_result, spelled_list, spelled, value_in, failure_with, outcome_in}
 use Rattle.canary_condition.proofs.Numerals.{value_again, decimal_begins, decimal_digits}
 use Rattle.canary_condition.proofs.Digits.{each_digit}
 use Rattle.canary_condition.proofs.Pieces.{is_semicolon, pieces_are}
@@ -99,7 +96,7 @@ result_decides (Whole z) = word_decides z
 result_decides (ListResult zs) =
     let most = Decides-and (nat_le (length zs) 16) (list_all is_signed_word zs) (within_decides (length zs) 16) (words_decide zs) in
     Decides-like (is_result (ListResult zs)) (λ h. (h.0, h.1.0, h.1.1)) (λ h. (h.0, (h.1, h.2)))
-        (Decides-and (nat_le 1 (length zs)) (nat_le (length zs) 16 && list_all is_signed_word zs) (within_decides 1 (length zs)) most)
+    (Decides-and (nat_le 1 (length zs)) (nat_le (length zs) 16 && list_all is_signed_word zs) (within_decides 1 (length zs)) most)
 
 -- the test of `value_in`
 abbrev is_spelled : List ℕ → Bool
@@ -148,6 +145,9 @@ limits_decide text = Decides-and (nat_le 1 (length text)) (nat_le (length text) 
 pub failure_back : (text : List ℕ) → 1 ≤ length text → length text ≤ 200 → outcome_in (33 ∷ text) ≡ Some (Failure text)
 unfolding outcome_in
 failure_back text some most = ap (λ (b : Bool). if b then Some (Failure text) else None) ((limits_decide text).1 (some, most))
+
+-- the text of an outcome is read back
+pub ruleset outcome_back = (result_back, failure_back)
 
 pub failure_read : (text rest : List ℕ) → text ≡ 33 ∷ rest → failure_with rest ≡ outcome_in text
 unfolding outcome_in

@@ -1,4 +1,3 @@
-pub mod Outcomes
 pub mod Numbers
 pub mod Values
 pub mod Tables

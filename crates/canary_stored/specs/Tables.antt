@@ -23,7 +23,7 @@ use Rattle.canary_rows.specs.declared.rows.RunRow.{RunRow}
 use Rattle.canary_rows.specs.declared.rows.TallyRow.{TallyRow}
 use Rattle.canary_rows.specs.Tables.{Tables, is_caller, is_kept, is_template, is_service, is_run, is_tally, is_measurement_of, is_line_of}
 use Rattle.canary_stored.specs.Numbers.{phase_column}
-use Rattle.canary_stored.specs.Outcomes.{outcome_text, outcome_in}
+use Rattle.canary_condition.specs.OutcomeTexts.{outcome_text, outcome_in}
 use Rattle.canary_stored.specs.Values.{caller_row, kept_row, template_row, service_row, run_row, tally_row, measurement_row, history_row}
 
 -- Which rows stand under a key: one or none, or a list in its order.

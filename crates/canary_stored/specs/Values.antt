@@ -36,7 +36,7 @@ use Rattle.canary_rows.specs.declared.rows.TallyRow.{TallyRow}
 use Rattle.canary_rows.specs.declared.rows.MeasurementRow.{MeasurementRow}
 use Rattle.canary_rows.specs.declared.rows.HistoryRow.{HistoryRow}
 use Rattle.canary_stored.specs.Numbers.{state_number, state_of, bit, truth_of, hold_number, hold_of, phase_column, status_of}
-use Rattle.canary_stored.specs.Outcomes.{outcome_text, outcome_in}
+use Rattle.canary_condition.specs.OutcomeTexts.{outcome_text, outcome_in}
 
 -- The row of a value.
 
