@@ -1,0 +1,17 @@
+pub mod PastRows
+pub mod Filters
+pub mod RunsAt
+pub mod OneHappens
+pub mod RunsClosed
+pub mod RunsMeasured
+pub mod RunsOpened
+pub mod EffectsHappen
+pub mod SettledKeys
+pub mod SettledPasts
+pub mod Callers
+pub mod DesksRuled
+pub mod DesksPut
+pub mod Desks
+pub mod SettledReadable
+pub mod SettledLawful
+pub mod Settled

@@ -1,5 +1,7 @@
 //! Rows of a table that stands in one text, a row a line: so a table is proved as quickly as its
 //! reader.
+ghost use Rattle.std.specs.Prelude.{◌≡◌, ◌++◌, codes, IfOk};
+
 use canary_base::error::Memory;
 use std::alloc::Global;
 use std::fmt::Display;
@@ -9,7 +11,9 @@ use std::fmt::Display;
 pub struct NoRow;
 
 /// What stands before the first ` => ` of a row, and behind it.
-pub fn split(row: &str) -> Result<(&str, &str), NoRow> {
+pub fn split(row: &str) -> Result<(&str, &str), NoRow>
+    ensures { IfOk result (λ parts. row.now ≡ parts.0.now ++ (codes " => " ++ parts.1.now)) }
+{
     row.split_once(" => ").ok_or(NoRow)
 }
 

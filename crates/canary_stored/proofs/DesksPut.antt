@@ -1,0 +1,144 @@
+-- A template that is added, and a service that is made or changed: the rows of both.
+use Rattle.std.proofs.Common.{◌≡◌, ℕ, List, [], ◌∷◌, ◌++◌, length, Bool, true, false, Some, None, refl, sym, ap, ◌∙◌, append-nil}
+use Rattle.std.specs.Prelude.{Option, cond, if◌then◌else◌, filter}
+use Rattle.std.specs.Str.{bytes_eq}
+use Rattle.std.specs.FinMap.{get, insert}
+use Rattle.std.proofs.lemmas.List.Elements.{filter-append}
+use Rattle.canary_plan.specs.declared.template.Template.{Template}
+use Rattle.canary_plan.specs.declared.command.Command.{Command}
+use Rattle.canary_plan.specs.declared.command.Command.TheVariants as command
+use Rattle.canary_canonical.specs.Texts.{command_text}
+use Rattle.canary_release.specs.declared.effect.Effect.{Effect}
+use Rattle.canary_release.specs.declared.service.ServiceParts.{ServiceParts}
+use Rattle.canary_release.specs.Desks.{ModelService, after, made_as}
+use Rattle.canary_rows.specs.declared.rows.Standing.{Standing}
+use Rattle.canary_rows.specs.declared.rows.TemplateRow.{TemplateRow}
+use Rattle.canary_rows.specs.declared.rows.ServiceRow.{ServiceRow}
+use Rattle.canary_rows.specs.Tables.{Tables, is_template, is_service}
+use Rattle.canary_rows.specs.Changes.{with_template, with_service, with_standing, change_where, HasService}
+use Rattle.canary_stored.specs.Values.{template_row, service_row, standing_of}
+use Rattle.canary_stored.specs.Tables.{row_if}
+use Rattle.canary_stored.specs.Settling.{has_service, service_put}
+use Rattle.canary_stored.proofs.SettledKeys.{NameMap, equal_names, own_name, other_name, at_name, same_value, changed_under, is_any, any_found}
+use Rattle.canary_stored.proofs.SettledPasts.{HaveSamePasts}
+use Rattle.canary_stored.proofs.DesksRuled.{IsUpdate}
+
+-- One row more, where there was none of its name.
+
+pub row_added : {A R : Type 0} (row : List ℕ → A → R) (k q : List ℕ) (x : A) (o there : Option A) (b : Bool) → bytes_eq q k ≡ b → (b ≡ true → o ≡ there) → there ≡ None
+    → row_if (row q) o ++ cond b (row k x ∷ []) [] ≡ row_if (row q) (cond b (Some x) o)
+row_added row k q x o there true e at none = λ i. row_if (row q) ((at refl ∙ none) i) ++ row (sym (equal_names q k e) i) x ∷ []
+row_added row k q x o there false e at none = append-nil _
+
+-- A template.
+
+template_asked : (template : Template) (asked : Command) → asked ≡ command.Template template.spec → ◌≡◌ {A = TemplateRow} (record { name = template.spec.name; spec = command_text asked }) (template_row template.spec.name template)
+template_asked template asked is i = record { name = template.spec.name; spec = command_text (is i) }
+
+pub template_added : (t : Tables) (templates : NameMap Template) (template : Template) (asked : Command) (q : List ℕ) → asked ≡ command.Template template.spec → get templates template.spec.name ≡ None
+    → filter (is_template q) t.templates ≡ row_if (template_row q) (get templates q)
+    → filter (is_template q) (with_template (record { name = template.spec.name; spec = command_text asked }) t).templates ≡ row_if (template_row q) (get (insert templates template.spec.name template) q)
+template_added t templates template asked q is none are =
+    let k : List ℕ = template.spec.name in
+    ap (λ (row : TemplateRow). filter (is_template q) (t.templates ++ row ∷ [])) (template_asked template asked is)
+    ∙ filter-append (is_template q) t.templates (template_row k template ∷ [])
+    ∙ ap (λ (rows : List TemplateRow). rows ++ cond (bytes_eq q k) (template_row k template ∷ []) []) are
+    ∙ row_added template_row k q template (get templates q) (get templates k) (bytes_eq q k) refl (same_value templates q k (bytes_eq q k) refl) none
+    ∙ ap (row_if (template_row q)) (sym (at_name templates k template q))
+
+-- A service.
+
+-- a service that was not there is made by its command
+new_row : (found : Option ModelService) (asked : Command) (s : ServiceParts) (effects : List Effect) → found ≡ None → asked ≡ command.Service (made_as s.stand) → s.runs.count ≡ length (after found s.stand effects).past.runs
+    → ◌≡◌ {A = ServiceRow} (record { name = s.stand.name; spec = command_text asked; standing = standing_of s.stand s.runs.count }) (service_row s.stand.name (after found s.stand effects))
+new_row None asked s effects none made count = λ i. record { name = s.stand.name; spec = command_text (made i); standing = standing_of s.stand (count i) }
+new_row (Some m) asked s effects none made count = let never : ⊥ = cc none in absurd never
+
+-- and one that was there stands otherwise
+old_row : (q : List ℕ) (found : Option ModelService) (m : ModelService) (s : ServiceParts) (effects : List Effect) → found ≡ Some m → s.runs.count ≡ length (after found s.stand effects).past.runs
+    → ◌≡◌ {A = ServiceRow} (record (service_row q m) { standing = standing_of s.stand s.runs.count }) (service_row q (after found s.stand effects))
+old_row q None m s effects some count = let never : ⊥ = cc some in absurd never
+old_row q (Some x) m s effects some count =
+    let same : x ≡ m = cc some in
+    λ i. record { name = q; spec = command_text (command.Service (sym same i).made); standing = standing_of s.stand (count i) }
+
+-- the row of a service stands so, where its name passes
+abbrev pub stood : List ℕ → Standing → List ServiceRow → List ServiceRow
+stood k standing rows = change_where (is_service k) (λ (row : ServiceRow). record row { standing = standing }) rows
+
+stood_row : (k q : List ℕ) (standing : Standing) (m : ModelService) (b : Bool) → bytes_eq k q ≡ b → stood k standing (service_row q m ∷ []) ≡ cond b (record (service_row q m) { standing = standing } ∷ []) (service_row q m ∷ [])
+stood_row k q standing m true e = λ i. (if e i then record (service_row q m) { standing = standing } else service_row q m) ∷ []
+stood_row k q standing m false e = λ i. (if e i then record (service_row q m) { standing = standing } else service_row q m) ∷ []
+
+stood_other : (k q : List ℕ) (standing : Standing) (o : Option ModelService) → bytes_eq q k ≡ false → stood k standing (row_if (service_row q) o) ≡ row_if (service_row q) o
+stood_other k q standing None apart = refl
+stood_other k q standing (Some m) apart = stood_row k q standing m false (other_name q k (bytes_eq k q) refl apart)
+
+stood_after : (k q : List ℕ) (standing : Standing) (o there : Option ModelService) (old new : ModelService) (b : Bool) → bytes_eq q k ≡ b → (b ≡ true → o ≡ there) → there ≡ Some old → record (service_row q old) { standing = standing } ≡ service_row q new
+    → stood k standing (row_if (service_row q) o) ≡ row_if (service_row q) (cond b (Some new) o)
+stood_after k q standing o there old new true e at is stands =
+    ap (λ (o : Option ModelService). stood k standing (row_if (service_row q) o)) (at refl ∙ is)
+    ∙ stood_row k q standing old true (ap (λ (n : List ℕ). bytes_eq n q) (sym (equal_names q k e)) ∙ own_name q)
+    ∙ ap (λ (row : ServiceRow). row ∷ []) stands
+stood_after k q standing o there old new false e at is stands = stood_other k q standing o e
+
+-- whether the service is there
+pub service_there : (t : Tables) (services : NameMap ModelService) (k : List ℕ) → filter (is_service k) t.services ≡ row_if (service_row k) (get services k) → has_service k t ≡ is_any (row_if (service_row k) (get services k))
+service_there t services k are = any_found (is_service k) t.services ∙ ap is_any are
+
+some_found : (k : List ℕ) (o : Option ModelService) → is_any (row_if (service_row k) o) ≡ true → (m : ModelService) × (o ≡ Some m)
+some_found k None e = let never : ⊥ = cc e in absurd never
+some_found k (Some m) e = (m, refl)
+
+none_found : (k : List ℕ) (o : Option ModelService) → is_any (row_if (service_row k) o) ≡ false → o ≡ None
+none_found k None e = refl
+none_found k (Some m) e = let never : ⊥ = cc e in absurd never
+
+-- the tables apart from that of services
+pub record HaveSameElse (old new : Tables) : Type 0 where
+  pub callers : new.callers ≡ old.callers
+  pub kept : new.kept ≡ old.kept
+  pub templates : new.templates ≡ old.templates
+  pub pasts : HaveSamePasts old new
+
+else_same : (t : Tables) (k : List ℕ) (standing : Standing) (row : ServiceRow) (there : Bool) → HaveSameElse t (if there then with_standing k standing t else with_service row t)
+else_same t k standing row true = record { callers = refl; kept = refl; templates = refl; pasts = record { runs = refl; tallies = refl; measurements = refl; history = refl } }
+else_same t k standing row false = record { callers = refl; kept = refl; templates = refl; pasts = record { runs = refl; tallies = refl; measurements = refl; history = refl } }
+
+pub put_leaves : (asked : Command) (s : ServiceParts) (t : Tables) → HaveSameElse t (service_put asked s t)
+put_leaves asked s t = else_same t s.stand.name (standing_of s.stand s.runs.count) (record { name = s.stand.name; spec = command_text asked; standing = standing_of s.stand s.runs.count }) (has_service s.stand.name t)
+
+put_by : (t : Tables) (services : NameMap ModelService) (asked : Command) (s : ServiceParts) (effects : List Effect) (q : List ℕ) (there : Bool)
+    → is_any (row_if (service_row s.stand.name) (get services s.stand.name)) ≡ there → IsUpdate (get services s.stand.name) s.stand.name asked s effects
+    → filter (is_service q) t.services ≡ row_if (service_row q) (get services q)
+    → filter (is_service q) (if there then with_standing s.stand.name (standing_of s.stand s.runs.count) t else with_service (record { name = s.stand.name; spec = command_text asked; standing = standing_of s.stand s.runs.count }) t).services
+    ≡ row_if (service_row q) (cond (bytes_eq q s.stand.name) (Some (after (get services s.stand.name) s.stand effects)) (get services q))
+put_by t services asked s effects q true there is are =
+    let k : List ℕ = s.stand.name in
+    let standing : Standing = standing_of s.stand s.runs.count in
+    let some = some_found k (get services k) there in
+    changed_under (is_service q) (is_service k) (λ (row : ServiceRow). record row { standing = standing }) (λ row. refl) t.services
+    ∙ ap (stood k standing) are
+    ∙ stood_after k q standing (get services q) (get services k) some.0 (after (get services k) s.stand effects) (bytes_eq q k) refl (same_value services q k (bytes_eq q k) refl) some.1
+    (old_row q (get services k) some.0 s effects some.1 is.count)
+put_by t services asked s effects q false there is are =
+    let k : List ℕ = s.stand.name in
+    let m : ModelService = after (get services k) s.stand effects in
+    let none : get services k ≡ None = none_found k (get services k) there in
+    ap (λ (row : ServiceRow). filter (is_service q) (t.services ++ row ∷ [])) (new_row (get services k) asked s effects none (is.made none) is.count)
+    ∙ filter-append (is_service q) t.services (service_row k m ∷ [])
+    ∙ ap (λ (rows : List ServiceRow). rows ++ cond (bytes_eq q k) (service_row k m ∷ []) []) are
+    ∙ row_added service_row k q m (get services q) (get services k) (bytes_eq q k) refl (same_value services q k (bytes_eq q k) refl) none
+
+-- with the service that it comes to
+pub service_puts : (t : Tables) (services : NameMap ModelService) (asked : Command) (s : ServiceParts) (effects : List Effect) (q : List ℕ) → IsUpdate (get services s.stand.name) s.stand.name asked s effects
+    → ((q : List ℕ) → filter (is_service q) t.services ≡ row_if (service_row q) (get services q))
+    → filter (is_service q) (service_put asked s t).services ≡ row_if (service_row q) (get (insert services s.stand.name (after (get services s.stand.name) s.stand effects)) q)
+service_puts t services asked s effects q is are =
+    put_by t services asked s effects q (has_service s.stand.name t) (sym (service_there t services s.stand.name (are s.stand.name))) is (are q)
+    ∙ ap (row_if (service_row q)) (sym (at_name services s.stand.name (after (get services s.stand.name) s.stand effects) q))
+
+-- the service that an UPDATE looks for stands in one row
+pub service_asks : (t : Tables) (services : NameMap ModelService) (k : List ℕ) → filter (is_service k) t.services ≡ row_if (service_row k) (get services k) → has_service k t ≡ true → HasService k t
+service_asks t services k are there =
+    let some = some_found k (get services k) (sym (service_there t services k are) ∙ there) in (service_row k some.0, are ∙ ap (row_if (service_row k)) some.1)

@@ -1,0 +1,101 @@
+-- After the statements of a settled request the tables hold the contents with that request, and its statements find what they ask for.
+use Rattle.std.proofs.Common.{◌≡◌, sym, ap, ◌∙◌, subst}
+use Rattle.std.specs.Prelude.{filter}
+use Rattle.canary_release.specs.Desks.{Desk}
+use Rattle.canary_release.specs.Laws.{RefusalsLeaveTheDesk}
+use Rattle.canary_release.specs.Shapes.{changed, KeepsWhatIsSeen}
+use Rattle.canary_release.specs.Effects.{CommandsChange}
+use Rattle.canary_release.specs.Order.{StayInOrder}
+use Rattle.canary_once.specs.declared.book.Settlement.{Settlement}
+use Rattle.canary_once.specs.Contents.{Contents, CallerMap, with_receipt, with_settlement, IsSettling}
+use Rattle.canary_once.specs.Sound.{AreContents}
+use Rattle.canary_rows.specs.Tables.{Tables, is_caller, is_kept, is_template, is_service}
+use Rattle.canary_rows.specs.Changes.{with_kept}
+use Rattle.canary_stored.specs.Values.{kept_row}
+use Rattle.canary_stored.specs.Tables.{AreRows, IsReadable}
+use Rattle.canary_stored.specs.Reading.{contents_of, HoldsContents}
+use Rattle.canary_stored.specs.Settling.{caller_settled, request_settled, RequestAsks}
+use Rattle.canary_stored.specs.Laws.{ReadsBack, RequestsFind, RequestsSettle}
+use Rattle.canary_stored.proofs.PastRows.{EffectsHappen, EffectsStayReadable}
+use Rattle.canary_stored.proofs.SettledPasts.{pasts_kept}
+use Rattle.canary_stored.proofs.Callers.{AreCallerRows, HaveSameDesk, CallerSettles, caller_settles, caller_asks}
+use Rattle.canary_stored.proofs.Desks.{AreDeskRows, DeskSettles, desk_settles}
+use Rattle.canary_stored.proofs.SettledReadable.{stays_readable}
+use Rattle.canary_stored.proofs.SettledLawful.{stays_lawful}
+
+caller_rows : (t : Tables) (c : Contents) → AreRows t c → AreCallerRows t c.callers
+caller_rows t c are = record { callers = are.callers; kept = are.kept }
+
+desk_rows : (t : Tables) (c : Contents) → AreRows t c → AreDeskRows t c.desk
+desk_rows t c are = record {
+  templates = are.templates;
+  services = are.services;
+  pasts = λ q. record { runs = are.runs q; tallies = are.tallies q; measurements = are.measurements q; history = are.history q };
+}
+
+-- tables with the same rows of the desk
+desk_rows_kept : (t new : Tables) (desk : Desk) → HaveSameDesk t new → AreDeskRows t desk → AreDeskRows new desk
+desk_rows_kept t new desk same are = record {
+  templates = λ q. ap (filter (is_template q)) same.templates ∙ are.templates q;
+  services = λ q. ap (filter (is_service q)) same.services ∙ are.services q;
+  pasts = λ q. pasts_kept t new q _ same.pasts (are.pasts q);
+}
+
+both_rows : (between new : Tables) (callers : CallerMap) (desk : Desk) → AreCallerRows between callers → AreDeskRows new desk → new.callers ≡ between.callers → new.kept ≡ between.kept → AreRows new (record { callers = callers; desk = desk })
+both_rows between new callers desk of_callers of_desk same_callers same_kept = record {
+  callers = λ q. ap (filter (is_caller q)) same_callers ∙ of_callers.callers q;
+  kept = λ q number. ap (filter (is_kept q number)) same_kept ∙ of_callers.kept q number;
+  templates = of_desk.templates;
+  services = of_desk.services;
+  runs = λ q. (of_desk.pasts q).runs;
+  tallies = λ q. (of_desk.pasts q).tallies;
+  measurements = λ q. (of_desk.pasts q).measurements;
+  history = λ q. (of_desk.pasts q).history;
+}
+
+-- the tables between: the receipt is there, and the desk as it was
+abbrev between : Settlement → Tables → Tables
+between s t = with_kept (kept_row s.caller s.number s.receipt) (caller_settled s.caller s.number t)
+
+caller_done : (t : Tables) (c : Contents) (s : Settlement) → AreRows t c → AreContents c → IsSettling c s → CallerSettles t (between s t) (with_receipt c.callers s.caller s.receipt)
+caller_done t c s are lawful settling = caller_settles t c.callers s.caller s.number s.receipt (caller_rows t c are) lawful.numbers settling.number
+
+desk_done : EffectsHappen → CommandsChange → KeepsWhatIsSeen → (t : Tables) (c : Contents) (s : Settlement) → AreRows t c → AreContents c → IsSettling c s → DeskSettles s.receipt.command s.change (between s t) (changed c.desk s.receipt.command s.change)
+desk_done happens commands keeps t c s are lawful settling =
+    desk_settles happens commands keeps (between s t) c.desk settling.step.0 s.receipt.command s.change
+    (desk_rows_kept t (between s t) c.desk (caller_done t c s are lawful settling).rest (desk_rows t c are)) lawful.desk settling.step.1.change settling.step.1.desk_after
+
+-- the tables have the rows of the contents with the request
+pub settled_rows : EffectsHappen → CommandsChange → KeepsWhatIsSeen → (t : Tables) (c : Contents) (s : Settlement) → AreRows t c → AreContents c → IsSettling c s → AreRows (request_settled s t) (with_settlement c s)
+settled_rows happens commands keeps t c s are lawful settling =
+    let desk : DeskSettles s.receipt.command s.change (between s t) (changed c.desk s.receipt.command s.change) = desk_done happens commands keeps t c s are lawful settling in
+    both_rows (between s t) (request_settled s t) (with_receipt c.callers s.caller s.receipt) (changed c.desk s.receipt.command s.change) (caller_done t c s are lawful settling).rows desk.rows desk.callers desk.kept
+
+-- what its statements ask for is there
+pub finds : EffectsHappen → CommandsChange → KeepsWhatIsSeen → (t : Tables) (c : Contents) (s : Settlement) → AreRows t c → AreContents c → IsSettling c s → RequestAsks s t
+finds happens commands keeps t c s are lawful settling = record {
+  caller = caller_asks t c.callers s.caller s.number (caller_rows t c are) settling.number;
+  desk = (desk_done happens commands keeps t c s are lawful settling).asks;
+}
+
+holds_by : (new : Tables) (next : Contents) → contents_of new ≡ next → AreRows new next → IsReadable next → AreContents next → HoldsContents new
+holds_by new next back rows readable lawful = record {
+  rows = subst (AreRows new) (sym back) rows;
+  readable = subst IsReadable (sym back) readable;
+  lawful = subst AreContents (sym back) lawful;
+}
+
+-- Both laws.
+
+pub requests_find : EffectsHappen → CommandsChange → KeepsWhatIsSeen → RequestsFind
+requests_find happens commands keeps s t holds settling = finds happens commands keeps t (contents_of t) s holds.rows holds.lawful settling
+
+pub requests_settle : EffectsHappen → EffectsStayReadable → ReadsBack → CommandsChange → KeepsWhatIsSeen → StayInOrder → RefusalsLeaveTheDesk → RequestsSettle
+requests_settle happens stay_readable reads_back commands keeps in_order leaves s t few holds settling readable =
+    let c : Contents = contents_of t in
+    let next : Contents = with_settlement c s in
+    let rows : AreRows (request_settled s t) next = settled_rows happens commands keeps t c s holds.rows holds.lawful settling in
+    let read : IsReadable next = stays_readable stay_readable commands keeps c s holds.readable holds.lawful settling readable in
+    let lawful : AreContents next = stays_lawful in_order leaves c s few settling holds.lawful in
+    let back : contents_of (request_settled s t) ≡ next = reads_back (request_settled s t) next rows read lawful in
+    record { contents = back; holds = holds_by (request_settled s t) next back rows read lawful }

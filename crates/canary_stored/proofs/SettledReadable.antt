@@ -1,0 +1,122 @@
+-- What is read back stays so after a settled request.
+use Rattle.std.proofs.Common.{◌≡◌, ℕ, zero, suc, ◌-◌, List, [], ◌∷◌, ◌++◌, Bool, true, false, Some, None, refl, sym, ap, ◌∙◌, subst}
+use Rattle.std.specs.Prelude.{Option, cond, slice_get, unwrap_or}
+use Rattle.std.specs.Str.{bytes_eq}
+use Rattle.std.specs.FinMap.{get, insert}
+use Rattle.canary_plan.specs.declared.template.Template.{Template}
+use Rattle.canary_plan.specs.declared.command.Command.{Command}
+use Rattle.canary_plan.specs.declared.command.Command.TheVariants as command
+use Rattle.canary_plan.specs.Commands.{subject_of}
+use Rattle.canary_release.specs.declared.effect.Effect.{Effect}
+use Rattle.canary_release.specs.declared.service.ServiceParts.{ServiceParts}
+use Rattle.canary_release.specs.declared.decide.DeskChange.{DeskChange}
+use Rattle.canary_release.specs.declared.decide.DeskChange.TheVariants as change
+use Rattle.canary_release.specs.Desks.{ModelService, Desk, before, after, made_as, with_service, ruling_on, apply}
+use Rattle.canary_release.specs.Shapes.{said, changed, KeepsWhatIsSeen}
+use Rattle.canary_release.specs.Effects.{CommandsChange}
+use Rattle.canary_release.specs.Order.{AreInOrder}
+use Rattle.canary_once.specs.declared.book.Receipt.{Receipt}
+use Rattle.canary_once.specs.declared.book.Settlement.{Settlement}
+use Rattle.canary_once.specs.Contents.{Contents, CallerMap, receipts_in, with_receipt, with_settlement, IsSettling}
+use Rattle.canary_once.specs.Records.{past_in}
+use Rattle.canary_once.specs.Sound.{AreContents}
+use Rattle.canary_stored.specs.Tables.{IsReadableCommand, IsReadablePast, IsReadable}
+use Rattle.canary_stored.specs.Settling.{IsReadableChange, IsReadableSettlement}
+use Rattle.canary_stored.proofs.PastRows.{EffectsStayReadable}
+use Rattle.canary_stored.proofs.SettledKeys.{NameMap, equal_names, at_name, some_same}
+use Rattle.canary_stored.proofs.DesksRuled.{IsAdding, adding, updating}
+use Rattle.canary_stored.proofs.Desks.{past_before}
+
+-- Receipts.
+
+-- what holds of each receipt of a list, and of one more, holds of each of the longer list
+each_with : (P : Receipt → Type 0) (receipts : List Receipt) (x k : Receipt) (i : ℕ) → ((y : Receipt) → slice_get receipts i ≡ Some y → P y) → P x → slice_get (receipts ++ x ∷ []) i ≡ Some k → P k
+each_with P [] x k zero all one e = let same : x ≡ k = cc e in subst P same one
+each_with P [] x k (suc i) all one e = let none : ⊥ = cc e in absurd none
+each_with P (y ∷ receipts) x k zero all one e = all k e
+each_with P (y ∷ receipts) x k (suc i) all one e = each_with P receipts x k i all one e
+
+each_there : (P : Receipt → Type 0) (callers : CallerMap) (caller q : List ℕ) (x k : Receipt) (i : ℕ) (b : Bool) → bytes_eq q caller ≡ b → ((y : Receipt) → slice_get (receipts_in callers q) i ≡ Some y → P y) → P x
+    → slice_get (unwrap_or (cond b (Some (receipts_in callers caller ++ x ∷ [])) (get callers q)) []) i ≡ Some k → P k
+each_there P callers caller q x k i true same all one e =
+    let is : q ≡ caller = equal_names q caller same in
+    each_with P (receipts_in callers caller) x k i (λ y h. all y (ap (λ n. slice_get (receipts_in callers n) i) is ∙ h)) one e
+each_there P callers caller q x k i false same all one e = all k e
+
+-- what holds of each receipt of a caller, and of one more, holds of each there then is
+pub each_receipt : (P : Receipt → Type 0) (callers : CallerMap) (caller q : List ℕ) (x k : Receipt) (number : ℕ) → ((y : Receipt) → slice_get (receipts_in callers q) (number - 1) ≡ Some y → P y) → P x
+    → slice_get (receipts_in (with_receipt callers caller x) q) (number - 1) ≡ Some k → P k
+each_receipt P callers caller q x k number all one e =
+    each_there P callers caller q x k (number - 1) (bytes_eq q caller) refl all one
+    (ap (λ (o : Option (List Receipt)). slice_get (unwrap_or o []) (number - 1)) (sym (at_name callers caller (receipts_in callers caller ++ x ∷ []) q)) ∙ e)
+
+-- The desk.
+
+pub record IsReadableDesk (desk : Desk) : Type 0 where
+  pub templates : (name : List ℕ) (t : Template) → get desk.templates name ≡ Some t → IsReadableCommand (command.Template t.spec)
+  pub made : (name : List ℕ) (m : ModelService) → get desk.services name ≡ Some m → IsReadableCommand (command.Service m.made)
+  pub pasts : (name : List ℕ) → IsReadablePast (past_in (get desk.services name))
+
+-- what holds of what a map has, and of one value more, holds of what it then has
+each_of : {A : Type 0} (P : A → Type 0) (o : Option A) (x y : A) (b : Bool) → P x → ((z : A) → o ≡ Some z → P z) → cond b (Some x) o ≡ Some y → P y
+each_of P o x y true one all e = subst P (some_same x y e) one
+each_of P o x y false one all e = all y e
+
+each_inserted : {A : Type 0} (P : A → Type 0) (m : NameMap A) (k q : List ℕ) (x y : A) → P x → ((z : A) → get m q ≡ Some z → P z) → get (insert m k x) q ≡ Some y → P y
+each_inserted P m k q x y one all e = each_of P (get m q) x y (bytes_eq q k) one all (sym (at_name m k x q) ∙ e)
+
+template_readable : (desk : Desk) (template : Template) → IsReadableDesk desk → IsReadableCommand (command.Template template.spec) → IsReadableDesk (record desk { templates = insert desk.templates template.spec.name template })
+template_readable desk template are one = record {
+  templates = λ q t e. each_inserted (λ (t : Template). IsReadableCommand (command.Template t.spec)) desk.templates template.spec.name q template t one (are.templates q) e;
+  made = are.made;
+  pasts = are.pasts;
+}
+
+-- the command that made a service, which may be new
+made_readable : (found : Option ModelService) (asked : Command) (s : ServiceParts) (effects : List Effect) → IsReadableCommand asked → (found ≡ None → asked ≡ command.Service (made_as s.stand)) → ((m : ModelService) → found ≡ Some m → IsReadableCommand (command.Service m.made))
+    → IsReadableCommand (command.Service (after found s.stand effects).made)
+made_readable None asked s effects one made all = subst IsReadableCommand (made refl) one
+made_readable (Some m) asked s effects one made all = all m refl
+
+past_readable : EffectsStayReadable → (found : Option ModelService) (asked : Command) (s : ServiceParts) (effects : List Effect) → IsReadablePast (past_in found) → IsReadableChange (change.Service s effects) → IsReadablePast (after found s.stand effects).past
+past_readable law found asked s effects are more = law effects (before found s.stand).past (subst IsReadablePast (past_before found s) are) more
+
+past_there : (m : ModelService) (o : Option ModelService) (b : Bool) → IsReadablePast m.past → IsReadablePast (past_in o) → IsReadablePast (past_in (cond b (Some m) o))
+past_there m o true one all = one
+past_there m o false one all = all
+
+service_readable : EffectsStayReadable → (desk : Desk) (asked : Command) (s : ServiceParts) (effects : List Effect) → IsReadableDesk desk → IsReadableCommand asked → IsReadableChange (change.Service s effects)
+    → (get desk.services s.stand.name ≡ None → asked ≡ command.Service (made_as s.stand)) → IsReadableDesk (with_service desk s.stand.name s.stand effects)
+service_readable law desk asked s effects are one more made =
+    let name : List ℕ = s.stand.name in
+    let m : ModelService = after (get desk.services name) s.stand effects in
+    record {
+      templates = are.templates;
+      made = λ q y e. each_inserted (λ (m : ModelService). IsReadableCommand (command.Service m.made)) desk.services name q m y (made_readable (get desk.services name) asked s effects one made (are.made name)) (are.made q) e;
+      pasts = λ q.
+          subst (λ (o : Option ModelService). IsReadablePast (past_in o)) (sym (at_name desk.services name m q))
+          (past_there m (get desk.services q) (bytes_eq q name) (past_readable law (get desk.services name) asked s effects (are.pasts name) more) (are.pasts q));
+    }
+
+desk_readable : EffectsStayReadable → CommandsChange → KeepsWhatIsSeen → (desk : Desk) (now : ℕ) (asked : Command) (made : DeskChange) → AreInOrder desk → made ≡ said (ruling_on desk now asked).change → changed desk asked made ≡ (apply desk now asked).desk
+    → IsReadableDesk desk → IsReadableCommand asked → IsReadableChange made → IsReadableDesk (changed desk asked made)
+desk_readable law commands keeps desk now asked change.Nothing order is stands are one more = are
+desk_readable law commands keeps desk now asked (change.Template template) order is stands are one more =
+    let adds : IsAdding (get desk.templates) asked template = adding (get desk.templates) _ now asked template is in
+    subst (λ (k : List ℕ). IsReadableDesk (record desk { templates = insert desk.templates k template })) (sym (ap subject_of adds.asked_for))
+    (template_readable desk template are (subst IsReadableCommand adds.asked_for one))
+desk_readable law commands keeps desk now asked (change.Service s effects) order is stands are one more =
+    let update = updating commands keeps desk now asked s effects order is stands in
+    subst (λ (k : List ℕ). IsReadableDesk (with_service desk k s.stand effects)) (sym update.0) (service_readable law desk asked s effects are one more update.1.made)
+
+-- The contents.
+
+pub stays_readable : EffectsStayReadable → CommandsChange → KeepsWhatIsSeen → (c : Contents) (s : Settlement) → IsReadable c → AreContents c → IsSettling c s → IsReadableSettlement s → IsReadable (with_settlement c s)
+stays_readable law commands keeps c s are lawful settling one =
+    let desk : IsReadableDesk (changed c.desk s.receipt.command s.change) = desk_readable law commands keeps c.desk settling.step.0 s.receipt.command s.change lawful.desk settling.step.1.change settling.step.1.desk_after (record { templates = are.templates; made = are.made; pasts = are.pasts }) one.command one.change in
+    record {
+      receipts = λ q number receipt e. each_receipt (λ (x : Receipt). IsReadableCommand x.command) c.callers s.caller q s.receipt receipt number (are.receipts q number) one.command e;
+      templates = desk.templates;
+      made = desk.made;
+      pasts = desk.pasts;
+    }

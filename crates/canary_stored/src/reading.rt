@@ -1,0 +1,201 @@
+//! The values of rows.
+ghost use Rattle.std.specs.Prelude.{◌≡◌, Some};
+ghost use Rattle.canary_condition.specs.PhaseTexts.{phase_of_number};
+ghost use Rattle.canary_plan.specs.Lines.{line_at};
+ghost use Rattle.canary_plan.specs.LineReading.{event_of};
+ghost use Rattle.canary_plan.specs.declared.command.Command.TheVariants as command;
+ghost use Rattle.canary_canonical.specs.Readings.{canonical_in, IsCanonical};
+ghost use Rattle.canary_stored.specs.Numbers.{state_of, truth_of, hold_of, status_of};
+ghost use Rattle.canary_stored.specs.Values.{receipt_of_row, made_from, stand_of, closing_of};
+ghost use Rattle.canary_stored.specs.Values.{measurement_of_row, line_of_row};
+ghost use Rattle.canary_stored.specs.Reads.{IsRowRead, IsTemplateRead};
+
+use crate::fault::RowFault;
+use canary_base::lists::Text;
+use canary_base::names::Name;
+use canary_canonical::command::CanonicalCommand;
+use canary_canonical::reading::from_canonical;
+use canary_condition::outcome::{Outcome, Phase};
+use canary_once::book::Receipt;
+use canary_plan::command::Command;
+use canary_plan::fault::BindFault;
+use canary_plan::line::Line;
+use canary_plan::service::ServiceSpec;
+use canary_plan::strategy::Strategy;
+use canary_plan::template::Template;
+use canary_plan::template_spec::TemplateSpec;
+use canary_release::effect::{Closing, Recorded};
+use canary_release::reply::{Reply, ReplyStatus};
+use canary_release::stand::{Stand, State};
+use canary_rows::rows::{Ending, HistoryRow, KeptRow, MeasurementRow, Standing};
+use std::alloc::Global;
+
+/// The receipt of a row, whose command is known to be some command's canonical text; it is not read.
+///
+/// # Errors
+/// `Broken` where the status is neither 200 nor 422.
+pub fn receipt(row: KeptRow) -> Result<Receipt, RowFault>
+    requires { IsCanonical row.command }
+    ensures { IsRowRead (receipt_of_row row) result }
+{
+    let status = status_of(row.status)?;
+    let command = CanonicalCommand::known(row.command);
+    Ok(Receipt {
+        command,
+        reply: Reply {
+            status,
+            body: row.body,
+        },
+    })
+}
+
+fn status_of(number: u32) -> Result<ReplyStatus, RowFault>
+    ensures { IsRowRead (status_of number) result }
+{
+    match number {
+        200 => Ok(ReplyStatus::Accepted),
+        422 => Ok(ReplyStatus::Refused),
+        _ => Err(RowFault::Broken),
+    }
+}
+
+/// The template that is kept by this text.
+///
+/// # Errors
+/// `Broken` where the text is not that of a command that adds a template, or where something
+/// refuses the template; `Memory` in place of any.
+pub fn template(alloc: Global, spec: &str) -> Result<Template, RowFault>
+    ensures { IsTemplateRead (canonical_in spec.now) result }
+{
+    match from_canonical(alloc, spec)? {
+        Command::Template(spec) => bound(alloc, &spec),
+        _ => Err(RowFault::Broken),
+    }
+}
+
+fn bound(alloc: Global, spec: &TemplateSpec) -> Result<Template, RowFault>
+    ensures { IsTemplateRead (Some (command.Template spec.now)) result }
+{
+    match Template::bind(alloc, spec) {
+        Ok(template) => Ok(template),
+        Err(BindFault::Refused(_)) => Err(RowFault::Broken),
+        Err(BindFault::Memory) => Err(RowFault::Memory),
+    }
+}
+
+/// The service that this text makes, as it was asked for.
+///
+/// # Errors
+/// `Broken` where the text is not that of a command that makes a service; `Memory`.
+pub fn made(alloc: Global, spec: &str) -> Result<ServiceSpec, RowFault>
+    ensures { IsRowRead (made_from (canonical_in spec.now)) result }
+{
+    match from_canonical(alloc, spec)? {
+        Command::Service(spec) => Ok(spec),
+        _ => Err(RowFault::Broken),
+    }
+}
+
+/// How the service of that name and strategy stands.
+///
+/// # Errors
+/// `Broken` where a number is of no state, hold or truth value; `Memory`.
+pub fn stand(name: Name, strategy: &Strategy, row: &Standing) -> Result<Stand, RowFault>
+    ensures { IsRowRead (stand_of name strategy.now row.now) result }
+{
+    let state = state_of(row.state)?;
+    let (step_hold, background_hold) = hold_of(row.hold)?;
+    let background = truth_of(row.background)?;
+    Ok(Stand {
+        name,
+        strategy: strategy.copy()?,
+        stable: row.stable,
+        version: row.version,
+        state,
+        step: row.step,
+        entered: row.entered,
+        step_hold,
+        background_hold,
+        background,
+        last: row.last,
+    })
+}
+
+fn state_of(number: u32) -> Result<State, RowFault>
+    ensures { IsRowRead (state_of number) result }
+{
+    match number {
+        0 => Ok(State::InProgress),
+        1 => Ok(State::Aborted),
+        2 => Ok(State::Done),
+        _ => Err(RowFault::Broken),
+    }
+}
+
+// The hold of the step, and that of the background.
+fn hold_of(number: u32) -> Result<(bool, bool), RowFault>
+    ensures { IsRowRead (hold_of number) result }
+{
+    match number {
+        0 => Ok((false, false)),
+        1 => Ok((true, false)),
+        2 => Ok((false, true)),
+        3 => Ok((true, true)),
+        _ => Err(RowFault::Broken),
+    }
+}
+
+fn truth_of(number: u32) -> Result<bool, RowFault>
+    ensures { IsRowRead (truth_of number) result }
+{
+    match number {
+        0 => Ok(false),
+        1 => Ok(true),
+        _ => Err(RowFault::Broken),
+    }
+}
+
+fn phase_of(number: u32) -> Result<Phase, RowFault>
+    ensures { IsRowRead (phase_of_number number) result }
+{
+    match number {
+        0 => Ok(Phase::Running),
+        1 => Ok(Phase::Successful),
+        2 => Ok(Phase::Inconclusive),
+        3 => Ok(Phase::Error),
+        4 => Ok(Phase::Failed),
+        _ => Err(RowFault::Broken),
+    }
+}
+
+/// How the run of that number was closed; none where it is open.
+///
+/// # Errors
+/// `Broken` where a number is of no truth value or phase, or an open run has an outcome.
+pub fn closing(number: u32, ending: &Ending) -> Result<Option<Closing>, RowFault>
+    ensures { IsRowRead (closing_of number ending.now) result }
+{
+    match ending.closed {
+        None if ending.outside == 0 && ending.verdict == 0 => Ok(None),
+        None => Err(RowFault::Broken),
+        Some(at) => Ok(Some(Closing {
+            run: number,
+            at,
+            outside: truth_of(ending.outside)?,
+            verdict: phase_of(ending.verdict)?,
+        })),
+    }
+}
+
+/// The line of a row.
+///
+/// # Errors
+/// `Broken` where the words are of no event.
+pub fn line(row: &HistoryRow) -> Result<Line, RowFault>
+    ensures { IsRowRead (line_of_row row.now) result }
+{
+    match Line::read(row.moment, row.line.as_str()) {
+        Some(line) => Ok(line),
+        None => Err(RowFault::Broken),
+    }
+}

@@ -1,0 +1,71 @@
+//! The rows of values.
+ghost use Rattle.std.specs.Prelude.{◌≡◌, Some, IfSome};
+ghost use Rattle.canary_condition.specs.PhaseTexts.{phase_of_number};
+ghost use Rattle.canary_stored.specs.Numbers.{state_number, hold_number, bit, phase_column};
+ghost use Rattle.canary_stored.specs.Values.{standing_of, ending_of};
+
+use canary_condition::outcome::Phase;
+use canary_release::effect::Closing;
+use canary_release::service::ServiceParts;
+use canary_release::stand::State;
+use canary_rows::rows::{Ending, Standing};
+
+/// How a service stands, as a row tells it.
+pub fn standing(parts: &ServiceParts) -> Standing
+    ensures { result ≡ standing_of parts.now.stand parts.now.runs.count }
+{
+    let stand = &parts.stand;
+    Standing {
+        stable: stand.stable,
+        version: stand.version,
+        state: state_number(stand.state),
+        step: stand.step,
+        entered: stand.entered,
+        hold: hold_number(stand.step_hold, stand.background_hold),
+        background: u32::from(stand.background),
+        runs: parts.runs.count,
+        last: stand.last,
+    }
+}
+
+fn state_number(state: State) -> u32
+    ensures { result ≡ state_number state }
+{
+    match state {
+        State::InProgress => 0,
+        State::Aborted => 1,
+        State::Done => 2,
+    }
+}
+
+fn hold_number(step: bool, background: bool) -> u32
+    ensures { result ≡ hold_number step background }
+{
+    match (step, background) {
+        (false, false) => 0,
+        (true, false) => 1,
+        (false, true) => 2,
+        (true, true) => 3,
+    }
+}
+
+/// The number of a phase in a row; none for `Pending`, which no row has.
+pub fn phase_number(phase: Phase) -> Option<u32>
+    ensures value { IfSome result (λ number. number ≡ phase_column phase) }
+    ensures read { IfSome result (λ number. phase_of_number number ≡ Some phase) }
+{
+    phase.number().map(u32::from)
+}
+
+/// How a run was closed, as a row tells it; none for a verdict that is `Pending`, which is none.
+pub fn ending(closing: &Closing) -> Option<Ending>
+    ensures value { IfSome result (λ ending. ending ≡ ending_of (Some closing.now)) }
+    ensures read { IfSome result (λ _.
+        phase_of_number (phase_column closing.now.verdict) ≡ Some closing.now.verdict) }
+{
+    Some(Ending {
+        closed: Some(closing.at),
+        outside: u32::from(closing.outside),
+        verdict: phase_number(closing.verdict)?,
+    })
+}
