@@ -1,5 +1,6 @@
 //! Conditions, measurements and the texts of results: worked values from the grammar and the table
 //! of measurements.
+use canary_base::error::Memory;
 use canary_base::lists::Text;
 use canary_condition::condition::{Condition, ConditionFault, Verdict3};
 use canary_condition::explanation::{Expected, Explained, Why, explain};
@@ -405,6 +406,44 @@ fn reads_what_it_writes(rt: HostRuntime) -> Result<(), Fail> {
     for text in RESULTS.split('|') {
         assert!(rt; is_written_again(rt.alloc(), text)?, "{text}");
     }
+    Ok(())
+}
+
+// Texts of outcomes, and texts of none.
+const OUTCOMES: &str = "-5|[1;-2]|0|-9223372036854775808|!timeout|! |!!|![1]|!-5";
+
+const NO_OUTCOMES: &str =
+    "|!|[]|1;2|01|+1|-0|[01]|[1;]|[1; 2]|[1|1]|[[1]]|9223372036854775808|timeout";
+
+// Whether a text is written again as it stands where it is read as an outcome.
+fn is_outcome(alloc: Global, text: &str) -> Result<bool, Memory> {
+    match Outcome::read(alloc, text)? {
+        Some(outcome) => Ok(outcome.text(alloc)?.as_str() == text),
+        None => Ok(false),
+    }
+}
+
+fn is_no_outcome(alloc: Global, text: &str) -> Result<bool, Memory> {
+    Ok(Outcome::read(alloc, text)?.is_none())
+}
+
+// A failure's text of so many bytes, as that of an outcome.
+fn long_failure(alloc: Global, len: usize) -> Result<String, AllocError> {
+    let text = "x".repeat(alloc, len)?;
+    format!(in alloc; "!{text}")
+}
+
+#[test]
+fn reads_outcomes_as_written(rt: HostRuntime) -> Result<(), Fail> {
+    let alloc = rt.alloc();
+    for text in OUTCOMES.split('|') {
+        assert!(rt; is_outcome(alloc, text)?, "{text}");
+    }
+    for text in NO_OUTCOMES.split('|') {
+        assert!(rt; is_no_outcome(alloc, text)?, "{text}");
+    }
+    assert!(rt; is_outcome(alloc, long_failure(alloc, 200)?.as_str())?);
+    assert!(rt; is_no_outcome(alloc, long_failure(alloc, 201)?.as_str())?);
     Ok(())
 }
 
