@@ -18,10 +18,11 @@ use Rattle.canary_condition.specs.Results.{joined, IsResult, list_result, list_w
 use Rattle.canary_condition.specs.OutcomeTexts.{is_signed_word, is_result, spelled_list, spelled, value_in, failure_with, outcome_in}
 use Rattle.canary_condition.proofs.Numerals.{value_again, decimal_begins, decimal_digits}
 use Rattle.canary_condition.proofs.Digits.{each_digit}
-use Rattle.canary_condition.proofs.Pieces.{is_semicolon, pieces_are}
+use Rattle.canary_condition.proofs.Pieces.{is_semicolon, pieces_are, rest_fits}
 
 -- ---- numbers
 
+-- a text that begins with a digit has no sign
 plain_value : (text : List ℕ) → 48 ≤ get_or text 0 0 → signed_digits_value 10 text ≡ pos (digits_value 10 text)
 plain_value text h =
     let minus : (get_or text 0 0 == 45) ≡ false = grind (arith, nat_tests) in
@@ -34,21 +35,11 @@ number_back : (z : ℤ) → FitsSigned w64 z → signed_digits_value 10 (signed_
 number_back (pos n) h = let fits : n < 2 ^ 64 = omega (arith, h) in plain_value (decimal n) (decimal_begins n fits) ∙ ap (λ (k : ℕ). pos k) (value_again n fits)
 number_back (negsuc n) h = let fits : suc n < 2 ^ 64 = omega (arith, h) in ap (λ (k : ℕ). neg_ℤ (pos k)) (value_again (suc n) fits)
 
-rest_fits : (z : ℤ) (zs : List ℤ) → All (FitsSigned w64) (z ∷ zs) → All (FitsSigned w64) zs
-rest_fits z zs all = λ k d within. all (suc k) d (omega arith)
-
 numbers_back : (zs : List ℤ) → All (FitsSigned w64) zs → map (signed_digits_value 10) (map signed_decimal zs) ≡ zs
 numbers_back [] all = refl
 numbers_back (z ∷ zs) all =
     ap (λ (y : ℤ). y ∷ map (signed_digits_value 10) (map signed_decimal zs)) (number_back z (all 0 z (omega arith)))
     ∙ ap (λ (ys : List ℤ). z ∷ ys) (numbers_back zs (rest_fits z zs all))
-
-not_true : (b : Bool) → (b ≡ true → ⊥) → b ≡ false
-not_true true never = absurd (never refl)
-not_true false never = refl
-
-eqb_equal : (x y : ℕ) → (x == y) ≡ true → x ≡ y
-eqb_equal x y = (Decides-eqb x y).0
 
 -- ---- lists
 
@@ -127,6 +118,13 @@ read_is text r words fits complete =
     ] refl
 
 -- ---- outcomes
+
+not_true : (b : Bool) → (b ≡ true → ⊥) → b ≡ false
+not_true true never = absurd (never refl)
+not_true false never = refl
+
+eqb_equal : (x y : ℕ) → (x == y) ≡ true → x ≡ y
+eqb_equal x y = (Decides-eqb x y).0
 
 not_failure : (value : Value) → IsResult value → (get_or (words_of value) 0 0 == 33) ≡ false
 not_failure (Whole z) h = let range = number_begins z h in grind (arith, nat_tests)
