@@ -1,0 +1,12 @@
+pub mod Idle
+pub mod Places
+pub mod Spared
+pub mod UpdateParts
+pub mod UpdateAnswer
+pub mod UpdateRows
+pub mod Replaced
+pub mod UpdateTyped
+pub mod UpdateDesk
+pub mod UpdateTests
+pub mod CallerUpdated
+pub mod ServiceUpdated

@@ -1,0 +1,61 @@
+//! UPDATE: the one row of a key is changed.
+ghost use Rattle.std.specs.Prelude.{◌≡◌};
+ghost use Rattle.sqlite.specs.Held.{state};
+ghost use Rattle.canary_rows.specs.Changes.{HasCaller, HasService, with_settled, with_standing};
+ghost use Rattle.canary_schema.specs.Stores.{WroteIf, StaysLive, StaysCommitted, SurvivesCut};
+
+use crate::cells::seconds;
+use canary_base::names::Name;
+use canary_rows::rows::Standing;
+use sqlite::{Alter, Error, Transaction, params};
+
+/// So many requests of a caller that is there are settled. The error is the database's, whose rows
+/// are then as they were.
+pub fn update_caller<S: Alter>(
+    tx: &mut Transaction<'_, S>,
+    name: &Name,
+    settled: u32,
+) -> Result<usize, Error>
+    ensures same_reference { tx.new.conn.ghost_name ≡ tx.old.conn.ghost_name }
+    ensures wrote { WroteIf (HasCaller name.now) (with_settled name.now settled)
+        (state S.Store tx.old.conn.now) (state S.Store tx.new.conn.now) result }
+    ensures live { StaysLive (state S.Store tx.old.conn.now) (state S.Store tx.new.conn.now) result }
+    ensures kept { StaysCommitted (state S.Store tx.old.conn.now) (state S.Store tx.new.conn.now) }
+    ensures survives { SurvivesCut (state S.Store tx.old.conn.now) (state S.Store tx.new.conn.now) }
+{
+    tx.execute(
+        "UPDATE caller SET settled = ?2 WHERE name = ?1",
+        params![name.as_str(), settled],
+    )
+}
+
+/// A service that is there stands so. The error is the database's, whose rows are then as they
+/// were.
+pub fn update_service<S: Alter>(
+    tx: &mut Transaction<'_, S>,
+    name: &Name,
+    standing: &Standing,
+) -> Result<usize, Error>
+    ensures same_reference { tx.new.conn.ghost_name ≡ tx.old.conn.ghost_name }
+    ensures wrote { WroteIf (HasService name.now) (with_standing name.now standing.now)
+        (state S.Store tx.old.conn.now) (state S.Store tx.new.conn.now) result }
+    ensures live { StaysLive (state S.Store tx.old.conn.now) (state S.Store tx.new.conn.now) result }
+    ensures kept { StaysCommitted (state S.Store tx.old.conn.now) (state S.Store tx.new.conn.now) }
+    ensures survives { SurvivesCut (state S.Store tx.old.conn.now) (state S.Store tx.new.conn.now) }
+{
+    tx.execute(
+        "UPDATE service SET stable = ?2, version = ?3, state = ?4, step = ?5, entered = ?6, hold = ?7, background = ?8, runs = ?9, last = ?10 WHERE name = ?1",
+        params![
+            name.as_str(),
+            standing.stable.as_str(),
+            standing.version.as_str(),
+            standing.state,
+            standing.step,
+            seconds(standing.entered),
+            standing.hold,
+            standing.background,
+            standing.runs,
+            seconds(standing.last),
+        ],
+    )
+}
