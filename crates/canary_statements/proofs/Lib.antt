@@ -10,3 +10,4 @@ pub mod UpdateDesk
 pub mod UpdateTests
 pub mod CallerUpdated
 pub mod ServiceUpdated
+pub mod RunClosed

@@ -1,5 +1,5 @@
 -- What an UPDATE of one row does to a desk's tables.
-use Rattle.std.proofs.Common.{◌≡◌, ◌≢◌, ℕ, ℤ, pos, List, [], ◌∷◌, map, filter, drop, slice_get, Bool, true, false, cond, Some, None, Ok, Result, refl, sym, ap, subst, ◌∙◌}
+use Rattle.std.proofs.Common.{◌≡◌, ◌≢◌, ℕ, ℤ, pos, List, [], ◌∷◌, map, filter, drop, slice_get, Bool, true, false, cond, Option, Some, None, Ok, Result, refl, sym, ap, subst, ◌∙◌}
 use Rattle.std.specs.List.{AllByRecursion}
 use Rattle.sqlite.specs.declared.types.Value.{Value}
 use Rattle.sqlite.specs.declared.types.Value.TheVariants.{Null, Int}
@@ -24,7 +24,7 @@ use Rattle.sqlite_rules.specs.Calls.{ids_of}
 use Rattle.sqlite_schema.specs.declared.schema.Keys.TheVariants.{Enforced}
 use Rattle.canary_rows.specs.Changes.{change_where}
 use Rattle.canary_schema.specs.Schema.{desk_schema}
-use Rattle.canary_schema.specs.Cells.{cells_of}
+use Rattle.canary_schema.specs.Cells.{cells_of, whole_or_null}
 use Rattle.canary_schema.specs.Stores.{IsNumbered}
 use Rattle.canary_statements.proofs.Idle.{AreIdle, idle}
 use Rattle.canary_statements.proofs.Spared.{Spares}
@@ -37,13 +37,17 @@ either true x = refl
 either false x = refl
 
 -- NULL and a whole number are stored as they are
-pub cast_null : cast Integer Null ≡ Null
+cast_null : cast Integer Null ≡ Null
 unfolding unary
 cast_null = either _ Null
 
 pub cast_whole : (n : ℤ) → cast Integer (Int n) ≡ Int n
 unfolding unary
 cast_whole n = either _ (Int n)
+
+pub cast_whole_or_null : (n : Option ℕ) → cast Integer (whole_or_null n) ≡ whole_or_null n
+cast_whole_or_null None = cast_null
+cast_whole_or_null (Some n) = cast_whole (pos n)
 
 desk_spares : (k : ℕ) (old new : Trees) (schema : Schema) → schema ≡ desk_schema → AllByRecursion (λ t. t.tree ≢ k → new t.tree ≡ old t.tree) schema.tables → Spares k old new
 unfolding everything

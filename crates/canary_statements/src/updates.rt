@@ -1,10 +1,12 @@
 //! UPDATE: the one row of a key is changed.
-ghost use Rattle.std.specs.Prelude.{◌≡◌};
+ghost use Rattle.std.specs.Prelude.{◌≡◌, Some};
 ghost use Rattle.sqlite.specs.Held.{state};
-ghost use Rattle.canary_rows.specs.Changes.{HasCaller, HasService, with_settled, with_standing};
+ghost use Rattle.canary_rows.specs.Changes.{HasCaller, HasService, HasRun};
+ghost use Rattle.canary_rows.specs.Changes.{with_settled, with_standing, with_ending};
 ghost use Rattle.canary_schema.specs.Stores.{WroteIf, StaysLive, StaysCommitted, SurvivesCut};
 
 use crate::cells::seconds;
+use canary_base::moments::Moment;
 use canary_base::names::Name;
 use canary_rows::rows::Standing;
 use sqlite::{Alter, Error, Transaction, params};
@@ -44,7 +46,8 @@ pub fn update_service<S: Alter>(
     ensures survives { SurvivesCut (state S.Store tx.old.conn.now) (state S.Store tx.new.conn.now) }
 {
     tx.execute(
-        "UPDATE service SET stable = ?2, version = ?3, state = ?4, step = ?5, entered = ?6, hold = ?7, background = ?8, runs = ?9, last = ?10 WHERE name = ?1",
+        "UPDATE service SET stable = ?2, version = ?3, state = ?4, step = ?5, entered = ?6, \
+         hold = ?7, background = ?8, runs = ?9, last = ?10 WHERE name = ?1",
         params![
             name.as_str(),
             standing.stable.as_str(),
@@ -57,5 +60,31 @@ pub fn update_service<S: Alter>(
             standing.runs,
             seconds(standing.last),
         ],
+    )
+}
+
+/// A run of a service is closed at a moment: from outside where that is 1, else 0, and at the
+/// verdict with this number. The error is the database's, whose rows are then as they were.
+pub fn close_run<S: Alter>(
+    tx: &mut Transaction<'_, S>,
+    service: &Name,
+    number: u32,
+    closed: Moment,
+    outside: u32,
+    verdict: u32,
+) -> Result<usize, Error>
+    ensures same_reference { tx.new.conn.ghost_name ≡ tx.old.conn.ghost_name }
+    ensures wrote { WroteIf (HasRun service.now number)
+        (with_ending service.now number
+            (record { closed = Some closed; outside = outside; verdict = verdict }))
+        (state S.Store tx.old.conn.now) (state S.Store tx.new.conn.now) result }
+    ensures live { StaysLive (state S.Store tx.old.conn.now) (state S.Store tx.new.conn.now) result }
+    ensures kept { StaysCommitted (state S.Store tx.old.conn.now) (state S.Store tx.new.conn.now) }
+    ensures survives { SurvivesCut (state S.Store tx.old.conn.now) (state S.Store tx.new.conn.now) }
+{
+    tx.execute(
+        "UPDATE run SET closed = ?3, outside = ?4, verdict = ?5 \
+         WHERE service = ?1 AND number = ?2",
+        params![service.as_str(), number, seconds(closed), outside, verdict],
     )
 }
