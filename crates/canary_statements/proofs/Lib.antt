@@ -11,3 +11,4 @@ pub mod UpdateTests
 pub mod CallerUpdated
 pub mod ServiceUpdated
 pub mod RunClosed
+pub mod TallyCounted

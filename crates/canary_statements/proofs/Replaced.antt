@@ -1,8 +1,7 @@
 -- A row that is put back under its own rowid stands where it stood.
-use Rattle.std.proofs.Common.{◌≡◌, ℕ, ℤ, pos, ◌<ℤ◌, not, List, [], ◌∷◌, map, filter, drop, Bool, true, false, if◌then◌else◌, cond, IsTrue, refl, sym, ap, subst, ◌∙◌, arith, int_cmp}
+use Rattle.std.proofs.Common.{◌≡◌, ℤ, ◌<ℤ◌, not, List, [], ◌∷◌, map, filter, Bool, true, false, if◌then◌else◌, cond, IsTrue, refl, sym, ap, subst, ◌∙◌, arith, int_cmp}
 use Rattle.std.proofs.lemmas.Int.{ints}
 use Rattle.std.specs.List.{AllByRecursion}
-use Rattle.std.specs.Ordering.{is_eq}
 use Rattle.std.specs.declared.cmp.Ordering.TheVariants.{Less, Equal, Greater}
 use Rattle.sqlite.specs.declared.types.Value.{Value}
 use Rattle.sqlite.specs.declared.types.Value.TheVariants.{Int}

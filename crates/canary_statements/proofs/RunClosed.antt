@@ -1,5 +1,5 @@
 -- What the UPDATE that closes a run does.
-use Rattle.std.proofs.Common.{◌≡◌, ◌&&◌, ◌==◌, ℕ, ℤ, pos, List, [], ◌∷◌, codes, slice_get, true, Some, Ok, Err, Result, OnOk, refl, ap, ap₂, ◌∙◌}
+use Rattle.std.proofs.Common.{◌≡◌, ◌&&◌, ℕ, ℤ, pos, List, [], ◌∷◌, codes, slice_get, true, Some, Ok, Err, Result, OnOk, refl, ap, ap₂, ◌∙◌}
 use Rattle.std.specs.Str.{bytes_eq}
 use Rattle.sqlite.specs.declared.types.Value.{Value}
 use Rattle.sqlite.specs.declared.types.Value.TheVariants.{Int, Text as Words}

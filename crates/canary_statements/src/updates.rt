@@ -1,13 +1,15 @@
 //! UPDATE: the one row of a key is changed.
 ghost use Rattle.std.specs.Prelude.{◌≡◌, Some};
 ghost use Rattle.sqlite.specs.Held.{state};
-ghost use Rattle.canary_rows.specs.Changes.{HasCaller, HasService, HasRun};
+ghost use Rattle.canary_rows.specs.Changes.{HasCaller, HasService, HasRun, HasTally};
 ghost use Rattle.canary_rows.specs.Changes.{with_settled, with_standing, with_ending};
+ghost use Rattle.canary_rows.specs.Changes.{with_counted};
 ghost use Rattle.canary_schema.specs.Stores.{WroteIf, StaysLive, StaysCommitted, SurvivesCut};
 
 use crate::cells::seconds;
 use canary_base::moments::Moment;
 use canary_base::names::Name;
+use canary_condition::outcome::Phase;
 use canary_rows::rows::Standing;
 use sqlite::{Alter, Error, Transaction, params};
 
@@ -76,7 +78,7 @@ pub fn close_run<S: Alter>(
     ensures same_reference { tx.new.conn.ghost_name ≡ tx.old.conn.ghost_name }
     ensures wrote { WroteIf (HasRun service.now number)
         (with_ending service.now number
-            (record { closed = Some closed; outside = outside; verdict = verdict }))
+        (record { closed = Some closed; outside = outside; verdict = verdict }))
         (state S.Store tx.old.conn.now) (state S.Store tx.new.conn.now) result }
     ensures live { StaysLive (state S.Store tx.old.conn.now) (state S.Store tx.new.conn.now) result }
     ensures kept { StaysCommitted (state S.Store tx.old.conn.now) (state S.Store tx.new.conn.now) }
@@ -86,5 +88,47 @@ pub fn close_run<S: Alter>(
         "UPDATE run SET closed = ?3, outside = ?4, verdict = ?5 \
          WHERE service = ?1 AND number = ?2",
         params![service.as_str(), number, seconds(closed), outside, verdict],
+    )
+}
+
+/// One more measurement of a metric in a run is counted, of that phase and taken at that moment.
+/// The error is the database's, whose rows are then as they were.
+pub fn count_measurement<S: Alter>(
+    tx: &mut Transaction<'_, S>,
+    service: &Name,
+    run: u32,
+    metric: u32,
+    phase: Phase,
+    taken: Moment,
+) -> Result<usize, Error>
+    ensures same_reference { tx.new.conn.ghost_name ≡ tx.old.conn.ghost_name }
+    ensures wrote { WroteIf (HasTally service.now run metric)
+        (with_counted service.now run metric phase taken)
+        (state S.Store tx.old.conn.now) (state S.Store tx.new.conn.now) result }
+    ensures live { StaysLive (state S.Store tx.old.conn.now) (state S.Store tx.new.conn.now) result }
+    ensures kept { StaysCommitted (state S.Store tx.old.conn.now) (state S.Store tx.new.conn.now) }
+    ensures survives { SurvivesCut (state S.Store tx.old.conn.now) (state S.Store tx.new.conn.now) }
+{
+    let statement = match phase {
+        Phase::Error => {
+            "UPDATE tally SET errors = errors + 1, consecutive = consecutive + 1, last = ?4 \
+             WHERE service = ?1 AND run = ?2 AND metric = ?3"
+        }
+        Phase::Failed => {
+            "UPDATE tally SET counted = counted + 1, failed = failed + 1, consecutive = 0, \
+             last = ?4 WHERE service = ?1 AND run = ?2 AND metric = ?3"
+        }
+        Phase::Inconclusive => {
+            "UPDATE tally SET counted = counted + 1, inconclusive = inconclusive + 1, \
+             consecutive = 0, last = ?4 WHERE service = ?1 AND run = ?2 AND metric = ?3"
+        }
+        _ => {
+            "UPDATE tally SET counted = counted + 1, consecutive = 0, last = ?4 \
+             WHERE service = ?1 AND run = ?2 AND metric = ?3"
+        }
+    };
+    tx.execute(
+        statement,
+        params![service.as_str(), run, metric, seconds(taken)],
     )
 }

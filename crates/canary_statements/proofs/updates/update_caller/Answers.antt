@@ -1,4 +1,3 @@
-use Rattle.std.proofs.Common.{◌≡◌}
 use Rattle.sqlite.specs.Held.{state}
 use Rattle.canary_statements.proofs.CallerUpdated.{caller_updated}
 use Rattle.canary_statements.proofs.updates.update_caller.Goals as goal
