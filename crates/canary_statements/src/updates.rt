@@ -1,4 +1,5 @@
-//! UPDATE: the one row of a key is changed.
+//! UPDATE: the one row of a key is changed, where it is there. After an error nothing is said of
+//! the tables in the transaction, and what was committed stays.
 ghost use Rattle.std.specs.Prelude.{◌≡◌, Some};
 ghost use Rattle.sqlite.specs.Held.{state};
 ghost use Rattle.canary_rows.specs.Changes.{HasCaller, HasService, HasRun, HasTally};
@@ -13,8 +14,8 @@ use canary_condition::outcome::Phase;
 use canary_rows::rows::Standing;
 use sqlite::{Alter, Error, Transaction, params};
 
-/// So many requests of a caller that is there are settled. The error is the database's, whose rows
-/// are then as they were.
+/// Sets how many requests of a caller are settled. An error is the database's, as where memory is
+/// refused.
 pub fn update_caller<S: Alter>(
     tx: &mut Transaction<'_, S>,
     name: &Name,
@@ -33,8 +34,8 @@ pub fn update_caller<S: Alter>(
     )
 }
 
-/// A service that is there stands so. The error is the database's, whose rows are then as they
-/// were.
+/// Sets how a service stands; the command that made it stays. An error is the database's, as where
+/// memory is refused.
 pub fn update_service<S: Alter>(
     tx: &mut Transaction<'_, S>,
     name: &Name,
@@ -65,8 +66,8 @@ pub fn update_service<S: Alter>(
     )
 }
 
-/// A run of a service is closed at a moment: from outside where that is 1, else 0, and at the
-/// verdict with this number. The error is the database's, whose rows are then as they were.
+/// Closes a run of a service: at a moment, from outside (1, else 0), and at the verdict with this
+/// number. An error is the database's, as where memory is refused.
 pub fn close_run<S: Alter>(
     tx: &mut Transaction<'_, S>,
     service: &Name,
@@ -91,8 +92,8 @@ pub fn close_run<S: Alter>(
     )
 }
 
-/// One more measurement of a metric in a run is counted, of that phase and taken at that moment.
-/// The error is the database's, whose rows are then as they were.
+/// Counts one more measurement of a metric in a run, of that phase and taken at that moment. An
+/// error is the database's, as where memory is refused.
 pub fn count_measurement<S: Alter>(
     tx: &mut Transaction<'_, S>,
     service: &Name,
