@@ -6,3 +6,10 @@ pub mod Appended
 pub mod Spared
 pub mod Inserted
 pub mod CallerInserted
+pub mod KeptInserted
+pub mod TemplateInserted
+pub mod ServiceInserted
+pub mod RunInserted
+pub mod TallyInserted
+pub mod MeasurementInserted
+pub mod LineInserted
