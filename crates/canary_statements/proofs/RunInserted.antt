@@ -1,5 +1,6 @@
 -- What the INSERT of a run does.
 use Rattle.std.proofs.Common.{◌≡◌, ◌≢◌, ℕ, pos, List, [], ◌∷◌, ◌++◌, codes, slice_get, Option, Some, None, Ok, Err, Result, OnOk, IsTrue, refl}
+use Rattle.sqlite.specs.declared.types.Value.{Value}
 use Rattle.sqlite.specs.declared.types.Value.TheVariants.{Null, Int, Text as Words}
 use Rattle.sqlite.specs.declared.error.Error.{Error}
 use Rattle.sqlite.specs.Order.{Row}
@@ -51,12 +52,15 @@ cast_maybe (Some n) = cast_whole (pos n)
 kept_as_given : (row : RunRow) → cast_row table (Null ∷ run_cells row) ≡ Null ∷ run_cells row
 kept_as_given row = rw (cast_null, cast_whole (pos row.number), cast_maybe row.step, cast_whole (pos row.started), cast_maybe row.ending.closed, cast_whole (pos row.ending.outside), cast_whole (pos row.ending.verdict)) refl
 
-pub run_inserted : (old new : State) (t : Tables) (service : List ℕ) (number : ℕ) (step : Option ℕ) (started : ℕ) (r : Result ℕ Error) → IsReady old t → ExecutesInside 0 text (Words service ∷ whole number ∷ whole_or_null step ∷ whole started ∷ []) old new r → OnOk r (IsReady new (with_run (record { service = service; number = number; step = step; started = started; ending = record { closed = None; outside = 0; verdict = 0 } }) t))
-run_inserted old new t service number step started (Err e) ready h = tt
-run_inserted old new t service number step started (Ok count) ready h =
+pub run_inserted : (old new : State) (t : Tables) (service : List ℕ) (number : ℕ) (step : Option ℕ) (started : ℕ) (r : Result ℕ Error) → IsReady old t → (given : Value) → given ≡ whole_or_null step
+    → ExecutesInside 0 text (Words service ∷ whole number ∷ given ∷ whole started ∷ []) old new r
+    → OnOk r (IsReady new (with_run (record { service = service; number = number; step = step; started = started; ending = record { closed = None; outside = 0; verdict = 0 } }) t))
+run_inserted old new t service number step started (Err e) ready given is h = tt
+run_inserted old new t service number step started (Ok count) ready given is h =
     let row : RunRow = record { service = service; number = number; step = step; started = started; ending = record { closed = None; outside = 0; verdict = 0 } } in
     let cells = run_cells row in
-    let a = adds text 5 _ 8 table cells (Words service ∷ whole number ∷ whole_or_null step ∷ whole started ∷ []) is_insert is_plain stands refl (kept_as_given row) old new count ready.stores.schema h refl in
+    let params : Row = Words service ∷ whole number ∷ whole_or_null step ∷ whole started ∷ [] in
+    let a = adds text 5 _ 8 table cells params is_insert is_plain stands refl (kept_as_given row) old new count ready.stores.schema (rw is at h) refl in
     let up = ready.stores.numbered.1.1.1.1.1.0 in
     runs_now old new t ready h.1.mode a.schema (desk_spares 9 old.now.trees new.now.trees old.now.schema ready.stores.schema a.others) (still_numbered Chosen cells (old.now.trees 9) (new.now.trees 9) up a.rows) (t.runs ++ row ∷ [])
     (appended Chosen cells (old.now.trees 9) (new.now.trees 9) up a.rows run_cells t.runs row refl ready.stores.runs)

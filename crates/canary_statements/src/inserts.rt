@@ -8,7 +8,7 @@ ghost use Rattle.canary_rows.specs.Changes.{with_run, with_tally, with_measureme
 ghost use Rattle.canary_schema.specs.Stores.{Wrote, StaysLive, StaysCommitted, SurvivesCut};
 ghost use Rattle.canary_statements.specs.Tallies.{tallies_opened};
 
-use crate::cells::seconds;
+use crate::cells::{seconds, whole_or_null};
 use canary_base::moments::Moment;
 use canary_base::names::Name;
 use canary_rows::rows::{MeasurementRow, Standing};
@@ -115,10 +115,11 @@ pub fn insert_run<S: Alter>(
     ensures kept { StaysCommitted (state S.Store tx.old.conn.now) (state S.Store tx.new.conn.now) }
     ensures survives { SurvivesCut (state S.Store tx.old.conn.now) (state S.Store tx.new.conn.now) }
 {
+    let step = whole_or_null(step);
     tx.execute(
         "INSERT INTO run (service, number, step, started, outside, verdict) \
          VALUES (?1, ?2, ?3, ?4, 0, 0)",
-        params![service.as_str(), number, step, seconds(started)],
+        params![service.as_str(), number, &step, seconds(started)],
     )
 }
 
@@ -141,6 +142,26 @@ pub fn insert_tally<S: Alter>(
          consecutive) VALUES (?1, ?2, ?3, 0, 0, 0, 0, 0)",
         params![service.as_str(), run, metric],
     )
+}
+
+/// Tallies of no measurements for so many metrics of a run, the first in place 0.
+pub fn insert_tallies<S: Alter>(
+    tx: &mut Transaction<'_, S>,
+    service: &Name,
+    run: u32,
+    metrics: u32,
+) -> Result<(), Error>
+    ensures same_reference { tx.new.conn.ghost_name ≡ tx.old.conn.ghost_name }
+    ensures wrote { Wrote (tallies_opened service.now run 0 metrics)
+        (state S.Store tx.old.conn.now) (state S.Store tx.new.conn.now) result }
+    ensures live { StaysLive (state S.Store tx.old.conn.now) (state S.Store tx.new.conn.now) result }
+    ensures kept { StaysCommitted (state S.Store tx.old.conn.now) (state S.Store tx.new.conn.now) }
+    ensures survives { SurvivesCut (state S.Store tx.old.conn.now) (state S.Store tx.new.conn.now) }
+{
+    for metric in 0..metrics {
+        insert_tally(tx, service, run, metric)?;
+    }
+    Ok(())
 }
 
 /// A measurement.
