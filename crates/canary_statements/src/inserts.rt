@@ -8,7 +8,7 @@ ghost use Rattle.canary_rows.specs.Changes.{with_run, with_tally, with_measureme
 ghost use Rattle.canary_schema.specs.Stores.{Wrote, StaysLive, StaysCommitted, SurvivesCut};
 ghost use Rattle.canary_statements.specs.Tallies.{tallies_opened};
 
-use crate::cells::{seconds, whole_or_null};
+use crate::cells::seconds;
 use canary_base::moments::Moment;
 use canary_base::names::Name;
 use canary_rows::rows::{MeasurementRow, Standing};
@@ -115,11 +115,10 @@ pub fn insert_run<S: Alter>(
     ensures kept { StaysCommitted (state S.Store tx.old.conn.now) (state S.Store tx.new.conn.now) }
     ensures survives { SurvivesCut (state S.Store tx.old.conn.now) (state S.Store tx.new.conn.now) }
 {
-    let step = whole_or_null(step);
     tx.execute(
         "INSERT INTO run (service, number, step, started, outside, verdict) \
          VALUES (?1, ?2, ?3, ?4, 0, 0)",
-        params![service.as_str(), number, &step, seconds(started)],
+        params![service.as_str(), number, step, seconds(started)],
     )
 }
 
