@@ -13,3 +13,5 @@ pub mod RunInserted
 pub mod TallyInserted
 pub mod MeasurementInserted
 pub mod LineInserted
+pub mod Loops
+pub mod TalliesInserted
