@@ -1,29 +1,25 @@
 -- What an INSERT of one row into a table with AUTOINCREMENT does.
-use Rattle.std.proofs.Common.{◌≡◌, ◌⊎◌, inl, inr, ◌≢◌, ℤ, ℕ, ◌/◌, pos, ◌&&◌, not, List, [], ◌∷◌, ◌++◌, map, length, fold, slice_get, Bool, true, false, cond, if◌then◌else◌, Option, Some, None, Ok, Err, Result, MatchBool, IsTrue, refl, sym, ap, subst, ◌∙◌}
-use Rattle.std.proofs.lemmas.Bool.{cases_Bool}
+use Rattle.std.proofs.Common.{◌≡◌, ◌≢◌, ℤ, ℕ, ◌/◌, ◌&&◌, not, List, [], ◌∷◌, length, fold, slice_get, Bool, true, false, if◌then◌else◌, Option, Some, None, Ok, Result, MatchBool, refl, sym, ap, subst, ◌∙◌}
 use Rattle.std.specs.List.{AllByRecursion}
 use Rattle.std.specs.Ordering.{is_lt, int_cmp}
 use Rattle.sqlite.specs.declared.types.Value.TheVariants.{Null, Int}
 use Rattle.sqlite.specs.Order.{Row}
 use Rattle.sqlite.specs.Term.{Term}
 use Rattle.sqlite.specs.Table.{Table}
-use Rattle.sqlite.specs.Schema.{Schema}
 use Rattle.sqlite.specs.Source.{Source}
 use Rattle.sqlite.specs.Source.TheVariants.{Values}
 use Rattle.sqlite.specs.Command.TheVariants.{Insert}
 use Rattle.sqlite.specs.declared.error.Error.{Error}
 use Rattle.sqlite.specs.Edit.{Edit, edit_of, with_rowid, next_rowid, at_least, is_taken, taken_by, Applies}
 use Rattle.sqlite.specs.Cast.{cast_row}
-use Rattle.sqlite.specs.Rowids.{Rowids}
 use Rattle.sqlite.specs.Rowids.TheVariants.{Chosen, Above}
 use Rattle.sqlite.specs.Does.{Tally, Does}
-use Rattle.sqlite.specs.Rows.{Written, Task, stamped, rowids_for, Inserts, Counter, Counts, CountsIn, counting, counter_in, count_of, sequence, higher}
+use Rattle.sqlite.specs.Rows.{Written, Task, stamped, Inserts, Counter, Counts, CountsIn, counting, counter_in, count_of, sequence}
 use Rattle.sqlite.specs.Tree.{Trees, put_row}
 use Rattle.sqlite.specs.declared.run.Mode.{Mode}
 use Rattle.sqlite.specs.Effect.{Database, IsSource, value_rows}
 use Rattle.sqlite.proofs.Callers.{one_step}
 use Rattle.sqlite_rules.specs.Action.{works, Writes}
-use Rattle.sqlite_rules.specs.Lists.{Has}
 use Rattle.sqlite_rules.proofs.ListLemmas.{all_has, all_from, has_got}
 use Rattle.canary_statements.proofs.Adding.{went, same_value, does, no_works}
 
@@ -87,7 +83,9 @@ module _ (task : Task) (counters : Table) (is : sequence task.schema ≡ Some co
       let c = counter_is db counter.0 counter.1 in
       let spares = counts written.0 last.0 counter.0 _ last.1 in
       let edit = subst (λ b. Writes task.schema task.keys db (edit_of db task.table [] (if b then Above (count_of counter.0) else Chosen) 0 source.0) (Ok written.0)) counted written.1 in (
-        source.0, source.1, written.0,
+        source.0,
+        source.1,
+        written.0,
         subst (λ o. Writes task.schema task.keys db (edit_of db task.table [] (Above (count_of o)) 0 source.0) (Ok written.0)) c edit,
         subst (λ (t : Trees). Spares written.0 t) (sym (ap (λ (it : Written). it.trees) (same_value last.2))) spares,
       )

@@ -1,25 +1,20 @@
 -- What the INSERTs of the desk do.
-use Rattle.std.proofs.Common.{◌≡◌, ◌≢◌, ℕ, ℤ, pos, List, [], ◌∷◌, ◌++◌, ◌/◌, length, codes, slice_get, Bool, true, false, cond, Option, Some, None, Ok, Err, Result, OnOk, IsTrue, refl, sym, ap, subst, ◌∙◌}
+use Rattle.std.proofs.Common.{◌≡◌, ◌≢◌, ℕ, ℤ, pos, List, [], ◌∷◌, ◌/◌, length, slice_get, Bool, true, false, cond, Option, Some, None, Ok, refl, sym, ap, subst, ◌∙◌}
 use Rattle.std.specs.List.{AllByRecursion}
 use Rattle.sqlite.specs.declared.types.Value.{Value}
-use Rattle.sqlite.specs.declared.types.Value.TheVariants.{Null, Int, Text as Words}
-use Rattle.sqlite.specs.declared.error.Error.{Error}
+use Rattle.sqlite.specs.declared.types.Value.TheVariants.{Null, Int}
 use Rattle.sqlite.specs.Order.{Row}
 use Rattle.sqlite.specs.Ops.{unary}
 use Rattle.sqlite.specs.Kind.TheVariants.{Integer}
-use Rattle.sqlite.specs.Term.{Term, lit, col}
+use Rattle.sqlite.specs.Term.{Term}
 use Rattle.sqlite.specs.Table.{Table}
 use Rattle.sqlite.specs.Schema.{Schema}
-use Rattle.sqlite.specs.Tree.{Trees, put_row}
+use Rattle.sqlite.specs.Tree.{Trees}
 use Rattle.sqlite.specs.Cast.{cast, cast_row}
-use Rattle.sqlite.specs.Command.{Command}
 use Rattle.sqlite.specs.Command.TheVariants.{Insert}
 use Rattle.sqlite.specs.Source.TheVariants.{Values}
-use Rattle.sqlite.specs.Edit.{at_least, next_rowid}
-use Rattle.sqlite.specs.Rowids.{Rowids}
-use Rattle.sqlite.specs.Rowids.TheVariants.{Chosen, Above}
-use Rattle.sqlite.specs.Rows.{stamped, count_of, counter_in, sequence as sequence_of}
-use Rattle.sqlite.specs.Effect.{Database, value_rows}
+use Rattle.sqlite.specs.Rows.{stamped, sequence as sequence_of}
+use Rattle.sqlite.specs.Effect.{value_rows}
 use Rattle.sqlite.specs.State.{State, mode_of, Writes, ExecutesInside}
 use Rattle.sqlite.specs.Listing.{understood}
 use Rattle.sqlite.specs.Given.{IsPlain}
@@ -27,12 +22,11 @@ use Rattle.sqlite.proofs.Callers.{command_of, statement_of, runs_as}
 use Rattle.sqlite_tied.specs.Compute.{everything}
 use Rattle.sqlite_rules.specs.Action.{works}
 use Rattle.sqlite_schema.specs.declared.schema.Keys.TheVariants.{Enforced}
-use Rattle.canary_rows.specs.Tables.{Tables}
 use Rattle.canary_schema.specs.Schema.{desk_schema, sequence}
-use Rattle.canary_schema.specs.Stores.{IsReady}
+use Rattle.canary_schema.specs.Cells.{whole_or_null}
 use Rattle.canary_statements.proofs.Adding.{AddsRow, inserts}
 use Rattle.canary_statements.proofs.Counted.{CountsRow, inserts as counts}
-use Rattle.canary_statements.proofs.Idle.{AreIdle, idle}
+use Rattle.canary_statements.proofs.Idle.{AreIdle}
 use Rattle.canary_statements.proofs.Spared.{Spares}
 
 -- a text and NULL are stored as they are, and a whole number too
@@ -49,6 +43,10 @@ pub cast_whole : (n : ℤ) → cast Integer (Int n) ≡ Int n
 unfolding unary
 cast_whole n = either _ (Int n)
 
+pub cast_maybe : (n : Option ℕ) → cast Integer (whole_or_null n) ≡ whole_or_null n
+cast_maybe None = cast_null
+cast_maybe (Some n) = cast_whole (pos n)
+
 -- of all tables the nine
 
 pub desk_spares : (k : ℕ) (old new : Trees) (schema : Schema) → schema ≡ desk_schema → AllByRecursion (λ t. t.tree ≢ k → new t.tree ≡ old t.tree) schema.tables → Spares k old new
@@ -62,8 +60,20 @@ pub counted_spares : (k : ℕ) (old new : Trees) (schema : Schema) → schema �
 unfolding everything
 counted_spares k old new schema is given =
     let h = subst (λ (s : Schema). AllByRecursion (λ t. t.tree ≢ k → t.tree ≢ 15 → new t.tree ≡ old t.tree) s.tables) is given in (
-      λ a. h.0 a (λ e. absurd (cc)), (λ a. h.1.0 a (λ e. absurd (cc)), (λ a. h.1.1.0 a (λ e. absurd (cc)), (λ a. h.1.1.1.0 a (λ e. absurd (cc)), (λ a. h.1.1.1.1.0 a (λ e. absurd (cc)),
-      (λ a. h.1.1.1.1.1.0 a (λ e. absurd (cc)), (λ a. h.1.1.1.1.1.1.0 a (λ e. absurd (cc)), (λ a. h.1.1.1.1.1.1.1.0 a (λ e. absurd (cc)), (λ a. h.1.1.1.1.1.1.1.1.1.0 a (λ e. absurd (cc)), tt))))))))
+      λ a. h.0 a (λ e. absurd (cc)),
+      (
+        λ a. h.1.0 a (λ e. absurd (cc)),
+        (
+          λ a. h.1.1.0 a (λ e. absurd (cc)),
+          (
+            λ a. h.1.1.1.0 a (λ e. absurd (cc)),
+            (
+              λ a. h.1.1.1.1.0 a (λ e. absurd (cc)),
+              (λ a. h.1.1.1.1.1.0 a (λ e. absurd (cc)), (λ a. h.1.1.1.1.1.1.0 a (λ e. absurd (cc)), (λ a. h.1.1.1.1.1.1.1.0 a (λ e. absurd (cc)), (λ a. h.1.1.1.1.1.1.1.1.1.0 a (λ e. absurd (cc)), tt)))),
+            ),
+          ),
+        ),
+      ),
     )
 
 module _ (text : List ℕ) (at : ℕ) (terms : List Term) (width : ℕ) (table : Table) (row params : Row) (is : command_of (understood desk_schema text) ≡ Insert at (Values terms width))

@@ -1,16 +1,13 @@
 -- What the INSERT of a kept request does.
-use Rattle.std.proofs.Common.{◌≡◌, ◌≢◌, ℕ, pos, List, [], ◌∷◌, ◌++◌, codes, slice_get, Option, Some, None, Ok, Err, Result, OnOk, IsTrue, refl}
-use Rattle.sqlite.specs.declared.types.Value.TheVariants.{Null, Int, Text as Words}
+use Rattle.std.proofs.Common.{◌≡◌, ℕ, pos, List, [], ◌∷◌, ◌++◌, codes, slice_get, Some, Ok, Err, Result, OnOk, refl}
+use Rattle.sqlite.specs.declared.types.Value.TheVariants.{Null}
 use Rattle.sqlite.specs.declared.error.Error.{Error}
-use Rattle.sqlite.specs.Order.{Row}
-use Rattle.sqlite.specs.Kind.TheVariants.{Integer}
 use Rattle.sqlite.specs.Term.{lit, col}
 use Rattle.sqlite.specs.Table.{Table}
-use Rattle.sqlite.specs.Cast.{cast, cast_row}
+use Rattle.sqlite.specs.Cast.{cast_row}
 use Rattle.sqlite.specs.Command.TheVariants.{Insert}
 use Rattle.sqlite.specs.Source.TheVariants.{Values}
-use Rattle.sqlite.specs.Rows.{count_of, counter_in}
-use Rattle.sqlite.specs.Rowids.TheVariants.{Chosen, Above}
+use Rattle.sqlite.specs.Rowids.TheVariants.{Chosen}
 use Rattle.sqlite.specs.State.{State, ExecutesInside}
 use Rattle.sqlite.specs.Listing.{understood}
 use Rattle.sqlite.specs.Given.{IsPlain}
@@ -20,7 +17,7 @@ use Rattle.canary_rows.specs.declared.rows.KeptRow.{KeptRow}
 use Rattle.canary_rows.specs.Tables.{Tables}
 use Rattle.canary_rows.specs.Changes.{with_kept}
 use Rattle.canary_schema.specs.Schema.{desk_schema, kept}
-use Rattle.canary_schema.specs.Cells.{kept_cells, whole, whole_or_null}
+use Rattle.canary_schema.specs.Cells.{kept_cells}
 use Rattle.canary_schema.specs.Stores.{IsReady}
 use Rattle.canary_statements.proofs.Appended.{appended, still_numbered}
 use Rattle.canary_statements.proofs.Inserted.{cast_null, cast_whole, desk_spares, adds}

@@ -1,14 +1,10 @@
 -- Statements one after another.
-use Rattle.std.proofs.Common.{◌≡◌, ◌≤◌, ◌⊎◌, inl, inr, IsTrue, ℕ, zero, suc, ◌+◌, List, [], refl, sym, ap, subst, ◌∙◌, arith}
+use Rattle.std.proofs.Common.{◌⊎◌, inl, inr, IsTrue, refl, ◌∙◌, arith}
 use Rattle.sqlite.specs.State.{State, HasCleanDisk, Survives, KeepsCommit}
 use Rattle.sqlite.specs.Tree.{Trees}
 use Rattle.sqlite_disk.specs.Disk.{MoreFaults}
-use Rattle.canary_metric.specs.Counts.{counts}
-use Rattle.canary_rows.specs.declared.rows.TallyRow.{TallyRow}
 use Rattle.canary_rows.specs.Tables.{Tables}
-use Rattle.canary_rows.specs.Changes.{with_tally}
 use Rattle.canary_schema.specs.Stores.{IsReady}
-use Rattle.canary_statements.specs.Tallies.{tallies_opened}
 
 -- what the statements so far did
 pub record SoFar (change : Tables → Tables) (old new : State) : Type 0 where

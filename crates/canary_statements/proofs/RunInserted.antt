@@ -1,17 +1,15 @@
 -- What the INSERT of a run does.
-use Rattle.std.proofs.Common.{◌≡◌, ◌≢◌, ℕ, pos, List, [], ◌∷◌, ◌++◌, codes, slice_get, Option, Some, None, Ok, Err, Result, OnOk, IsTrue, refl}
+use Rattle.std.proofs.Common.{◌≡◌, ℕ, pos, List, [], ◌∷◌, ◌++◌, codes, slice_get, Option, Some, None, Ok, Err, Result, OnOk, refl}
 use Rattle.sqlite.specs.declared.types.Value.{Value}
-use Rattle.sqlite.specs.declared.types.Value.TheVariants.{Null, Int, Text as Words}
+use Rattle.sqlite.specs.declared.types.Value.TheVariants.{Null, Text as Words}
 use Rattle.sqlite.specs.declared.error.Error.{Error}
 use Rattle.sqlite.specs.Order.{Row}
-use Rattle.sqlite.specs.Kind.TheVariants.{Integer}
 use Rattle.sqlite.specs.Term.{lit, col}
 use Rattle.sqlite.specs.Table.{Table}
-use Rattle.sqlite.specs.Cast.{cast, cast_row}
+use Rattle.sqlite.specs.Cast.{cast_row}
 use Rattle.sqlite.specs.Command.TheVariants.{Insert}
 use Rattle.sqlite.specs.Source.TheVariants.{Values}
-use Rattle.sqlite.specs.Rows.{count_of, counter_in}
-use Rattle.sqlite.specs.Rowids.TheVariants.{Chosen, Above}
+use Rattle.sqlite.specs.Rowids.TheVariants.{Chosen}
 use Rattle.sqlite.specs.State.{State, ExecutesInside}
 use Rattle.sqlite.specs.Listing.{understood}
 use Rattle.sqlite.specs.Given.{IsPlain}
@@ -24,7 +22,7 @@ use Rattle.canary_schema.specs.Schema.{desk_schema, run}
 use Rattle.canary_schema.specs.Cells.{run_cells, whole, whole_or_null}
 use Rattle.canary_schema.specs.Stores.{IsReady}
 use Rattle.canary_statements.proofs.Appended.{appended, still_numbered}
-use Rattle.canary_statements.proofs.Inserted.{cast_null, cast_whole, desk_spares, adds}
+use Rattle.canary_statements.proofs.Inserted.{cast_null, cast_whole, cast_maybe, desk_spares, adds}
 use Rattle.canary_statements.proofs.Spared.{runs_now}
 
 abbrev text : List ℕ
@@ -44,10 +42,6 @@ is_plain = (refl, refl)
 stands : slice_get desk_schema.tables 5 ≡ Some table
 unfolding everything
 stands = refl
-
-cast_maybe : (n : Option ℕ) → cast Integer (whole_or_null n) ≡ whole_or_null n
-cast_maybe None = cast_null
-cast_maybe (Some n) = cast_whole (pos n)
 
 kept_as_given : (row : RunRow) → cast_row table (Null ∷ run_cells row) ≡ Null ∷ run_cells row
 kept_as_given row = rw (cast_null, cast_whole (pos row.number), cast_maybe row.step, cast_whole (pos row.started), cast_maybe row.ending.closed, cast_whole (pos row.ending.outside), cast_whole (pos row.ending.verdict)) refl

@@ -1,5 +1,5 @@
 -- Tallies of a run, one after another.
-use Rattle.std.proofs.Common.{◌≡◌, IsTrue, ℕ, zero, suc, ◌+◌, List, [], refl, sym, ap, subst, ◌∙◌, arith}
+use Rattle.std.proofs.Common.{◌≡◌, IsTrue, ℕ, zero, suc, ◌+◌, List, [], sym, ap, subst, ◌∙◌, arith}
 use Rattle.sqlite.specs.State.{State, HasCleanDisk, Survives, KeepsCommit}
 use Rattle.canary_metric.specs.Counts.{counts}
 use Rattle.canary_rows.specs.declared.rows.TallyRow.{TallyRow}

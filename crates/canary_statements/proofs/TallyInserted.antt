@@ -1,16 +1,13 @@
 -- What the INSERT of a tally does.
-use Rattle.std.proofs.Common.{◌≡◌, ◌≢◌, ℕ, pos, List, [], ◌∷◌, ◌++◌, codes, slice_get, Option, Some, None, Ok, Err, Result, OnOk, IsTrue, refl}
-use Rattle.sqlite.specs.declared.types.Value.TheVariants.{Null, Int, Text as Words}
+use Rattle.std.proofs.Common.{◌≡◌, ℕ, pos, List, [], ◌∷◌, ◌++◌, codes, slice_get, Some, Ok, Err, Result, OnOk, refl}
+use Rattle.sqlite.specs.declared.types.Value.TheVariants.{Null, Text as Words}
 use Rattle.sqlite.specs.declared.error.Error.{Error}
-use Rattle.sqlite.specs.Order.{Row}
-use Rattle.sqlite.specs.Kind.TheVariants.{Integer}
 use Rattle.sqlite.specs.Term.{lit, col}
 use Rattle.sqlite.specs.Table.{Table}
-use Rattle.sqlite.specs.Cast.{cast, cast_row}
+use Rattle.sqlite.specs.Cast.{cast_row}
 use Rattle.sqlite.specs.Command.TheVariants.{Insert}
 use Rattle.sqlite.specs.Source.TheVariants.{Values}
-use Rattle.sqlite.specs.Rows.{count_of, counter_in}
-use Rattle.sqlite.specs.Rowids.TheVariants.{Chosen, Above}
+use Rattle.sqlite.specs.Rowids.TheVariants.{Chosen}
 use Rattle.sqlite.specs.State.{State, ExecutesInside}
 use Rattle.sqlite.specs.Listing.{understood}
 use Rattle.sqlite.specs.Given.{IsPlain}
@@ -21,10 +18,10 @@ use Rattle.canary_rows.specs.declared.rows.TallyRow.{TallyRow}
 use Rattle.canary_rows.specs.Tables.{Tables}
 use Rattle.canary_rows.specs.Changes.{with_tally}
 use Rattle.canary_schema.specs.Schema.{desk_schema, tally}
-use Rattle.canary_schema.specs.Cells.{tally_cells, whole, whole_or_null}
+use Rattle.canary_schema.specs.Cells.{tally_cells, whole}
 use Rattle.canary_schema.specs.Stores.{IsReady}
 use Rattle.canary_statements.proofs.Appended.{appended, still_numbered}
-use Rattle.canary_statements.proofs.Inserted.{cast_null, cast_whole, desk_spares, adds}
+use Rattle.canary_statements.proofs.Inserted.{cast_null, cast_whole, cast_maybe, desk_spares, adds}
 use Rattle.canary_statements.proofs.Spared.{tallies_now}
 
 abbrev text : List ℕ
@@ -44,10 +41,6 @@ is_plain = (refl, refl)
 stands : slice_get desk_schema.tables 6 ≡ Some table
 unfolding everything
 stands = refl
-
-cast_maybe : (n : Option ℕ) → cast Integer (whole_or_null n) ≡ whole_or_null n
-cast_maybe None = cast_null
-cast_maybe (Some n) = cast_whole (pos n)
 
 kept_as_given : (row : TallyRow) → cast_row table (Null ∷ tally_cells row) ≡ Null ∷ tally_cells row
 kept_as_given row = rw (cast_null, cast_whole (pos row.run), cast_whole (pos row.metric), cast_whole (pos row.counts.counted), cast_whole (pos row.counts.failed), cast_whole (pos row.counts.inconclusive), cast_whole (pos row.counts.errors), cast_whole (pos row.counts.consecutive), cast_maybe row.counts.last) refl

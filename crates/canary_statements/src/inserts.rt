@@ -1,8 +1,13 @@
-//! INSERT: one row more in a table, behind the others. The error of each function is the
-//! database's, as where memory or the disk fails, or the row's key is there already.
+//! INSERT: one row more in a table, behind the others. After an error nothing is said of the tables
+//! in the transaction, and what was committed stays.
 ghost use Rattle.std.specs.Prelude.{◌≡◌, [], None};
 ghost use Rattle.sqlite.specs.Held.{state};
 ghost use Rattle.canary_metric.specs.Counts.{counts};
+ghost use Rattle.canary_rows.specs.declared.rows.KeptRow.{KeptRow};
+ghost use Rattle.canary_rows.specs.declared.rows.ServiceRow.{ServiceRow};
+ghost use Rattle.canary_rows.specs.declared.rows.RunRow.{RunRow};
+ghost use Rattle.canary_rows.specs.declared.rows.TallyRow.{TallyRow};
+ghost use Rattle.canary_rows.specs.declared.rows.HistoryRow.{HistoryRow};
 ghost use Rattle.canary_rows.specs.Changes.{with_caller, with_kept, with_template, with_service};
 ghost use Rattle.canary_rows.specs.Changes.{with_run, with_tally, with_measurement, with_line};
 ghost use Rattle.canary_schema.specs.Stores.{Wrote, StaysLive, StaysCommitted, SurvivesCut};
@@ -14,19 +19,25 @@ use canary_base::names::Name;
 use canary_rows::rows::{MeasurementRow, Standing};
 use sqlite::{Alter, Error, Transaction, params};
 
-/// A caller whose first request is settled.
+/// Inserts a caller whose first request is settled. An error is the database's, as where the
+/// caller is there already.
 pub fn insert_caller<S: Alter>(tx: &mut Transaction<'_, S>, name: &Name) -> Result<usize, Error>
     ensures same_reference { tx.new.conn.ghost_name ≡ tx.old.conn.ghost_name }
     ensures wrote { Wrote (with_caller (record { name = name.now; settled = 1 }))
         (state S.Store tx.old.conn.now) (state S.Store tx.new.conn.now) result }
-    ensures live { StaysLive (state S.Store tx.old.conn.now) (state S.Store tx.new.conn.now) result }
+    ensures live { StaysLive
+        (state S.Store tx.old.conn.now) (state S.Store tx.new.conn.now) result }
     ensures kept { StaysCommitted (state S.Store tx.old.conn.now) (state S.Store tx.new.conn.now) }
     ensures survives { SurvivesCut (state S.Store tx.old.conn.now) (state S.Store tx.new.conn.now) }
 {
-    tx.execute("INSERT INTO caller (name, settled) VALUES (?1, 1)", params![name.as_str()])
+    tx.execute(
+        "INSERT INTO caller (name, settled) VALUES (?1, 1)",
+        params![name.as_str()],
+    )
 }
 
-/// A settled request, with its command's canonical text, and its reply's status and body.
+/// Inserts a settled request: the canonical text of its command, and the status and the body of
+/// its reply. An error is the database's, as where the caller has a request of that number.
 pub fn insert_kept<S: Alter>(
     tx: &mut Transaction<'_, S>,
     caller: &Name,
@@ -36,9 +47,17 @@ pub fn insert_kept<S: Alter>(
     body: &str,
 ) -> Result<usize, Error>
     ensures same_reference { tx.new.conn.ghost_name ≡ tx.old.conn.ghost_name }
-    ensures wrote { Wrote (with_kept (record { caller = caller.now; number = number; command = command.now; status = status; body = body.now }))
+    ensures wrote { let row : KeptRow = record {
+      caller = caller.now;
+      number = number;
+      command = command.now;
+      status = status;
+      body = body.now;
+    }
+        in Wrote (with_kept row)
         (state S.Store tx.old.conn.now) (state S.Store tx.new.conn.now) result }
-    ensures live { StaysLive (state S.Store tx.old.conn.now) (state S.Store tx.new.conn.now) result }
+    ensures live { StaysLive
+        (state S.Store tx.old.conn.now) (state S.Store tx.new.conn.now) result }
     ensures kept { StaysCommitted (state S.Store tx.old.conn.now) (state S.Store tx.new.conn.now) }
     ensures survives { SurvivesCut (state S.Store tx.old.conn.now) (state S.Store tx.new.conn.now) }
 {
@@ -48,7 +67,8 @@ pub fn insert_kept<S: Alter>(
     )
 }
 
-/// A template, by the canonical text of the command that added it.
+/// Inserts a template, by the canonical text of the command that added it. An error is the
+/// database's, as where the template is there already.
 pub fn insert_template<S: Alter>(
     tx: &mut Transaction<'_, S>,
     name: &Name,
@@ -57,7 +77,8 @@ pub fn insert_template<S: Alter>(
     ensures same_reference { tx.new.conn.ghost_name ≡ tx.old.conn.ghost_name }
     ensures wrote { Wrote (with_template (record { name = name.now; spec = spec.now }))
         (state S.Store tx.old.conn.now) (state S.Store tx.new.conn.now) result }
-    ensures live { StaysLive (state S.Store tx.old.conn.now) (state S.Store tx.new.conn.now) result }
+    ensures live { StaysLive
+        (state S.Store tx.old.conn.now) (state S.Store tx.new.conn.now) result }
     ensures kept { StaysCommitted (state S.Store tx.old.conn.now) (state S.Store tx.new.conn.now) }
     ensures survives { SurvivesCut (state S.Store tx.old.conn.now) (state S.Store tx.new.conn.now) }
 {
@@ -67,7 +88,8 @@ pub fn insert_template<S: Alter>(
     )
 }
 
-/// A service, by the canonical text of the command that made it, and how it stands.
+/// Inserts a service, by the canonical text of the command that made it, and how it stands. An
+/// error is the database's, as where the service is there already.
 pub fn insert_service<S: Alter>(
     tx: &mut Transaction<'_, S>,
     name: &Name,
@@ -75,9 +97,15 @@ pub fn insert_service<S: Alter>(
     standing: &Standing,
 ) -> Result<usize, Error>
     ensures same_reference { tx.new.conn.ghost_name ≡ tx.old.conn.ghost_name }
-    ensures wrote { Wrote (with_service (record { name = name.now; spec = spec.now; standing = standing.now }))
+    ensures wrote { let row : ServiceRow = record {
+      name = name.now;
+      spec = spec.now;
+      standing = standing.now;
+    }
+        in Wrote (with_service row)
         (state S.Store tx.old.conn.now) (state S.Store tx.new.conn.now) result }
-    ensures live { StaysLive (state S.Store tx.old.conn.now) (state S.Store tx.new.conn.now) result }
+    ensures live { StaysLive
+        (state S.Store tx.old.conn.now) (state S.Store tx.new.conn.now) result }
     ensures kept { StaysCommitted (state S.Store tx.old.conn.now) (state S.Store tx.new.conn.now) }
     ensures survives { SurvivesCut (state S.Store tx.old.conn.now) (state S.Store tx.new.conn.now) }
 {
@@ -100,7 +128,8 @@ pub fn insert_service<S: Alter>(
     )
 }
 
-/// A run that is open: of the analysis at a step, or of the background where that is none.
+/// Inserts a run that is open: of the analysis at a step, or of the background where that is none.
+/// An error is the database's, as where the service has a run of that number.
 pub fn insert_run<S: Alter>(
     tx: &mut Transaction<'_, S>,
     service: &Name,
@@ -109,9 +138,17 @@ pub fn insert_run<S: Alter>(
     started: Moment,
 ) -> Result<usize, Error>
     ensures same_reference { tx.new.conn.ghost_name ≡ tx.old.conn.ghost_name }
-    ensures wrote { Wrote (with_run (record { service = service.now; number = number; step = step; started = started; ending = record { closed = None; outside = 0; verdict = 0 } }))
+    ensures wrote { let row : RunRow = record {
+      service = service.now;
+      number = number;
+      step = step;
+      started = started;
+      ending = record { closed = None; outside = 0; verdict = 0 };
+    }
+        in Wrote (with_run row)
         (state S.Store tx.old.conn.now) (state S.Store tx.new.conn.now) result }
-    ensures live { StaysLive (state S.Store tx.old.conn.now) (state S.Store tx.new.conn.now) result }
+    ensures live { StaysLive
+        (state S.Store tx.old.conn.now) (state S.Store tx.new.conn.now) result }
     ensures kept { StaysCommitted (state S.Store tx.old.conn.now) (state S.Store tx.new.conn.now) }
     ensures survives { SurvivesCut (state S.Store tx.old.conn.now) (state S.Store tx.new.conn.now) }
 {
@@ -122,7 +159,8 @@ pub fn insert_run<S: Alter>(
     )
 }
 
-/// The tally of a run's metric, by the metric's place in the run, of no measurements.
+/// Inserts the tally of no measurements for a metric of a run, by the metric's place in the run,
+/// from 0. An error is the database's, as where the tally is there already.
 pub fn insert_tally<S: Alter>(
     tx: &mut Transaction<'_, S>,
     service: &Name,
@@ -130,9 +168,16 @@ pub fn insert_tally<S: Alter>(
     metric: u32,
 ) -> Result<usize, Error>
     ensures same_reference { tx.new.conn.ghost_name ≡ tx.old.conn.ghost_name }
-    ensures wrote { Wrote (with_tally (record { service = service.now; run = run; metric = metric; counts = counts [] }))
+    ensures wrote { let row : TallyRow = record {
+      service = service.now;
+      run = run;
+      metric = metric;
+      counts = counts [];
+    }
+        in Wrote (with_tally row)
         (state S.Store tx.old.conn.now) (state S.Store tx.new.conn.now) result }
-    ensures live { StaysLive (state S.Store tx.old.conn.now) (state S.Store tx.new.conn.now) result }
+    ensures live { StaysLive
+        (state S.Store tx.old.conn.now) (state S.Store tx.new.conn.now) result }
     ensures kept { StaysCommitted (state S.Store tx.old.conn.now) (state S.Store tx.new.conn.now) }
     ensures survives { SurvivesCut (state S.Store tx.old.conn.now) (state S.Store tx.new.conn.now) }
 {
@@ -143,7 +188,8 @@ pub fn insert_tally<S: Alter>(
     )
 }
 
-/// Tallies of no measurements for so many metrics of a run, the first in place 0.
+/// Inserts tallies of no measurements for so many metrics of a run, the first in place 0. An error
+/// is the database's, as where one of the tallies is there already.
 pub fn insert_tallies<S: Alter>(
     tx: &mut Transaction<'_, S>,
     service: &Name,
@@ -153,7 +199,8 @@ pub fn insert_tallies<S: Alter>(
     ensures same_reference { tx.new.conn.ghost_name ≡ tx.old.conn.ghost_name }
     ensures wrote { Wrote (tallies_opened service.now run 0 metrics)
         (state S.Store tx.old.conn.now) (state S.Store tx.new.conn.now) result }
-    ensures live { StaysLive (state S.Store tx.old.conn.now) (state S.Store tx.new.conn.now) result }
+    ensures live { StaysLive
+        (state S.Store tx.old.conn.now) (state S.Store tx.new.conn.now) result }
     ensures kept { StaysCommitted (state S.Store tx.old.conn.now) (state S.Store tx.new.conn.now) }
     ensures survives { SurvivesCut (state S.Store tx.old.conn.now) (state S.Store tx.new.conn.now) }
 {
@@ -163,7 +210,7 @@ pub fn insert_tallies<S: Alter>(
     Ok(())
 }
 
-/// A measurement.
+/// Inserts a measurement. An error is the database's, as where its metric has one of that number.
 pub fn insert_measurement<S: Alter>(
     tx: &mut Transaction<'_, S>,
     row: &MeasurementRow,
@@ -171,7 +218,8 @@ pub fn insert_measurement<S: Alter>(
     ensures same_reference { tx.new.conn.ghost_name ≡ tx.old.conn.ghost_name }
     ensures wrote { Wrote (with_measurement row.now)
         (state S.Store tx.old.conn.now) (state S.Store tx.new.conn.now) result }
-    ensures live { StaysLive (state S.Store tx.old.conn.now) (state S.Store tx.new.conn.now) result }
+    ensures live { StaysLive
+        (state S.Store tx.old.conn.now) (state S.Store tx.new.conn.now) result }
     ensures kept { StaysCommitted (state S.Store tx.old.conn.now) (state S.Store tx.new.conn.now) }
     ensures survives { SurvivesCut (state S.Store tx.old.conn.now) (state S.Store tx.new.conn.now) }
 {
@@ -190,7 +238,7 @@ pub fn insert_measurement<S: Alter>(
     )
 }
 
-/// A line of a service's history.
+/// Inserts a line of a service's history. An error is the database's, as where memory is refused.
 pub fn insert_line<S: Alter>(
     tx: &mut Transaction<'_, S>,
     service: &Name,
@@ -198,9 +246,15 @@ pub fn insert_line<S: Alter>(
     line: &str,
 ) -> Result<usize, Error>
     ensures same_reference { tx.new.conn.ghost_name ≡ tx.old.conn.ghost_name }
-    ensures wrote { Wrote (with_line (record { service = service.now; moment = moment; line = line.now }))
+    ensures wrote { let row : HistoryRow = record {
+      service = service.now;
+      moment = moment;
+      line = line.now;
+    }
+        in Wrote (with_line row)
         (state S.Store tx.old.conn.now) (state S.Store tx.new.conn.now) result }
-    ensures live { StaysLive (state S.Store tx.old.conn.now) (state S.Store tx.new.conn.now) result }
+    ensures live { StaysLive
+        (state S.Store tx.old.conn.now) (state S.Store tx.new.conn.now) result }
     ensures kept { StaysCommitted (state S.Store tx.old.conn.now) (state S.Store tx.new.conn.now) }
     ensures survives { SurvivesCut (state S.Store tx.old.conn.now) (state S.Store tx.new.conn.now) }
 {

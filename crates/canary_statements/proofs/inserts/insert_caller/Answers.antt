@@ -1,4 +1,3 @@
-use Rattle.std.proofs.Common.{◌≡◌}
 use Rattle.sqlite.specs.Held.{state}
 use Rattle.canary_statements.proofs.CallerInserted.{caller_inserted}
 use Rattle.canary_statements.proofs.inserts.insert_caller.Goals as goal

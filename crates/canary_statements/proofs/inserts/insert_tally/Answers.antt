@@ -1,4 +1,3 @@
-use Rattle.std.proofs.Common.{◌≡◌, None}
 use Rattle.sqlite.specs.Held.{state}
 use Rattle.canary_statements.proofs.TallyInserted.{tally_inserted}
 use Rattle.canary_statements.proofs.inserts.insert_tally.Goals as goal

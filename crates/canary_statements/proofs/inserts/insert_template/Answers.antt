@@ -1,4 +1,3 @@
-use Rattle.std.proofs.Common.{◌≡◌, None}
 use Rattle.sqlite.specs.Held.{state}
 use Rattle.canary_statements.proofs.TemplateInserted.{template_inserted}
 use Rattle.canary_statements.proofs.inserts.insert_template.Goals as goal
