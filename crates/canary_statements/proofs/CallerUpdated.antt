@@ -23,7 +23,8 @@ use Rattle.canary_schema.specs.Cells.{caller_cells}
 use Rattle.canary_schema.specs.Stores.{IsReady}
 use Rattle.canary_statements.proofs.Spared.{callers_now}
 use Rattle.canary_statements.proofs.UpdateAnswer.{plain_query, passes}
-use Rattle.canary_statements.proofs.UpdateDesk.{cast_whole, updated}
+use Rattle.canary_statements.proofs.Inserted.{cast_whole}
+use Rattle.canary_statements.proofs.UpdateDesk.{updated}
 use Rattle.canary_statements.proofs.UpdateTests.{and_true, equal_words}
 
 abbrev text : List ℕ

@@ -26,7 +26,8 @@ use Rattle.canary_schema.specs.Cells.{whole, run_cells}
 use Rattle.canary_schema.specs.Stores.{IsReady}
 use Rattle.canary_statements.proofs.Spared.{runs_now}
 use Rattle.canary_statements.proofs.UpdateAnswer.{plain_query, passes}
-use Rattle.canary_statements.proofs.UpdateDesk.{cast_whole, cast_whole_or_null, updated}
+use Rattle.canary_statements.proofs.Inserted.{cast_whole, cast_maybe}
+use Rattle.canary_statements.proofs.UpdateDesk.{updated}
 use Rattle.canary_statements.proofs.UpdateTests.{and_true, equal_words, equal_number}
 
 abbrev text : List ℕ
@@ -68,7 +69,7 @@ fits service number closed outside verdict v row = ap₂ (λ a b. a && (b && tru
 
 as_given : (row : RunRow) (n : ℤ) → cast_row table (Int n ∷ run_cells row) ≡ Int n ∷ run_cells row
 as_given row n =
-    rw (cast_whole n, cast_whole (pos row.number), cast_whole_or_null row.step, cast_whole (pos row.started), cast_whole_or_null row.ending.closed, cast_whole (pos row.ending.outside), cast_whole (pos row.ending.verdict)) refl
+    rw (cast_whole n, cast_whole (pos row.number), cast_maybe row.step, cast_whole (pos row.started), cast_maybe row.ending.closed, cast_whole (pos row.ending.outside), cast_whole (pos row.ending.verdict)) refl
 
 pub run_closed : (old new : State) (t : Tables) (service : List ℕ) (number closed outside verdict : ℕ) (r : Result ℕ Error) → IsReady old t → HasRun service number t → ExecutesInside 0 text (ending_given service number closed outside verdict) old new r
     → OnOk r (IsReady new (with_ending service number (ending_at closed outside verdict) t))

@@ -25,7 +25,8 @@ use Rattle.canary_schema.specs.Cells.{whole, service_cells}
 use Rattle.canary_schema.specs.Stores.{IsReady}
 use Rattle.canary_statements.proofs.Spared.{services_now}
 use Rattle.canary_statements.proofs.UpdateAnswer.{plain_query, passes}
-use Rattle.canary_statements.proofs.UpdateDesk.{cast_whole, updated}
+use Rattle.canary_statements.proofs.Inserted.{cast_whole}
+use Rattle.canary_statements.proofs.UpdateDesk.{updated}
 use Rattle.canary_statements.proofs.UpdateTests.{and_true, equal_words}
 
 abbrev text : List ℕ

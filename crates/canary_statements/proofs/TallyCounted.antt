@@ -30,7 +30,8 @@ use Rattle.canary_schema.specs.Cells.{whole, tally_cells}
 use Rattle.canary_schema.specs.Stores.{IsReady}
 use Rattle.canary_statements.proofs.Spared.{tallies_now}
 use Rattle.canary_statements.proofs.UpdateAnswer.{plain_query, passes, shows}
-use Rattle.canary_statements.proofs.UpdateDesk.{cast_whole, updated}
+use Rattle.canary_statements.proofs.Inserted.{cast_whole}
+use Rattle.canary_statements.proofs.UpdateDesk.{updated}
 use Rattle.canary_statements.proofs.UpdateTests.{and_true, equal_words, equal_number}
 
 -- the statement for a phase

@@ -1,63 +1,34 @@
 -- What an UPDATE of one row does to a desk's tables.
-use Rattle.std.proofs.Common.{◌≡◌, ◌≢◌, ℕ, ℤ, pos, List, [], ◌∷◌, map, filter, drop, slice_get, Bool, true, false, cond, Option, Some, None, Ok, refl, sym, ap, subst, ◌∙◌}
+use Rattle.std.proofs.Common.{◌≡◌, ◌≢◌, ℕ, ℤ, List, [], ◌∷◌, map, filter, drop, slice_get, Bool, Some, None, Ok, sym, ap, subst, ◌∙◌}
 use Rattle.std.specs.List.{AllByRecursion}
 use Rattle.sqlite.specs.declared.types.Value.{Value}
-use Rattle.sqlite.specs.declared.types.Value.TheVariants.{Null, Int}
+use Rattle.sqlite.specs.declared.types.Value.TheVariants.{Int}
 use Rattle.sqlite.specs.Order.{Row, column}
-use Rattle.sqlite.specs.Ops.{unary}
-use Rattle.sqlite.specs.Kind.TheVariants.{Integer}
 use Rattle.sqlite.specs.Term.{Term}
 use Rattle.sqlite.specs.Table.{Table}
 use Rattle.sqlite.specs.Schema.{Schema}
-use Rattle.sqlite.specs.Tree.{Trees, put_row, without_rowid}
+use Rattle.sqlite.specs.Tree.{put_row, without_rowid}
 use Rattle.sqlite.specs.Edit.{id_in, edit_of, taken_by}
-use Rattle.sqlite.specs.Cast.{cast, cast_row}
+use Rattle.sqlite.specs.Cast.{cast_row}
 use Rattle.sqlite.specs.Command.TheVariants.{Update}
 use Rattle.sqlite.specs.Rowids.TheVariants.{Given}
 use Rattle.sqlite.specs.State.{State, mode_of, Writes, ExecutesInside}
 use Rattle.sqlite.specs.Listing.{understood}
 use Rattle.sqlite.specs.Given.{IsPlain}
 use Rattle.sqlite.proofs.Callers.{command_of, statement_of, runs_as}
-use Rattle.sqlite_tied.specs.Compute.{everything}
 use Rattle.sqlite_rules.specs.Action.{works}
 use Rattle.sqlite_rules.specs.Calls.{ids_of}
 use Rattle.sqlite_schema.specs.declared.schema.Keys.TheVariants.{Enforced}
 use Rattle.canary_rows.specs.Changes.{change_where}
 use Rattle.canary_schema.specs.Schema.{desk_schema}
-use Rattle.canary_schema.specs.Cells.{cells_of, whole_or_null}
+use Rattle.canary_schema.specs.Cells.{cells_of}
 use Rattle.canary_schema.specs.Stores.{IsNumbered}
-use Rattle.canary_statements.proofs.Idle.{AreIdle, idle}
+use Rattle.canary_statements.proofs.Idle.{idle}
+use Rattle.canary_statements.proofs.Inserted.{desk_spares, idle_desk}
 use Rattle.canary_statements.proofs.Spared.{Spares}
 use Rattle.canary_statements.proofs.UpdateAnswer.{plain_query, passes, shows}
 use Rattle.canary_statements.proofs.UpdateRows.{updates}
 use Rattle.canary_statements.proofs.UpdateTyped.{found, typed}
-
-either : (b : Bool) (x : Value) → cond b x x ≡ x
-either true x = refl
-either false x = refl
-
--- NULL and a whole number are stored as they are
-cast_null : cast Integer Null ≡ Null
-unfolding unary
-cast_null = either _ Null
-
-pub cast_whole : (n : ℤ) → cast Integer (Int n) ≡ Int n
-unfolding unary
-cast_whole n = either _ (Int n)
-
-pub cast_whole_or_null : (n : Option ℕ) → cast Integer (whole_or_null n) ≡ whole_or_null n
-cast_whole_or_null None = cast_null
-cast_whole_or_null (Some n) = cast_whole (pos n)
-
-desk_spares : (k : ℕ) (old new : Trees) (schema : Schema) → schema ≡ desk_schema → AllByRecursion (λ t. t.tree ≢ k → new t.tree ≡ old t.tree) schema.tables → Spares k old new
-unfolding everything
-desk_spares k old new schema is given =
-    let h = subst (λ (s : Schema). AllByRecursion (λ t. t.tree ≢ k → new t.tree ≡ old t.tree) s.tables) is given in
-    (h.0, (h.1.0, (h.1.1.0, (h.1.1.1.0, (h.1.1.1.1.0, (h.1.1.1.1.1.0, (h.1.1.1.1.1.1.0, (h.1.1.1.1.1.1.1.0, (h.1.1.1.1.1.1.1.1.1.0, tt)))))))))
-
-idle_desk : AreIdle desk_schema.tables
-unfolding everything
-idle_desk = (tt, (tt, (((refl, refl), tt), (tt, (tt, (((refl, refl), tt), (tt, (tt, (tt, (tt, tt))))))))))
 
 -- the rows of one table are these now, and the others are as they were
 pub record Updates {R : Type 0} (tree : ℕ) (cells : R → Row) (rows : List R) (old new : State) : Type 0 where

@@ -3,4 +3,5 @@
 #![tactic(auto)]
 
 mod cells;
+pub mod inserts;
 pub mod updates;
