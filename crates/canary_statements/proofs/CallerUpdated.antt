@@ -1,0 +1,68 @@
+-- What the UPDATE of a caller does.
+use Rattle.std.proofs.Common.{◌≡◌, ℕ, ℤ, pos, List, [], ◌∷◌, codes, slice_get, Some, Ok, Err, Result, OnOk, refl, ◌∙◌}
+use Rattle.sqlite.specs.declared.types.Value.{Value}
+use Rattle.sqlite.specs.declared.types.Value.TheVariants.{Int, Text as Words}
+use Rattle.sqlite.specs.declared.error.Error.{Error}
+use Rattle.sqlite.specs.Term.{Term, col, op2}
+use Rattle.sqlite.specs.Table.{Table}
+use Rattle.sqlite.specs.Cast.{cast_row}
+use Rattle.sqlite.specs.Command.TheVariants.{Update}
+use Rattle.sqlite.specs.State.{State, ExecutesInside}
+use Rattle.sqlite.specs.Listing.{understood}
+use Rattle.sqlite.specs.Given.{IsPlain}
+use Rattle.sqlite.proofs.Callers.{command_of}
+use Rattle.sqlite_sql.specs.declared.ops.BinaryOp.TheVariants.{Compare}
+use Rattle.sqlite_sql.specs.declared.ops.CompareOp.TheVariants.{Eq}
+use Rattle.sqlite_value.specs.declared.keys.Collation.TheVariants.{Binary}
+use Rattle.sqlite_tied.specs.Compute.{everything}
+use Rattle.canary_rows.specs.declared.rows.CallerRow.{CallerRow}
+use Rattle.canary_rows.specs.Tables.{Tables, is_caller}
+use Rattle.canary_rows.specs.Changes.{HasCaller, change_where, with_settled}
+use Rattle.canary_schema.specs.Schema.{desk_schema, caller}
+use Rattle.canary_schema.specs.Cells.{caller_cells}
+use Rattle.canary_schema.specs.Stores.{IsReady}
+use Rattle.canary_statements.proofs.Spared.{callers_now}
+use Rattle.canary_statements.proofs.UpdateAnswer.{plain_query, passes}
+use Rattle.canary_statements.proofs.Inserted.{cast_whole}
+use Rattle.canary_statements.proofs.UpdateDesk.{updated}
+use Rattle.canary_statements.proofs.UpdateTests.{and_true, equal_words}
+
+abbrev text : List ℕ
+text = codes "UPDATE caller SET settled = ?2 WHERE name = ?1"
+
+abbrev tests : List Term
+tests = op2 (Compare Eq Binary) (col 1 1) (col 0 0) ∷ []
+
+abbrev shown : List Term
+shown = col 1 0 ∷ col 1 0 ∷ col 1 1 ∷ col 0 1 ∷ []
+
+abbrev table : Table
+table = record caller { tree = 1 }
+
+is_update : command_of (understood desk_schema text) ≡ Update 1 (record { lets = []; body = plain_query 1 tests shown [] })
+unfolding understood everything
+is_update = refl
+
+is_plain : IsPlain (understood desk_schema text)
+unfolding understood everything
+is_plain = (refl, refl)
+
+stands : slice_get desk_schema.tables 1 ≡ Some table
+unfolding everything
+stands = refl
+
+abbrev change : ℕ → CallerRow → CallerRow
+change settled row = record row { settled = settled }
+
+fits : (name : List ℕ) (settled : ℕ) (v : Value) (row : CallerRow) → passes tests (Words name ∷ Int (pos settled) ∷ []) (v ∷ caller_cells row) ≡ is_caller name row
+fits name settled v row = and_true _ ∙ equal_words row.name name
+
+as_given : (row : CallerRow) (n : ℤ) → cast_row table (Int n ∷ caller_cells row) ≡ Int n ∷ caller_cells row
+as_given row n = rw (cast_whole n, cast_whole (pos row.settled)) refl
+
+pub caller_updated : (old new : State) (t : Tables) (name : List ℕ) (settled : ℕ) (r : Result ℕ Error) → IsReady old t → HasCaller name t → ExecutesInside 0 text (Words name ∷ Int (pos settled) ∷ []) old new r → OnOk r (IsReady new (with_settled name settled t))
+caller_updated old new t name settled (Err e) ready one h = tt
+caller_updated old new t name settled (Ok count) ready one h =
+    let u = updated text 1 tests shown table (Words name ∷ Int (pos settled) ∷ []) is_update is_plain stands old new count ready.stores.schema h caller_cells (is_caller name) (change settled) (fits name settled) t.callers one.0
+    (λ n. refl) (as_given (change settled one.0)) ready.stores.numbered.1.0 ready.stores.callers one.1 in
+    callers_now old new t ready h.1.mode u.schema u.spares u.numbered (change_where (is_caller name) (change settled) t.callers) u.stored

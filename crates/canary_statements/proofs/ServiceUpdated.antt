@@ -1,0 +1,77 @@
+-- What the UPDATE of a service does.
+use Rattle.std.proofs.Common.{◌≡◌, ℕ, ℤ, pos, List, [], ◌∷◌, codes, slice_get, Some, Ok, Err, Result, OnOk, refl, ◌∙◌}
+use Rattle.sqlite.specs.declared.types.Value.{Value}
+use Rattle.sqlite.specs.declared.types.Value.TheVariants.{Int, Text as Words}
+use Rattle.sqlite.specs.declared.error.Error.{Error}
+use Rattle.sqlite.specs.Order.{Row}
+use Rattle.sqlite.specs.Term.{Term, col, op2}
+use Rattle.sqlite.specs.Table.{Table}
+use Rattle.sqlite.specs.Cast.{cast_row}
+use Rattle.sqlite.specs.Command.TheVariants.{Update}
+use Rattle.sqlite.specs.State.{State, ExecutesInside}
+use Rattle.sqlite.specs.Listing.{understood}
+use Rattle.sqlite.specs.Given.{IsPlain}
+use Rattle.sqlite.proofs.Callers.{command_of}
+use Rattle.sqlite_sql.specs.declared.ops.BinaryOp.TheVariants.{Compare}
+use Rattle.sqlite_sql.specs.declared.ops.CompareOp.TheVariants.{Eq}
+use Rattle.sqlite_value.specs.declared.keys.Collation.TheVariants.{Binary}
+use Rattle.sqlite_tied.specs.Compute.{everything}
+use Rattle.canary_rows.specs.declared.rows.Standing.{Standing}
+use Rattle.canary_rows.specs.declared.rows.ServiceRow.{ServiceRow}
+use Rattle.canary_rows.specs.Tables.{Tables, is_service}
+use Rattle.canary_rows.specs.Changes.{HasService, change_where, with_standing}
+use Rattle.canary_schema.specs.Schema.{desk_schema, service}
+use Rattle.canary_schema.specs.Cells.{whole, service_cells}
+use Rattle.canary_schema.specs.Stores.{IsReady}
+use Rattle.canary_statements.proofs.Spared.{services_now}
+use Rattle.canary_statements.proofs.UpdateAnswer.{plain_query, passes}
+use Rattle.canary_statements.proofs.Inserted.{cast_whole}
+use Rattle.canary_statements.proofs.UpdateDesk.{updated}
+use Rattle.canary_statements.proofs.UpdateTests.{and_true, equal_words}
+
+abbrev text : List ℕ
+text = codes "UPDATE service SET stable = ?2, version = ?3, state = ?4, step = ?5, entered = ?6, hold = ?7, background = ?8, runs = ?9, last = ?10 WHERE name = ?1"
+
+abbrev tests : List Term
+tests = op2 (Compare Eq Binary) (col 1 1) (col 0 0) ∷ []
+
+abbrev shown : List Term
+shown = col 1 0 ∷ col 1 0 ∷ col 1 1 ∷ col 1 2 ∷ col 0 1 ∷ col 0 2 ∷ col 0 3 ∷ col 0 4 ∷ col 0 5 ∷ col 0 6 ∷ col 0 7 ∷ col 0 8 ∷ col 0 9 ∷ []
+
+abbrev table : Table
+table = record service { tree = 7 }
+
+is_update : command_of (understood desk_schema text) ≡ Update 4 (record { lets = []; body = plain_query 7 tests shown [] })
+unfolding understood everything
+is_update = refl
+
+is_plain : IsPlain (understood desk_schema text)
+unfolding understood everything
+is_plain = (refl, refl)
+
+stands : slice_get desk_schema.tables 4 ≡ Some table
+unfolding everything
+stands = refl
+
+abbrev change : Standing → ServiceRow → ServiceRow
+change standing row = record row { standing = standing }
+
+-- what the statement is given
+abbrev pub standing_given : List ℕ → Standing → Row
+standing_given name s =
+    Words name ∷ Words s.stable ∷ Words s.version ∷ whole s.state ∷ whole s.step ∷ whole s.entered ∷ whole s.hold ∷ whole s.background ∷ whole s.runs ∷ whole s.last ∷ []
+
+fits : (name : List ℕ) (s : Standing) (v : Value) (row : ServiceRow) → passes tests (standing_given name s) (v ∷ service_cells row) ≡ is_service name row
+fits name s v row = and_true _ ∙ equal_words row.name name
+
+as_given : (row : ServiceRow) (n : ℤ) → cast_row table (Int n ∷ service_cells row) ≡ Int n ∷ service_cells row
+as_given row n =
+    let s = row.standing in
+    rw (cast_whole n, cast_whole (pos s.state), cast_whole (pos s.step), cast_whole (pos s.entered), cast_whole (pos s.hold), cast_whole (pos s.background), cast_whole (pos s.runs), cast_whole (pos s.last)) refl
+
+pub service_updated : (old new : State) (t : Tables) (name : List ℕ) (s : Standing) (r : Result ℕ Error) → IsReady old t → HasService name t → ExecutesInside 0 text (standing_given name s) old new r → OnOk r (IsReady new (with_standing name s t))
+service_updated old new t name s (Err e) ready one h = tt
+service_updated old new t name s (Ok count) ready one h =
+    let u = updated text 4 tests shown table (standing_given name s) is_update is_plain stands old new count ready.stores.schema h service_cells (is_service name) (change s) (fits name s) t.services one.0
+    (λ n. refl) (as_given (change s one.0)) ready.stores.numbered.1.1.1.1.0 ready.stores.services one.1 in
+    services_now old new t ready h.1.mode u.schema u.spares u.numbered (change_where (is_service name) (change s) t.services) u.stored

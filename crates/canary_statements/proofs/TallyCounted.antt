@@ -1,0 +1,164 @@
+-- What the UPDATE that counts one more measurement does.
+use Rattle.std.proofs.Common.{◌≡◌, ◌&&◌, ◌==◌, ◌+◌, ◌≤◌, ◌^◌, ℕ, ℤ, pos, List, [], ◌∷◌, drop, codes, slice_get, true, nat_lt, Some, Ok, Err, Result, OnOk, refl, ap, ap₂, ◌∙◌, arith}
+use Rattle.std.proofs.lemmas.Bool.Decides.{nat_tests}
+use Rattle.sqlite.specs.declared.types.Value.{Value}
+use Rattle.sqlite.specs.declared.types.Value.TheVariants.{Int, Text as Words}
+use Rattle.sqlite.specs.declared.error.Error.{Error as Refusal}
+use Rattle.sqlite.specs.Order.{Row, column}
+use Rattle.sqlite.specs.Ops.{binary}
+use Rattle.sqlite.specs.Term.{Term, lit, col, op2}
+use Rattle.sqlite.specs.Table.{Table}
+use Rattle.sqlite.specs.Cast.{cast_row}
+use Rattle.sqlite.specs.Command.TheVariants.{Update}
+use Rattle.sqlite.specs.State.{State, ExecutesInside}
+use Rattle.sqlite.specs.Listing.{understood}
+use Rattle.sqlite.specs.Given.{IsPlain}
+use Rattle.sqlite.proofs.Callers.{command_of}
+use Rattle.sqlite_sql.specs.declared.ops.ArithOp.TheVariants.{Add}
+use Rattle.sqlite_sql.specs.declared.ops.BinaryOp.TheVariants.{Compare, Arith}
+use Rattle.sqlite_sql.specs.declared.ops.CompareOp.TheVariants.{Eq}
+use Rattle.sqlite_value.specs.declared.keys.Collation.TheVariants.{Binary}
+use Rattle.sqlite_tied.specs.Compute.{everything}
+use Rattle.canary_condition.specs.declared.outcome.Phase.{Phase}
+use Rattle.canary_condition.specs.declared.outcome.Phase.TheVariants.{Pending, Running, Successful, Inconclusive, Error, Failed}
+use Rattle.canary_metric.specs.Counts.{Counts, AreConsistent, with_one_more}
+use Rattle.canary_rows.specs.declared.rows.TallyRow.{TallyRow}
+use Rattle.canary_rows.specs.Tables.{Tables, is_tally}
+use Rattle.canary_rows.specs.Changes.{HasTally, change_where, with_counted}
+use Rattle.canary_schema.specs.Schema.{desk_schema, tally}
+use Rattle.canary_schema.specs.Cells.{whole, tally_cells}
+use Rattle.canary_schema.specs.Stores.{IsReady}
+use Rattle.canary_statements.proofs.Spared.{tallies_now}
+use Rattle.canary_statements.proofs.UpdateAnswer.{plain_query, passes, shows}
+use Rattle.canary_statements.proofs.Inserted.{cast_whole}
+use Rattle.canary_statements.proofs.UpdateDesk.{updated}
+use Rattle.canary_statements.proofs.UpdateTests.{and_true, equal_words, equal_number}
+
+-- the statement for a phase
+abbrev pub counting : Phase → List ℕ
+counting Error = codes "UPDATE tally SET errors = errors + 1, consecutive = consecutive + 1, last = ?4 WHERE service = ?1 AND run = ?2 AND metric = ?3"
+counting Failed = codes "UPDATE tally SET counted = counted + 1, failed = failed + 1, consecutive = 0, last = ?4 WHERE service = ?1 AND run = ?2 AND metric = ?3"
+counting Inconclusive = codes "UPDATE tally SET counted = counted + 1, inconclusive = inconclusive + 1, consecutive = 0, last = ?4 WHERE service = ?1 AND run = ?2 AND metric = ?3"
+counting phase = codes "UPDATE tally SET counted = counted + 1, consecutive = 0, last = ?4 WHERE service = ?1 AND run = ?2 AND metric = ?3"
+
+abbrev tests : List Term
+tests = op2 (Compare Eq Binary) (col 1 1) (col 0 0) ∷ op2 (Compare Eq Binary) (col 1 2) (col 0 1) ∷ op2 (Compare Eq Binary) (col 1 3) (col 0 2) ∷ []
+
+abbrev more : ℕ → Term
+more column = op2 (Arith Add) (col 1 column) (lit (Int (pos 1)))
+
+abbrev none : Term
+none = lit (Int (pos 0))
+
+abbrev shown : Phase → List Term
+shown Error = col 1 0 ∷ col 1 0 ∷ col 1 1 ∷ col 1 2 ∷ col 1 3 ∷ col 1 4 ∷ col 1 5 ∷ col 1 6 ∷ more 7 ∷ more 8 ∷ col 0 3 ∷ []
+shown Failed = col 1 0 ∷ col 1 0 ∷ col 1 1 ∷ col 1 2 ∷ col 1 3 ∷ more 4 ∷ more 5 ∷ col 1 6 ∷ col 1 7 ∷ none ∷ col 0 3 ∷ []
+shown Inconclusive = col 1 0 ∷ col 1 0 ∷ col 1 1 ∷ col 1 2 ∷ col 1 3 ∷ more 4 ∷ col 1 5 ∷ more 6 ∷ col 1 7 ∷ none ∷ col 0 3 ∷ []
+shown phase = col 1 0 ∷ col 1 0 ∷ col 1 1 ∷ col 1 2 ∷ col 1 3 ∷ more 4 ∷ col 1 5 ∷ col 1 6 ∷ col 1 7 ∷ none ∷ col 0 3 ∷ []
+
+abbrev table : Table
+table = record tally { tree = 11 }
+
+is_update : (phase : Phase) → command_of (understood desk_schema (counting phase)) ≡ Update 6 (record { lets = []; body = plain_query 11 tests (shown phase) [] })
+unfolding understood everything
+is_update Pending = refl
+is_update Running = refl
+is_update Successful = refl
+is_update Inconclusive = refl
+is_update Error = refl
+is_update Failed = refl
+
+is_plain : (phase : Phase) → IsPlain (understood desk_schema (counting phase))
+unfolding understood everything
+is_plain Pending = (refl, refl)
+is_plain Running = (refl, refl)
+is_plain Successful = (refl, refl)
+is_plain Inconclusive = (refl, refl)
+is_plain Error = (refl, refl)
+is_plain Failed = (refl, refl)
+
+stands : slice_get desk_schema.tables 6 ≡ Some table
+unfolding everything
+stands = refl
+
+abbrev change : Phase → ℕ → TallyRow → TallyRow
+change phase taken row = record row { counts = with_one_more row.counts phase taken }
+
+-- what the statement is given
+abbrev pub counting_given : List ℕ → ℕ → ℕ → ℕ → Row
+counting_given service run metric taken = Words service ∷ whole run ∷ whole metric ∷ whole taken ∷ []
+
+fits : (service : List ℕ) (run metric taken : ℕ) (v : Value) (row : TallyRow) → passes tests (counting_given service run metric taken) (v ∷ tally_cells row) ≡ is_tally service run metric row
+fits service run metric taken v row =
+    ap₂ (λ a b. a && b) (equal_words row.service service) (ap₂ (λ a b. a && (b && true)) (equal_number row.run run) (equal_number row.metric metric) ∙ ap (λ b. (run == row.run) && b) (and_true _))
+
+-- a sum of so few stays within 64 bits
+below : (n : ℕ) → n ≤ 1000000 → nat_lt (n + 1) (2 ^ 63) ≡ true
+below n few = grind (arith, nat_tests)
+
+sum_of : (n : ℕ) → n ≤ 1000000 → binary (Arith Add) (Int (pos n)) (Int (pos 1)) ≡ Int (pos (n + 1))
+unfolding binary
+sum_of n few = rw (below n few) refl
+
+-- each count is one of at most so many measurements
+record AreFew (c : Counts) : Type 0 where
+  counted : c.counted ≤ 1000000
+  failed : c.failed ≤ 1000000
+  inconclusive : c.inconclusive ≤ 1000000
+  errors : c.errors ≤ 1000000
+  consecutive : c.consecutive ≤ 1000000
+
+are_few : (c : Counts) → AreConsistent c → AreFew c
+are_few c h = record {
+  counted = omega (arith, h.within);
+  failed = omega (arith, h.within, h.kinds);
+  inconclusive = omega (arith, h.within, h.kinds);
+  errors = omega (arith, h.within);
+  consecutive = omega (arith, h.within, h.trailing);
+}
+
+-- the row that the statement shows, stored
+as_given : (phase : Phase) (service : List ℕ) (run metric taken : ℕ) (row : TallyRow) (n : ℤ) → AreFew row.counts
+    → cast_row table (drop 1 (shows (shown phase) (counting_given service run metric taken) (Int n ∷ tally_cells row))) ≡ Int n ∷ tally_cells (change phase taken row)
+as_given phase service run metric taken row n few = go phase
+  where
+    other : cast_row table (drop 1 (shows (shown Successful) (counting_given service run metric taken) (Int n ∷ tally_cells row))) ≡ Int n ∷ tally_cells (change Successful taken row)
+    other =
+        rw (sum_of row.counts.counted few.counted, cast_whole n, cast_whole (pos row.run), cast_whole (pos row.metric), cast_whole (pos (row.counts.counted + 1)), cast_whole (pos row.counts.failed), cast_whole (pos row.counts.inconclusive), cast_whole (pos row.counts.errors), cast_whole (pos 0), cast_whole (pos taken)) refl
+
+    go : (phase : Phase) → cast_row table (drop 1 (shows (shown phase) (counting_given service run metric taken) (Int n ∷ tally_cells row))) ≡ Int n ∷ tally_cells (change phase taken row)
+    go Pending = other
+    go Running = other
+    go Successful = other
+    go Inconclusive =
+        rw (sum_of row.counts.counted few.counted, sum_of row.counts.inconclusive few.inconclusive, cast_whole n, cast_whole (pos row.run), cast_whole (pos row.metric), cast_whole (pos (row.counts.counted + 1)), cast_whole (pos row.counts.failed), cast_whole (pos (row.counts.inconclusive + 1)), cast_whole (pos row.counts.errors), cast_whole (pos 0), cast_whole (pos taken)) refl
+    go Error =
+        rw (sum_of row.counts.errors few.errors, sum_of row.counts.consecutive few.consecutive, cast_whole n, cast_whole (pos row.run), cast_whole (pos row.metric), cast_whole (pos row.counts.counted), cast_whole (pos row.counts.failed), cast_whole (pos row.counts.inconclusive), cast_whole (pos (row.counts.errors + 1)), cast_whole (pos (row.counts.consecutive + 1)), cast_whole (pos taken)) refl
+    go Failed =
+        rw (sum_of row.counts.counted few.counted, sum_of row.counts.failed few.failed, cast_whole n, cast_whole (pos row.run), cast_whole (pos row.metric), cast_whole (pos (row.counts.counted + 1)), cast_whole (pos (row.counts.failed + 1)), cast_whole (pos row.counts.inconclusive), cast_whole (pos row.counts.errors), cast_whole (pos 0), cast_whole (pos taken)) refl
+
+same_rowid : (phase : Phase) (service : List ℕ) (run metric taken : ℕ) (row : TallyRow) (n : ℤ) → column (shows (shown phase) (counting_given service run metric taken) (Int n ∷ tally_cells row)) 0 ≡ Int n
+same_rowid Pending service run metric taken row n = refl
+same_rowid Running service run metric taken row n = refl
+same_rowid Successful service run metric taken row n = refl
+same_rowid Inconclusive service run metric taken row n = refl
+same_rowid Error service run metric taken row n = refl
+same_rowid Failed service run metric taken row n = refl
+
+pub tally_counted : (old new : State) (t : Tables) (service : List ℕ) (run metric : ℕ) (phase : Phase) (taken : ℕ) (r : Result ℕ Refusal) → IsReady old t → HasTally service run metric t
+    → ExecutesInside 0 (counting phase) (counting_given service run metric taken) old new r → OnOk r (IsReady new (with_counted service run metric phase taken t))
+tally_counted old new t service run metric phase taken (Err e) ready one h = tt
+tally_counted old new t service run metric phase taken (Ok count) ready one h =
+    let given = counting_given service run metric taken in
+    let few = are_few one.row.counts one.consistent in
+    let u = updated (counting phase) 6 tests (shown phase) table given (is_update phase) (is_plain phase) stands old new count ready.stores.schema h tally_cells (is_tally service run metric) (change phase taken)
+    (fits service run metric taken) t.tallies one.row (same_rowid phase service run metric taken one.row) (λ n. as_given phase service run metric taken one.row n few) ready.stores.numbered.1.1.1.1.1.1.0 ready.stores.tallies one.one in
+    tallies_now old new t ready h.1.mode u.schema u.spares u.numbered (change_where (is_tally service run metric) (change phase taken) t.tallies) u.stored
+
+pub counting_others : (phase : Phase) → (phase ≡ Error → ⊥) → (phase ≡ Failed → ⊥) → (phase ≡ Inconclusive → ⊥) → counting Running ≡ counting phase
+counting_others Pending h k l = refl
+counting_others Running h k l = refl
+counting_others Successful h k l = refl
+counting_others Inconclusive h k l = absurd (l refl)
+counting_others Error h k l = absurd (h refl)
+counting_others Failed h k l = absurd (k refl)
