@@ -1,7 +1,7 @@
 -- What one statement changes of the tables.
-use Rattle.std.specs.Prelude.{◌≡◌, ◌+◌, ◌≤◌, ℕ, Bool, if◌then◌else◌, List, [], ◌∷◌, ◌++◌, map, filter}
+use Rattle.std.specs.Prelude.{◌≡◌, ◌+◌, ◌≤◌, ℕ, zero, suc, Bool, if◌then◌else◌, List, [], ◌∷◌, ◌++◌, map, filter}
 use Rattle.canary_condition.specs.declared.outcome.Phase.{Phase}
-use Rattle.canary_metric.specs.Counts.{size, with_one_more, AreConsistent}
+use Rattle.canary_metric.specs.Counts.{counts, size, with_one_more, AreConsistent}
 use Rattle.canary_rows.specs.declared.rows.CallerRow.{CallerRow}
 use Rattle.canary_rows.specs.declared.rows.KeptRow.{KeptRow}
 use Rattle.canary_rows.specs.declared.rows.TemplateRow.{TemplateRow}
@@ -39,6 +39,12 @@ with_measurement row t = record t { measurements = t.measurements ++ row ∷ [] 
 
 abbrev pub with_line : HistoryRow → Tables → Tables
 with_line row t = record t { history = t.history ++ row ∷ [] }
+
+-- a tally of no measurements for each of so many metrics of a run, from this one on
+abbrev pub tallies_opened : List ℕ → ℕ → ℕ → ℕ → Tables → Tables
+tallies_opened service run metric zero t = t
+tallies_opened service run metric (suc n) t =
+    tallies_opened service run (suc metric) n (with_tally (record { service = service; run = run; metric = metric; counts = counts [] }) t)
 
 -- UPDATE: the rows that pass a test are changed
 

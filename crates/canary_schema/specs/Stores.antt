@@ -1,7 +1,6 @@
 -- When a database stores rows, and what a statement does to them.
 use Rattle.std.specs.Prelude.{◌≡◌, IsTrue, ℕ, List, [], ◌∷◌, map, Result, OnOk}
 use Rattle.std.specs.List.{AllByRecursion}
-use Rattle.sqlite.specs.declared.error.Error.{Error}
 use Rattle.sqlite.specs.State.{State, HasCleanDisk, Survives, KeepsCommit}
 use Rattle.sqlite.specs.Tree.{Trees}
 use Rattle.sqlite_value.specs.Order.{Row}
@@ -46,15 +45,15 @@ pub record IsReady (s : State) (t : Tables) : Type 0 where
 -- What a statement inside a transaction does.
 
 -- it changes the rows so
-abbrev pub Wrote : {A : Type 0} → (Tables → Tables) → State → State → Result A Error → Type 0
+abbrev pub Wrote : {A E : Type 0} → (Tables → Tables) → State → State → Result A E → Type 0
 Wrote change old new result = HasCleanDisk new → (t : Tables) → IsReady old t → OnOk result (IsReady new (change t))
 
 -- it changes the rows so, where they are as it asks
-abbrev pub WroteIf : {A : Type 0} → (Tables → Type 0) → (Tables → Tables) → State → State → Result A Error → Type 0
+abbrev pub WroteIf : {A E : Type 0} → (Tables → Type 0) → (Tables → Tables) → State → State → Result A E → Type 0
 WroteIf asks change old new result = HasCleanDisk new → (t : Tables) → IsReady old t → asks t → OnOk result (IsReady new (change t))
 
 -- the transaction goes on
-abbrev pub StaysLive : {A : Type 0} → State → State → Result A Error → Type 0
+abbrev pub StaysLive : {A E : Type 0} → State → State → Result A E → Type 0
 StaysLive old new result = HasCleanDisk new → IsTrue old.in_transaction → OnOk result (IsTrue new.in_transaction)
 
 -- what was committed stays, as long as the transaction goes on

@@ -6,7 +6,7 @@ use Rattle.canary_rows.specs.declared.rows.TallyRow.{TallyRow}
 use Rattle.canary_rows.specs.Tables.{Tables}
 use Rattle.canary_rows.specs.Changes.{with_tally}
 use Rattle.canary_schema.specs.Stores.{IsReady}
-use Rattle.canary_statements.specs.Tallies.{tallies_opened}
+use Rattle.canary_rows.specs.Changes.{tallies_opened}
 use Rattle.canary_statements.proofs.Loops.{SoFar, then}
 
 empty_tally : List ℕ → ℕ → ℕ → TallyRow

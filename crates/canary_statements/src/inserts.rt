@@ -11,7 +11,7 @@ ghost use Rattle.canary_rows.specs.declared.rows.HistoryRow.{HistoryRow};
 ghost use Rattle.canary_rows.specs.Changes.{with_caller, with_kept, with_template, with_service};
 ghost use Rattle.canary_rows.specs.Changes.{with_run, with_tally, with_measurement, with_line};
 ghost use Rattle.canary_schema.specs.Stores.{Wrote, StaysLive, StaysCommitted, SurvivesCut};
-ghost use Rattle.canary_statements.specs.Tallies.{tallies_opened};
+ghost use Rattle.canary_rows.specs.Changes.{tallies_opened};
 
 use crate::cells::seconds;
 use canary_base::moments::Moment;

@@ -17,7 +17,8 @@ use Rattle.canary_rows.specs.Tables.{Tables, is_run, is_tally}
 use Rattle.canary_rows.specs.Changes.{with_run, with_tally}
 use Rattle.canary_stored.specs.Values.{run_row, tally_row}
 use Rattle.canary_stored.specs.Tables.{row_if, run_rows, tally_rows, tally_rows_of}
-use Rattle.canary_stored.specs.Settling.{tallies_opened, run_opened}
+use Rattle.canary_stored.specs.Settling.{run_opened}
+use Rattle.canary_rows.specs.Changes.{tallies_opened}
 use Rattle.canary_stored.proofs.PastRows.{ArePastRows, AreOthersRows, AreElseSame}
 use Rattle.canary_stored.proofs.Filters.{own_name, not_both, fails_more}
 use Rattle.canary_stored.proofs.RunsAt.{numbered_and_more, run_at_last, no_run_yet, run_at_other}

@@ -13,7 +13,7 @@ use Rattle.canary_release.specs.declared.decide.DeskChange.{DeskChange}
 use Rattle.canary_release.specs.declared.decide.DeskChange.TheVariants.{Nothing, Template as AddsTemplate, Service as Updates}
 use Rattle.canary_once.specs.declared.book.Settlement.{Settlement}
 use Rattle.canary_rows.specs.Tables.{Tables, is_service}
-use Rattle.canary_rows.specs.Changes.{with_caller, with_settled, with_kept, with_template, with_service, with_standing, with_run, with_tally, with_measurement, with_counted, with_ending, with_line, HasCaller, HasService, HasRun, HasTally}
+use Rattle.canary_rows.specs.Changes.{with_caller, with_settled, with_kept, with_template, with_service, with_standing, with_run, with_tally, with_measurement, with_counted, with_ending, with_line, tallies_opened, HasCaller, HasService, HasRun, HasTally}
 use Rattle.canary_stored.specs.Numbers.{phase_column}
 use Rattle.canary_stored.specs.Values.{caller_row, kept_row, standing_of, ending_of, tally_row, measurement_row, history_row}
 use Rattle.canary_stored.specs.Tables.{IsReadableCommand, IsReadableMeasurement, IsReadableLine}
@@ -21,11 +21,6 @@ use Rattle.canary_stored.specs.Tables.{IsReadableCommand, IsReadableMeasurement,
 -- so many requests of the caller are settled now
 abbrev pub caller_settled : List ℕ → ℕ → Tables → Tables
 caller_settled name number t = if number == 1 then with_caller (caller_row name 1) t else with_settled name number t
-
--- a tally of no measurements for each of these metrics of a run, from this one on
-abbrev pub tallies_opened : List ℕ → ℕ → ℕ → ℕ → Tables → Tables
-tallies_opened name run metric zero t = t
-tallies_opened name run metric (suc n) t = tallies_opened name run (suc metric) n (with_tally (tally_row name run metric (counts [])) t)
 
 abbrev pub run_opened : List ℕ → Opening → Tables → Tables
 run_opened name x t =

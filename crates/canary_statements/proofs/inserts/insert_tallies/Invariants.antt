@@ -1,6 +1,6 @@
 use Rattle.std.proofs.Common.{◌≡◌}
 use Rattle.sqlite.specs.Held.{state}
-use Rattle.canary_statements.specs.Tallies.{tallies_opened}
+use Rattle.canary_rows.specs.Changes.{tallies_opened}
 use Rattle.canary_statements.proofs.Loops.{SoFar}
 use Rattle.canary_statements.proofs.inserts.insert_tallies.Given as goal
 
