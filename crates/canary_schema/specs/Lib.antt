@@ -1,3 +1,4 @@
 pub mod Schema
 pub mod Cells
 pub mod Stores
+pub mod Laws

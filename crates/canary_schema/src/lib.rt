@@ -1,2 +1,4 @@
 //! The schema of the desk's database, and when a database stores rows.
 #![tactic(auto)]
+
+pub mod laws;
