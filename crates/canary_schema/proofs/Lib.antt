@@ -1,1 +1,7 @@
+mod Inserts
+mod Kept
+mod Making
+mod Meta
+mod Parts
 mod Readings
+mod Texts
