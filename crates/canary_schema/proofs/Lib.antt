@@ -1,3 +1,4 @@
+mod Committed
 mod Inserts
 mod Kept
 mod Making

@@ -2,11 +2,11 @@
 ghost use Rattle.std.specs.Prelude.{◌≡◌, OnOk, OnErr, false};
 ghost use Rattle.sqlite.specs.Schema.{Schema};
 ghost use Rattle.sqlite.specs.Held.{state};
-ghost use Rattle.canary_rows.specs.Tables.{no_tables};
+ghost use Rattle.canary_rows.specs.Tables.{Tables, no_tables};
 ghost use Rattle.canary_schema.specs.Schema.{no_schema, with_template, with_measurement};
 ghost use Rattle.canary_schema.specs.Schema.{with_history, desk_schema};
 ghost use Rattle.canary_schema.specs.Makes.{IsTableText, IsIndexText, Grows, IsFilled, AddsIndexes};
-ghost use Rattle.canary_schema.specs.Stores.{IsUsable, Stores};
+ghost use Rattle.canary_schema.specs.Stores.{IsUsable, Stores, StoresBare};
 ghost use Rattle.canary_schema.specs.Stores.{StaysLive, StaysCommitted, SurvivesCut};
 
 use crate::fault::{StoreFault, fault_of};
@@ -161,4 +161,79 @@ fn add_all_indexes<S: Alter>(tx: &mut Transaction<'_, S>) -> Result<usize, Error
     add_index(tx, "CREATE INDEX run_closed ON run (service, closed)")?;
     add_index(tx, "CREATE INDEX measurement_service ON measurement (service)")?;
     add_index(tx, "CREATE INDEX history_service ON history (service)")
+}
+
+// All of them in one transaction.
+fn create_desk<S: Alter>(conn: &mut Connection<S>) -> Result<(), Error>
+    requires autocommit { conn.old.in_transaction ≡ false }
+    ensures mode { conn.new.in_transaction ≡ false }
+    ensures held { IsUsable (state S.Store conn.new) → IsUsable (state S.Store conn.old) }
+    ensures done { IsUsable (state S.Store conn.new)
+        → (state S.Store conn.old).now.schema ≡ no_schema
+        → OnOk result (Stores (state S.Store conn.new) no_tables) }
+    ensures failed { IsUsable (state S.Store conn.new)
+        → OnErr result ((state S.Store conn.new).now ≡ (state S.Store conn.old).now) }
+{
+    let _settled = conn.is_autocommit();
+    let mut tx = conn.transaction();
+    add_tables(&mut tx)?;
+    add_all_indexes(&mut tx)?;
+    tx.commit()
+}
+
+/// Makes an empty database a desk's, in one transaction: the nine tables, with no row but that of
+/// meta, and the three indexes. Where it fails, the database stays as it was.
+///
+/// # Errors
+///
+/// `Memory` where an allocation was refused, `Storage` where a statement failed otherwise, as where
+/// the disk did, or the database was not empty.
+pub fn create<S: Alter>(conn: &mut Connection<S>) -> Result<(), StoreFault>
+    requires autocommit { conn.old.in_transaction ≡ false }
+    ensures mode { conn.new.in_transaction ≡ false }
+    ensures held { IsUsable (state S.Store conn.new) → IsUsable (state S.Store conn.old) }
+    ensures done { IsUsable (state S.Store conn.new)
+        → (state S.Store conn.old).now.schema ≡ no_schema
+        → OnOk result (Stores (state S.Store conn.new) no_tables) }
+    ensures failed { IsUsable (state S.Store conn.new)
+        → OnErr result ((state S.Store conn.new).now ≡ (state S.Store conn.old).now) }
+{
+    create_desk(conn).map_err(fault_of)
+}
+
+// The indexes alone, in one transaction.
+fn index_desk<S: Alter>(conn: &mut Connection<S>) -> Result<(), Error>
+    requires autocommit { conn.old.in_transaction ≡ false }
+    ensures mode { conn.new.in_transaction ≡ false }
+    ensures held { IsUsable (state S.Store conn.new) → IsUsable (state S.Store conn.old) }
+    ensures done { IsUsable (state S.Store conn.new)
+        → (t : Tables) → StoresBare (state S.Store conn.old) t
+        → OnOk result (Stores (state S.Store conn.new) t) }
+    ensures failed { IsUsable (state S.Store conn.new)
+        → OnErr result ((state S.Store conn.new).now ≡ (state S.Store conn.old).now) }
+{
+    let _settled = conn.is_autocommit();
+    let mut tx = conn.transaction();
+    add_all_indexes(&mut tx)?;
+    tx.commit()
+}
+
+/// Adds the three indexes to a database that is a desk's but for them, in one transaction. The rows
+/// stay. Where it fails, the database stays as it was.
+///
+/// # Errors
+///
+/// `Memory` where an allocation was refused, `Storage` where a statement failed otherwise, as where
+/// the disk did.
+pub fn add_indexes<S: Alter>(conn: &mut Connection<S>) -> Result<(), StoreFault>
+    requires autocommit { conn.old.in_transaction ≡ false }
+    ensures mode { conn.new.in_transaction ≡ false }
+    ensures held { IsUsable (state S.Store conn.new) → IsUsable (state S.Store conn.old) }
+    ensures done { IsUsable (state S.Store conn.new)
+        → (t : Tables) → StoresBare (state S.Store conn.old) t
+        → OnOk result (Stores (state S.Store conn.new) t) }
+    ensures failed { IsUsable (state S.Store conn.new)
+        → OnErr result ((state S.Store conn.new).now ≡ (state S.Store conn.old).now) }
+{
+    index_desk(conn).map_err(fault_of)
 }
