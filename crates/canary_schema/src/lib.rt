@@ -3,4 +3,5 @@
 
 pub mod create;
 pub mod fault;
+pub mod known;
 pub mod laws;
