@@ -5,3 +5,4 @@ pub mod Laws
 pub mod Makes
 pub mod Adds
 pub mod Faults
+pub mod Known
