@@ -1,13 +1,15 @@
 //! Which schema a database has.
-ghost use Rattle.std.specs.Prelude.{◌≡◌, ◌↔◌, IsTrue, List, ℕ, false};
+ghost use Rattle.std.specs.Prelude.{◌≡◌, ◌↔◌, IsTrue, [], ◌∷◌};
 ghost use Rattle.sqlite.specs.declared.types.Value.TheVariants.{Null};
 ghost use Rattle.sqlite.specs.Collation.TheVariants.{Binary};
-ghost use Rattle.sqlite_schema.specs.declared.schema.Kind.TheVariants.{Text};
-ghost use Rattle.canary_schema.specs.Schema.{no_schema, words, whole, maybe, any_column};
+ghost use Rattle.sqlite_value.specs.Keys.{plain};
+ghost use Rattle.canary_schema.specs.Schema.{no_schema};
 ghost use Rattle.canary_schema.specs.Known.{column_of, columns_of};
 
-use sqlite_schema::schema::{Column, Kind, Schema};
-use sqlite_value::keys::Collation;
+use sqlite_items::Items;
+use sqlite_schema::code::Terms;
+use sqlite_schema::schema::{Column, Kind, Schema, Stamps};
+use sqlite_value::keys::{Collation, Order};
 use sqlite_value::value::Value;
 
 /// A column of a table of the desk, by what it holds, and its name.
@@ -67,4 +69,41 @@ fn are_columns(columns: &[Column], layouts: &[Layout<'_>]) -> bool
         }
     }
     true
+}
+
+// No term at all.
+fn are_none(terms: &Terms) -> bool
+    ensures { IsTrue result ↔ terms.now ≡ [] }
+{
+    terms.roots.is_empty()
+}
+
+// No default that reads the time.
+fn are_no_stamps(stamps: &Stamps) -> bool
+    ensures { IsTrue result ↔ stamps.now ≡ record { places = []; terms = []; formats = [] } }
+{
+    stamps.places.is_empty() && are_none(&stamps.terms) && stamps.formats.is_empty()
+}
+
+// These places, and no others.
+fn are_places(places: &Items<usize>, wanted: &[usize]) -> bool
+    ensures { IsTrue result ↔ places.now ≡ wanted.now }
+{
+    places.as_slice() == wanted
+}
+
+// One key over these places.
+fn is_one_key(keys: &Items<Items<usize>>, wanted: &[usize]) -> bool
+    ensures { IsTrue result ↔ keys.now ≡ wanted.now ∷ [] }
+{
+    let keys = keys.as_slice();
+    keys.len() == 1 && are_places(&keys[0], wanted)
+}
+
+// One order, in which each column rises.
+fn is_one_order(orders: &Items<Order>) -> bool
+    ensures { IsTrue result ↔ orders.now ≡ plain ∷ [] }
+{
+    let orders = orders.as_slice();
+    orders.len() == 1 && orders[0].digits == 0
 }
