@@ -6,3 +6,4 @@ mod Meta
 mod Parts
 mod Readings
 mod Texts
+mod Try
