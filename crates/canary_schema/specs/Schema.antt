@@ -107,7 +107,7 @@ measurement = counted (codes "measurement")
 abbrev pub history : Table
 history = counted (codes "history") (words (codes "service") ∷ whole (codes "moment") ∷ words (codes "line") ∷ []) []
 
-abbrev any_column : List ℕ → Column
+abbrev pub any_column : List ℕ → Column
 any_column name = record { name = name; kind = Any; is_strict = false; not_null = false; default = Null; collation = Binary }
 
 -- the table in which places are counted, which comes with the first table that has them

@@ -3,11 +3,13 @@ use Rattle.std.specs.Prelude.{◌≡◌, IsTrue, ℕ, List, [], ◌∷◌, map, 
 use Rattle.std.specs.List.{AllByRecursion}
 use Rattle.sqlite.specs.State.{State, HasCleanDisk, Survives, KeepsCommit}
 use Rattle.sqlite.specs.Tree.{Trees}
+use Rattle.sqlite.specs.Schema.{Schema}
+use Rattle.sqlite.specs.Effect.{Database}
 use Rattle.sqlite_value.specs.Order.{Row}
 use Rattle.sqlite_trees.specs.declared.store.Shape.TheVariants as shape
 use Rattle.sqlite_trees.specs.View.{IsShaped}
 use Rattle.canary_rows.specs.Tables.{Tables}
-use Rattle.canary_schema.specs.Schema.{desk_schema}
+use Rattle.canary_schema.specs.Schema.{desk_schema, with_history}
 use Rattle.canary_schema.specs.Cells.{cells_of, meta_rows, caller_cells, kept_cells, template_cells, service_cells, run_cells, tally_cells, measurement_cells, history_cells}
 
 -- the connection tells what its tables are: nothing wrong was read, and the disk did not fail
@@ -23,19 +25,27 @@ IsNumbered = IsShaped shape.Table
 abbrev pub AreNumbered : Trees → Type 0
 AreNumbered trees = AllByRecursion (λ k. IsNumbered (trees k)) (0 ∷ 1 ∷ 3 ∷ 5 ∷ 7 ∷ 9 ∷ 11 ∷ 13 ∷ 16 ∷ [])
 
--- a database is a desk's, and holds just these rows, in the order of their rowids
-pub record Stores (s : State) (t : Tables) : Type 0 where
-  pub schema : s.now.schema ≡ desk_schema
-  pub numbered : AreNumbered s.now.trees
-  pub meta : s.now.trees 0 ≡ meta_rows
-  pub callers : cells_of (s.now.trees 1) ≡ map caller_cells t.callers
-  pub kept : cells_of (s.now.trees 3) ≡ map kept_cells t.kept
-  pub templates : cells_of (s.now.trees 5) ≡ map template_cells t.templates
-  pub services : cells_of (s.now.trees 7) ≡ map service_cells t.services
-  pub runs : cells_of (s.now.trees 9) ≡ map run_cells t.runs
-  pub tallies : cells_of (s.now.trees 11) ≡ map tally_cells t.tallies
-  pub measurements : cells_of (s.now.trees 13) ≡ map measurement_cells t.measurements
-  pub history : cells_of (s.now.trees 16) ≡ map history_cells t.history
+-- a database is of this schema, and holds just these rows, in the order of their rowids
+pub record Holds (is : Schema) (db : Database) (t : Tables) : Type 0 where
+  pub schema : db.schema ≡ is
+  pub numbered : AreNumbered db.trees
+  pub meta : db.trees 0 ≡ meta_rows
+  pub callers : cells_of (db.trees 1) ≡ map caller_cells t.callers
+  pub kept : cells_of (db.trees 3) ≡ map kept_cells t.kept
+  pub templates : cells_of (db.trees 5) ≡ map template_cells t.templates
+  pub services : cells_of (db.trees 7) ≡ map service_cells t.services
+  pub runs : cells_of (db.trees 9) ≡ map run_cells t.runs
+  pub tallies : cells_of (db.trees 11) ≡ map tally_cells t.tallies
+  pub measurements : cells_of (db.trees 13) ≡ map measurement_cells t.measurements
+  pub history : cells_of (db.trees 16) ≡ map history_cells t.history
+
+-- it is a desk's
+abbrev pub Stores : State → Tables → Type 0
+Stores s t = Holds desk_schema s.now t
+
+-- it is a desk's but for the three indexes
+abbrev pub StoresBare : State → Tables → Type 0
+StoresBare s t = Holds with_history s.now t
 
 -- so inside a transaction
 pub record IsReady (s : State) (t : Tables) : Type 0 where

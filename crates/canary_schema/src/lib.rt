@@ -1,2 +1,7 @@
 //! The schema of the desk's database, and when a database stores rows.
 #![tactic(auto)]
+
+pub mod create;
+pub mod fault;
+pub mod known;
+pub mod laws;
