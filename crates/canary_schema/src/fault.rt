@@ -2,6 +2,7 @@
 ghost use Rattle.std.specs.Prelude.{◌≡◌};
 ghost use Rattle.canary_schema.specs.Faults.{fault_of};
 
+use canary_base::error::Memory;
 use sqlite::{Error, ErrorCode};
 use thiserror::Error;
 
@@ -14,6 +15,17 @@ pub enum StoreFault {
     /// A statement of the store failed.
     #[error("the store failed")]
     Storage,
+}
+
+impl From<Memory> for StoreFault {
+    ghost use Rattle.std.specs.Prelude.{◌≡◌};
+    ghost use Rattle.canary_schema.specs.declared.fault.StoreFault.TheVariants as fault;
+
+    ghost from_gives = { λ _ made. made ≡ fault.Memory };
+
+    fn from(_: Memory) -> StoreFault {
+        StoreFault::Memory
+    }
 }
 
 /// The fault that an error of SQLite comes to.
