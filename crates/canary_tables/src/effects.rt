@@ -1,0 +1,183 @@
+//! What happens to a service, one thing after another, as rows inside a transaction.
+ghost use Rattle.std.specs.Prelude.{◌≡◌, Some, IfOk, OnOk};
+ghost use Rattle.std.specs.List.{AllByRecursion};
+ghost use Rattle.sqlite.specs.Held.{state};
+ghost use Rattle.canary_condition.specs.PhaseTexts.{phase_of_number};
+ghost use Rattle.canary_release.specs.declared.effect.Effect.TheVariants.{Told, Opened, Measured};
+ghost use Rattle.canary_rows.specs.Changes.{HasRun, HasTally, with_ending};
+ghost use Rattle.canary_schema.specs.Stores.{Wrote, WroteIf, StaysLive, StaysCommitted};
+ghost use Rattle.canary_schema.specs.Stores.{SurvivesCut};
+ghost use Rattle.canary_stored.specs.Numbers.{phase_column};
+ghost use Rattle.canary_stored.specs.Values.{ending_of, measurement_row};
+ghost use Rattle.canary_stored.specs.Tables.{IsReadableLine, IsReadableMeasurement};
+ghost use Rattle.canary_stored.specs.Settling.{happened, all_happened, Asks, AllAsk};
+ghost use Rattle.canary_stored.specs.Settling.{IsReadableEffect};
+
+use canary_base::names::Name;
+use canary_plan::line::Line;
+use canary_release::effect::{Closing, Effect, Opening, Recorded};
+use canary_rows::rows::MeasurementRow;
+use canary_schema::fault::{StoreFault, fault_of};
+use canary_statements::inserts::{insert_line, insert_measurement, insert_run, insert_tallies};
+use canary_statements::updates::{close_run, count_measurement};
+use canary_stored::writing::phase_number;
+use sqlite::{Alter, Transaction};
+use std::alloc::Global;
+
+// A line comes last in the service's history.
+fn tell<S: Alter>(
+    tx: &mut Transaction<'_, S>,
+    alloc: Global,
+    service: &Name,
+    line: &Line,
+) -> Result<(), StoreFault>
+    ensures same_reference { tx.new.conn.ghost_name ≡ tx.old.conn.ghost_name }
+    ensures wrote { Wrote (happened service.now (Told line.now))
+        (state S.Store tx.old.conn.now) (state S.Store tx.new.conn.now) result }
+    ensures readable { OnOk result (IsReadableLine line.now) }
+    ensures live { StaysLive (state S.Store tx.old.conn.now) (state S.Store tx.new.conn.now) result }
+    ensures kept { StaysCommitted (state S.Store tx.old.conn.now) (state S.Store tx.new.conn.now) }
+    ensures survives { SurvivesCut (state S.Store tx.old.conn.now) (state S.Store tx.new.conn.now) }
+{
+    let mut words = String::new(alloc);
+    line.words(&mut words)?;
+    insert_line(tx, service, line.moment, words.as_str()).map_err(fault_of)?;
+    Ok(())
+}
+
+// A run is opened, with a tally of no measurements for each of its metrics.
+fn open_run<S: Alter>(
+    tx: &mut Transaction<'_, S>,
+    service: &Name,
+    opening: &Opening,
+) -> Result<(), StoreFault>
+    ensures same_reference { tx.new.conn.ghost_name ≡ tx.old.conn.ghost_name }
+    ensures wrote { Wrote (happened service.now (Opened opening.now))
+        (state S.Store tx.old.conn.now) (state S.Store tx.new.conn.now) result }
+    ensures live { StaysLive (state S.Store tx.old.conn.now) (state S.Store tx.new.conn.now) result }
+    ensures kept { StaysCommitted (state S.Store tx.old.conn.now) (state S.Store tx.new.conn.now) }
+    ensures survives { SurvivesCut (state S.Store tx.old.conn.now) (state S.Store tx.new.conn.now) }
+{
+    insert_run(tx, service, opening.run, opening.step, opening.started).map_err(fault_of)?;
+    insert_tallies(tx, service, opening.run, opening.metrics).map_err(fault_of)?;
+    Ok(())
+}
+
+// The row of a measurement. One that is Pending, as none is, is not stored.
+fn measurement_row(
+    alloc: Global,
+    service: &Name,
+    recorded: &Recorded,
+) -> Result<MeasurementRow, StoreFault>
+    ensures value { IfOk result (λ row. row ≡ measurement_row service.now recorded.now) }
+    ensures readable { OnOk result (IsReadableMeasurement recorded.now) }
+{
+    let Some(phase) = phase_number(recorded.phase) else {
+        return Err(StoreFault::Storage);
+    };
+    let outcome = recorded.outcome.text(alloc)?;
+    Ok(MeasurementRow {
+        service: *service,
+        run: recorded.run,
+        metric: recorded.metric,
+        ordinal: recorded.ordinal,
+        taken: recorded.taken,
+        phase,
+        outcome,
+    })
+}
+
+// A measurement is recorded, and counted in its tally.
+fn measure<S: Alter>(
+    tx: &mut Transaction<'_, S>,
+    alloc: Global,
+    service: &Name,
+    recorded: &Recorded,
+) -> Result<(), StoreFault>
+    ensures same_reference { tx.new.conn.ghost_name ≡ tx.old.conn.ghost_name }
+    ensures wrote { WroteIf (HasTally service.now recorded.now.run recorded.now.metric)
+        (happened service.now (Measured recorded.now))
+        (state S.Store tx.old.conn.now) (state S.Store tx.new.conn.now) result }
+    ensures readable { OnOk result (IsReadableMeasurement recorded.now) }
+    ensures live { StaysLive (state S.Store tx.old.conn.now) (state S.Store tx.new.conn.now) result }
+    ensures kept { StaysCommitted (state S.Store tx.old.conn.now) (state S.Store tx.new.conn.now) }
+    ensures survives { SurvivesCut (state S.Store tx.old.conn.now) (state S.Store tx.new.conn.now) }
+{
+    let row = measurement_row(alloc, service, recorded)?;
+    insert_measurement(tx, &row).map_err(fault_of)?;
+    let (run, metric) = (recorded.run, recorded.metric);
+    count_measurement(tx, service, run, metric, recorded.phase, recorded.taken)
+        .map_err(fault_of)?;
+    Ok(())
+}
+
+// A run is closed. A verdict that is Pending, which no run is closed at, is not stored.
+fn close<S: Alter>(
+    tx: &mut Transaction<'_, S>,
+    service: &Name,
+    closing: &Closing,
+) -> Result<(), StoreFault>
+    ensures same_reference { tx.new.conn.ghost_name ≡ tx.old.conn.ghost_name }
+    ensures wrote { WroteIf (HasRun service.now closing.now.run)
+        (with_ending service.now closing.now.run (ending_of (Some closing.now)))
+        (state S.Store tx.old.conn.now) (state S.Store tx.new.conn.now) result }
+    ensures readable { OnOk result
+        (phase_of_number (phase_column closing.now.verdict) ≡ Some closing.now.verdict) }
+    ensures live { StaysLive (state S.Store tx.old.conn.now) (state S.Store tx.new.conn.now) result }
+    ensures kept { StaysCommitted (state S.Store tx.old.conn.now) (state S.Store tx.new.conn.now) }
+    ensures survives { SurvivesCut (state S.Store tx.old.conn.now) (state S.Store tx.new.conn.now) }
+{
+    let Some(verdict) = phase_number(closing.verdict) else {
+        return Err(StoreFault::Storage);
+    };
+    let outside = u32::from(closing.outside);
+    close_run(tx, service, closing.run, closing.at, outside, verdict).map_err(fault_of)?;
+    Ok(())
+}
+
+// One thing happens.
+fn happen<S: Alter>(
+    tx: &mut Transaction<'_, S>,
+    alloc: Global,
+    service: &Name,
+    effect: &Effect,
+) -> Result<(), StoreFault>
+    ensures same_reference { tx.new.conn.ghost_name ≡ tx.old.conn.ghost_name }
+    ensures wrote { WroteIf (Asks service.now effect.now) (happened service.now effect.now)
+        (state S.Store tx.old.conn.now) (state S.Store tx.new.conn.now) result }
+    ensures readable { OnOk result (IsReadableEffect effect.now) }
+    ensures live { StaysLive (state S.Store tx.old.conn.now) (state S.Store tx.new.conn.now) result }
+    ensures kept { StaysCommitted (state S.Store tx.old.conn.now) (state S.Store tx.new.conn.now) }
+    ensures survives { SurvivesCut (state S.Store tx.old.conn.now) (state S.Store tx.new.conn.now) }
+{
+    match effect {
+        Effect::Told(line) => tell(tx, alloc, service, line),
+        Effect::Opened(opening) => open_run(tx, service, opening),
+        Effect::Measured(recorded) => measure(tx, alloc, service, recorded),
+        Effect::Closed { closing, .. } => close(tx, service, closing),
+    }
+}
+
+/// All of it happens, in order.
+///
+/// # Errors
+/// `Memory` where an allocation was refused, `Storage` where the store failed.
+pub(crate) fn happen_all<S: Alter>(
+    tx: &mut Transaction<'_, S>,
+    alloc: Global,
+    service: &Name,
+    effects: &[Effect],
+) -> Result<(), StoreFault>
+    ensures same_reference { tx.new.conn.ghost_name ≡ tx.old.conn.ghost_name }
+    ensures wrote { WroteIf (AllAsk service.now effects.now) (all_happened service.now effects.now)
+        (state S.Store tx.old.conn.now) (state S.Store tx.new.conn.now) result }
+    ensures readable { OnOk result (AllByRecursion IsReadableEffect effects.now) }
+    ensures live { StaysLive (state S.Store tx.old.conn.now) (state S.Store tx.new.conn.now) result }
+    ensures kept { StaysCommitted (state S.Store tx.old.conn.now) (state S.Store tx.new.conn.now) }
+    ensures survives { SurvivesCut (state S.Store tx.old.conn.now) (state S.Store tx.new.conn.now) }
+{
+    for effect in effects {
+        happen(tx, alloc, service, effect)?;
+    }
+    Ok(())
+}

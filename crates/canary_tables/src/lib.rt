@@ -1,0 +1,4 @@
+//! A book whose contents are the rows of nine tables of SQLite.
+#![tactic(auto)]
+
+mod effects;
