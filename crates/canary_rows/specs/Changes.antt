@@ -1,7 +1,7 @@
 -- What one statement changes of the tables.
 use Rattle.std.specs.Prelude.{◌≡◌, ◌+◌, ◌≤◌, ℕ, Bool, if◌then◌else◌, List, [], ◌∷◌, ◌++◌, map, filter}
 use Rattle.canary_condition.specs.declared.outcome.Phase.{Phase}
-use Rattle.canary_metric.specs.Counts.{size, with_one_more}
+use Rattle.canary_metric.specs.Counts.{size, with_one_more, AreConsistent}
 use Rattle.canary_rows.specs.declared.rows.CallerRow.{CallerRow}
 use Rattle.canary_rows.specs.declared.rows.KeptRow.{KeptRow}
 use Rattle.canary_rows.specs.declared.rows.TemplateRow.{TemplateRow}
@@ -76,8 +76,9 @@ HasService name t = IsOne (is_service name) t.services
 abbrev pub HasRun : List ℕ → ℕ → Tables → Type 0
 HasRun service number t = IsOne (is_run service number) t.runs
 
--- the tally is there, and has room
+-- the tally is there, is one of some measurements, and has room
 pub record HasTally (service : List ℕ) (run metric : ℕ) (t : Tables) : Type 0 where
   pub row : TallyRow
   pub one : filter (is_tally service run metric) t.tallies ≡ row ∷ []
+  pub consistent : AreConsistent row.counts
   pub room : size row.counts + 1 ≤ 1000000
