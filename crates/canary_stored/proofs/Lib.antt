@@ -1,3 +1,11 @@
+pub mod Keys
+pub mod RowsBack
+pub mod ReadBack
+pub mod Empty
+pub mod Found
+pub mod InOrder
+pub mod Numbered
+pub mod RunsFound
 pub mod PastRows
 pub mod Filters
 pub mod RunsAt

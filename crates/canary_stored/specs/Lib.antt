@@ -5,4 +5,6 @@ pub mod Tables
 pub mod Reading
 pub mod Reads
 pub mod Settling
+pub mod Ordered
+pub mod Finding
 pub mod Laws

@@ -3,5 +3,6 @@
 #![tactic(auto)]
 
 pub mod fault;
+pub mod laws;
 pub mod reading;
 pub mod writing;
