@@ -1,8 +1,17 @@
+pub mod Keys
+pub mod RowsBack
+pub mod ReadBack
+pub mod Empty
+pub mod Found
+pub mod InOrder
+pub mod Numbered
+pub mod RunsFound
 pub mod PastRows
 pub mod Filters
 pub mod RunsAt
 pub mod OneHappens
 pub mod RunsClosed
+pub mod Consistent
 pub mod RunsMeasured
 pub mod RunsOpened
 pub mod EffectsHappen

@@ -1,5 +1,5 @@
 -- A measurement is recorded: what this makes of the rows of a past.
-use Rattle.std.proofs.Common.{◌≡◌, ℕ, zero, suc, ◌+◌, ◌≤◌, List, [], ◌∷◌, ◌++◌, Bool, true, false, refl, ap, sym, ◌∙◌, subst, eqb-true, eq-eqb, true≢false}
+use Rattle.std.proofs.Common.{◌≡◌, ℕ, arith, zero, suc, ◌+◌, ◌≤◌, List, [], ◌∷◌, ◌++◌, Bool, true, false, refl, ap, sym, ◌∙◌, subst, eqb-true, eq-eqb, true≢false}
 use Rattle.std.specs.Prelude.{◌==◌, ◌&&◌, if◌then◌else◌, cond, map, Option, Some, None, option_map, slice_get}
 use Rattle.std.specs.Str.{bytes_eq}
 use Rattle.std.proofs.lemmas.Option.{slice_get-map}
@@ -21,6 +21,7 @@ use Rattle.canary_stored.proofs.PastRows.{ArePastRows}
 use Rattle.canary_stored.proofs.Filters.{own_name, turned, passes_more, fails_more, changed_under, left_alone, first_holds, apart_by_name}
 use Rattle.canary_stored.proofs.RunsAt.{same_numbers, has_its_number, run_in_map, StandsThere, found_stands}
 use Rattle.canary_stored.proofs.OneHappens.{OneHappens, map_more}
+use Rattle.canary_stored.proofs.Consistent.{counts_consistent}
 
 abbrev counts_more : Recorded → TallyRow → TallyRow
 counts_more x row = record row { counts = with_one_more row.counts x.phase x.taken }
@@ -129,7 +130,7 @@ tally_rows_measured one name x number metric runs numbered =
     tallies_of_measured one name x number metric (run_at number runs) (λ r at. has_its_number runs number r numbered at)
     ∙ ap (tally_rows_of name number metric) (sym (run_in_map (measured_in x) number runs))
 
--- the tally is there, with room
+-- the tally is there, of some measurements, with room
 
 record HasList (lists : List (List Recorded)) (metric : ℕ) (tally : Counts) : Type 0 where
   list : List Recorded
@@ -144,22 +145,23 @@ has_list : (r : Run) (q : OpenRun) (metric : ℕ) (tally : Counts) → map count
 has_list r q metric tally alike is =
     list_of_tally (slice_get r.lists metric) r.lists metric tally refl (sym (slice_get-map counts_of r.lists metric) ∙ ap (λ (cs : List Counts). slice_get cs metric) alike ∙ is)
 
-tally_stands : (name : List ℕ) (number metric : ℕ) (t : Tables) (p : Past) (r : Run) (tally : Counts) → ArePastRows t name p → run_at number p.runs ≡ Some r → HasList r.lists metric tally → size tally + 1 ≤ 1000000
+tally_stands : CountsOneMore → (name : List ℕ) (number metric : ℕ) (t : Tables) (p : Past) (r : Run) (tally : Counts) → ArePastRows t name p → run_at number p.runs ≡ Some r → HasList r.lists metric tally → size tally + 1 ≤ 1000000
     → HasTally name number metric t
-tally_stands name number metric t p r tally are there has room = record {
+tally_stands one name number metric t p r tally are there has room = record {
   row = tally_of name number metric has.list;
   one =
       are.tallies number metric
       ∙ ap (tally_rows_of name number metric) there
       ∙ ap (row_if (tally_of name number metric)) has.there;
+  consistent = counts_consistent one (map measurement_of has.list) (subst (λ (c : Counts). size c ≤ 1000000) (sym has.counted) (omega (arith, room)));
   room = subst (λ (c : Counts). size c + 1 ≤ 1000000) (sym has.counted) room;
 }
 
-measured_asks : (name : List ℕ) (strategy : CheckedStrategy) (x : Recorded) (t : Tables) (p : Past) → ArePastRows t name p → AreNumbered 1 p.runs → Measures strategy (watched p) x → HasTally name x.run x.metric t
-measured_asks name strategy x t p are numbered measures =
+measured_asks : CountsOneMore → (name : List ℕ) (strategy : CheckedStrategy) (x : Recorded) (t : Tables) (p : Past) → ArePastRows t name p → AreNumbered 1 p.runs → Measures strategy (watched p) x → HasTally name x.run x.metric t
+measured_asks one name strategy x t p are numbered measures =
     let stands : StandsThere p.runs x.run measures.run = found_stands p.runs x.run measures.run numbered measures.found in
     let has : HasList stands.run.lists x.metric measures.tally = has_list stands.run measures.run x.metric measures.tally (ap (λ (r : OpenRun). r.tallies) stands.alike) measures.is_tally in
-    tally_stands name x.run x.metric t p stands.run measures.tally are stands.there has measures.room
+    tally_stands one name x.run x.metric t p stands.run measures.tally are stands.there has measures.room
 
 pub measured_happens : CountsOneMore → (name : List ℕ) (strategy : CheckedStrategy) (x : Recorded) (t : Tables) (p : Past)
     → ArePastRows t name p → AreNumbered 1 p.runs → Measures strategy (watched p) x → OneHappens name (Measured x) t p
@@ -176,7 +178,7 @@ measured_happens one name strategy x t p are numbered measures = record {
         ∙ sym (map_more (measurement_row name) p.measurements x);
     history = are.history;
   };
-  asks = measured_asks name strategy x t p are numbered measures;
+  asks = measured_asks one name strategy x t p are numbered measures;
   others = λ q differ. record {
     runs = λ number. refl;
     tallies = λ number metric.

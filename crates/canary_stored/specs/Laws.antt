@@ -1,11 +1,22 @@
 -- Laws of tables and contents.
-use Rattle.std.specs.Prelude.{◌≡◌, ◌≤◌}
+use Rattle.std.specs.Prelude.{◌≡◌, ◌≤◌, ℕ, List, length, map, filter, take, drop, Some, IsPermutation}
+use Rattle.std.specs.FinMap.{get}
+use Rattle.canary_canonical.specs.Readings.{IsCanonical}
+use Rattle.canary_release.specs.Shapes.{seen}
+use Rattle.canary_release.specs.Pasts.{watched}
 use Rattle.canary_once.specs.declared.book.Settlement.{Settlement}
-use Rattle.canary_once.specs.Contents.{Contents, no_contents, IsSettling, with_settlement}
+use Rattle.canary_once.specs.Contents.{Contents, no_contents, count_of, receipt_at, IsSettling, with_settlement}
+use Rattle.canary_once.specs.Records.{past_of, run_of, history_of, measurements_of}
 use Rattle.canary_once.specs.Sound.{AreContents}
-use Rattle.canary_rows.specs.Tables.{Tables, no_tables}
+use Rattle.canary_rows.specs.declared.rows.KeptRow.{KeptRow}
+use Rattle.canary_rows.specs.declared.rows.RunRow.{RunRow}
+use Rattle.canary_rows.specs.declared.rows.TallyRow.{TallyRow}
+use Rattle.canary_rows.specs.Tables.{Tables, no_tables, is_caller, is_kept, is_template, is_service, is_run, is_open_run_of, is_tally, is_measurement_of, is_line_of}
+use Rattle.canary_stored.specs.Values.{receipt_of_row, template_of_row, measurement_of_row, line_of_row}
 use Rattle.canary_stored.specs.Tables.{AreRows, IsReadable}
 use Rattle.canary_stored.specs.Reading.{contents_of, HoldsContents}
+use Rattle.canary_stored.specs.Ordered.{AscendByMetric, AscendByNumber, is_tally_of}
+use Rattle.canary_stored.specs.Finding.{first_row, IsFound, AreRead, settled_by, tallies_of, record_of_row, open_run_of, parts_of_row}
 use Rattle.canary_stored.specs.Settling.{request_settled, RequestAsks, IsReadableSettlement}
 
 -- tables with the rows of contents are read as these
@@ -28,3 +39,65 @@ pub record Settles (s : Settlement) (t : Tables) : Type 0 where
 
 abbrev pub RequestsSettle : Type 0
 RequestsSettle = (s : Settlement) (t : Tables) → s.number ≤ 1000000000 → HoldsContents t → IsSettling (contents_of t) s → IsReadableSettlement s → Settles s t
+
+-- What is found in tables that hold contents.
+
+-- under each key stands one row at most
+pub record HaveKeys (t : Tables) : Type 0 where
+  pub callers : (name : List ℕ) → length (filter (is_caller name) t.callers) ≤ 1
+  pub kept : (caller : List ℕ) (number : ℕ) → length (filter (is_kept caller number) t.kept) ≤ 1
+  pub templates : (name : List ℕ) → length (filter (is_template name) t.templates) ≤ 1
+  pub services : (name : List ℕ) → length (filter (is_service name) t.services) ≤ 1
+  pub runs : (name : List ℕ) (number : ℕ) → length (filter (is_run name number) t.runs) ≤ 1
+  pub tallies : (name : List ℕ) (number metric : ℕ) → length (filter (is_tally name number metric) t.tallies) ≤ 1
+
+abbrev pub KeysAreUnique : Type 0
+KeysAreUnique = (t : Tables) → HoldsContents t → HaveKeys t
+
+-- a caller's row says how many of its requests are settled
+abbrev pub CountsAreFound : Type 0
+CountsAreFound = (t : Tables) → HoldsContents t → (name : List ℕ) → settled_by (first_row (filter (is_caller name) t.callers)) ≡ count_of (contents_of t) name
+
+-- a kept row is a receipt; numbers count from 1
+abbrev pub ReceiptsAreFound : Type 0
+ReceiptsAreFound = (t : Tables) → HoldsContents t → (caller : List ℕ) (number : ℕ) → 1 ≤ number → IsFound receipt_of_row (first_row (filter (is_kept caller number) t.kept)) (receipt_at (contents_of t) caller number)
+
+-- its text is canonical
+abbrev pub KeptTextsAreCanonical : Type 0
+KeptTextsAreCanonical = (t : Tables) → HoldsContents t → (caller : List ℕ) (number : ℕ) (row : KeptRow) → first_row (filter (is_kept caller number) t.kept) ≡ Some row → IsCanonical row.command
+
+abbrev pub TemplatesAreFound : Type 0
+TemplatesAreFound = (t : Tables) → HoldsContents t → (name : List ℕ) → IsFound template_of_row (first_row (filter (is_template name) t.templates)) (get (contents_of t).desk.templates name)
+
+abbrev pub HistoriesAreFound : Type 0
+HistoriesAreFound = (t : Tables) → HoldsContents t → (name : List ℕ) → AreRead line_of_row (filter (is_line_of name) t.history) (history_of (contents_of t) name)
+
+-- the rows of a page are its measurements
+abbrev pub MeasurementsAreFound : Type 0
+MeasurementsAreFound =
+    (t : Tables) → HoldsContents t → (name : List ℕ) (from most : ℕ)
+    → AreRead measurement_of_row (take most (drop from (filter (is_measurement_of name) t.measurements))) (measurements_of (contents_of t) name from most)
+
+-- the tallies of a run stand in order of its metrics
+abbrev pub TalliesAreFound : Type 0
+TalliesAreFound =
+    (t : Tables) → HoldsContents t → (name : List ℕ) (run : ℕ) (rows : List TallyRow) → IsPermutation (filter (is_tally_of name run) t.tallies) rows → AscendByMetric rows
+    → map (λ (row : TallyRow). row.counts) rows ≡ tallies_of (contents_of t) name run
+
+-- a run's row, with its tallies
+abbrev pub RunsAreFound : Type 0
+RunsAreFound =
+    (t : Tables) → HoldsContents t → (name : List ℕ) (number : ℕ)
+    → IsFound (record_of_row (tallies_of (contents_of t) name number)) (first_row (filter (is_run name number) t.runs)) (run_of (contents_of t) name number)
+
+-- the open runs of a service stand in order of their numbers
+abbrev pub OpenRunsAreFound : Type 0
+OpenRunsAreFound =
+    (t : Tables) → HoldsContents t → (name : List ℕ) (rows : List RunRow) → IsPermutation (filter (is_open_run_of name) t.runs) rows → AscendByNumber rows
+    → map (open_run_of (contents_of t) name) rows ≡ (watched (past_of (contents_of t) name)).open_runs
+
+-- a service's row, with the templates and its open runs
+abbrev pub ServicesAreFound : Type 0
+ServicesAreFound =
+    (t : Tables) → HoldsContents t → (name : List ℕ)
+    → IsFound (parts_of_row (get (contents_of t).desk.templates) (watched (past_of (contents_of t) name)).open_runs) (first_row (filter (is_service name) t.services)) (seen (contents_of t).desk name)

@@ -4,4 +4,6 @@ pub mod Tables
 pub mod Reading
 pub mod Reads
 pub mod Settling
+pub mod Ordered
+pub mod Finding
 pub mod Laws

@@ -1,0 +1,233 @@
+-- Runs with their tallies, and services with their open runs, are found.
+use Rattle.std.proofs.Common.{◌≡◌, ℕ, zero, suc, ◌+◌, ◌==◌, List, [], ◌∷◌, length, Bool, true, false, Some, None, refl, sym, ap, ◌∙◌, subst, arith}
+use Rattle.std.specs.Prelude.{Option, cond, ◌&&◌, filter, map, find, slice_get, option_map, option_and_then, is_none, IsPermutation}
+use Rattle.std.specs.Str.{bytes_eq}
+use Rattle.std.specs.List.{AllByRecursion}
+use Rattle.std.specs.FinMap.{get}
+use Rattle.std.proofs.lemmas.List.Elements.{filter_agree}
+use Rattle.canary_metric.specs.Counts.{Counts}
+use Rattle.canary_plan.specs.declared.command.Command.{Command}
+use Rattle.canary_plan.specs.Plans.{Templates, strategy_of}
+use Rattle.canary_release.specs.declared.effect.Recorded.{Recorded}
+use Rattle.canary_release.specs.declared.effect.Closing.{Closing}
+use Rattle.canary_release.specs.declared.runs.OpenRun.{OpenRun}
+use Rattle.canary_release.specs.Order.{AreNumbered, IsInOrder}
+use Rattle.canary_release.specs.Pasts.{Run, is_open, counts_of, tallied, watched}
+use Rattle.canary_release.specs.Shapes.{shape}
+use Rattle.canary_release.specs.Desks.{ModelService}
+use Rattle.canary_once.specs.Contents.{Contents}
+use Rattle.canary_once.specs.Records.{record_of, is_numbered, past_in, past_of, run_of}
+use Rattle.canary_rows.specs.declared.rows.RunRow.{RunRow}
+use Rattle.canary_rows.specs.declared.rows.TallyRow.{TallyRow}
+use Rattle.canary_rows.specs.declared.rows.ServiceRow.{ServiceRow}
+use Rattle.canary_rows.specs.Tables.{Tables, is_run, is_open_run_of, is_tally}
+use Rattle.canary_stored.specs.Values.{made_from, run_row, tally_row, ending_of, service_row}
+use Rattle.canary_stored.specs.Tables.{row_if, run_at, tally_rows_of, IsReadableRun}
+use Rattle.canary_stored.specs.Reading.{contents_of, HoldsContents}
+use Rattle.canary_stored.specs.Ordered.{AscendByMetric, AscendByNumber, is_tally_of}
+use Rattle.canary_stored.specs.Finding.{first_row, IsFound, tallies_told, tallies_of, record_closed, record_of_row, open_run_of, parts_standing, parts_made, parts_of_row}
+use Rattle.canary_stored.specs.Laws.{TalliesAreFound, RunsAreFound, OpenRunsAreFound, ServicesAreFound}
+use Rattle.canary_stored.proofs.Keys.{optional}
+use Rattle.canary_stored.proofs.RowsBack.{closing_back, stand_back, all_at}
+use Rattle.canary_stored.proofs.InOrder.{filter_twice, filter_map_of, same_one, rises, same_order, none_below}
+use Rattle.canary_stored.proofs.Numbered.{both_in_turn, other_first, either_order, filters_swap, find_first, Follow, follow_above, follow_rises, key_at, at_place, all_filter, rise_filter, rise_map, by_place, map_both}
+
+abbrev metric_in : TallyRow → ℕ
+metric_in row = row.metric
+
+abbrev number_in : RunRow → ℕ
+number_in row = row.number
+
+abbrev run_number : Run → ℕ
+run_number r = r.number
+
+-- Tallies.
+
+-- the rows of a run's lists, in order
+tallies_from : List ℕ → ℕ → ℕ → List (List Recorded) → List TallyRow
+tallies_from name run metric [] = []
+tallies_from name run metric (list ∷ lists) = tally_row name run metric (counts_of list) ∷ tallies_from name run (suc metric) lists
+
+tallies_follow : (name : List ℕ) (run k : ℕ) (lists : List (List Recorded)) → Follow metric_in k (tallies_from name run k lists)
+unfolding tallies_from
+tallies_follow name run k [] = tt
+tallies_follow name run k (list ∷ lists) = (refl, tallies_follow name run (suc k) lists)
+
+tally_at : (name : List ℕ) (run k j : ℕ) (lists : List (List Recorded)) → row_if (λ list. tally_row name run (j + k) (counts_of list)) (slice_get lists j) ≡ optional (slice_get (tallies_from name run k lists) j)
+unfolding tallies_from
+tally_at name run k j [] = refl
+tally_at name run k zero (list ∷ lists) = ap (λ m. tally_row name run m (counts_of list) ∷ []) (let e : zero + k ≡ k = omega arith in e)
+tally_at name run k (suc j) (list ∷ lists) = ap (λ m. row_if (λ list. tally_row name run m (counts_of list)) (slice_get lists j)) (let e : suc j + k ≡ j + suc k = omega arith in e) ∙ tally_at name run (suc k) j lists
+
+counts_from : (name : List ℕ) (run k : ℕ) (lists : List (List Recorded)) → map (λ (row : TallyRow). row.counts) (tallies_from name run k lists) ≡ map counts_of lists
+unfolding tallies_from
+counts_from name run k [] = refl
+counts_from name run k (list ∷ lists) = ap (λ (cs : List Counts). counts_of list ∷ cs) (counts_from name run (suc k) lists)
+
+abbrev lists_of : Option Run → List (List Recorded)
+lists_of None = []
+lists_of (Some r) = r.lists
+
+no_tally : (name : List ℕ) (run k j : ℕ) → [] ≡ optional (slice_get (tallies_from name run k []) j)
+unfolding tallies_from
+no_tally name run k j = refl
+
+tallies_at : (name : List ℕ) (run metric : ℕ) (o : Option Run) → tally_rows_of name run metric o ≡ optional (slice_get (tallies_from name run 0 (lists_of o)) metric)
+tallies_at name run metric None = no_tally name run 0 metric
+tallies_at name run metric (Some r) = ap (λ m. row_if (λ list. tally_row name run m (counts_of list)) (slice_get r.lists metric)) (let e : metric ≡ metric + 0 = omega arith in e) ∙ tally_at name run 0 metric r.lists
+
+-- rows in order, of which these stand under each metric
+tallies_in_order : (name : List ℕ) (run : ℕ) (all rows : List TallyRow) (o : Option Run) → ((metric : ℕ) → filter (is_tally name run metric) all ≡ tally_rows_of name run metric o)
+    → IsPermutation (filter (is_tally_of name run) all) rows → AscendByMetric rows → rows ≡ tallies_from name run 0 (lists_of o)
+tallies_in_order name run all rows o are moved ascend =
+    let wanted : List TallyRow = tallies_from name run 0 (lists_of o) in
+    let follow : Follow metric_in 0 wanted = tallies_follow name run 0 (lists_of o) in
+    same_order metric_in rows wanted (rises metric_in rows ascend) (follow_rises metric_in 0 wanted follow) (λ m.
+    let there : filter (λ row. m == metric_in row) (filter (is_tally_of name run) all) ≡ optional (slice_get wanted m) =
+    filter_twice (λ row. m == metric_in row) (is_tally_of name run) all
+    ∙ filter_agree (λ (row : TallyRow). is_tally_of name run row && (m == metric_in row)) (is_tally name run m) (λ row. both_in_turn (bytes_eq name row.service) (run == row.run) (m == row.metric)) all
+    ∙ are m ∙ tallies_at name run m o in
+    same_one (λ row. m == metric_in row) (filter (is_tally_of name run) all) rows (slice_get wanted m) moved there
+    ∙ sym (ap (λ n. filter (λ row. n == metric_in row) wanted) (let e : m ≡ m + 0 = omega arith in e) ∙ at_place metric_in 0 m wanted follow))
+
+-- Runs by their numbers.
+
+follows : (k : ℕ) (rs : List Run) → AreNumbered k rs → Follow run_number k rs
+follows k [] are = tt
+follows k (r ∷ rs) are = (are.0, follows (suc k) rs are.1)
+
+under_number : (number : ℕ) (rs : List Run) → Follow run_number 1 rs → filter (λ r. number == run_number r) rs ≡ optional (run_at number rs)
+under_number zero rs f = none_below run_number zero rs (follow_above run_number zero 1 rs (omega arith) f)
+under_number (suc place) rs f = ap (λ n. filter (λ r. n == run_number r) rs) (let e : suc place ≡ place + 1 = omega arith in e) ∙ at_place run_number 1 place rs f
+
+the_one : {A : Type 0} (o : Option A) → slice_get (optional o) 0 ≡ o
+the_one None = refl
+the_one (Some x) = refl
+
+find_run : (number : ℕ) (rs : List Run) → Follow run_number 1 rs → find (is_numbered number) rs ≡ run_at number rs
+find_run number rs f =
+    find_first (is_numbered number) rs
+    ∙ ap (λ (ys : List Run). slice_get ys 0) (filter_agree (is_numbered number) (λ r. number == run_number r) (λ r. either_order r.number number) rs ∙ under_number number rs f)
+    ∙ the_one (run_at number rs)
+
+in_order : (known : Templates) (name : List ℕ) (o : Option ModelService) → ((s : ModelService) → o ≡ Some s → IsInOrder known name s) → Follow run_number 1 (past_in o).runs
+in_order known name None is = tt
+in_order known name (Some s) is = follows 1 s.past.runs (is s refl).numbered
+
+numbered : (t : Tables) → HoldsContents t → (name : List ℕ) → Follow run_number 1 (past_of (contents_of t) name).runs
+numbered t holds name = let c : Contents = contents_of t in in_order (get c.desk.templates) name (get c.desk.services name) (holds.lawful.desk.services name)
+
+run_is : (t : Tables) → HoldsContents t → (name : List ℕ) (number : ℕ) → run_of (contents_of t) name number ≡ option_map record_of (run_at number (past_of (contents_of t) name).runs)
+run_is t holds name number = ap (option_map record_of) (find_run number (past_of (contents_of t) name).runs (numbered t holds name))
+
+tallies_if : (o : Option Run) → map counts_of (lists_of o) ≡ tallies_told (option_map record_of o)
+tallies_if None = refl
+tallies_if (Some r) = refl
+
+tallies_are : (t : Tables) → HoldsContents t → (name : List ℕ) (number : ℕ) → map counts_of (lists_of (run_at number (past_of (contents_of t) name).runs)) ≡ tallies_of (contents_of t) name number
+tallies_are t holds name number = tallies_if (run_at number (past_of (contents_of t) name).runs) ∙ ap tallies_told (sym (run_is t holds name number))
+
+pub tallies_are_found : TalliesAreFound
+tallies_are_found t holds name run rows moved ascend =
+    let o : Option Run = run_at run (past_of (contents_of t) name).runs in
+    ap (map (λ (row : TallyRow). row.counts)) (tallies_in_order name run t.tallies rows o (holds.rows.tallies name run) moved ascend)
+    ∙ counts_from name run 0 (lists_of o) ∙ tallies_are t holds name run
+
+if_comes : {A B R : Type 0} (row : A → R) (reads : R → Option B) (comes : A → B) (o : Option A) → ((x : A) → o ≡ Some x → reads (row x) ≡ Some (comes x)) → IsFound reads (first_row (row_if row o)) (option_map comes o)
+if_comes row reads comes None back = record { value = refl; read = refl }
+if_comes row reads comes (Some x) back = record { value = back x refl; read = ap Some (back x refl) }
+
+-- one row or none, which is read as what comes of what there is
+found_as : {A B R : Type 0} (row : A → R) (reads : R → Option B) (comes : A → B) (rows : List R) (o : Option A) → rows ≡ row_if row o → ((x : A) → o ≡ Some x → reads (row x) ≡ Some (comes x)) → IsFound reads (first_row rows) (option_map comes o)
+found_as row reads comes rows o are back = subst (λ rs. IsFound reads (first_row rs) (option_map comes o)) (sym are) (if_comes row reads comes o back)
+
+run_has : (P : Run → Type 0) (rs : List Run) → AllByRecursion P rs → (number : ℕ) (r : Run) → run_at number rs ≡ Some r → P r
+run_has P rs all zero r e = absurd (cc)
+run_has P rs all (suc place) r e = all_at P rs all place r e
+
+pub runs_are_found : RunsAreFound
+runs_are_found t holds name number =
+    let c : Contents = contents_of t in
+    let rs : List Run = (past_of c name).runs in
+    let tallies : List Counts = tallies_of c name number in
+    let found : IsFound (record_of_row tallies) (first_row (filter (is_run name number) t.runs)) (option_map record_of (run_at number rs)) =
+    found_as (run_row name) (record_of_row tallies) record_of _ (run_at number rs) (holds.rows.runs name number) (λ r e.
+    let these : tallies ≡ map counts_of r.lists = sym (ap (λ o. map counts_of (lists_of o)) (sym e) ∙ tallies_are t holds name number) in
+    ap (option_map (record_closed (run_row name r) tallies)) (closing_back r.number r.closed (run_has IsReadableRun rs (holds.readable.pasts name).runs number r e))
+    ∙ (λ i. Some (record (record_of r) { tallies = these i }))) in
+    subst (IsFound (record_of_row tallies) (first_row (filter (is_run name number) t.runs))) (sym (run_is t holds name number)) found
+
+-- Open runs.
+
+abbrev open_only : Option Run → Option Run
+open_only None = None
+open_only (Some r) = cond (is_open r) (Some r) None
+
+still_open : (closed : Option Closing) → is_none (ending_of closed).closed ≡ is_none closed
+still_open None = refl
+still_open (Some x) = refl
+
+cut_one : {A B : Type 0} (f : A → B) (x : A) (b : Bool) → cond b (f x ∷ []) [] ≡ optional (option_map f (cond b (Some x) None))
+cut_one f x true = refl
+cut_one f x false = refl
+
+open_row : (name : List ℕ) (o : Option Run) → filter (λ (row : RunRow). is_none row.ending.closed) (row_if (run_row name) o) ≡ optional (option_map (run_row name) (open_only o))
+open_row name None = refl
+open_row name (Some r) = ap (λ b. cond b (run_row name r ∷ []) []) (still_open r.closed) ∙ cut_one (run_row name) r (is_open r)
+
+map_cut : (name : List ℕ) (r : Run) (b : Bool) → map (run_row name) (cond b (r ∷ []) []) ≡ optional (option_map (run_row name) (cond b (Some r) None))
+map_cut name r true = refl
+map_cut name r false = refl
+
+open_run : (name : List ℕ) (o : Option Run) → map (run_row name) (filter is_open (optional o)) ≡ optional (option_map (run_row name) (open_only o))
+open_run name None = refl
+open_run name (Some r) = map_cut name r (is_open r)
+
+runs_in_order : (name : List ℕ) (all rows : List RunRow) (rs : List Run) → ((number : ℕ) → filter (is_run name number) all ≡ row_if (run_row name) (run_at number rs)) → Follow run_number 1 rs
+    → IsPermutation (filter (is_open_run_of name) all) rows → AscendByNumber rows → rows ≡ map (run_row name) (filter is_open rs)
+runs_in_order name all rows rs are follow moved ascend =
+    let wanted : List RunRow = map (run_row name) (filter is_open rs) in
+    same_order number_in rows wanted (rises number_in rows ascend) (rise_map number_in (run_row name) (filter is_open rs) (rise_filter run_number is_open rs (follow_rises run_number 1 rs follow))) (λ n.
+    let o : Option RunRow = option_map (run_row name) (open_only (run_at n rs)) in
+    let is_it : RunRow → Bool = λ row. n == number_in row in
+    let is_now : RunRow → Bool = λ row. is_none row.ending.closed in
+    let there : filter is_it (filter (is_open_run_of name) all) ≡ optional o =
+    filter_twice is_it (is_open_run_of name) all
+    ∙ filter_agree (λ (row : RunRow). is_open_run_of name row && is_it row) (λ row. is_run name n row && is_now row) (λ row. other_first (bytes_eq name row.service) (is_now row) (is_it row)) all
+    ∙ sym (filter_twice is_now (is_run name n) all)
+    ∙ ap (filter is_now) (are n) ∙ open_row name (run_at n rs) in
+    let here : filter is_it wanted ≡ optional o =
+    filter_map_of (run_row name) is_it (filter is_open rs)
+    ∙ ap (map (run_row name)) (filters_swap (λ r. n == run_number r) is_open rs ∙ ap (filter is_open) (under_number n rs follow)) ∙ open_run name (run_at n rs) in
+    same_one is_it (filter (is_open_run_of name) all) rows o moved there ∙ sym here)
+
+run_told : (t : Tables) → HoldsContents t → (name : List ℕ) (i : ℕ) (r : Run) → slice_get (past_of (contents_of t) name).runs i ≡ Some r → open_run_of (contents_of t) name (run_row name r) ≡ tallied r
+run_told t holds name i r e =
+    let rs : List Run = (past_of (contents_of t) name).runs in
+    let number : r.number ≡ suc i = (let n : r.number ≡ i + 1 = key_at run_number 1 rs (numbered t holds name) i r e in omega arith) in
+    let at : run_at r.number rs ≡ Some r = ap (λ n. run_at n rs) number ∙ e in
+    let tallies : tallies_of (contents_of t) name r.number ≡ map counts_of r.lists = sym (ap (λ o. map counts_of (lists_of o)) (sym at) ∙ tallies_are t holds name r.number) in
+    λ i. record (tallied r) { tallies = tallies i }
+
+pub open_runs_are_found : OpenRunsAreFound
+open_runs_are_found t holds name rows moved ascend =
+    let c : Contents = contents_of t in
+    let rs : List Run = (past_of c name).runs in
+    let P : Run → Type 0 = λ r. open_run_of c name (run_row name r) ≡ tallied r in
+    ap (map (open_run_of c name)) (runs_in_order name t.runs rows rs (holds.rows.runs name) (numbered t holds name) moved ascend)
+    ∙ map_both (open_run_of c name) (run_row name) tallied (filter is_open rs) (all_filter is_open P rs (by_place P rs (run_told t holds name)))
+
+-- Services.
+
+pub services_are_found : ServicesAreFound
+services_are_found t holds name =
+    let c : Contents = contents_of t in
+    let known : Templates = get c.desk.templates in
+    let open_runs : List OpenRun = (watched (past_of c name)).open_runs in
+    found_as (service_row name) (parts_of_row known open_runs) shape _ (get c.desk.services name) (holds.rows.services name) (λ m e.
+    let order : IsInOrder known name m = holds.lawful.desk.services name m e in
+    let row : ServiceRow = service_row name m in
+    let runs : open_runs ≡ (watched m.past).open_runs = ap (λ o. (watched (past_in o)).open_runs) e in
+    ap (λ (o : Option Command). option_and_then (parts_made known open_runs row) (made_from o)) (holds.readable.made name m e)
+    ∙ ap (option_map (parts_standing row open_runs)) (stand_back name (strategy_of known m.made) m.stand (length m.past.runs) order.shown order.strategy)
+    ∙ (λ i. Some (record { stand = m.stand; runs = record { count = length m.past.runs; open_runs = runs i } })))

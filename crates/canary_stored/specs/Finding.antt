@@ -1,0 +1,68 @@
+-- What a store finds in the tables of the contents that they hold.
+use Rattle.std.specs.Prelude.{◌≡◌, ℕ, List, [], map, Option, Some, None, slice_get, option_map, option_and_then, unwrap_or}
+use Rattle.std.specs.List.{filter_map}
+use Rattle.canary_metric.specs.Counts.{Counts}
+use Rattle.canary_plan.specs.declared.service.ServiceSpec.{ServiceSpec}
+use Rattle.canary_plan.specs.Plans.{Templates, strategy_of}
+use Rattle.canary_canonical.specs.Readings.{canonical_in}
+use Rattle.canary_release.specs.declared.effect.Closing.{Closing}
+use Rattle.canary_release.specs.declared.runs.OpenRun.{OpenRun}
+use Rattle.canary_release.specs.declared.service.ServiceParts.{ServiceParts}
+use Rattle.canary_release.specs.declared.stand.Stand.{Stand}
+use Rattle.canary_once.specs.declared.record.RunRecord.{RunRecord}
+use Rattle.canary_once.specs.Contents.{Contents}
+use Rattle.canary_once.specs.Records.{run_of}
+use Rattle.canary_rows.specs.declared.rows.CallerRow.{CallerRow}
+use Rattle.canary_rows.specs.declared.rows.RunRow.{RunRow}
+use Rattle.canary_rows.specs.declared.rows.ServiceRow.{ServiceRow}
+use Rattle.canary_stored.specs.Values.{made_from, stand_of, closing_of}
+
+abbrev pub first_row : {R : Type 0} → List R → Option R
+first_row rows = slice_get rows 0
+
+-- the row that is there is read, as what is sought
+pub record IsFound {R A : Type 0} (reads : R → Option A) (row : Option R) (sought : Option A) : Type 0 where
+  pub value : option_and_then reads row ≡ sought
+  pub read : option_map reads row ≡ option_map Some sought
+
+-- each row is read, and none is passed over
+pub record AreRead {R A : Type 0} (reads : R → Option A) (rows : List R) (sought : List A) : Type 0 where
+  pub values : filter_map reads rows ≡ sought
+  pub each : map reads rows ≡ map Some sought
+
+-- how many requests of a caller are settled, by its row
+abbrev pub settled_by : Option CallerRow → ℕ
+settled_by row = unwrap_or (option_map (λ (r : CallerRow). r.settled) row) 0
+
+-- Runs.
+
+abbrev pub tallies_told : Option RunRecord → List Counts
+tallies_told None = []
+tallies_told (Some r) = r.tallies
+
+-- the tallies of a run; none where there is no such run
+abbrev pub tallies_of : Contents → List ℕ → ℕ → List Counts
+tallies_of c name number = tallies_told (run_of c name number)
+
+abbrev pub record_closed : RunRow → List Counts → Option Closing → RunRecord
+record_closed row tallies closed = record { number = row.number; step = row.step; started = row.started; closed = closed; tallies = tallies }
+
+-- a run, by its row and its tallies
+abbrev pub record_of_row : List Counts → RunRow → Option RunRecord
+record_of_row tallies row = option_map (record_closed row tallies) (closing_of row.number row.ending)
+
+-- an open run, by its row
+abbrev pub open_run_of : Contents → List ℕ → RunRow → OpenRun
+open_run_of c name row = record { number = row.number; step = row.step; started = row.started; tallies = tallies_of c name row.number }
+
+-- Services.
+
+abbrev pub parts_standing : ServiceRow → List OpenRun → Stand → ServiceParts
+parts_standing row open_runs stand = record { stand = stand; runs = record { count = row.standing.runs; open_runs = open_runs } }
+
+abbrev pub parts_made : Templates → List OpenRun → ServiceRow → ServiceSpec → Option ServiceParts
+parts_made known open_runs row made = option_map (parts_standing row open_runs) (stand_of row.name (strategy_of known made) row.standing)
+
+-- what is kept of a service, by its row, the templates and its open runs
+abbrev pub parts_of_row : Templates → List OpenRun → ServiceRow → Option ServiceParts
+parts_of_row known open_runs row = option_and_then (parts_made known open_runs row) (made_from (canonical_in row.spec))
