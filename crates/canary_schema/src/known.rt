@@ -1,12 +1,13 @@
 //! Which schema a database has.
-ghost use Rattle.std.specs.Prelude.{◌≡◌, ◌↔◌, IsTrue, [], ◌∷◌, None, false};
+ghost use Rattle.std.specs.Prelude.{◌≡◌, ◌↔◌, IsTrue, [], ◌∷◌, ◌++◌, None, false};
 ghost use Rattle.sqlite_schema.specs.declared.schema.Action.TheVariants.{NoAction};
 ghost use Rattle.sqlite.specs.declared.types.Value.TheVariants.{Null};
 ghost use Rattle.sqlite.specs.Collation.TheVariants.{Binary};
 ghost use Rattle.sqlite_value.specs.Keys.{plain};
 ghost use Rattle.canary_schema.specs.Schema.{no_schema, refers_to, keyed, meta, caller, kept, template};
 ghost use Rattle.canary_schema.specs.Schema.{service, run, tally, measurement, sequence, history};
-ghost use Rattle.canary_schema.specs.Known.{column_of, columns_of, formed, desk_tables};
+ghost use Rattle.canary_schema.specs.Known.{column_of, columns_of, formed, early_tables, late_tables};
+ghost use Rattle.canary_schema.specs.Known.{index_at, index_of, indexes_of, key_indexes, added_indexes};
 
 use sqlite_items::Items;
 use sqlite_schema::code::Terms;
@@ -25,6 +26,15 @@ pub(crate) enum Layout<'a> {
     Maybe(&'a [u8]),
     /// Anything, in the table in which places are counted.
     Any(&'a [u8]),
+}
+
+/// An index of the desk, by its name, its tree, the tree of its table, and its columns.
+#[derive(Clone, Copy)]
+pub(crate) enum IndexLayout<'a> {
+    /// No two rows are alike in these columns.
+    Key(&'a [u8], u32, u32, &'a [usize]),
+    /// Any rows may be.
+    Order(&'a [u8], u32, u32, &'a [usize]),
 }
 
 /// Whether the schema has no table, no index and no view.
@@ -362,18 +372,29 @@ fn is_history(table: &Table) -> bool
         && is_unkeyed(table)
 }
 
-// All tables, in the order in which they are made.
-fn are_tables(tables: &[Table]) -> bool
-    ensures { IsTrue result ↔ tables.now ≡ desk_tables }
+// The first five tables, in the order in which they are made.
+fn are_early_tables(tables: &[Table]) -> bool
+    ensures { IsTrue result ↔ tables.now ≡ early_tables }
 {
     match tables {
-        [meta, caller, kept, template, service, run, tally, measurement, sequence, history] => {
+        [meta, caller, kept, template, service] => {
             is_meta(meta)
                 && is_caller(caller)
                 && is_kept(kept)
                 && is_template(template)
                 && is_service(service)
-                && is_run(run)
+        }
+        _ => false,
+    }
+}
+
+// The other five.
+fn are_late_tables(tables: &[Table]) -> bool
+    ensures { IsTrue result ↔ tables.now ≡ late_tables }
+{
+    match tables {
+        [run, tally, measurement, sequence, history] => {
+            is_run(run)
                 && is_tally(tally)
                 && is_measurement(measurement)
                 && is_sequence(sequence)
@@ -383,20 +404,95 @@ fn are_tables(tables: &[Table]) -> bool
     }
 }
 
-fn is_index(
-    index: &Index,
-    name: &[u8],
-    tree: u32,
-    table: u32,
-    columns: &[usize],
-    is_unique: bool,
-) -> bool
-    ensures { IsTrue result ↔ index.now ≡ record { name = name.now; tree = tree; table = table; columns = columns.now; order = plain; is_unique = is_unique } }
+// All tables.
+fn are_tables(tables: &[Table]) -> bool
+    ensures { IsTrue result ↔ tables.now ≡ early_tables ++ late_tables }
+{
+    if tables.len() != 10 {
+        return false;
+    }
+    are_early_tables(&tables[..5]) && are_late_tables(&tables[5..])
+}
+
+// Whether the index is laid out so.
+fn is_index(index: &Index, layout: &IndexLayout<'_>) -> bool
+    ensures { IsTrue result ↔ index.now ≡ index_of layout.now }
+{
+    match layout {
+        IndexLayout::Key(name, tree, table, columns) => {
+            is_index_of(index, name, *tree, *table, columns) && index.is_unique
+        }
+        IndexLayout::Order(name, tree, table, columns) => {
+            is_index_of(index, name, *tree, *table, columns) && !index.is_unique
+        }
+    }
+}
+
+// An index of this name and tree, over these columns of the table with that tree.
+fn is_index_of(index: &Index, name: &[u8], tree: u32, table: u32, columns: &[usize]) -> bool
+    ensures { IsTrue result ↔ index.now
+        ≡ index_at name.now tree table columns.now index.now.is_unique }
 {
     is_name(&index.name, name)
         && index.tree == tree
         && index.table == table
         && are_places(&index.columns, columns)
         && index.order.digits == 0
-        && index.is_unique == is_unique
+}
+
+// Whether the indexes are laid out so.
+fn are_indexes(indexes: &[Index], layouts: &[IndexLayout<'_>]) -> bool
+    ensures { IsTrue result ↔ indexes.now ≡ indexes_of layouts.now }
+{
+    if indexes.len() != layouts.len() {
+        return false;
+    }
+    for i in 0..indexes.len() {
+        if !is_index(&indexes[i], &layouts[i]) {
+            return false;
+        }
+    }
+    true
+}
+
+// The indexes that SQLite makes for the keys.
+fn are_key_indexes(indexes: &[Index]) -> bool
+    ensures { IsTrue result ↔ indexes.now ≡ key_indexes }
+{
+    are_indexes(
+        indexes,
+        &[
+            IndexLayout::Key(b"sqlite_autoindex_caller_1", 2, 1, &[1]),
+            IndexLayout::Key(b"sqlite_autoindex_kept_1", 4, 3, &[1, 2]),
+            IndexLayout::Key(b"sqlite_autoindex_template_1", 6, 5, &[1]),
+            IndexLayout::Key(b"sqlite_autoindex_service_1", 8, 7, &[1]),
+            IndexLayout::Key(b"sqlite_autoindex_run_1", 10, 9, &[1, 2]),
+            IndexLayout::Key(b"sqlite_autoindex_tally_1", 12, 11, &[1, 2, 3]),
+            IndexLayout::Key(b"sqlite_autoindex_measurement_1", 14, 13, &[2, 3, 4, 5]),
+        ],
+    )
+}
+
+// The three that are made behind the tables.
+fn are_added_indexes(indexes: &[Index]) -> bool
+    ensures { IsTrue result ↔ indexes.now ≡ added_indexes }
+{
+    are_indexes(
+        indexes,
+        &[
+            IndexLayout::Order(b"run_closed", 17, 9, &[1, 5]),
+            IndexLayout::Order(b"measurement_service", 18, 13, &[2]),
+            IndexLayout::Order(b"history_service", 19, 16, &[2]),
+        ],
+    )
+}
+
+// All of them.
+fn are_all_indexes(indexes: &[Index]) -> bool
+    ensures { IsTrue result ↔ indexes.now ≡ key_indexes ++ added_indexes }
+{
+    if indexes.len() != 10 {
+        return false;
+    }
+    are_key_indexes(&indexes[..7]) && are_added_indexes(&indexes[7..])
 }
