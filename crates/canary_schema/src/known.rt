@@ -6,6 +6,7 @@ ghost use Rattle.sqlite.specs.Collation.TheVariants.{Binary};
 ghost use Rattle.sqlite_value.specs.Keys.{plain};
 ghost use Rattle.canary_schema.specs.Schema.{no_schema, refers_to, keyed, meta, caller, kept, template};
 ghost use Rattle.canary_schema.specs.Schema.{service, run, tally, measurement, sequence, history};
+ghost use Rattle.canary_schema.specs.Schema.{with_history, desk_schema};
 ghost use Rattle.canary_schema.specs.Known.{column_of, columns_of, formed, early_tables, late_tables};
 ghost use Rattle.canary_schema.specs.Known.{index_at, index_of, indexes_of, key_indexes, added_indexes};
 
@@ -495,4 +496,39 @@ fn are_all_indexes(indexes: &[Index]) -> bool
         return false;
     }
     are_key_indexes(&indexes[..7]) && are_added_indexes(&indexes[7..])
+}
+
+// All tables and all indexes, and no view.
+fn has_desk(schema: &Schema) -> bool
+    ensures { IsTrue result ↔ (schema.now.tables ≡ early_tables ++ late_tables)
+        × (schema.now.indexes ≡ key_indexes ++ added_indexes) × (schema.now.views ≡ []) }
+{
+    are_tables(schema.tables.as_slice())
+        && are_all_indexes(schema.indexes.as_slice())
+        && schema.views.is_empty()
+}
+
+// All tables with the indexes of their keys, and no view.
+fn has_tables(schema: &Schema) -> bool
+    ensures { IsTrue result ↔ (schema.now.tables ≡ early_tables ++ late_tables)
+        × (schema.now.indexes ≡ key_indexes) × (schema.now.views ≡ []) }
+{
+    are_tables(schema.tables.as_slice())
+        && are_key_indexes(schema.indexes.as_slice())
+        && schema.views.is_empty()
+}
+
+/// Whether the schema is that of a desk: its nine tables, the table in which SQLite counts places,
+/// its three indexes and those of the keys, with the trees that `create` gives them, and no more.
+pub fn is_desk(schema: &Schema) -> bool
+    ensures { IsTrue result ↔ schema.now ≡ desk_schema }
+{
+    has_desk(schema)
+}
+
+/// Whether the schema is that of a desk but for the three indexes, which `add_indexes` adds.
+pub fn is_bare(schema: &Schema) -> bool
+    ensures { IsTrue result ↔ schema.now ≡ with_history }
+{
+    has_tables(schema)
 }
