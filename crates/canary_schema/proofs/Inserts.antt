@@ -28,7 +28,7 @@ use Rattle.sqlite_schema.specs.declared.schema.Reference.{Reference}
 use Rattle.sqlite_schema.specs.Rules.{parent_key, ParentKey}
 use Rattle.sqlite_rules.specs.declared.action.Deed.{Deed}
 use Rattle.canary_schema.specs.Adds.{AddsRow, numbered_row}
-use Rattle.canary_schema.proofs.Parts.{went, same_value}
+use Rattle.canary_schema.proofs.Went.{went, same_value}
 
 -- where no row goes, no key acts
 and_false : (b : Bool) → (b && false) ≡ false

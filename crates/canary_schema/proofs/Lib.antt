@@ -1,9 +1,9 @@
 mod Committed
 mod Inserts
 mod Kept
-mod Wholes
 mod Making
 mod Meta
-mod Parts
 mod Readings
 mod Texts
+mod Went
+mod Wholes

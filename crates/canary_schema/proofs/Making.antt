@@ -21,7 +21,7 @@ use Rattle.canary_schema.specs.Schema.{sequence}
 use Rattle.canary_rows.specs.Tables.{Tables}
 use Rattle.canary_schema.specs.Makes.{made_with, IsTableText, IsIndexText, IsAt, HoldsInside}
 use Rattle.canary_schema.proofs.Kept.{kept_rows}
-use Rattle.canary_schema.proofs.Parts.{went, same_value}
+use Rattle.canary_schema.proofs.Went.{went, same_value}
 
 abbrev AreEmpty : Schema → Trees → Type 0
 AreEmpty schema trees = AllByRecursion (λ t. trees t.tree ≡ []) schema.tables

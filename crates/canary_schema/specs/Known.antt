@@ -4,11 +4,17 @@ use Rattle.sqlite_schema.specs.declared.schema.Index.{Index}
 use Rattle.sqlite_value.specs.Keys.{plain}
 use Rattle.sqlite.specs.Table.{Table}
 use Rattle.sqlite_schema.specs.declared.schema.Column.{Column}
-use Rattle.canary_schema.specs.declared.known.Layout.{Layout}
-use Rattle.canary_schema.specs.declared.known.Layout.TheVariants as layout
-use Rattle.canary_schema.specs.declared.known.IndexLayout.{IndexLayout}
-use Rattle.canary_schema.specs.declared.known.IndexLayout.TheVariants as index
+use Rattle.sqlite_schema.specs.declared.schema.Kind.{Kind}
+use Rattle.sqlite.specs.Collation.TheVariants.{Binary}
+use Rattle.sqlite.specs.declared.types.Value.TheVariants.{Null}
+use Rattle.canary_schema.specs.declared.layout.Layout.{Layout}
+use Rattle.canary_schema.specs.declared.layout.Layout.TheVariants as layout
+use Rattle.canary_schema.specs.declared.layout.IndexLayout.{IndexLayout}
+use Rattle.canary_schema.specs.declared.layout.IndexLayout.TheVariants as index
 use Rattle.canary_schema.specs.Schema.{words, whole, maybe, any_column, meta, caller, kept, template, service, run, tally, measurement, sequence, history}
+
+abbrev pub column_at : List ℕ → Kind → Bool → Bool → Column
+column_at name kind is_strict not_null = record { name = name; kind = kind; is_strict = is_strict; not_null = not_null; default = Null; collation = Binary }
 
 abbrev pub column_of : Layout → Column
 column_of (layout.Words name) = words name.now
