@@ -1,5 +1,5 @@
 -- The columns of a table, as its layout tells them.
-use Rattle.std.specs.Prelude.{List, [], ◌∷◌, ◌++◌, ℕ, map, Option, Bool, true, false, codes}
+use Rattle.std.specs.Prelude.{List, [], ◌∷◌, ℕ, map, Option, Bool, true, false, codes}
 use Rattle.sqlite_schema.specs.declared.schema.Index.{Index}
 use Rattle.sqlite_value.specs.Keys.{plain}
 use Rattle.sqlite.specs.Table.{Table}
