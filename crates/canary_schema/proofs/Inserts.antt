@@ -1,14 +1,14 @@
 -- What a plain INSERT of one row does.
-use Rattle.std.proofs.Common.{◌≡◌, ◌⊎◌, inl, inr, ◌≢◌, ◌&&◌, ℤ, ℕ, ◌/◌, pos, List, [], ◌∷◌, map, length, ◌==◌, slice_get, Bool, true, false, not, cond, if◌then◌else◌, Option, Some, None, Ok, Err, Result, refl, sym, ap, subst, ◌∙◌}
+use Rattle.std.proofs.Common.{◌≡◌, ◌≢◌, ◌&&◌, ℤ, ℕ, ◌/◌, List, [], ◌∷◌, length, ◌==◌, slice_get, Bool, true, false, not, if◌then◌else◌, Option, Some, None, Ok, refl, sym, ap, subst, ◌∙◌}
 use Rattle.std.specs.List.{flat_map, filter_map}
-use Rattle.sqlite.specs.declared.types.Value.TheVariants.{Null, Int}
+use Rattle.sqlite.specs.declared.types.Value.TheVariants.{Null}
 use Rattle.sqlite.specs.Order.{Row}
 use Rattle.sqlite.specs.Term.{Term}
 use Rattle.sqlite.specs.Table.{Table}
 use Rattle.sqlite.specs.Schema.{Schema}
 use Rattle.sqlite.specs.Source.TheVariants.{Values}
 use Rattle.sqlite.specs.Command.TheVariants.{Insert}
-use Rattle.sqlite.specs.Edit.{Edit, edit_of, edited, are_fresh, is_taken, next_rowid, with_rowid}
+use Rattle.sqlite.specs.Edit.{Edit, edit_of, is_taken, with_rowid}
 use Rattle.sqlite.specs.Cast.{cast_row}
 use Rattle.sqlite.specs.Rowids.TheVariants.{Chosen, Above}
 use Rattle.sqlite.specs.Does.{Tally, Does}
@@ -22,13 +22,13 @@ use Rattle.sqlite.specs.Tree.{Trees, put_row}
 use Rattle.sqlite.specs.declared.run.Mode.{Mode}
 use Rattle.sqlite.specs.Effect.{Database, value_rows}
 use Rattle.sqlite.proofs.Callers.{one_step}
-use Rattle.sqlite_rules.specs.Action.{works, work_for, work_by, deed_for, Work}
+use Rattle.sqlite_rules.specs.Action.{works, work_for, work_by, deed_for}
 use Rattle.sqlite_schema.specs.declared.schema.Keys.{Keys}
 use Rattle.sqlite_schema.specs.declared.schema.Reference.{Reference}
 use Rattle.sqlite_schema.specs.Rules.{parent_key, ParentKey}
 use Rattle.sqlite_rules.specs.declared.action.Deed.{Deed}
 use Rattle.canary_schema.specs.Adds.{AddsRow, numbered_row}
-use Rattle.canary_schema.proofs.Parts.{went, same_value}
+use Rattle.canary_schema.proofs.Went.{went, same_value}
 
 -- where no row goes, no key acts
 and_false : (b : Bool) → (b && false) ≡ false

@@ -45,17 +45,7 @@ are_kept old new h = record {
 holds_kept : (schema next : Schema) (old new : Database) (t : Tables) → new.schema ≡ next → AreKept old.trees new.trees → Holds schema old t → Holds next new t
 holds_kept schema next old new t is k h = record {
   schema = is;
-  numbered = (
-    same k.meta h.numbered.0,
-    (same k.callers h.numbered.1.0,
-    (same k.kept h.numbered.1.1.0,
-    (same k.templates h.numbered.1.1.1.0,
-    (same k.services h.numbered.1.1.1.1.0,
-    (same k.runs h.numbered.1.1.1.1.1.0,
-    (same k.tallies h.numbered.1.1.1.1.1.1.0,
-    (same k.measurements h.numbered.1.1.1.1.1.1.1.0,
-    (same k.history h.numbered.1.1.1.1.1.1.1.1.0, tt))))))))
-  );
+  numbered = (same k.meta h.numbered.0, (same k.callers h.numbered.1.0, (same k.kept h.numbered.1.1.0, (same k.templates h.numbered.1.1.1.0, (same k.services h.numbered.1.1.1.1.0, (same k.runs h.numbered.1.1.1.1.1.0, (same k.tallies h.numbered.1.1.1.1.1.1.0, (same k.measurements h.numbered.1.1.1.1.1.1.1.0, (same k.history h.numbered.1.1.1.1.1.1.1.1.0, tt)))))))));
   meta = k.meta ∙ h.meta;
   callers = ap cells_of k.callers ∙ h.callers;
   kept = ap cells_of k.kept ∙ h.kept;

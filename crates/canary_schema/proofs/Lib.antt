@@ -3,7 +3,7 @@ mod Inserts
 mod Kept
 mod Making
 mod Meta
-mod Parts
 mod Readings
 mod Texts
-mod Try
+mod Went
+mod Wholes

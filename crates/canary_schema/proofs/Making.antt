@@ -1,27 +1,24 @@
 -- What CREATE TABLE and CREATE INDEX do.
-use Rattle.std.proofs.Common.{◌≡◌, ◌⊎◌, inl, inr, true, false, Bool, IsTrue, ℕ, List, [], ◌∷◌, ◌++◌, None, Some, Option, Ok, Err, Result, OnOk, MatchBool, refl, sym, ap, subst, subst₂, ◌∙◌, slice_get, if◌then◌else◌}
+use Rattle.std.proofs.Common.{◌≡◌, true, false, Bool, ℕ, List, [], ◌∷◌, ◌++◌, None, Option, Ok, Err, Result, OnOk, MatchBool, refl, sym, ap, subst, subst₂, ◌∙◌, slice_get, if◌then◌else◌}
 use Rattle.std.specs.List.{AllByRecursion}
-use Rattle.sqlite.specs.Command.{Command}
 use Rattle.sqlite.specs.Command.TheVariants.{CreateTable, CreateIndex}
 use Rattle.sqlite.specs.Schema.{Schema}
 use Rattle.sqlite.specs.Table.{Table}
 use Rattle.sqlite.specs.Change.{created, next_tree, KeepsRows, indexed}
-use Rattle.sqlite_catalog.specs.Calls.{CreatesTable, CreatesIndex}
+use Rattle.sqlite_catalog.specs.Calls.{CreatesTable}
 use Rattle.sqlite_tied.specs.Compute.{everything}
 use Rattle.sqlite.specs.Compile.{table_defined_by}
-use Rattle.sqlite.specs.Does.{Tally, lacks_sequence, sequence_text, MakesSequence}
+use Rattle.sqlite.specs.Does.{Tally, lacks_sequence, sequence_text}
 use Rattle.sqlite.specs.Effect.{Database}
 use Rattle.sqlite.specs.State.{State, Writes, ExecutesInside}
 use Rattle.sqlite.specs.Tree.{Trees}
-use Rattle.sqlite.specs.Listing.{understood}
-use Rattle.sqlite.specs.Given.{IsPlain}
 use Rattle.sqlite.specs.declared.error.Error.{Error}
-use Rattle.sqlite.proofs.Callers.{runs_as, command_of, statement_of}
+use Rattle.sqlite.proofs.Callers.{runs_as}
 use Rattle.canary_schema.specs.Schema.{sequence}
 use Rattle.canary_rows.specs.Tables.{Tables}
-use Rattle.canary_schema.specs.Makes.{made_with, IsTableText, IsIndexText, IsAt, HoldsInside}
+use Rattle.canary_schema.specs.Makes.{IsTableText, IsIndexText, IsAt, HoldsInside}
 use Rattle.canary_schema.proofs.Kept.{kept_rows}
-use Rattle.canary_schema.proofs.Parts.{went, same_value}
+use Rattle.canary_schema.proofs.Went.{went, same_value}
 
 abbrev AreEmpty : Schema → Trees → Type 0
 AreEmpty schema trees = AllByRecursion (λ t. trees t.tree ≡ []) schema.tables

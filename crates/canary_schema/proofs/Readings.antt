@@ -1,14 +1,10 @@
 -- The cells of a row are read back as the row.
 use Rattle.std.proofs.Common.{◌≡◌, List, [], ◌∷◌, map, Option, Some, None, ℕ, refl, ap, ◌∙◌}
 use Rattle.std.specs.List.{filter_map}
-use Rattle.sqlite.specs.Effect.{Database}
-use Rattle.sqlite.specs.Schema.{Schema}
 use Rattle.sqlite_value.specs.Order.{Row}
-use Rattle.canary_rows.specs.Tables.{Tables}
 use Rattle.canary_rows.specs.declared.rows.RunRow.{RunRow}
 use Rattle.canary_rows.specs.declared.rows.TallyRow.{TallyRow}
-use Rattle.canary_schema.specs.Cells.{cells_of, tables_in, number_or_null, whole_or_null, caller_cells, caller_in, kept_cells, kept_in, template_cells, template_in, service_cells, service_in, run_cells, run_in, run_with, tally_cells, tally_in, tally_with, measurement_cells, measurement_in, history_cells, history_in}
-use Rattle.canary_schema.specs.Stores.{Holds}
+use Rattle.canary_schema.specs.Cells.{cells_of, number_or_null, whole_or_null, caller_cells, caller_in, kept_cells, kept_in, template_cells, template_in, service_cells, service_in, run_cells, run_in, tally_cells, tally_in, measurement_cells, measurement_in, history_cells, history_in}
 use Rattle.canary_schema.specs.Laws.{OneReading}
 
 -- rows that are read one by one are read all

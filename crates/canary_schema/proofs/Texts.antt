@@ -1,5 +1,5 @@
 -- What the texts that make a desk's tables and indexes mean.
-use Rattle.std.proofs.Common.{◌≡◌, List, ℕ, [], ◌∷◌, codes, Ok, Some, refl}
+use Rattle.std.proofs.Common.{[], ◌∷◌, codes, refl}
 use Rattle.sqlite_tied.specs.Compute.{everything}
 use Rattle.sqlite.specs.Listing.{understood}
 use Rattle.canary_schema.specs.Schema.{meta, caller, kept, template, service, run, tally, measurement, history, by, no_schema, with_meta, with_caller, with_kept, with_template, with_service, with_run, with_tally, with_measurement, with_history, with_runs_indexed, with_measurements_indexed, desk_schema}

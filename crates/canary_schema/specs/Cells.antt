@@ -3,7 +3,7 @@ use Rattle.std.specs.Prelude.{ℕ, pos, List, [], ◌∷◌, map, drop, Option, 
 use Rattle.std.specs.List.{filter_map}
 use Rattle.sqlite_value.specs.declared.value.Value.{Value}
 use Rattle.sqlite_value.specs.declared.value.Value.TheVariants.{Null, Int, Text as Words}
-use Rattle.sqlite_value.specs.Order.{Row, column}
+use Rattle.sqlite_value.specs.Order.{Row}
 use Rattle.sqlite.specs.Tree.{Trees}
 use Rattle.canary_rows.specs.declared.rows.CallerRow.{CallerRow}
 use Rattle.canary_rows.specs.declared.rows.KeptRow.{KeptRow}

@@ -1,5 +1,5 @@
 -- When a database stores rows, and what a statement does to them.
-use Rattle.std.specs.Prelude.{◌≡◌, IsTrue, ℕ, List, [], ◌∷◌, map, Result, OnOk}
+use Rattle.std.specs.Prelude.{◌≡◌, IsTrue, List, [], ◌∷◌, map, Result, OnOk}
 use Rattle.std.specs.List.{AllByRecursion}
 use Rattle.sqlite.specs.State.{State, HasCleanDisk, Survives, KeepsCommit}
 use Rattle.sqlite.specs.Tree.{Trees}

@@ -19,7 +19,8 @@ fn add_table<S: Alter>(tx: &mut Transaction<'_, S>, text: &str) -> Result<usize,
         → Grows schema next (state S.Store tx.old.conn.now) (state S.Store tx.new.conn.now) result }
     ensures live { StaysLive (state S.Store tx.old.conn.now) (state S.Store tx.new.conn.now) result }
     ensures kept { StaysCommitted (state S.Store tx.old.conn.now) (state S.Store tx.new.conn.now) }
-    ensures survives { SurvivesCut (state S.Store tx.old.conn.now) (state S.Store tx.new.conn.now) }
+    ensures survives { SurvivesCut
+        (state S.Store tx.old.conn.now) (state S.Store tx.new.conn.now) }
 {
     tx.execute(text, &[])
 }
@@ -28,10 +29,12 @@ fn add_table<S: Alter>(tx: &mut Transaction<'_, S>, text: &str) -> Result<usize,
 fn add_index<S: Alter>(tx: &mut Transaction<'_, S>, text: &str) -> Result<usize, Error>
     ensures same_reference { tx.new.conn.ghost_name ≡ tx.old.conn.ghost_name }
     ensures made { (schema next : Schema) → IsIndexText schema text.now next
-        → AddsIndexes schema next (state S.Store tx.old.conn.now) (state S.Store tx.new.conn.now) result }
+        → AddsIndexes schema next
+        (state S.Store tx.old.conn.now) (state S.Store tx.new.conn.now) result }
     ensures live { StaysLive (state S.Store tx.old.conn.now) (state S.Store tx.new.conn.now) result }
     ensures kept { StaysCommitted (state S.Store tx.old.conn.now) (state S.Store tx.new.conn.now) }
-    ensures survives { SurvivesCut (state S.Store tx.old.conn.now) (state S.Store tx.new.conn.now) }
+    ensures survives { SurvivesCut
+        (state S.Store tx.old.conn.now) (state S.Store tx.new.conn.now) }
 {
     tx.execute(text, &[])
 }
@@ -43,7 +46,8 @@ fn add_callers<S: Alter>(tx: &mut Transaction<'_, S>) -> Result<(), Error>
         (state S.Store tx.old.conn.now) (state S.Store tx.new.conn.now) result }
     ensures live { StaysLive (state S.Store tx.old.conn.now) (state S.Store tx.new.conn.now) result }
     ensures kept { StaysCommitted (state S.Store tx.old.conn.now) (state S.Store tx.new.conn.now) }
-    ensures survives { SurvivesCut (state S.Store tx.old.conn.now) (state S.Store tx.new.conn.now) }
+    ensures survives { SurvivesCut
+        (state S.Store tx.old.conn.now) (state S.Store tx.new.conn.now) }
 {
     add_table(
         tx,
@@ -73,7 +77,8 @@ fn add_services<S: Alter>(tx: &mut Transaction<'_, S>) -> Result<(), Error>
         (state S.Store tx.old.conn.now) (state S.Store tx.new.conn.now) result }
     ensures live { StaysLive (state S.Store tx.old.conn.now) (state S.Store tx.new.conn.now) result }
     ensures kept { StaysCommitted (state S.Store tx.old.conn.now) (state S.Store tx.new.conn.now) }
-    ensures survives { SurvivesCut (state S.Store tx.old.conn.now) (state S.Store tx.new.conn.now) }
+    ensures survives { SurvivesCut
+        (state S.Store tx.old.conn.now) (state S.Store tx.new.conn.now) }
 {
     add_table(
         tx,
@@ -113,7 +118,8 @@ fn add_history<S: Alter>(tx: &mut Transaction<'_, S>) -> Result<usize, Error>
         (state S.Store tx.old.conn.now) (state S.Store tx.new.conn.now) result }
     ensures live { StaysLive (state S.Store tx.old.conn.now) (state S.Store tx.new.conn.now) result }
     ensures kept { StaysCommitted (state S.Store tx.old.conn.now) (state S.Store tx.new.conn.now) }
-    ensures survives { SurvivesCut (state S.Store tx.old.conn.now) (state S.Store tx.new.conn.now) }
+    ensures survives { SurvivesCut
+        (state S.Store tx.old.conn.now) (state S.Store tx.new.conn.now) }
 {
     add_table(
         tx,
@@ -129,7 +135,8 @@ fn write_meta<S: Alter>(tx: &mut Transaction<'_, S>) -> Result<usize, Error>
         (state S.Store tx.old.conn.now) (state S.Store tx.new.conn.now) result }
     ensures live { StaysLive (state S.Store tx.old.conn.now) (state S.Store tx.new.conn.now) result }
     ensures kept { StaysCommitted (state S.Store tx.old.conn.now) (state S.Store tx.new.conn.now) }
-    ensures survives { SurvivesCut (state S.Store tx.old.conn.now) (state S.Store tx.new.conn.now) }
+    ensures survives { SurvivesCut
+        (state S.Store tx.old.conn.now) (state S.Store tx.new.conn.now) }
 {
     tx.execute("INSERT INTO meta (schema) VALUES (1)", &[])
 }
@@ -141,7 +148,8 @@ fn add_tables<S: Alter>(tx: &mut Transaction<'_, S>) -> Result<usize, Error>
         (state S.Store tx.old.conn.now) (state S.Store tx.new.conn.now) result }
     ensures live { StaysLive (state S.Store tx.old.conn.now) (state S.Store tx.new.conn.now) result }
     ensures kept { StaysCommitted (state S.Store tx.old.conn.now) (state S.Store tx.new.conn.now) }
-    ensures survives { SurvivesCut (state S.Store tx.old.conn.now) (state S.Store tx.new.conn.now) }
+    ensures survives { SurvivesCut
+        (state S.Store tx.old.conn.now) (state S.Store tx.new.conn.now) }
 {
     add_callers(tx)?;
     add_services(tx)?;
@@ -156,10 +164,14 @@ fn add_all_indexes<S: Alter>(tx: &mut Transaction<'_, S>) -> Result<usize, Error
         (state S.Store tx.old.conn.now) (state S.Store tx.new.conn.now) result }
     ensures live { StaysLive (state S.Store tx.old.conn.now) (state S.Store tx.new.conn.now) result }
     ensures kept { StaysCommitted (state S.Store tx.old.conn.now) (state S.Store tx.new.conn.now) }
-    ensures survives { SurvivesCut (state S.Store tx.old.conn.now) (state S.Store tx.new.conn.now) }
+    ensures survives { SurvivesCut
+        (state S.Store tx.old.conn.now) (state S.Store tx.new.conn.now) }
 {
     add_index(tx, "CREATE INDEX run_closed ON run (service, closed)")?;
-    add_index(tx, "CREATE INDEX measurement_service ON measurement (service)")?;
+    add_index(
+        tx,
+        "CREATE INDEX measurement_service ON measurement (service)",
+    )?;
     add_index(tx, "CREATE INDEX history_service ON history (service)")
 }
 

@@ -5,3 +5,6 @@ pub mod create;
 pub mod fault;
 pub mod known;
 pub mod laws;
+mod layout;
+mod parts;
+mod tables;

@@ -1,4 +1,3 @@
-use Rattle.std.proofs.Common.{◌≡◌}
 use Rattle.canary_schema.specs.Schema.{with_measurement, with_history}
 use Rattle.canary_schema.proofs.Texts.{makes_history}
 use Rattle.canary_schema.proofs.create.add_history.Goals as goal

@@ -1,4 +1,3 @@
-use Rattle.std.proofs.Common.{◌≡◌}
 use Rattle.sqlite.specs.Held.{state}
 use Rattle.canary_schema.proofs.Making.{index_added}
 use Rattle.canary_schema.proofs.create.add_index.Goals as goal

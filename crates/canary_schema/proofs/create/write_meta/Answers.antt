@@ -1,4 +1,3 @@
-use Rattle.std.proofs.Common.{◌≡◌}
 use Rattle.sqlite.specs.Held.{state}
 use Rattle.canary_schema.proofs.Meta.{meta_written}
 use Rattle.canary_schema.proofs.create.write_meta.Goals as goal
