@@ -1,0 +1,22 @@
+-- What a read does, and what it finds.
+use Rattle.std.specs.Prelude.{◌≡◌, List, ℕ, Result, IfOk}
+use Rattle.sqlite.specs.State.{State, Shown}
+use Rattle.sqlite_value.specs.Order.{Row}
+use Rattle.canary_rows.specs.Tables.{Tables}
+use Rattle.canary_schema.specs.Stores.{IsUsable, Stores}
+
+-- nothing is changed
+abbrev pub IsSame : State → State → Type 0
+IsSame old new = IsUsable new → IsUsable old × (new.now ≡ old.now)
+
+-- it finds such a value in the tables
+abbrev pub FindsSuch : {A F : Type 0} → (Tables → A → Type 0) → State → State → Result A F → Type 0
+FindsSuch such old new result = IsUsable new → (t : Tables) → Stores old t → IfOk result (such t)
+
+-- it finds this value in the tables
+abbrev pub Finds : {A F : Type 0} → (Tables → A) → State → State → Result A F → Type 0
+Finds told = FindsSuch (λ t found. found ≡ told t)
+
+-- it answers the rows that the text shows
+abbrev pub Shows : {F : Type 0} → List ℕ → Row → State → State → Result (List Row) F → Type 0
+Shows text params old new result = IsUsable new → IfOk result (Shown text params old new)
