@@ -1,1 +1,6 @@
 pub mod Queries
+pub mod Answer
+pub mod Typed
+pub mod Tests
+pub mod Asking
+pub mod Texts
