@@ -2,4 +2,5 @@
 #![tactic(auto)]
 
 pub mod fault;
+mod columns;
 mod query;
