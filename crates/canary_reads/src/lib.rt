@@ -4,3 +4,4 @@
 pub mod fault;
 mod columns;
 mod query;
+mod shown;
