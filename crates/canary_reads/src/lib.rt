@@ -1,7 +1,7 @@
 //! Reading the desk's tables: each query answers just what its rows say.
 #![tactic(auto)]
 
-pub mod fault;
 mod columns;
+pub mod fault;
 mod query;
 mod shown;

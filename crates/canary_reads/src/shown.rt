@@ -1,13 +1,17 @@
 //! Rows of tables, each read from the columns that a query shows to one who knows its name.
-ghost use Rattle.std.specs.Prelude.{◌≡◌, ℕ, List, IfOk, map, option_map, slice_get};
-ghost use Rattle.sqlite.specs.Order.{Row as Cells};
+ghost use Rattle.std.specs.Prelude.{◌≡◌, ℕ, List, IfOk, ◌∷◌, length, map, option_map, slice_get};
+ghost use Rattle.sqlite.specs.Order.{Row as Cells, column};
+ghost use Rattle.canary_reads.specs.Parts.{standing_cells, counts_cells};
 
 use crate::columns;
 use crate::fault::StoreFault;
 use canary_base::lists::Listed;
 use canary_base::names::Name;
-use canary_rows::rows::{CallerRow, Ending, HistoryRow, KeptRow, MeasurementRow};
-use canary_rows::rows::{RunRow, ServiceRow, Standing, TallyRow, TemplateRow};
+use canary_metric::tally::Tally;
+use canary_rows::rows::{
+    CallerRow, Ending, HistoryRow, KeptRow, MeasurementRow, RunRow, ServiceRow, Standing, TallyRow,
+    TemplateRow,
+};
 use sqlite::Row;
 use std::alloc::Global;
 
@@ -38,6 +42,167 @@ impl Shown for CallerRow {
         Ok(CallerRow {
             name: *name,
             settled: columns::number_at(row, 0)?,
+        })
+    }
+}
+
+impl Shown for KeptRow {
+    ghost use Rattle.std.specs.Prelude.{◌∷◌};
+    ghost use Rattle.sqlite.specs.declared.types.Value.TheVariants.{Text as Words};
+    ghost use Rattle.canary_schema.specs.Cells.{kept_cells};
+
+    ghost cells = { kept_cells };
+
+    ghost whole = { λ name row. Words name ∷ row };
+
+    fn read(name: &Name, row: &Row) -> Result<KeptRow, StoreFault> {
+        columns::has_width(row, 4)?;
+        Ok(KeptRow {
+            caller: *name,
+            number: columns::number_at(row, 0)?,
+            command: columns::text_at(row, 1)?,
+            status: columns::number_at(row, 2)?,
+            body: columns::text_at(row, 3)?,
+        })
+    }
+}
+
+impl Shown for TemplateRow {
+    ghost use Rattle.std.specs.Prelude.{◌∷◌};
+    ghost use Rattle.sqlite.specs.declared.types.Value.TheVariants.{Text as Words};
+    ghost use Rattle.canary_schema.specs.Cells.{template_cells};
+
+    ghost cells = { template_cells };
+
+    ghost whole = { λ name row. Words name ∷ row };
+
+    fn read(name: &Name, row: &Row) -> Result<TemplateRow, StoreFault> {
+        columns::has_width(row, 1)?;
+        Ok(TemplateRow {
+            name: *name,
+            spec: columns::text_at(row, 0)?,
+        })
+    }
+}
+
+impl Shown for ServiceRow {
+    ghost use Rattle.std.specs.Prelude.{◌∷◌};
+    ghost use Rattle.sqlite.specs.declared.types.Value.TheVariants.{Text as Words};
+    ghost use Rattle.canary_schema.specs.Cells.{service_cells};
+
+    ghost cells = { service_cells };
+
+    ghost whole = { λ name row. Words name ∷ row };
+
+    fn read(name: &Name, row: &Row) -> Result<ServiceRow, StoreFault> {
+        columns::has_width(row, 10)?;
+        Ok(ServiceRow {
+            name: *name,
+            spec: columns::text_at(row, 0)?,
+            standing: standing(row)?,
+        })
+    }
+}
+
+// How the service stands, behind its text.
+fn standing(row: &Row) -> Result<Standing, StoreFault>
+    requires { length row.now ≡ 10 }
+    ensures { IfOk result (λ s. row.now ≡ column row.now 0 ∷ standing_cells s) }
+{
+    Ok(Standing {
+        stable: columns::label_at(row, 1)?,
+        version: columns::label_at(row, 2)?,
+        state: columns::number_at(row, 3)?,
+        step: columns::number_at(row, 4)?,
+        entered: columns::moment_at(row, 5)?,
+        hold: columns::number_at(row, 6)?,
+        background: columns::number_at(row, 7)?,
+        runs: columns::number_at(row, 8)?,
+        last: columns::moment_at(row, 9)?,
+    })
+}
+
+impl Shown for RunRow {
+    ghost use Rattle.std.specs.Prelude.{◌∷◌};
+    ghost use Rattle.sqlite.specs.declared.types.Value.TheVariants.{Text as Words};
+    ghost use Rattle.canary_schema.specs.Cells.{run_cells};
+
+    ghost cells = { run_cells };
+
+    ghost whole = { λ name row. Words name ∷ row };
+
+    fn read(name: &Name, row: &Row) -> Result<RunRow, StoreFault> {
+        columns::has_width(row, 6)?;
+        Ok(RunRow {
+            service: *name,
+            number: columns::number_at(row, 0)?,
+            step: columns::maybe_number_at(row, 1)?,
+            started: columns::moment_at(row, 2)?,
+            ending: Ending {
+                closed: columns::maybe_moment_at(row, 3)?,
+                outside: columns::number_at(row, 4)?,
+                verdict: columns::number_at(row, 5)?,
+            },
+        })
+    }
+}
+
+impl Shown for TallyRow {
+    ghost use Rattle.std.specs.Prelude.{◌∷◌};
+    ghost use Rattle.sqlite.specs.declared.types.Value.TheVariants.{Text as Words};
+    ghost use Rattle.canary_schema.specs.Cells.{tally_cells};
+
+    ghost cells = { tally_cells };
+
+    ghost whole = { λ name row. Words name ∷ row };
+
+    fn read(name: &Name, row: &Row) -> Result<TallyRow, StoreFault> {
+        columns::has_width(row, 8)?;
+        Ok(TallyRow {
+            service: *name,
+            run: columns::number_at(row, 0)?,
+            metric: columns::number_at(row, 1)?,
+            counts: counts(row)?,
+        })
+    }
+}
+
+// The counts, behind the run and the metric.
+fn counts(row: &Row) -> Result<Tally, StoreFault>
+    requires { length row.now ≡ 8 }
+    ensures { IfOk result (λ c. row.now ≡ column row.now 0 ∷ column row.now 1 ∷ counts_cells c) }
+{
+    let counted = columns::number_at(row, 2)?;
+    let failed = columns::number_at(row, 3)?;
+    let inconclusive = columns::number_at(row, 4)?;
+    let errors = columns::number_at(row, 5)?;
+    let consecutive = columns::number_at(row, 6)?;
+    let last = columns::maybe_moment_at(row, 7)?;
+    match Tally::from_counts(counted, failed, inconclusive, errors, consecutive, last) {
+        Some(counts) => Ok(counts),
+        None => Err(StoreFault::Storage),
+    }
+}
+
+impl Shown for MeasurementRow {
+    ghost use Rattle.std.specs.Prelude.{◌∷◌};
+    ghost use Rattle.sqlite.specs.declared.types.Value.TheVariants.{Null, Text as Words};
+    ghost use Rattle.canary_schema.specs.Cells.{measurement_cells};
+
+    ghost cells = { measurement_cells };
+
+    ghost whole = { λ name row. Null ∷ Words name ∷ row };
+
+    fn read(name: &Name, row: &Row) -> Result<MeasurementRow, StoreFault> {
+        columns::has_width(row, 6)?;
+        Ok(MeasurementRow {
+            service: *name,
+            run: columns::number_at(row, 0)?,
+            metric: columns::number_at(row, 1)?,
+            ordinal: columns::number_at(row, 2)?,
+            taken: columns::moment_at(row, 3)?,
+            phase: columns::number_at(row, 4)?,
+            outcome: columns::text_at(row, 5)?,
         })
     }
 }
