@@ -1,6 +1,5 @@
 -- From the meaning of a text to the rows that it shows.
-use Rattle.std.proofs.Common.{◌≡◌, ℕ, List, [], ◌∷◌, map, filter, true, false, refl, sym, ap, subst, ◌∙◌}
-use Rattle.sqlite.specs.declared.types.Value.{Value}
+use Rattle.std.proofs.Common.{◌≡◌, ℕ, List, [], ◌∷◌, map, filter, Bool, false, refl, sym, ap, subst, ◌∙◌}
 use Rattle.sqlite.specs.declared.types.Value.TheVariants.{Null}
 use Rattle.sqlite.specs.Order.{Row}
 use Rattle.sqlite.specs.Term.{Term}
@@ -11,8 +10,10 @@ use Rattle.sqlite.specs.Command.TheVariants.{Select}
 use Rattle.sqlite.proofs.Callers.{IsPlain, command_of, reads_as}
 use Rattle.sqlite_value.specs.declared.keys.Key.{Key}
 use Rattle.canary_schema.specs.Schema.{desk_schema}
+use Rattle.canary_schema.specs.Cells.{cells_of}
 use Rattle.canary_schema.specs.Stores.{IsNumbered}
-use Rattle.canary_reads.proofs.Answer.{query_of, by_column, passes, shows, rowid_answer, IsOrdered, is_ordered}
+use Rattle.canary_reads.proofs.Answer.{query_of, no_limit, from_start, by_column, passes, shows, rowid_answer, IsOrdered, is_ordered}
+use Rattle.canary_reads.proofs.Typed.{Tells, typed}
 
 -- what a text asks for: of the rows of a tree, those that pass the tests, with these columns, in that order
 pub record Asks (text : List ℕ) (tree : ℕ) (tests shown : List Term) (order : List (Term × Key)) (limit offset : Term) : Type 0 where
@@ -21,13 +22,28 @@ pub record Asks (text : List ℕ) (tree : ℕ) (tests shown : List Term) (order 
   pub plain : IsPlain (understood desk_schema text)
   pub unlisted : reads_listing desk_schema text ≡ false
 
-module _ (text : List ℕ) (tree : ℕ) (tests shown : List Term) (order : List (Term × Key)) (limit offset : Term) (asks : Asks text tree tests shown order limit offset) (old new : State) (params : Row) (rows : List Row)
-    (has : old.now.schema ≡ desk_schema) (h : Shown text params old new rows) where
-  pub answered : IsOrdered Null tree tests shown order limit offset old.now.trees params rows
-  answered = is_ordered Null tree tests shown order limit offset old.now.trees params rows ((reads_as text params old new desk_schema has _ asks.is asks.plain asks.unlisted rows h).answer Null)
+-- the rows that a text shows of a tree with these cells
+pub record Reads {X : Type 0} (text : List ℕ) (tree : ℕ) (cells : X → Row) (xs : List X) (params : Row) (rows : List Row) : Type 1 where
+  pub old : State
+  pub new : State
+  pub schema : old.now.schema ≡ desk_schema
+  pub numbered : IsNumbered (old.now.trees tree)
+  pub stored : cells_of (old.now.trees tree) ≡ map cells xs
+  pub shows_rows : Shown text params old new rows
 
-module _ (text : List ℕ) (tree : ℕ) (tests shown : List Term) (limit offset : Term) (asks : Asks text tree tests shown (by_column 0) limit offset) (old new : State) (params : Row) (rows : List Row)
-    (has : old.now.schema ≡ desk_schema) (h : Shown text params old new rows) where
-  -- in the order of the rowids
-  pub answered_in_order : IsNumbered (old.now.trees tree) → rows ≡ page (query_of tree tests shown (by_column 0) limit offset) params (map (shows shown params) (filter (passes tests params) (old.now.trees tree)))
-  answered_in_order up = rowid_answer Null tree tests shown limit offset old.now.trees params rows up ((reads_as text params old new desk_schema has _ asks.is asks.plain asks.unlisted rows h).answer Null)
+module _ {X Y : Type 0} (text : List ℕ) (tree : ℕ) (tests shown : List Term) (limit offset : Term) (asks : Asks text tree tests shown (by_column 0) limit offset) (cells : X → Row) (test : X → Bool) (told : X → Y) (whole : Row → Y)
+    (params : Row) (tells : Tells cells test told whole (passes tests params) (shows shown params)) (xs : List X) (rows : List Row) where
+  -- in the order of the rowids, as a page
+  pub page_found : Reads text tree cells xs params rows → (all : List Row) × (rows ≡ page (query_of tree tests shown (by_column 0) limit offset) params all) × (map whole all ≡ map told (filter test xs))
+  page_found h = (
+    map (shows shown params) (filter (passes tests params) (h.old.now.trees tree)),
+    rowid_answer Null tree tests shown limit offset h.old.now.trees params rows h.numbered
+    ((reads_as text params h.old h.new desk_schema h.schema _ asks.is asks.plain asks.unlisted rows h.shows_rows).answer Null),
+    typed cells test told whole (passes tests params) (shows shown params) tells (h.old.now.trees tree) xs h.stored,
+  )
+
+module _ {X Y : Type 0} (text : List ℕ) (tree : ℕ) (tests shown : List Term) (asks : Asks text tree tests shown (by_column 0) no_limit from_start) (cells : X → Row) (test : X → Bool) (told : X → Y) (whole : Row → Y)
+    (params : Row) (tells : Tells cells test told whole (passes tests params) (shows shown params)) (xs : List X) (rows : List Row) where
+  -- all of them, in the order of the rowids
+  pub all_found : Reads text tree cells xs params rows → map whole rows ≡ map told (filter test xs)
+  all_found h = let p = page_found text tree tests shown no_limit from_start asks cells test told whole params tells xs rows h in ap (map whole) p.1 ∙ p.2

@@ -5,3 +5,4 @@ pub mod Tests
 pub mod ByColumns
 pub mod Asking
 pub mod Texts
+pub mod FoundCallers

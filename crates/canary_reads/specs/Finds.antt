@@ -1,7 +1,6 @@
 -- What a read does, and what it finds.
-use Rattle.std.specs.Prelude.{◌≡◌, List, ℕ, Result, IfOk}
-use Rattle.sqlite.specs.State.{State, Shown}
-use Rattle.sqlite_value.specs.Order.{Row}
+use Rattle.std.specs.Prelude.{◌≡◌, List, Option, slice_get, Result, IfOk}
+use Rattle.sqlite.specs.State.{State}
 use Rattle.canary_rows.specs.Tables.{Tables}
 use Rattle.canary_schema.specs.Stores.{IsUsable, Stores}
 
@@ -17,6 +16,5 @@ FindsSuch such old new result = IsUsable new → (t : Tables) → Stores old t �
 abbrev pub Finds : {A F : Type 0} → (Tables → A) → State → State → Result A F → Type 0
 Finds told = FindsSuch (λ t found. found ≡ told t)
 
--- it answers the rows that the text shows
-abbrev pub Shows : {F : Type 0} → List ℕ → Row → State → State → Result (List Row) F → Type 0
-Shows text params old new result = IsUsable new → IfOk result (Shown text params old new)
+abbrev pub first : {A : Type 0} → List A → Option A
+first xs = slice_get xs 0

@@ -2,6 +2,7 @@
 #![tactic(auto)]
 
 mod columns;
+pub mod callers;
 pub mod fault;
 mod query;
 mod shown;

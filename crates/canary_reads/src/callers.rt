@@ -1,0 +1,31 @@
+//! Callers, and what is kept of their requests.
+ghost use Rattle.std.specs.Prelude.{◌≡◌, false, filter, option_map};
+ghost use Rattle.sqlite.specs.Held.{state};
+ghost use Rattle.canary_rows.specs.Tables.{is_caller};
+ghost use Rattle.canary_reads.specs.Finds.{IsSame, Finds, first};
+
+use crate::fault::StoreFault;
+use crate::{query, shown};
+use canary_base::names::Name;
+use canary_rows::rows::CallerRow;
+use sqlite::{Alter, Connection, params};
+
+/// How many requests of the caller are settled, if it is known. `Memory` where there is not enough,
+/// `Storage` where the database fails or holds what no desk writes.
+pub fn settled<S: Alter>(
+    conn: &mut Connection<S>,
+    caller: &Name,
+) -> Result<Option<u32>, StoreFault>
+    requires autocommit { conn.old.in_transaction ≡ false }
+    ensures mode { conn.new.in_transaction ≡ false }
+    ensures same { IsSame (state S.Store conn.old) (state S.Store conn.new) }
+    ensures found { Finds (λ t. option_map (λ row. row.settled) (first (filter (is_caller caller.now) t.callers))) (state S.Store conn.old) (state S.Store conn.new) result }
+{
+    let rows = query::rows_of(
+        conn,
+        "SELECT settled FROM caller WHERE name = ?1 ORDER BY rowid",
+        params![caller.as_str()],
+    )?;
+    let found = shown::first::<CallerRow>(caller, rows.as_slice())?;
+    Ok(found.map(|row| row.settled))
+}
