@@ -68,7 +68,7 @@ module _ (lost : Value) (tree : ℕ) (tests shown : List Term) (order : List (Te
   abbrev q : Query
   q = query_of tree tests shown order limit offset
 
-  abbrev put_out : Row → Output
+  abbrev pub put_out : Row → Output
   put_out r = output (query_of tree tests shown order limit offset) (params ∷ r ∷ [])
 
   -- what passes the tests, with what it is sorted by, in the order of the query

@@ -4,5 +4,6 @@ pub mod Typed
 pub mod Tests
 pub mod ByColumns
 pub mod Asking
+pub mod Ordering
 pub mod Texts
 pub mod FoundCallers
