@@ -38,7 +38,7 @@ module _ {X Y : Type 0} (text : List ℕ) (tree : ℕ) (tests shown : List Term)
   page_found h = (
     map (shows shown params) (filter (passes tests params) (h.old.now.trees tree)),
     rowid_answer Null tree tests shown limit offset h.old.now.trees params rows h.numbered
-    ((reads_as text params h.old h.new desk_schema h.schema _ asks.is asks.plain asks.unlisted rows h.shows_rows).answer Null),
+        ((reads_as text params h.old h.new desk_schema h.schema _ asks.is asks.plain asks.unlisted rows h.shows_rows).answer Null),
     typed cells test told whole (passes tests params) (shows shown params) tells (h.old.now.trees tree) xs h.stored,
   )
 

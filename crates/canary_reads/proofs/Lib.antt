@@ -7,3 +7,6 @@ pub mod Asking
 pub mod Ordering
 pub mod Texts
 pub mod FoundCallers
+pub mod FoundServices
+pub mod FoundRuns
+pub mod FoundLines

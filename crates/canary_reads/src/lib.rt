@@ -1,8 +1,11 @@
 //! Reading the desk's tables: each query answers just what its rows say.
 #![tactic(auto)]
 
-mod columns;
 pub mod callers;
+mod columns;
 pub mod fault;
+pub mod histories;
 mod query;
+pub mod runs;
+pub mod services;
 mod shown;
