@@ -1,15 +1,14 @@
 -- What a query of one table answers.
-use Rattle.std.proofs.Common.{◌≡◌, ◌^◌, ℕ, pos, negsuc, List, [], ◌∷◌, ◌++◌, map, filter, take, drop, length, Bool, true, false, cond, if◌then◌else◌, Option, Some, None, unwrap_or, nat_le, refl, sym, ap, subst, ◌∙◌, IsSorted}
+use Rattle.std.proofs.Common.{◌≡◌, ◌^◌, ℕ, pos, negsuc, List, [], ◌∷◌, ◌++◌, map, filter, Bool, true, false, cond, if◌then◌else◌, Option, None, unwrap_or, nat_le, refl, ap, subst, ◌∙◌, IsSorted}
 use Rattle.std.specs.List.{flat_map, list_all}
 use Rattle.std.specs.declared.cmp.Ordering.TheVariants.{Less}
 use Rattle.std.specs.List.Sorted.{IsPermutation}
-use Rattle.std.proofs.lemmas.List.Sorted.{IsPermutation-map, IsPermutation-trans, IsPermutation-sym, IsPermutation-refl}
 use Rattle.sqlite.specs.declared.types.Value.{Value}
 use Rattle.sqlite.specs.declared.types.Value.TheVariants.{Int}
 use Rattle.sqlite.specs.Order.{Row, value_cmp}
-use Rattle.sqlite.specs.Term.{Term, Env, lit, col, eval_all, holds}
+use Rattle.sqlite.specs.Term.{Term, lit, col, eval_all, holds}
 use Rattle.sqlite.specs.Collation.TheVariants.{Binary}
-use Rattle.sqlite.specs.Query.{Query, inner, end, matches_as, IsAnswerAs, Output, output, output_cmp, page}
+use Rattle.sqlite.specs.Query.{Query, inner, end, IsAnswerAs, Output, output, output_cmp, page}
 use Rattle.sqlite.specs.Program.{overlay}
 use Rattle.sqlite.specs.Tree.{Trees, IsAscending, rowid}
 use Rattle.sqlite_sql.proofs.QueryLemmas.{output_cmp_total}

@@ -1,5 +1,5 @@
 -- A row by its columns.
-use Rattle.std.proofs.Common.{◌≡◌, ◌+◌, ℕ, suc, List, [], ◌∷◌, length, refl, sym, ap, ap₂, ◌∙◌, arith}
+use Rattle.std.proofs.Common.{◌≡◌, ℕ, suc, [], ◌∷◌, length, refl, sym, ap₂, arith}
 use Rattle.sqlite.specs.Order.{Row, column}
 
 -- the columns from one on are these cells

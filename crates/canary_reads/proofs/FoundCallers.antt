@@ -1,5 +1,5 @@
 -- What the queries on `caller` and on `kept` find.
-use Rattle.std.proofs.Common.{◌≡◌, ◌∷◌, [], ℕ, List, map, filter, Option, option_map, slice_get, refl, ap, subst, ◌∙◌}
+use Rattle.std.proofs.Common.{◌≡◌, ◌∷◌, [], ℕ, List, filter, Option, option_map, slice_get, refl, ap, subst, ◌∙◌}
 use Rattle.sqlite.specs.declared.types.Value.TheVariants.{Text as Words}
 use Rattle.sqlite.specs.Order.{Row}
 use Rattle.sqlite.specs.State.{State, Shown}

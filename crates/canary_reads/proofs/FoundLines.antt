@@ -1,6 +1,6 @@
 -- What the queries on `history` and on `measurement` find.
-use Rattle.std.proofs.Common.{◌≡◌, ◌∷◌, [], ℕ, zero, suc, pos, List, map, filter, take, drop, refl, sym, ap, ap₂, subst, ◌∙◌}
-use Rattle.sqlite.specs.declared.types.Value.TheVariants.{Null, Int, Text as Words}
+use Rattle.std.proofs.Common.{◌≡◌, ◌∷◌, [], ℕ, zero, suc, List, map, filter, take, drop, refl, sym, ap, subst, ◌∙◌}
+use Rattle.sqlite.specs.declared.types.Value.TheVariants.{Null, Text as Words}
 use Rattle.sqlite.specs.Order.{Row}
 use Rattle.sqlite.specs.Term.{col}
 use Rattle.sqlite.specs.State.{State, Shown}

@@ -1,6 +1,5 @@
 -- What the queries on `run` and on `tally` find.
-use Rattle.std.proofs.Common.{◌≡◌, ◌∷◌, ◌&&◌, [], ℕ, List, map, filter, Option, Some, None, option_map, slice_get, is_none, refl, sym, ap, ap₂, subst, ◌∙◌}
-use Rattle.std.specs.Str.{bytes_eq}
+use Rattle.std.proofs.Common.{◌≡◌, ◌∷◌, ◌&&◌, [], ℕ, List, map, filter, Option, Some, None, option_map, slice_get, refl, ap, ap₂, subst, ◌∙◌}
 use Rattle.sqlite.specs.declared.types.Value.TheVariants.{Text as Words}
 use Rattle.sqlite.specs.Order.{Row, column}
 use Rattle.sqlite.specs.State.{State, Shown}

@@ -1,5 +1,5 @@
 -- What the queries on `template` and on `service` find.
-use Rattle.std.proofs.Common.{◌≡◌, ◌∷◌, ◌==◌, [], ℕ, List, map, filter, length, not, Bool, true, false, Option, Some, None, option_map, slice_get, refl, sym, ap, subst, ◌∙◌, arith}
+use Rattle.std.proofs.Common.{◌≡◌, ◌∷◌, ◌==◌, [], ℕ, List, map, filter, length, not, Bool, true, false, Option, option_map, slice_get, refl, ap, subst, ◌∙◌, arith}
 use Rattle.std.specs.List.{list_any}
 use Rattle.sqlite_keyed.proofs.ListLemmas.{none_counted}
 use Rattle.sqlite.specs.declared.types.Value.TheVariants.{Text as Words}

@@ -1,5 +1,5 @@
 -- A query leaves the database as it is, whatever tables there are and whatever it answers.
-use Rattle.std.proofs.Common.{◌≡◌, ◌⊎◌, ◌+◌, if◌then◌else◌, inl, inr, ℕ, List, [], ◌∷◌, Bool, true, false, Vec, Global, Option, Some, None, Ok, Err, Result, IfOk, IfErr, IsTrue, refl, sym, ap, subst, ◌∙◌, arith}
+use Rattle.std.proofs.Common.{◌≡◌, ◌⊎◌, if◌then◌else◌, inl, inr, ℕ, List, Bool, true, false, Vec, Global, Option, Some, None, Ok, Err, Result, IfOk, IfErr, IsTrue, refl, sym, subst, ◌∙◌, arith}
 use Rattle.sqlite_ast.specs.declared.Statement.{Statement}
 use Rattle.sqlite_ast.specs.declared.Statement.TheVariants as written
 use Rattle.sqlite_syntax.specs.declared.statement.Parsed.{Parsed}
@@ -13,7 +13,6 @@ use Rattle.sqlite.specs.Schema.{Schema}
 use Rattle.sqlite.specs.Order.{Row}
 use Rattle.sqlite.specs.declared.error.Error.{Error}
 use Rattle.sqlite.specs.Clock.{timed as at_time}
-use Rattle.sqlite.specs.Effect.{Database}
 use Rattle.sqlite.specs.State.{State, HasCleanDisk, Survives, Shown, ShowsRows, FailsToQuery, FailsToShow, IsNotRun, IsUnchanged, IsRolledBack}
 use Rattle.sqlite.specs.Listing.{understood, reads_listing, if_select, is_select, listing_schema}
 use Rattle.canary_schema.specs.Stores.{IsUsable}

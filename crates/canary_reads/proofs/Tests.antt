@@ -1,9 +1,7 @@
 -- What a comparison in SQL says of a cell, as the tests of rows say it.
-use Rattle.std.proofs.Common.{◌≡◌, ◌&&◌, ◌==◌, ℕ, pos, List, [], ◌∷◌, Bool, true, false, Option, None, Some, is_none, refl, sym, ap, ap₂, ◌∙◌}
-use Rattle.std.specs.Bool.{Decides}
+use Rattle.std.proofs.Common.{◌≡◌, ◌&&◌, ◌==◌, ℕ, pos, List, Bool, true, false, Option, None, Some, is_none, refl, sym, ap, ap₂, ◌∙◌}
 use Rattle.std.specs.Ordering.{is_eq, int_eq}
 use Rattle.std.specs.Str.{bytes_eq}
-use Rattle.std.specs.Cmp.Lexicographic.{slice_cmp}
 use Rattle.std.proofs.lemmas.Bool.Decides.{same_from_decides, Decides-like, Decides-eqb, Decides-int_eq}
 use Rattle.std.proofs.lemmas.Slice.Eq.{bytes_eq-Decides}
 use Rattle.std.proofs.lemmas.Map.Text.{is_eq-slice_cmp}

@@ -1,5 +1,5 @@
 -- From the cells of a tree's rows to the rows of a table.
-use Rattle.std.proofs.Common.{◌≡◌, ℕ, List, [], ◌∷◌, map, filter, drop, if◌then◌else◌, Bool, true, false, Option, Some, None, slice_get, option_map, refl, sym, ap, ap₂, ◌∙◌}
+use Rattle.std.proofs.Common.{◌≡◌, List, [], ◌∷◌, map, filter, drop, if◌then◌else◌, Bool, true, false, Option, Some, None, slice_get, option_map, refl, sym, ap, ap₂, ◌∙◌}
 use Rattle.sqlite.specs.declared.types.Value.{Value}
 use Rattle.sqlite.specs.Order.{Row}
 

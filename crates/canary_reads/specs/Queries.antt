@@ -1,5 +1,5 @@
 -- Texts that only read, whatever tables there are.
-use Rattle.std.specs.Prelude.{◌≡◌, List, ℕ, Ok, Err, []}
+use Rattle.std.specs.Prelude.{List, ℕ, Ok, Err}
 use Rattle.sqlite_ast.specs.declared.Statement.{Statement}
 use Rattle.sqlite_ast.specs.declared.Statement.TheVariants as written
 use Rattle.sqlite_syntax.specs.declared.statement.Parsed.{Parsed}

@@ -16,7 +16,9 @@ pub fn settled<S: Alter>(conn: &mut Connection<S>, caller: &Name) -> Result<Opti
     requires autocommit { conn.old.in_transaction ≡ false }
     ensures mode { conn.new.in_transaction ≡ false }
     ensures same { IsSame (state S.Store conn.old) (state S.Store conn.new) }
-    ensures found { Finds (λ t. option_map (λ row. row.settled) (first (filter (is_caller caller.now) t.callers))) (state S.Store conn.old) (state S.Store conn.new) result }
+    ensures found { Finds
+        (λ t. option_map (λ row. row.settled) (first (filter (is_caller caller.now) t.callers)))
+        (state S.Store conn.old) (state S.Store conn.new) result }
 {
     let rows = query::rows_of(
         conn,
@@ -37,7 +39,8 @@ pub fn kept<S: Alter>(
     requires autocommit { conn.old.in_transaction ≡ false }
     ensures mode { conn.new.in_transaction ≡ false }
     ensures same { IsSame (state S.Store conn.old) (state S.Store conn.new) }
-    ensures found { Finds (λ t. first (filter (is_kept caller.now number) t.kept)) (state S.Store conn.old) (state S.Store conn.new) result }
+    ensures found { Finds (λ t. first (filter (is_kept caller.now number) t.kept))
+        (state S.Store conn.old) (state S.Store conn.new) result }
 {
     let rows = query::rows_of(
         conn,

@@ -12,8 +12,8 @@ use canary_rows::rows::{HistoryRow, MeasurementRow};
 use sqlite::{Alter, Connection, params};
 use std::alloc::Global;
 
-/// The lines of the service's history, in their order. `Memory` where there is not enough, `Storage`
-/// where the database fails or holds what no desk writes.
+/// The lines of the service's history, in their order. `Memory` where there is not enough,
+/// `Storage` where the database fails or holds what no desk writes.
 pub fn history<S: Alter>(
     conn: &mut Connection<S>,
     alloc: Global,
@@ -22,7 +22,8 @@ pub fn history<S: Alter>(
     requires autocommit { conn.old.in_transaction ≡ false }
     ensures mode { conn.new.in_transaction ≡ false }
     ensures same { IsSame (state S.Store conn.old) (state S.Store conn.new) }
-    ensures found { Finds (λ t. filter (is_line_of service.now) t.history) (state S.Store conn.old) (state S.Store conn.new) result }
+    ensures found { Finds (λ t. filter (is_line_of service.now) t.history)
+        (state S.Store conn.old) (state S.Store conn.new) result }
 {
     let rows = query::rows_of(
         conn,
@@ -32,9 +33,9 @@ pub fn history<S: Alter>(
     shown::all(alloc, service, rows.as_slice())
 }
 
-/// The measurements of the service's runs, in their order: from that one on, counted from 0, at most
-/// so many. `Memory` where there is not enough, `Storage` where the database fails or holds what no
-/// desk writes, and where `from` is 2^63 or more.
+/// The measurements of the service's runs, in their order: from that one on, counted from 0, at
+/// most so many. `Memory` where there is not enough, `Storage` where the database fails or holds
+/// what no desk writes, and where `from` is 2^63 or more.
 pub fn measurements<S: Alter>(
     conn: &mut Connection<S>,
     alloc: Global,
@@ -45,7 +46,9 @@ pub fn measurements<S: Alter>(
     requires autocommit { conn.old.in_transaction ≡ false }
     ensures mode { conn.new.in_transaction ≡ false }
     ensures same { IsSame (state S.Store conn.old) (state S.Store conn.new) }
-    ensures found { Finds (λ t. take most (drop from (filter (is_measurement_of service.now) t.measurements))) (state S.Store conn.old) (state S.Store conn.new) result }
+    ensures found { Finds
+        (λ t. take most (drop from (filter (is_measurement_of service.now) t.measurements)))
+        (state S.Store conn.old) (state S.Store conn.new) result }
 {
     let Ok(offset) = i64::try_from(from) else {
         return Err(StoreFault::Storage);

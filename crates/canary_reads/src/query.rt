@@ -21,7 +21,8 @@ pub(crate) fn rows_of<S: Alter>(
     requires query { IsQuery text.now }
     ensures mode { conn.new.in_transaction ≡ false }
     ensures same { IsSame (state S.Store conn.old) (state S.Store conn.new) }
-    ensures shown { IsUsable (state S.Store conn.new) → IfOk result (λ rows. Shown text.now (bound params.now) (state S.Store conn.old) (state S.Store conn.new) rows.items) }
+    ensures shown { IsUsable (state S.Store conn.new) → IfOk result (λ rows. Shown text.now
+        (bound params.now) (state S.Store conn.old) (state S.Store conn.new) rows.items) }
 {
     let _settled = conn.is_autocommit();
     match conn.query_all(text, params) {

@@ -23,7 +23,8 @@ pub fn run<S: Alter>(
     requires autocommit { conn.old.in_transaction ≡ false }
     ensures mode { conn.new.in_transaction ≡ false }
     ensures same { IsSame (state S.Store conn.old) (state S.Store conn.new) }
-    ensures found { Finds (λ t. first (filter (is_run service.now number) t.runs)) (state S.Store conn.old) (state S.Store conn.new) result }
+    ensures found { Finds (λ t. first (filter (is_run service.now number) t.runs))
+        (state S.Store conn.old) (state S.Store conn.new) result }
 {
     let rows = query::rows_of(
         conn,
@@ -44,7 +45,8 @@ pub fn open_runs<S: Alter>(
     requires autocommit { conn.old.in_transaction ≡ false }
     ensures mode { conn.new.in_transaction ≡ false }
     ensures same { IsSame (state S.Store conn.old) (state S.Store conn.new) }
-    ensures found { FindsSuch (λ t. Sorts number_of (filter (is_open_run_of service.now) t.runs)) (state S.Store conn.old) (state S.Store conn.new) result }
+    ensures found { FindsSuch (λ t. Sorts number_of (filter (is_open_run_of service.now) t.runs))
+        (state S.Store conn.old) (state S.Store conn.new) result }
 {
     let rows = query::rows_of(
         conn,
@@ -66,7 +68,9 @@ pub fn tallies<S: Alter>(
     requires autocommit { conn.old.in_transaction ≡ false }
     ensures mode { conn.new.in_transaction ≡ false }
     ensures same { IsSame (state S.Store conn.old) (state S.Store conn.new) }
-    ensures found { FindsSuch (λ t. Sorts metric_of (filter (is_tally_of service.now run) t.tallies)) (state S.Store conn.old) (state S.Store conn.new) result }
+    ensures found { FindsSuch
+        (λ t. Sorts metric_of (filter (is_tally_of service.now run) t.tallies))
+        (state S.Store conn.old) (state S.Store conn.new) result }
 {
     let rows = query::rows_of(
         conn,

@@ -18,7 +18,9 @@ pub fn template<S: Alter>(conn: &mut Connection<S>, name: &Name) -> Result<Optio
     requires autocommit { conn.old.in_transaction ≡ false }
     ensures mode { conn.new.in_transaction ≡ false }
     ensures same { IsSame (state S.Store conn.old) (state S.Store conn.new) }
-    ensures found { Finds (λ t. option_map (λ row. row.spec) (first (filter (is_template name.now) t.templates))) (state S.Store conn.old) (state S.Store conn.new) result }
+    ensures found { Finds
+        (λ t. option_map (λ row. row.spec) (first (filter (is_template name.now) t.templates)))
+        (state S.Store conn.old) (state S.Store conn.new) result }
 {
     let rows = query::rows_of(
         conn,
@@ -38,7 +40,8 @@ pub fn service<S: Alter>(
     requires autocommit { conn.old.in_transaction ≡ false }
     ensures mode { conn.new.in_transaction ≡ false }
     ensures same { IsSame (state S.Store conn.old) (state S.Store conn.new) }
-    ensures found { Finds (λ t. first (filter (is_service name.now) t.services)) (state S.Store conn.old) (state S.Store conn.new) result }
+    ensures found { Finds (λ t. first (filter (is_service name.now) t.services))
+        (state S.Store conn.old) (state S.Store conn.new) result }
 {
     let rows = query::rows_of(
         conn,
@@ -55,7 +58,8 @@ pub fn has_service<S: Alter>(conn: &mut Connection<S>, name: &Name) -> Result<bo
     requires autocommit { conn.old.in_transaction ≡ false }
     ensures mode { conn.new.in_transaction ≡ false }
     ensures same { IsSame (state S.Store conn.old) (state S.Store conn.new) }
-    ensures found { Finds (λ t. list_any (is_service name.now) t.services) (state S.Store conn.old) (state S.Store conn.new) result }
+    ensures found { Finds (λ t. list_any (is_service name.now) t.services)
+        (state S.Store conn.old) (state S.Store conn.new) result }
 {
     let rows = query::rows_of(
         conn,

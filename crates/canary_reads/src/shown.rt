@@ -1,5 +1,6 @@
 //! Rows of tables, each read from the columns that a query shows to one who knows its name.
-ghost use Rattle.std.specs.Prelude.{◌≡◌, ℕ, List, IfOk, ◌∷◌, length, map, option_map, slice_get};
+ghost use Rattle.std.specs.Prelude.{◌≡◌, ◌∷◌, ℕ, List, IfOk, length, map, option_map};
+ghost use Rattle.std.specs.Prelude.{slice_get};
 ghost use Rattle.sqlite.specs.Order.{Row as Cells, column};
 ghost use Rattle.canary_reads.specs.Parts.{standing_cells, counts_cells};
 
@@ -170,7 +171,8 @@ impl Shown for TallyRow {
 // The counts, behind the run and the metric.
 fn counts(row: &Row) -> Result<Tally, StoreFault>
     requires { length row.now ≡ 8 }
-    ensures { IfOk result (λ c. row.now ≡ column row.now 0 ∷ column row.now 1 ∷ counts_cells c) }
+    ensures { IfOk result (λ c. row.now
+        ≡ column row.now 0 ∷ column row.now 1 ∷ counts_cells c) }
 {
     let counted = columns::number_at(row, 2)?;
     let failed = columns::number_at(row, 3)?;
@@ -228,7 +230,8 @@ impl Shown for HistoryRow {
 
 /// The first of the rows, if there is one.
 pub(crate) fn first<R: Shown>(name: &Name, rows: &[Row]) -> Result<Option<R>, StoreFault>
-    ensures { IfOk result (λ found. option_map R.cells found ≡ option_map (R.whole name.now) (slice_get rows.now 0)) }
+    ensures { IfOk result (λ found. option_map R.cells found
+        ≡ option_map (R.whole name.now) (slice_get rows.now 0)) }
 {
     match rows.first() {
         Some(row) => Ok(Some(R::read(name, row)?)),

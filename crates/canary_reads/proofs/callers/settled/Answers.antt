@@ -1,4 +1,4 @@
-use Rattle.std.proofs.Common.{◌≡◌, Option, option_map, ap, ◌∙◌, rules}
+use Rattle.std.proofs.Common.{◌≡◌, option_map, ap, ◌∙◌, rules}
 use Rattle.sqlite.specs.Held.{state}
 use Rattle.canary_rows.specs.declared.rows.CallerRow.{CallerRow}
 use Rattle.canary_reads.proofs.Texts.{settled_query}

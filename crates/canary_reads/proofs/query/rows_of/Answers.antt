@@ -1,4 +1,4 @@
-use Rattle.std.proofs.Common.{◌≡◌, rules}
+use Rattle.std.proofs.Common.{rules}
 use Rattle.sqlite.specs.Held.{state}
 use Rattle.canary_reads.proofs.Queries.{keeps}
 use Rattle.canary_reads.proofs.query.rows_of.Goals as goal

@@ -1,5 +1,4 @@
 use Rattle.std.proofs.Common.{◌≡◌, ◌==◌, length, not, ap, ◌∙◌, rules}
-use Rattle.std.proofs.lemmas.Result.{IfOk-weaker}
 use Rattle.sqlite.specs.Held.{state}
 use Rattle.canary_reads.proofs.Texts.{has_service_query}
 use Rattle.canary_reads.proofs.FoundServices.{has_service_found}

@@ -1,5 +1,4 @@
-use Rattle.std.proofs.Common.{◌≡◌, Option, option_map, ap, ◌∙◌, rules}
-use Rattle.std.proofs.lemmas.Result.{IfOk-weaker}
+use Rattle.std.proofs.Common.{◌≡◌, option_map, ap, ◌∙◌, rules}
 use Rattle.sqlite.specs.Held.{state}
 use Rattle.canary_rows.specs.declared.rows.TemplateRow.{TemplateRow}
 use Rattle.canary_reads.proofs.Texts.{template_query}

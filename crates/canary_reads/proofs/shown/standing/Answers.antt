@@ -1,4 +1,4 @@
-use Rattle.std.proofs.Common.{◌≡◌, ◌∷◌, refl, sym}
+use Rattle.std.proofs.Common.{refl, sym}
 use Rattle.canary_reads.proofs.ByColumns.{columns_are}
 use Rattle.canary_reads.proofs.shown.standing.Goals as goal
 

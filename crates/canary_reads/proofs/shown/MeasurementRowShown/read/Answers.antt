@@ -1,4 +1,4 @@
-use Rattle.std.proofs.Common.{◌≡◌, ◌∷◌, ap}
+use Rattle.std.proofs.Common.{◌∷◌, ap}
 use Rattle.sqlite.specs.declared.types.Value.TheVariants.{Null, Text as Words}
 use Rattle.canary_reads.proofs.ByColumns.{columns_are}
 use Rattle.canary_reads.proofs.shown.MeasurementRowShown.read.Goals as goal
