@@ -10,7 +10,3 @@ AscendByMetric rows = IsNonDecreasingBy (λ (row : TallyRow). row.metric) rows
 
 abbrev pub AscendByNumber : List RunRow → Type 0
 AscendByNumber rows = IsNonDecreasingBy (λ (row : RunRow). row.number) rows
-
--- the tally is of that run
-abbrev pub is_tally_of : List ℕ → ℕ → TallyRow → Bool
-is_tally_of service run row = bytes_eq service row.service && run == row.run
