@@ -1,6 +1,5 @@
 -- Rows in the order of a number of theirs.
-use Rattle.std.specs.Prelude.{◌≤◌, ◌==◌, ◌&&◌, ℕ, Bool, List}
-use Rattle.std.specs.Str.{bytes_eq}
+use Rattle.std.specs.Prelude.{◌≤◌, ℕ, List}
 use Rattle.std.specs.List.Sorted.{IsPermutation}
 use Rattle.sqlite.specs.Tree.{IsAscending}
 use Rattle.canary_rows.specs.declared.rows.RunRow.{RunRow}
