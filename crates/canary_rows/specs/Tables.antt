@@ -47,6 +47,9 @@ is_open_run_of service row = bytes_eq service row.service && is_none row.ending.
 abbrev pub is_tally : List ℕ → ℕ → ℕ → TallyRow → Bool
 is_tally service run metric row = bytes_eq service row.service && (run == row.run && metric == row.metric)
 
+abbrev pub is_tally_of : List ℕ → ℕ → TallyRow → Bool
+is_tally_of service run row = bytes_eq service row.service && run == row.run
+
 abbrev pub is_measurement_of : List ℕ → MeasurementRow → Bool
 is_measurement_of service row = bytes_eq service row.service
 

@@ -24,7 +24,8 @@ use Rattle.canary_rows.specs.Tables.{Tables, is_run, is_open_run_of, is_tally}
 use Rattle.canary_stored.specs.Values.{made_from, run_row, tally_row, ending_of, service_row}
 use Rattle.canary_stored.specs.Tables.{row_if, run_at, tally_rows_of, IsReadableRun}
 use Rattle.canary_stored.specs.Reading.{contents_of, HoldsContents}
-use Rattle.canary_stored.specs.Ordered.{AscendByMetric, AscendByNumber, is_tally_of}
+use Rattle.canary_stored.specs.Ordered.{AscendByMetric, AscendByNumber}
+use Rattle.canary_rows.specs.Tables.{is_tally_of}
 use Rattle.canary_stored.specs.Finding.{first_row, IsFound, tallies_told, tallies_of, record_closed, record_of_row, open_run_of, parts_standing, parts_made, parts_of_row}
 use Rattle.canary_stored.specs.Laws.{TalliesAreFound, RunsAreFound, OpenRunsAreFound, ServicesAreFound}
 use Rattle.canary_stored.proofs.Keys.{optional}

@@ -15,7 +15,8 @@ use Rattle.canary_rows.specs.Tables.{Tables, no_tables, is_caller, is_kept, is_t
 use Rattle.canary_stored.specs.Values.{receipt_of_row, template_of_row, measurement_of_row, line_of_row}
 use Rattle.canary_stored.specs.Tables.{AreRows, IsReadable}
 use Rattle.canary_stored.specs.Reading.{contents_of, HoldsContents}
-use Rattle.canary_stored.specs.Ordered.{AscendByMetric, AscendByNumber, is_tally_of}
+use Rattle.canary_stored.specs.Ordered.{AscendByMetric, AscendByNumber}
+use Rattle.canary_rows.specs.Tables.{is_tally_of}
 use Rattle.canary_stored.specs.Finding.{first_row, IsFound, AreRead, settled_by, tallies_of, record_of_row, open_run_of, parts_of_row}
 use Rattle.canary_stored.specs.Settling.{request_settled, RequestAsks, IsReadableSettlement}
 

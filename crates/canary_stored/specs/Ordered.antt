@@ -1,7 +1,6 @@
 -- Rows in the order in which a query asks for them. Rows of one key stand in any order.
-use Rattle.std.specs.Prelude.{ℕ, ◌==◌, ◌&&◌, Bool, List}
+use Rattle.std.specs.Prelude.{List}
 use Rattle.std.specs.List.Sorted.{IsNonDecreasingBy}
-use Rattle.std.specs.Str.{bytes_eq}
 use Rattle.canary_rows.specs.declared.rows.RunRow.{RunRow}
 use Rattle.canary_rows.specs.declared.rows.TallyRow.{TallyRow}
 
@@ -10,7 +9,3 @@ AscendByMetric rows = IsNonDecreasingBy (λ (row : TallyRow). row.metric) rows
 
 abbrev pub AscendByNumber : List RunRow → Type 0
 AscendByNumber rows = IsNonDecreasingBy (λ (row : RunRow). row.number) rows
-
--- the tally is of that run
-abbrev pub is_tally_of : List ℕ → ℕ → TallyRow → Bool
-is_tally_of service run row = bytes_eq service row.service && run == row.run

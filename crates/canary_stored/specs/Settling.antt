@@ -1,8 +1,7 @@
 -- What the statements of one settled request make of the tables, and what they ask of them.
-use Rattle.std.specs.Prelude.{◌≡◌, ◌==◌, ℕ, zero, suc, Bool, true, false, if◌then◌else◌, List, [], ◌∷◌, Some, None}
+use Rattle.std.specs.Prelude.{◌≡◌, ◌==◌, ℕ, Bool, true, false, if◌then◌else◌, List, [], ◌∷◌, Some, None}
 use Rattle.std.specs.List.{AllByRecursion, list_any}
 use Rattle.canary_condition.specs.PhaseTexts.{phase_of_number}
-use Rattle.canary_metric.specs.Counts.{counts}
 use Rattle.canary_plan.specs.declared.command.Command.{Command}
 use Rattle.canary_canonical.specs.Texts.{command_text}
 use Rattle.canary_release.specs.declared.effect.Effect.{Effect}
@@ -13,9 +12,9 @@ use Rattle.canary_release.specs.declared.decide.DeskChange.{DeskChange}
 use Rattle.canary_release.specs.declared.decide.DeskChange.TheVariants.{Nothing, Template as AddsTemplate, Service as Updates}
 use Rattle.canary_once.specs.declared.book.Settlement.{Settlement}
 use Rattle.canary_rows.specs.Tables.{Tables, is_service}
-use Rattle.canary_rows.specs.Changes.{with_caller, with_settled, with_kept, with_template, with_service, with_standing, with_run, with_tally, with_measurement, with_counted, with_ending, with_line, tallies_opened, HasCaller, HasService, HasRun, HasTally}
+use Rattle.canary_rows.specs.Changes.{with_caller, with_settled, with_kept, with_template, with_service, with_standing, with_run, with_measurement, with_counted, with_ending, with_line, tallies_opened, HasCaller, HasService, HasRun, HasTally}
 use Rattle.canary_stored.specs.Numbers.{phase_column}
-use Rattle.canary_stored.specs.Values.{caller_row, kept_row, standing_of, ending_of, tally_row, measurement_row, history_row}
+use Rattle.canary_stored.specs.Values.{caller_row, kept_row, standing_of, ending_of, measurement_row, history_row}
 use Rattle.canary_stored.specs.Tables.{IsReadableCommand, IsReadableMeasurement, IsReadableLine}
 
 -- so many requests of the caller are settled now

@@ -1,0 +1,12 @@
+pub mod Queries
+pub mod Answer
+pub mod Typed
+pub mod Tests
+pub mod ByColumns
+pub mod Asking
+pub mod Ordering
+pub mod Texts
+pub mod FoundCallers
+pub mod FoundServices
+pub mod FoundRuns
+pub mod FoundLines

@@ -1,0 +1,4 @@
+pub mod Queries
+pub mod Finds
+pub mod Parts
+pub mod Sorts

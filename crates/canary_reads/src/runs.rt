@@ -1,0 +1,83 @@
+//! Runs, and the counts of their metrics.
+ghost use Rattle.std.specs.Prelude.{◌≡◌, false, filter};
+ghost use Rattle.sqlite.specs.Held.{state};
+ghost use Rattle.canary_rows.specs.Tables.{is_run, is_open_run_of};
+ghost use Rattle.canary_reads.specs.Finds.{IsSame, Finds, FindsSuch, first};
+ghost use Rattle.canary_reads.specs.Sorts.{Sorts, number_of, metric_of};
+ghost use Rattle.canary_rows.specs.Tables.{is_tally_of};
+
+use canary_schema::fault::StoreFault;
+use crate::{query, shown};
+use canary_base::lists::Listed;
+use canary_base::names::Name;
+use canary_rows::rows::{RunRow, TallyRow};
+use sqlite::{Alter, Connection, params};
+use std::alloc::Global;
+
+/// The run of the service under that number, if there is one. `Memory` where there is not enough,
+/// `Storage` where the database fails or holds what no desk writes.
+pub fn run<S: Alter>(
+    conn: &mut Connection<S>,
+    service: &Name,
+    number: u32,
+) -> Result<Option<RunRow>, StoreFault>
+    requires autocommit { conn.old.in_transaction ≡ false }
+    ensures mode { conn.new.in_transaction ≡ false }
+    ensures same { IsSame (state S.Store conn.old) (state S.Store conn.new) }
+    ensures found { Finds (λ t. first (filter (is_run service.now number) t.runs))
+        (state S.Store conn.old) (state S.Store conn.new) result }
+{
+    let rows = query::rows_of(
+        conn,
+        "SELECT number, step, started, closed, outside, verdict FROM run \
+         WHERE service = ?1 AND number = ?2 ORDER BY rowid",
+        params![service.as_str(), number],
+    )?;
+    shown::first(service, rows.as_slice())
+}
+
+/// The open runs of the service, by their numbers. `Memory` where there is not enough, `Storage`
+/// where the database fails or holds what no desk writes.
+pub fn open_runs<S: Alter>(
+    conn: &mut Connection<S>,
+    alloc: Global,
+    service: &Name,
+) -> Result<Listed<RunRow>, StoreFault>
+    requires autocommit { conn.old.in_transaction ≡ false }
+    ensures mode { conn.new.in_transaction ≡ false }
+    ensures same { IsSame (state S.Store conn.old) (state S.Store conn.new) }
+    ensures found { FindsSuch (λ t. Sorts number_of (filter (is_open_run_of service.now) t.runs))
+        (state S.Store conn.old) (state S.Store conn.new) result }
+{
+    let rows = query::rows_of(
+        conn,
+        "SELECT number, step, started, closed, outside, verdict FROM run \
+         WHERE service = ?1 AND closed IS NULL ORDER BY number",
+        params![service.as_str()],
+    )?;
+    shown::all(alloc, service, rows.as_slice())
+}
+
+/// The counts of a run's metrics, by the places of the metrics. `Memory` where there is not enough,
+/// `Storage` where the database fails or holds what no desk writes.
+pub fn tallies<S: Alter>(
+    conn: &mut Connection<S>,
+    alloc: Global,
+    service: &Name,
+    run: u32,
+) -> Result<Listed<TallyRow>, StoreFault>
+    requires autocommit { conn.old.in_transaction ≡ false }
+    ensures mode { conn.new.in_transaction ≡ false }
+    ensures same { IsSame (state S.Store conn.old) (state S.Store conn.new) }
+    ensures found { FindsSuch
+        (λ t. Sorts metric_of (filter (is_tally_of service.now run) t.tallies))
+        (state S.Store conn.old) (state S.Store conn.new) result }
+{
+    let rows = query::rows_of(
+        conn,
+        "SELECT run, metric, counted, failed, inconclusive, errors, consecutive, last FROM tally \
+         WHERE service = ?1 AND run = ?2 ORDER BY metric",
+        params![service.as_str(), run],
+    )?;
+    shown::all(alloc, service, rows.as_slice())
+}
