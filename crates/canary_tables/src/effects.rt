@@ -106,8 +106,7 @@ fn measure<S: Alter>(
     let row = measurement_row(alloc, service, recorded)?;
     insert_measurement(tx, &row).map_err(fault_of)?;
     let (run, metric) = (recorded.run, recorded.metric);
-    count_measurement(tx, service, run, metric, recorded.phase, recorded.taken)
-        .map_err(fault_of)?;
+    count_measurement(tx, service, run, metric, recorded.phase, recorded.taken).map_err(fault_of)?;
     Ok(())
 }
 
