@@ -1,1 +1,2 @@
 pub mod Happening
+pub mod Committing
