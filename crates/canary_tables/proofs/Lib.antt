@@ -1,2 +1,3 @@
 pub mod Happening
 pub mod Committing
+pub mod Settling

@@ -3,3 +3,4 @@
 
 mod commit;
 mod effects;
+mod settle;
