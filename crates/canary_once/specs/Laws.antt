@@ -8,8 +8,9 @@ use Rattle.canary_once.specs.declared.event.Request.{Request}
 use Rattle.canary_once.specs.declared.event.Query.{Query}
 use Rattle.canary_once.specs.declared.event.Event.{Event}
 use Rattle.canary_once.specs.declared.event.Event.TheVariants as event
-use Rattle.canary_once.specs.Contents.{Contents, count_of, receipt_at, IsSettledStatus, KeepsSettled}
-use Rattle.canary_once.specs.Sound.{AreSoundContents}
+use Rattle.canary_once.specs.declared.book.Settlement.{Settlement}
+use Rattle.canary_once.specs.Contents.{Contents, count_of, receipt_at, IsSettledStatus, KeepsSettled, KeepsReceipts, with_settlement, IsSettling}
+use Rattle.canary_once.specs.Sound.{AreContents, AreSoundContents}
 use Rattle.canary_once.specs.Answers.{is_of, is_new, news_of, settled_requests, answer, answer_request, answers_of, after, repeat_reply}
 use Rattle.canary_once.specs.Single.{reply_to, after_one}
 
@@ -77,3 +78,12 @@ QueriesChangeNothing = (c : Contents) (moment : ℕ) (query : Query) → after c
 -- a desk in order stays in order, and sound contents stay sound
 abbrev pub StaysSound : Type 0
 StaysSound = (c : Contents) (es : List Event) → AreInOrder c.desk → AreInOrder (after c es).desk × (AreSoundContents c → AreSoundContents (after c es))
+
+-- a settled request keeps what holds of all contents, sound contents sound, and each receipt
+pub record SettledKeeps (c : Contents) (s : Settlement) : Type 0 where
+  pub lawful : AreContents (with_settlement c s)
+  pub sound : AreSoundContents c → AreSoundContents (with_settlement c s)
+  pub receipts : KeepsReceipts c (with_settlement c s)
+
+abbrev pub SettlementsKeep : Type 0
+SettlementsKeep = (c : Contents) (s : Settlement) → s.number ≤ 1000000000 → IsSettling c s → AreContents c → SettledKeeps c s

@@ -3,7 +3,7 @@ ghost use Rattle.canary_once.specs.Laws.{NewAreOfTheMachine, EachOnce, OneReques
 ghost use Rattle.canary_once.specs.Laws.{NoneIsAhead, ConflictsChangeNothing};
 ghost use Rattle.canary_once.specs.Laws.{RefusalsLeaveTheDesk, StaysSettled};
 ghost use Rattle.canary_once.specs.Laws.{RequestsAreAnswered, QueriesAreAnswered};
-ghost use Rattle.canary_once.specs.Laws.{QueriesChangeNothing, StaysSound};
+ghost use Rattle.canary_once.specs.Laws.{QueriesChangeNothing, StaysSound, SettlementsKeep};
 ghost use Rattle.canary_once.specs.Contents.{no_contents, KeepsSettled};
 ghost use Rattle.canary_once.specs.Sound.{AreContents, AreSoundContents};
 ghost use Rattle.canary_once.specs.Books.{AreSure};
@@ -71,6 +71,16 @@ pub fn soundness()
 {
     laws::in_order();
     laws::sound();
+}
+
+/// A settled request keeps what holds of all contents, and each receipt that is there; and sound
+/// contents stay sound.
+pub fn settlements()
+    ensures { SettlementsKeep }
+{
+    laws::in_order();
+    laws::sound();
+    laws::refusals();
 }
 
 /// The store of a book in memory is honest, and memory alone, and the book is sure, however it came
