@@ -1,3 +1,4 @@
 pub mod Happening
 pub mod Committing
 pub mod Settling
+pub mod Booked

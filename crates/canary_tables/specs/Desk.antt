@@ -1,8 +1,12 @@
 -- When a database is a desk's, and what it contains.
+use Rattle.std.specs.Prelude.{◌≡◌, false}
+use Rattle.sqlite.specs.Held.{Held, state}
 use Rattle.sqlite.specs.State.{State}
+use Rattle.sqlite_trees.specs.declared.store.Store.{Ghosts}
 use Rattle.canary_once.specs.Contents.{Contents}
+use Rattle.canary_once.specs.Books.{BookState}
 use Rattle.canary_schema.specs.Cells.{tables_in}
-use Rattle.canary_schema.specs.Stores.{Stores}
+use Rattle.canary_schema.specs.Stores.{IsUsable, Stores}
 use Rattle.canary_stored.specs.Reading.{contents_of, HoldsContents}
 
 -- what a database contains, whatever it is
@@ -13,3 +17,16 @@ contents_in s = contents_of (tables_in s.now.trees)
 pub record IsDesk (s : State) : Type 0 where
   pub stores : Stores s (tables_in s.now.trees)
   pub holds : HoldsContents (tables_in s.now.trees)
+
+-- a kind of store in which nothing is ever lost or misread, as memory alone
+abbrev pub IsMemory : {S : Type 0} → Ghosts S → Type 0
+IsMemory {S} g = (h : Held S) → IsUsable (state g h)
+
+-- how a book over a connection stands: its store is honest where the connection is usable
+abbrev pub book_state : {S : Type 0} → Ghosts S → Held S → BookState
+book_state g h = record { contents = contents_in (state g h); is_intact = IsUsable (state g h); is_in_memory = IsMemory g; is_sure = false }
+
+-- a book's connection stands outside a transaction, over a desk's database
+pub record IsBook {S : Type 0} (g : Ghosts S) (h : Held S) : Type 0 where
+  pub autocommit : h.in_transaction ≡ false
+  pub desk : IsUsable (state g h) → IsDesk (state g h)

@@ -1,6 +1,7 @@
 //! A book whose contents are the rows of nine tables of SQLite.
 #![tactic(auto)]
 
+pub mod book;
 mod commit;
 mod effects;
 mod settle;

@@ -1,0 +1,104 @@
+//! A book over a connection to SQLite.
+ghost use Rattle.std.specs.Prelude.{◌≡◌};
+ghost use Rattle.canary_once.specs.declared.book.BookFault.TheVariants as book_fault;
+ghost use Rattle.canary_schema.specs.declared.fault.StoreFault.TheVariants as store_fault;
+
+use crate::settle::settle;
+use canary_base::lists::Listed;
+use canary_base::names::Name;
+use canary_base::numbers::Number;
+use canary_once::book::{Book, BookFault, Receipt, Settlement};
+use canary_once::laws;
+use canary_once::record::RunRecord;
+use canary_plan::line::Line;
+use canary_plan::templates::Templates;
+use canary_release::effect::Recorded;
+use canary_release::service::Service;
+use canary_schema::fault::StoreFault;
+use sqlite::{Alter, Connection};
+use std::alloc::Global;
+use std::marker::Model;
+
+/// The book whose contents are the rows of nine tables. Nobody else writes them meanwhile.
+#[derive(Drop)]
+pub struct TableBook<S: Alter> {
+    alloc: Global,
+    conn: Connection<S>,
+}
+
+impl<S: Alter> Model for TableBook<S> {
+    ghost use Rattle.sqlite.specs.Held.{Held, held_code};
+    ghost use Rattle.canary_tables.specs.Desk.{IsBook};
+
+    ghost Value = { Held S };
+
+    ghost coded = { held_code S.code };
+
+    ghost view = { λ b. b.conn };
+
+    ghost invariant = { λ b. IsBook S.Store b.conn };
+}
+
+fn book_fault(fault: StoreFault) -> BookFault {
+    match fault {
+        StoreFault::Memory => BookFault::Memory,
+        StoreFault::Storage => BookFault::Storage,
+    }
+}
+
+impl<S: Alter> TableBook<S> {
+    /// The connection, with the same tables; it takes no memory.
+    pub fn into_connection(self) -> Connection<S>
+        ensures { result ≡ self }
+    {
+        self.conn
+    }
+}
+
+impl<S: Alter> Book for TableBook<S> {
+    ghost use Rattle.canary_tables.specs.Desk.{book_state};
+
+    ghost state = { book_state S.Store };
+
+    fn settled(&mut self, _caller: &Name) -> Result<u32, BookFault> {
+        Err(BookFault::Storage)
+    }
+
+    fn receipt(&mut self, _caller: &Name, _number: Number) -> Result<Option<Receipt>, BookFault> {
+        Err(BookFault::Storage)
+    }
+
+    fn templates(&mut self, _names: &[Name]) -> Result<Templates, BookFault> {
+        Err(BookFault::Storage)
+    }
+
+    fn service(&mut self, _name: &Name) -> Result<Option<Service>, BookFault> {
+        Err(BookFault::Storage)
+    }
+
+    fn history(&mut self, _name: &Name) -> Result<Listed<Line>, BookFault> {
+        Err(BookFault::Storage)
+    }
+
+    fn run(&mut self, _name: &Name, _number: Number) -> Result<Option<RunRecord>, BookFault> {
+        Err(BookFault::Storage)
+    }
+
+    fn measurements(
+        &mut self,
+        _name: &Name,
+        _from: u64,
+        _most: u32,
+    ) -> Result<Listed<Recorded>, BookFault> {
+        Err(BookFault::Storage)
+    }
+
+    fn commit(&mut self, settlement: Settlement) -> Result<(), BookFault> {
+        laws::settlements();
+        let _ = settlement.number.get();
+        match settle(&mut self.conn, self.alloc, &settlement) {
+            Ok(()) => Ok(()),
+            Err(fault) => Err(book_fault(fault)),
+        }
+    }
+}
