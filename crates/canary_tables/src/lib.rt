@@ -1,0 +1,5 @@
+//! A book whose contents are the rows of nine tables of SQLite.
+#![tactic(auto)]
+
+mod found;
+mod pages;
