@@ -38,7 +38,7 @@ pub(crate) fn count<S: Alter>(conn: &mut Connection<S>, caller: &Name) -> Result
     ensures mode { conn.new.in_transaction ≡ false }
     ensures same { IsSame (state S.Store conn.old) (state S.Store conn.new) }
     ensures found { IsUsable (state S.Store conn.new) → IfOk result
-        (λ n. n ≡ count_of (contents_in (state S.Store conn.old)) caller.now) }
+        (λ count. count ≡ count_of (contents_in (state S.Store conn.old)) caller.now) }
 {
     laws::counts_found();
     let settled = callers::settled(conn, caller)?;
@@ -75,8 +75,6 @@ fn receipt_of(alloc: Global, row: Option<KeptRow>) -> Result<Option<Receipt>, St
     let Some(row) = row else {
         return Ok(None);
     };
-    match reading::receipt(alloc, row) {
-        Ok(receipt) => Ok(Some(receipt)),
-        Err(fault) => Err(store_fault(fault)),
-    }
+    let receipt = reading::receipt(alloc, row).map_err(store_fault)?;
+    Ok(Some(receipt))
 }

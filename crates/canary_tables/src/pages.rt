@@ -1,6 +1,7 @@
 //! Lists of what is kept of a service, as the tables tell them.
-ghost use Rattle.std.specs.Prelude.{◌≡◌, false, Some, map, IfOk};
+ghost use Rattle.std.specs.Prelude.{◌≡◌, ◌∷◌, ◌++◌, [], false, Some, map, IfOk};
 ghost use Rattle.sqlite.specs.Held.{state};
+ghost use Rattle.canary_plan.specs.Lines.{line_at};
 ghost use Rattle.canary_once.specs.Records.{history_of, measurements_of};
 ghost use Rattle.canary_schema.specs.Stores.{IsUsable};
 ghost use Rattle.canary_reads.specs.Finds.{IsSame};
@@ -9,8 +10,9 @@ ghost use Rattle.canary_tables.specs.Desk.{IsDesk, contents_in};
 
 use crate::found::store_fault;
 use canary_base::lists::Listed;
+use canary_base::moments::Moment;
 use canary_base::names::Name;
-use canary_plan::line::Line;
+use canary_plan::line::{Line, LineEvent};
 use canary_reads::histories;
 use canary_release::effect::Recorded;
 use canary_rows::rows::{HistoryRow, MeasurementRow};
@@ -47,18 +49,30 @@ fn lines_of(alloc: Global, rows: &[HistoryRow]) -> Result<Listed<Line>, StoreFau
 {
     let mut lines = Listed::of(Vec::new(alloc));
     for row in rows {
-        lines.push(line(row)?)?;
+        lines = with_line(lines, row)?;
     }
     Ok(lines)
 }
 
-fn line(row: &HistoryRow) -> Result<Line, StoreFault>
-    ensures { IfOk result (λ line. line_of_row row.now ≡ Some line) }
+fn with_line(lines: Listed<Line>, row: &HistoryRow) -> Result<Listed<Line>, StoreFault>
+    ensures { IfOk result (λ longer. map Some longer ≡ map Some lines ++ line_of_row row.now ∷ []) }
 {
     match reading::line(row) {
-        Ok(line) => Ok(line),
+        Ok(line) => push_line(lines, line.moment, line.event),
         Err(fault) => Err(store_fault(fault)),
     }
+}
+
+fn push_line(
+    lines: Listed<Line>,
+    moment: Moment,
+    event: LineEvent,
+) -> Result<Listed<Line>, StoreFault>
+    ensures { IfOk result (λ longer. longer ≡ lines ++ line_at moment event ∷ []) }
+{
+    let mut lines = lines;
+    lines.push(Line { moment, event })?;
+    Ok(lines)
 }
 
 /// A page of a service's measurements, of all its runs in the order in which they were recorded:
@@ -93,16 +107,7 @@ fn measurements_of(alloc: Global, rows: &[MeasurementRow]) -> Result<Listed<Reco
 {
     let mut page = Listed::of(Vec::new(alloc));
     for row in rows {
-        page.push(measurement(alloc, row)?)?;
+        page.push(reading::measurement(alloc, row).map_err(store_fault)?)?;
     }
     Ok(page)
-}
-
-fn measurement(alloc: Global, row: &MeasurementRow) -> Result<Recorded, StoreFault>
-    ensures { IfOk result (λ recorded. measurement_of_row row.now ≡ Some recorded) }
-{
-    match reading::measurement(alloc, row) {
-        Ok(recorded) => Ok(recorded),
-        Err(fault) => Err(store_fault(fault)),
-    }
 }
