@@ -2,8 +2,11 @@
 ghost use Rattle.std.specs.Prelude.{◌≡◌, IfOk, Some};
 ghost use Rattle.canary_plan.specs.Commands.{same_command};
 ghost use Rattle.canary_canonical.specs.Texts.{command_text};
-ghost use Rattle.canary_canonical.specs.Readings.{canonical_in, IsCanonical};
+ghost use Rattle.canary_canonical.specs.Readings.{canonical_in};
+ghost use Rattle.canary_canonical.specs.Reads.{IsRead};
 
+use crate::form::FormFault;
+use crate::reading::from_canonical;
 use crate::writing;
 use canary_base::error::Memory;
 use canary_base::lists::Text;
@@ -38,13 +41,15 @@ impl CanonicalCommand {
         Ok(CanonicalCommand { text })
     }
 
-    /// The command with this text, which is known to be canonical: a store gives it back. The text
-    /// is not read.
-    pub fn known(text: Text) -> CanonicalCommand
-        requires { IsCanonical text }
-        ensures { canonical_in text ≡ Some result }
+    /// The command with this text, which is kept.
+    ///
+    /// # Errors
+    /// `Unreadable` where the text is no command's canonical text; `Memory`.
+    pub fn read(alloc: Global, text: Text) -> Result<CanonicalCommand, FormFault>
+        ensures { IsRead (canonical_in text) result }
     {
-        CanonicalCommand { text }
+        let _command = from_canonical(alloc, text.as_str())?;
+        Ok(CanonicalCommand { text })
     }
 
     /// Its canonical text.

@@ -4,7 +4,7 @@ ghost use Rattle.canary_condition.specs.PhaseTexts.{phase_of_number};
 ghost use Rattle.canary_plan.specs.Lines.{line_at};
 ghost use Rattle.canary_plan.specs.LineReading.{event_of};
 ghost use Rattle.canary_plan.specs.declared.command.Command.TheVariants as command;
-ghost use Rattle.canary_canonical.specs.Readings.{canonical_in, IsCanonical};
+ghost use Rattle.canary_canonical.specs.Readings.{canonical_in};
 ghost use Rattle.canary_stored.specs.Numbers.{state_of, truth_of, hold_of, status_of};
 ghost use Rattle.canary_stored.specs.Values.{receipt_of_row, made_from, stand_of, closing_of};
 ghost use Rattle.canary_stored.specs.Values.{measurement_of_row, line_of_row};
@@ -30,16 +30,16 @@ use canary_release::stand::{Stand, State};
 use canary_rows::rows::{Ending, HistoryRow, KeptRow, MeasurementRow, Standing};
 use std::alloc::Global;
 
-/// The receipt of a row, whose command is known to be some command's canonical text; it is not read.
+/// The receipt of a row, whose command's text it keeps.
 ///
 /// # Errors
-/// `Broken` where the status is neither 200 nor 422.
-pub fn receipt(row: KeptRow) -> Result<Receipt, RowFault>
-    requires { IsCanonical row.command }
+/// `Broken` where the text is no command's canonical text, or the status is neither 200 nor 422;
+/// `Memory`.
+pub fn receipt(alloc: Global, row: KeptRow) -> Result<Receipt, RowFault>
     ensures { IsRowRead (receipt_of_row row) result }
 {
     let status = status_of(row.status)?;
-    let command = CanonicalCommand::known(row.command);
+    let command = CanonicalCommand::read(alloc, row.command)?;
     Ok(Receipt {
         command,
         reply: Reply {
@@ -185,6 +185,27 @@ pub fn closing(number: u32, ending: &Ending) -> Result<Option<Closing>, RowFault
             verdict: phase_of(ending.verdict)?,
         })),
     }
+}
+
+/// The measurement of a row.
+///
+/// # Errors
+/// `Broken` where the number is of no phase that is kept, or the text of no outcome; `Memory`.
+pub fn measurement(alloc: Global, row: &MeasurementRow) -> Result<Recorded, RowFault>
+    ensures { IsRowRead (measurement_of_row row.now) result }
+{
+    let phase = phase_of(row.phase)?;
+    let Some(outcome) = Outcome::read(alloc, row.outcome.as_str())? else {
+        return Err(RowFault::Broken);
+    };
+    Ok(Recorded {
+        run: row.run,
+        metric: row.metric,
+        ordinal: row.ordinal,
+        taken: row.taken,
+        outcome,
+        phase,
+    })
 }
 
 /// The line of a row.

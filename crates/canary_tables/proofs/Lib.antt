@@ -1,3 +1,4 @@
+pub mod Sought
 pub mod Happening
 pub mod Committing
 pub mod Settling

@@ -4,4 +4,6 @@
 pub mod book;
 mod commit;
 mod effects;
+mod found;
+mod pages;
 mod settle;

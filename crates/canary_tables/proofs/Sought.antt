@@ -1,0 +1,23 @@
+-- What is read of rows is what is sought.
+use Rattle.std.proofs.Common.{◌≡◌, List, [], ◌∷◌, map, Option, Some, None, option_map, refl, sym, ap, ◌∙◌}
+use Rattle.std.specs.Prelude.{option_and_then}
+use Rattle.std.specs.List.{filter_map, cons_option}
+use Rattle.canary_stored.specs.Finding.{IsFound, AreRead}
+
+joined : {A : Type 0} (o : Option A) → option_and_then (λ (x : Option A). x) (option_map Some o) ≡ o
+joined None = refl
+joined (Some x) = refl
+
+-- one row, or none
+pub one_found : {A R : Type 0} (reads : R → Option A) (row there : Option R) (found sought : Option A) → option_map reads row ≡ option_map Some found → row ≡ there → IsFound reads there sought → found ≡ sought
+one_found reads row there found sought told is read =
+    sym (joined found) ∙ ap (option_and_then (λ x. x)) (sym told ∙ ap (option_map reads) is ∙ read.read) ∙ joined sought
+
+all_there : {A : Type 0} (xs : List A) → filter_map (λ (x : Option A). x) (map Some xs) ≡ xs
+all_there [] = refl
+all_there (x ∷ xs) = ap (λ (ys : List _). x ∷ ys) (all_there xs)
+
+-- a list of rows
+pub all_found : {A R : Type 0} (reads : R → Option A) (rows there : List R) (found sought : List A) → map Some found ≡ map reads rows → rows ≡ there → AreRead reads there sought → found ≡ sought
+all_found reads rows there found sought told is read =
+    sym (all_there found) ∙ ap (filter_map (λ x. x)) (told ∙ ap (map reads) is ∙ read.each) ∙ all_there sought
