@@ -4,6 +4,7 @@ ghost use Rattle.canary_once.specs.declared.book.BookFault.TheVariants as book_f
 ghost use Rattle.canary_schema.specs.declared.fault.StoreFault.TheVariants as store_fault;
 
 use crate::settle::settle;
+use crate::{found, pages};
 use canary_base::lists::Listed;
 use canary_base::names::Name;
 use canary_base::numbers::Number;
@@ -60,12 +61,12 @@ impl<S: Alter> Book for TableBook<S> {
 
     ghost state = { book_state S.Store };
 
-    fn settled(&mut self, _caller: &Name) -> Result<u32, BookFault> {
-        Err(BookFault::Storage)
+    fn settled(&mut self, caller: &Name) -> Result<u32, BookFault> {
+        found::count(&mut self.conn, caller).map_err(book_fault)
     }
 
-    fn receipt(&mut self, _caller: &Name, _number: Number) -> Result<Option<Receipt>, BookFault> {
-        Err(BookFault::Storage)
+    fn receipt(&mut self, caller: &Name, number: Number) -> Result<Option<Receipt>, BookFault> {
+        found::receipt(&mut self.conn, self.alloc, caller, number).map_err(book_fault)
     }
 
     fn templates(&mut self, _names: &[Name]) -> Result<Templates, BookFault> {
@@ -76,8 +77,8 @@ impl<S: Alter> Book for TableBook<S> {
         Err(BookFault::Storage)
     }
 
-    fn history(&mut self, _name: &Name) -> Result<Listed<Line>, BookFault> {
-        Err(BookFault::Storage)
+    fn history(&mut self, name: &Name) -> Result<Listed<Line>, BookFault> {
+        pages::history(&mut self.conn, self.alloc, name).map_err(book_fault)
     }
 
     fn run(&mut self, _name: &Name, _number: Number) -> Result<Option<RunRecord>, BookFault> {
@@ -86,11 +87,11 @@ impl<S: Alter> Book for TableBook<S> {
 
     fn measurements(
         &mut self,
-        _name: &Name,
-        _from: u64,
-        _most: u32,
+        name: &Name,
+        from: u64,
+        most: u32,
     ) -> Result<Listed<Recorded>, BookFault> {
-        Err(BookFault::Storage)
+        pages::measurements(&mut self.conn, self.alloc, name, from, most).map_err(book_fault)
     }
 
     fn commit(&mut self, settlement: Settlement) -> Result<(), BookFault> {
