@@ -1,0 +1,5 @@
+mod Standing
+mod FoundRuns
+mod TemplateLemmas
+mod Strategies
+mod FoundServices

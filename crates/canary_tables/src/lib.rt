@@ -1,0 +1,4 @@
+//! A book over tables.
+#![tactic(auto)]
+
+mod found_runs;
