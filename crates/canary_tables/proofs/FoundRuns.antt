@@ -62,13 +62,13 @@ run_more name rows i old between new found more row one below at before same is 
     record {
       same = same_then old between new before.same same;
       value = λ usable.
-      let midway = (same usable).0 in
-      let this : one ≡ open_run_of (contents_in old) name row = is usable ∙ ap (λ (c : Contents). open_run_of c name row) (contents_stay old between before.same midway) in
-      let f = open_run_of (contents_in old) name in
-      pushed
-      ∙ ap (λ (xs : List OpenRun). xs ++ one ∷ []) (before.value midway)
-      ∙ ap (λ (x : OpenRun). map f (take i rows) ++ x ∷ []) this
-      ∙ sym (ap (map f) (take_more rows i row below ∙ ap (λ (r : RunRow). take i rows ++ r ∷ []) (sym at)) ∙ map-append f (take i rows) (row ∷ []));
+          let midway = (same usable).0 in
+          let this : one ≡ open_run_of (contents_in old) name row = is usable ∙ ap (λ (c : Contents). open_run_of c name row) (contents_stay old between before.same midway) in
+          let f = open_run_of (contents_in old) name in
+          pushed
+          ∙ ap (λ (xs : List OpenRun). xs ++ one ∷ []) (before.value midway)
+          ∙ ap (λ (x : OpenRun). map f (take i rows) ++ x ∷ []) this
+          ∙ sym (ap (map f) (take_more rows i row below ∙ ap (λ (r : RunRow). take i rows ++ r ∷ []) (sym at)) ∙ map-append f (take i rows) (row ∷ []));
     }
 
 pub runs_done : (name : List ℕ) (rows : List RunRow) (i : ℕ) (old now : State) (found : List OpenRun) → RunsSoFar name rows i old now found → length rows ≤ i → IsUsable now → found ≡ map (open_run_of (contents_in old) name) rows

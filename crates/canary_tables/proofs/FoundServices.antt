@@ -1,13 +1,11 @@
 -- What is found of templates and services.
-use Rattle.std.proofs.Common.{◌≡◌, ◌+◌, ◌<◌, ◌≤◌, ℕ, List, [], ◌∷◌, map, filter, take, length, get_or, Option, Some, None, option_map, refl, sym, ap, ap₂, subst, ◌∙◌, Ok, Err}
+use Rattle.std.proofs.Common.{◌≡◌, ◌+◌, ◌<◌, ◌≤◌, ℕ, List, [], ◌∷◌, map, filter, take, length, get_or, Option, Some, None, option_map, refl, sym, ap, ap₂, ◌∙◌}
 use Rattle.std.specs.Prelude.{option_and_then}
 use Rattle.std.specs.Ordering.{nat_cmp}
 use Rattle.std.specs.Cmp.Lexicographic.{slice_cmp}
 use Rattle.std.specs.FinMap.{FinMap, get, insert, empty}
 use Rattle.std.proofs.lemmas.List.{take_all}
 use Rattle.sqlite.specs.State.{State}
-use Rattle.canary_plan.specs.declared.command.Command.{Command}
-use Rattle.canary_plan.specs.declared.command.Command.TheVariants as command
 use Rattle.canary_plan.specs.declared.service.ServiceSpec.{ServiceSpec}
 use Rattle.canary_plan.specs.declared.strategy.CheckedStrategy.{CheckedStrategy}
 use Rattle.canary_plan.specs.declared.template.Template.{Template}
@@ -27,7 +25,6 @@ use Rattle.canary_rows.specs.Tables.{Tables, is_service, is_template}
 use Rattle.canary_schema.specs.Stores.{IsUsable, Stores}
 use Rattle.canary_stored.specs.Finding.{parts_standing, parts_made, parts_of_row}
 use Rattle.canary_stored.specs.Laws.{TemplatesAreFound, ServicesAreFound}
-use Rattle.canary_stored.specs.Reads.{IsTemplateRead}
 use Rattle.canary_stored.specs.Values.{template_from, template_of_row, made_from, stand_of}
 use Rattle.canary_reads.specs.Finds.{IsSame, first}
 use Rattle.canary_tables.specs.Desk.{IsDesk, contents_in}
@@ -36,18 +33,6 @@ use Rattle.canary_tables.proofs.Strategies.{strategy_alike}
 use Rattle.canary_tables.proofs.TemplateLemmas.{none_named, found_more, found_none, agree_then}
 
 -- Templates.
-
-pub bound_told : (o : Option Command) (t : Template) → IsTemplateRead o (Ok t) → template_from o ≡ Some t
-bound_told None t h = absurd h
-bound_told (Some (command.Template spec)) t h = ap Some (sym h.1)
-bound_told (Some (command.Service spec)) t h = absurd h
-bound_told (Some (command.Start name version)) t h = absurd h
-bound_told (Some (command.Promote name)) t h = absurd h
-bound_told (Some (command.PromoteFull name)) t h = absurd h
-bound_told (Some (command.Abort name)) t h = absurd h
-bound_told (Some (command.Retry name)) t h = absurd h
-bound_told (Some (command.Tick name)) t h = absurd h
-bound_told (Some (command.Report report)) t h = absurd h
 
 abbrev kept_by : List ℕ → Option Template
 kept_by spec = template_from (canonical_in spec)

@@ -2,3 +2,4 @@
 #![tactic(auto)]
 
 mod found_runs;
+mod found_services;
