@@ -1,10 +1,11 @@
 -- Rows that are found in the order of a number of theirs.
-use Rattle.std.proofs.Common.{◌≡◌, ◌≤◌, ℕ, pos, List, [], ◌∷◌, map, filter, Bool, false, Option, Some, None, refl, sym, ap, ap₂, subst, subst₂, ◌∙◌, arith}
+use Rattle.std.proofs.Common.{◌≡◌, ◌≤◌, ◌<◌, ℕ, zero, suc, length, pos, List, [], ◌∷◌, map, filter, Bool, false, Option, Some, None, refl, sym, ap, ap₂, subst, subst₂, ◌∙◌, arith}
+use Rattle.std.specs.Prelude.{slice_index_or}
 use Rattle.std.specs.declared.cmp.Ordering.{Ordering}
 use Rattle.std.specs.declared.cmp.Ordering.TheVariants.{Less, Equal, Greater}
 use Rattle.std.specs.Ordering.{is_gt, int_cmp, ordering_then}
 use Rattle.std.specs.List.{AllByRecursion, flat_map}
-use Rattle.std.specs.List.Sorted.{IsPermutation}
+use Rattle.std.specs.List.Sorted.{IsPermutation, IsNonDecreasingBy}
 use Rattle.std.proofs.lemmas.Int.{ints}
 use Rattle.std.proofs.lemmas.Bool.Decides.{nat_tests}
 use Rattle.std.proofs.lemmas.List.Elements.{recursion_from_All, All-from_recursion}
@@ -20,7 +21,7 @@ use Rattle.sqlite_exec.proofs.PartitionLemmas.{ascending_from_sorted}
 use Rattle.sqlite_keyed.proofs.ListLemmas.{map-map, flat_map-map, flat_map_same_on, flat_map-one, IsPermutation-flat_map, ascending-map, ascending_from_map, ascending_weaker, all_map}
 use Rattle.sqlite_value.proofs.OrderLemmas.{value_cmp-Int}
 use Rattle.canary_schema.specs.Cells.{whole as number}
-use Rattle.canary_reads.specs.Sorts.{AscendBy, Sorts}
+use Rattle.canary_reads.specs.Sorts.{Sorts}
 use Rattle.canary_reads.proofs.Answer.{query_of, no_limit, from_start, by_column, passes, shows, put_out}
 use Rattle.canary_reads.proofs.Asking.{Asks, Reads, ordered_found}
 use Rattle.canary_reads.proofs.Typed.{Tells, typed}
@@ -35,6 +36,19 @@ at_most m n h = grind (arith, ints, nat_tests)
 
 not_above : (m n : ℕ) → is_gt (value_cmp (number m) (number n)) ≡ false → m ≤ n
 not_above m n h = at_most m n (rw (value_cmp-Int (pos m) (pos n)) at h)
+
+-- where each key is at most those behind it, none falls
+at_least : {X : Type 0} (key : X → ℕ) (m : ℕ) (xs : List X) → AllByRecursion (λ y. m ≤ key y) xs → (j : ℕ) (d : X) → j < length xs → m ≤ key (slice_index_or xs j d)
+at_least key m [] h j d lt = absurd (omega arith)
+at_least key m (x ∷ xs) h zero d lt = h.0
+at_least key m (x ∷ xs) h (suc j) d lt = at_least key m xs h.1 j d (omega arith)
+
+never_falls : {X : Type 0} (key : X → ℕ) (xs : List X) → IsAscending (λ x y. key x ≤ key y) xs → IsNonDecreasingBy key xs
+never_falls key [] h i j d le lt = absurd (omega arith)
+never_falls key (x ∷ xs) h zero zero d le lt = omega arith
+never_falls key (x ∷ xs) h zero (suc j) d le lt = at_least key (key x) xs h.0 j d (omega arith)
+never_falls key (x ∷ xs) h (suc i) zero d le lt = absurd (omega arith)
+never_falls key (x ∷ xs) h (suc i) (suc j) d le lt = never_falls key xs h.1 i j d (omega arith) (omega arith)
 
 -- rows with the same cells, in some order
 module _ {X : Type 0} (cells : X → Row) (known : Row → Option X) (back : (x : X) → known (cells x) ≡ Some x) where
@@ -65,10 +79,10 @@ module _ {X : Type 0} (cells : X → Row) (whole : Row → Row) (key : X → ℕ
       let later : map cells xs ≡ map whole (map (λ (p : Output). p.1) os) = cc in
       ap₂ (λ first others. first ∷ others) (h.0 ∙ keyed x o.1 here) (values os xs later h.1)
 
-  ascend : (os : List Output) (xs : List X) → map cells xs ≡ map whole (map (λ (o : Output). o.1) os) → AllByRecursion (λ (o : Output). lead o ≡ column o.1 place) os → IsAscending (λ (o p : Output). NotAbove (lead o) (lead p)) os → AscendBy key xs
+  ascend : (os : List Output) (xs : List X) → map cells xs ≡ map whole (map (λ (o : Output). o.1) os) → AllByRecursion (λ (o : Output). lead o ≡ column o.1 place) os → IsAscending (λ (o p : Output). NotAbove (lead o) (lead p)) os → IsNonDecreasingBy key xs
   ascend os xs e h up =
-      ascending_weaker (λ x y. NotAbove (number (key x)) (number (key y))) (λ x y. key x ≤ key y) (λ x y b. not_above (key x) (key y) b) xs
-      (ascending_from_map NotAbove (λ x. number (key x)) xs (subst (IsAscending NotAbove) (values os xs e h) (ascending-map NotAbove lead os up)))
+      never_falls key xs (ascending_weaker (λ x y. NotAbove (number (key x)) (number (key y))) (λ x y. key x ≤ key y) (λ x y b. not_above (key x) (key y) b) xs
+      (ascending_from_map NotAbove (λ x. number (key x)) xs (subst (IsAscending NotAbove) (values os xs e h) (ascending-map NotAbove lead os up))))
 
   module _ (known : Row → Option X) (back : (x : X) → known (cells x) ≡ Some x) (text : List ℕ) (tree : ℕ) (tests shown : List Term) (at : ℕ) (asks : Asks text tree tests shown (by_column at) no_limit from_start) (test : X → Bool)
       (params : Row) (tells : Tells cells test cells whole (passes tests params) (shows shown params)) (leads : (row : Row) → column row at ≡ column (shows shown params row) place) where

@@ -1,5 +1,10 @@
-pub mod Sought
-pub mod Happening
-pub mod Committing
-pub mod Settling
-pub mod Booked
+mod Sought
+mod Happening
+mod Committing
+mod Settling
+mod Booked
+mod Standing
+mod FoundRuns
+mod TemplateLemmas
+mod Strategies
+mod FoundServices

@@ -4,7 +4,7 @@ ghost use Rattle.canary_once.specs.declared.book.BookFault.TheVariants as book_f
 ghost use Rattle.canary_schema.specs.declared.fault.StoreFault.TheVariants as store_fault;
 
 use crate::settle::settle;
-use crate::{found, pages};
+use crate::{found, found_runs, found_services, pages};
 use canary_base::lists::Listed;
 use canary_base::names::Name;
 use canary_base::numbers::Number;
@@ -69,20 +69,20 @@ impl<S: Alter> Book for TableBook<S> {
         found::receipt(&mut self.conn, self.alloc, caller, number).map_err(book_fault)
     }
 
-    fn templates(&mut self, _names: &[Name]) -> Result<Templates, BookFault> {
-        Err(BookFault::Storage)
+    fn templates(&mut self, names: &[Name]) -> Result<Templates, BookFault> {
+        found_services::templates(&mut self.conn, self.alloc, names).map_err(book_fault)
     }
 
-    fn service(&mut self, _name: &Name) -> Result<Option<Service>, BookFault> {
-        Err(BookFault::Storage)
+    fn service(&mut self, name: &Name) -> Result<Option<Service>, BookFault> {
+        found_services::service(&mut self.conn, self.alloc, name).map_err(book_fault)
     }
 
     fn history(&mut self, name: &Name) -> Result<Listed<Line>, BookFault> {
         pages::history(&mut self.conn, self.alloc, name).map_err(book_fault)
     }
 
-    fn run(&mut self, _name: &Name, _number: Number) -> Result<Option<RunRecord>, BookFault> {
-        Err(BookFault::Storage)
+    fn run(&mut self, name: &Name, number: Number) -> Result<Option<RunRecord>, BookFault> {
+        found_runs::run(&mut self.conn, self.alloc, name, number).map_err(book_fault)
     }
 
     fn measurements(

@@ -5,5 +5,7 @@ pub mod book;
 mod commit;
 mod effects;
 mod found;
+mod found_runs;
+mod found_services;
 mod pages;
 mod settle;

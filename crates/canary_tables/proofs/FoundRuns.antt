@@ -1,0 +1,88 @@
+-- What is found of runs.
+use Rattle.std.proofs.Common.{◌≡◌, ◌+◌, ◌<◌, ◌≤◌, ℕ, List, [], ◌∷◌, ◌++◌, map, filter, take, length, get_or, Option, Some, None, option_map, sym, ap, subst, ◌∙◌}
+use Rattle.std.specs.Prelude.{option_and_then}
+use Rattle.std.proofs.lemmas.List.{take_more, take_all, map-append}
+use Rattle.sqlite.specs.State.{State}
+use Rattle.canary_metric.specs.Counts.{Counts}
+use Rattle.canary_release.specs.declared.runs.OpenRun.{OpenRun}
+use Rattle.canary_release.specs.Pasts.{watched}
+use Rattle.canary_once.specs.declared.record.RunRecord.{RunRecord}
+use Rattle.canary_once.specs.Contents.{Contents}
+use Rattle.canary_once.specs.Records.{past_of, run_of}
+use Rattle.canary_rows.specs.declared.rows.RunRow.{RunRow}
+use Rattle.canary_rows.specs.declared.rows.TallyRow.{TallyRow}
+use Rattle.canary_rows.specs.Tables.{Tables, is_run, is_open_run_of, is_tally_of}
+use Rattle.canary_schema.specs.Stores.{IsUsable, Stores}
+use Rattle.canary_stored.specs.Finding.{IsFound, first_row, tallies_of, record_of_row, open_run_of}
+use Rattle.canary_stored.specs.Laws.{TalliesAreFound, RunsAreFound, OpenRunsAreFound}
+use Rattle.canary_reads.specs.Finds.{IsSame, first}
+use Rattle.canary_reads.specs.Sorts.{Sorts, number_of, metric_of}
+use Rattle.canary_tables.specs.Desk.{IsDesk, contents_in}
+use Rattle.canary_tables.proofs.Standing.{contents_stay, same_then}
+
+-- the counts of the rows are the tallies
+pub tallies_told : (old new : State) (name : List ℕ) (number : ℕ) (rows shown : List TallyRow) (found : List Counts) → TalliesAreFound → (IsUsable old → IsDesk old) → IsSame old new → IsUsable new
+    → ((t : Tables) → Stores old t → Sorts metric_of (filter (is_tally_of name number) t.tallies) rows) → shown ≡ rows → found ≡ map (λ (row : TallyRow). row.counts) shown → found ≡ tallies_of (contents_in old) name number
+tallies_told old new name number rows shown found law desk same usable read are is =
+    let d = desk (same usable).0 in
+    let sorted = read _ d.stores in
+    is ∙ ap (map (λ (row : TallyRow). row.counts)) are ∙ law _ d.holds name number rows sorted.same sorted.ascend
+
+-- where there is no row there is no run
+pub no_run : (old new : State) (name : List ℕ) (number asked : ℕ) → RunsAreFound → (IsUsable old → IsDesk old) → IsSame old new → IsUsable new → ((t : Tables) → Stores old t → None ≡ first (filter (is_run name asked) t.runs)) → asked ≡ number
+    → None ≡ run_of (contents_in old) name number
+no_run old new name number asked law desk same usable read is =
+    let d = desk (same usable).0 in
+    ap (option_and_then (record_of_row (tallies_of (contents_in old) name asked))) (read _ d.stores) ∙ (law _ d.holds name asked).value ∙ ap (run_of (contents_in old) name) is
+
+-- the row that is there is the run, with its tallies
+pub run_told : (old between new : State) (name : List ℕ) (number asked again : ℕ) (row : RunRow) (tallies : List Counts) (told : RunRecord) → RunsAreFound → (IsUsable old → IsDesk old) → IsSame old between → IsSame between new → IsUsable new
+    → (IsUsable between → (t : Tables) → Stores old t → Some row ≡ first (filter (is_run name asked) t.runs)) → asked ≡ number → tallies ≡ tallies_of (contents_in between) name again → again ≡ number → record_of_row tallies row ≡ Some told
+    → Some told ≡ run_of (contents_in old) name number
+run_told old between new name number asked again row tallies told law desk first_same second_same usable read first_is are again_is is =
+    let midway = (second_same usable).0 in
+    let d = desk (first_same midway).0 in
+    let all = are ∙ ap (tallies_of (contents_in between) name) (again_is ∙ sym first_is) ∙ ap (λ (c : Contents). tallies_of c name asked) (contents_stay old between first_same midway) in
+    sym is
+    ∙ ap (λ (ts : List Counts). record_of_row ts row) all
+    ∙ ap (option_and_then (record_of_row (tallies_of (contents_in old) name asked))) (read midway _ d.stores)
+    ∙ (law _ d.holds name asked).value
+    ∙ ap (run_of (contents_in old) name) first_is
+
+-- Open runs.
+
+-- the open runs of the first rows are found
+pub record RunsSoFar (name : List ℕ) (rows : List RunRow) (i : ℕ) (old now : State) (found : List OpenRun) : Type 0 where
+  pub same : IsSame old now
+  pub value : IsUsable now → found ≡ map (open_run_of (contents_in old) name) (take i rows)
+
+pub run_more : (name : List ℕ) (rows : List RunRow) (i : ℕ) (old between new : State) (found more : List OpenRun) (row : RunRow) (one : OpenRun) → i < length rows → row ≡ get_or rows i row → RunsSoFar name rows i old between found
+    → IsSame between new → (IsUsable new → one ≡ open_run_of (contents_in between) name row) → more ≡ found ++ one ∷ [] → RunsSoFar name rows (i + 1) old new more
+run_more name rows i old between new found more row one below at before same is pushed =
+    record {
+      same = same_then old between new before.same same;
+      value = λ usable.
+          let midway = (same usable).0 in
+          let this : one ≡ open_run_of (contents_in old) name row = is usable ∙ ap (λ (c : Contents). open_run_of c name row) (contents_stay old between before.same midway) in
+          let f = open_run_of (contents_in old) name in
+          pushed
+          ∙ ap (λ (xs : List OpenRun). xs ++ one ∷ []) (before.value midway)
+          ∙ ap (λ (x : OpenRun). map f (take i rows) ++ x ∷ []) this
+          ∙ sym (ap (map f) (take_more rows i row below ∙ ap (λ (r : RunRow). take i rows ++ r ∷ []) (sym at)) ∙ map-append f (take i rows) (row ∷ []));
+    }
+
+pub runs_done : (name : List ℕ) (rows : List RunRow) (i : ℕ) (old now : State) (found : List OpenRun) → RunsSoFar name rows i old now found → length rows ≤ i → IsUsable now → found ≡ map (open_run_of (contents_in old) name) rows
+runs_done name rows i old now found so_far all usable = so_far.value usable ∙ ap (map (open_run_of (contents_in old) name)) (take_all i rows all)
+
+-- they are those of the service
+pub open_runs_told : (old between new : State) (name : List ℕ) (rows shown : List RunRow) (found : List OpenRun) → OpenRunsAreFound → (IsUsable old → IsDesk old) → IsSame old between → IsSame between new → IsUsable new
+    → (IsUsable between → (t : Tables) → Stores old t → Sorts number_of (filter (is_open_run_of name) t.runs) rows) → shown ≡ rows → found ≡ map (open_run_of (contents_in between) name) shown
+    → found ≡ (watched (past_of (contents_in old) name)).open_runs
+open_runs_told old between new name rows shown found law desk first_same second_same usable read are is =
+    let midway = (second_same usable).0 in
+    let d = desk (first_same midway).0 in
+    let sorted = read midway _ d.stores in
+    is
+    ∙ ap (λ (c : Contents). map (open_run_of c name) shown) (contents_stay old between first_same midway)
+    ∙ ap (map (open_run_of (contents_in old) name)) are
+    ∙ law _ d.holds name rows sorted.same sorted.ascend

@@ -1,0 +1,12 @@
+use Rattle.std.proofs.Common.{rules, subst}
+use Rattle.sqlite.specs.Held.{state}
+use Rattle.canary_release.specs.Shapes.{seen}
+use Rattle.canary_once.specs.Books.{Finds}
+use Rattle.canary_tables.specs.Desk.{book_state}
+use Rattle.canary_tables.proofs.Booked.{finds}
+use Rattle.canary_tables.proofs.book.TableBookBook.service.Goals as goal
+
+pub returns : goal.returns
+returns g c =
+    subst (λ h. Finds (λ k. seen k.desk c.args.name.now) (book_state g.S.Store h) (book_state g.S.Store c.service.new.conn) c.map_err.result) c.self.view_is
+      (finds g.S.Store (λ k. seen k.desk c.args.name.now) c.self.inside.conn c.service.new.conn c.map_err.result c.self.invariant c.service.ensures.same (λ usable. search rules))

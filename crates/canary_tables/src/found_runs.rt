@@ -1,0 +1,160 @@
+//! Runs, as the tables tell them.
+ghost use Rattle.std.specs.Prelude.{◌≡◌, false, map, Some, IfOk};
+ghost use Rattle.sqlite.specs.Held.{state};
+ghost use Rattle.canary_release.specs.Pasts.{watched};
+ghost use Rattle.canary_once.specs.Records.{past_of, run_of};
+ghost use Rattle.canary_rows.specs.declared.rows.TallyRow.{TallyRow};
+ghost use Rattle.canary_schema.specs.Stores.{IsUsable};
+ghost use Rattle.canary_stored.specs.Finding.{tallies_of, record_of_row, open_run_of};
+ghost use Rattle.canary_reads.specs.Finds.{IsSame};
+ghost use Rattle.canary_tables.specs.Desk.{IsDesk, contents_in};
+
+use crate::found::store_fault;
+use canary_base::lists::Listed;
+use canary_base::names::Name;
+use canary_base::numbers::Number;
+use canary_metric::tally::Tally;
+use canary_once::record::RunRecord;
+use canary_reads::runs;
+use canary_release::runs::OpenRun;
+use canary_rows::rows::{RunRow, TallyRow};
+use canary_schema::fault::StoreFault;
+use canary_stored::fault::RowFault;
+use canary_stored::{laws, reading};
+use sqlite::{Alter, Connection};
+use std::alloc::Global;
+
+/// The tallies of a service's run, one a metric, in order; none where there is no such run.
+///
+/// # Errors
+/// `Memory` where there is not enough, `Storage` where the database fails or holds what no desk
+/// writes.
+pub(crate) fn tallies<S: Alter>(
+    conn: &mut Connection<S>,
+    alloc: Global,
+    name: &Name,
+    number: u32,
+) -> Result<Listed<Tally>, StoreFault>
+    requires autocommit { conn.old.in_transaction ≡ false }
+    requires desk { IsUsable (state S.Store conn.old) → IsDesk (state S.Store conn.old) }
+    ensures mode { conn.new.in_transaction ≡ false }
+    ensures same { IsSame (state S.Store conn.old) (state S.Store conn.new) }
+    ensures found { IsUsable (state S.Store conn.new) → IfOk result (λ found.
+        found ≡ tallies_of (contents_in (state S.Store conn.old)) name.now number) }
+{
+    laws::tallies_found();
+    let rows = runs::tallies(conn, alloc, name, number)?;
+    counts_of(alloc, rows.as_slice())
+}
+
+fn counts_of(alloc: Global, rows: &[TallyRow]) -> Result<Listed<Tally>, StoreFault>
+    ensures { IfOk result (λ found. found ≡ map (λ (row : TallyRow). row.counts) rows.now) }
+{
+    let mut found = Listed::of(Vec::new(alloc));
+    for row in rows {
+        found.push(row.counts)?;
+    }
+    Ok(found)
+}
+
+/// The run of a service under that number, if there is one.
+///
+/// # Errors
+/// `Memory` where there is not enough, `Storage` where the database fails or holds what no desk
+/// writes.
+pub(crate) fn run<S: Alter>(
+    conn: &mut Connection<S>,
+    alloc: Global,
+    name: &Name,
+    number: Number,
+) -> Result<Option<RunRecord>, StoreFault>
+    requires autocommit { conn.old.in_transaction ≡ false }
+    requires desk { IsUsable (state S.Store conn.old) → IsDesk (state S.Store conn.old) }
+    ensures mode { conn.new.in_transaction ≡ false }
+    ensures same { IsSame (state S.Store conn.old) (state S.Store conn.new) }
+    ensures found { IsUsable (state S.Store conn.new) → IfOk result (λ found.
+        found ≡ run_of (contents_in (state S.Store conn.old)) name.now number) }
+{
+    laws::runs_found();
+    let Some(row) = runs::run(conn, name, number.get())? else {
+        return Ok(None);
+    };
+    let tallies = tallies(conn, alloc, name, number.get())?;
+    Ok(Some(record_of(&row, tallies)?))
+}
+
+fn record_of(row: &RunRow, tallies: Listed<Tally>) -> Result<RunRecord, StoreFault>
+    ensures { IfOk result (λ told. record_of_row tallies row.now ≡ Some told) }
+{
+    let closed = reading::closing(row.number, &row.ending).map_err(store_fault)?;
+    Ok(RunRecord {
+        number: row.number,
+        step: row.step,
+        started: row.started,
+        closed,
+        tallies,
+    })
+}
+
+/// The open runs of a service, by their numbers, each with its tallies.
+///
+/// # Errors
+/// `Memory` where there is not enough, `Storage` where the database fails or holds what no desk
+/// writes.
+pub(crate) fn open_runs<S: Alter>(
+    conn: &mut Connection<S>,
+    alloc: Global,
+    name: &Name,
+) -> Result<Listed<OpenRun>, StoreFault>
+    requires autocommit { conn.old.in_transaction ≡ false }
+    requires desk { IsUsable (state S.Store conn.old) → IsDesk (state S.Store conn.old) }
+    ensures mode { conn.new.in_transaction ≡ false }
+    ensures same { IsSame (state S.Store conn.old) (state S.Store conn.new) }
+    ensures found { IsUsable (state S.Store conn.new) → IfOk result (λ found. found
+        ≡ (watched (past_of (contents_in (state S.Store conn.old)) name.now)).open_runs) }
+{
+    laws::open_runs_found();
+    let rows = runs::open_runs(conn, alloc, name)?;
+    with_tallies(conn, alloc, name, rows.as_slice())
+}
+
+fn with_tallies<S: Alter>(
+    conn: &mut Connection<S>,
+    alloc: Global,
+    name: &Name,
+    rows: &[RunRow],
+) -> Result<Listed<OpenRun>, StoreFault>
+    requires autocommit { conn.old.in_transaction ≡ false }
+    requires desk { IsUsable (state S.Store conn.old) → IsDesk (state S.Store conn.old) }
+    ensures mode { conn.new.in_transaction ≡ false }
+    ensures same { IsSame (state S.Store conn.old) (state S.Store conn.new) }
+    ensures found { IsUsable (state S.Store conn.new) → IfOk result (λ found.
+        found ≡ map (open_run_of (contents_in (state S.Store conn.old)) name.now) rows.now) }
+{
+    let mut found = Listed::of(Vec::new(alloc));
+    for row in rows {
+        found.push(open_run(conn, alloc, name, row)?)?;
+    }
+    Ok(found)
+}
+
+fn open_run<S: Alter>(
+    conn: &mut Connection<S>,
+    alloc: Global,
+    name: &Name,
+    row: &RunRow,
+) -> Result<OpenRun, StoreFault>
+    requires autocommit { conn.old.in_transaction ≡ false }
+    requires desk { IsUsable (state S.Store conn.old) → IsDesk (state S.Store conn.old) }
+    ensures mode { conn.new.in_transaction ≡ false }
+    ensures same { IsSame (state S.Store conn.old) (state S.Store conn.new) }
+    ensures found { IsUsable (state S.Store conn.new) → IfOk result (λ found.
+        found ≡ open_run_of (contents_in (state S.Store conn.old)) name.now row.now) }
+{
+    Ok(OpenRun {
+        number: row.number,
+        step: row.step,
+        started: row.started,
+        tallies: tallies(conn, alloc, name, row.number)?,
+    })
+}
