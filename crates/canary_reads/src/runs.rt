@@ -6,11 +6,11 @@ ghost use Rattle.canary_reads.specs.Finds.{IsSame, Finds, FindsSuch, first};
 ghost use Rattle.canary_reads.specs.Sorts.{Sorts, number_of, metric_of};
 ghost use Rattle.canary_rows.specs.Tables.{is_tally_of};
 
+use canary_schema::fault::StoreFault;
 use crate::{query, shown};
 use canary_base::lists::Listed;
 use canary_base::names::Name;
 use canary_rows::rows::{RunRow, TallyRow};
-use canary_schema::fault::StoreFault;
 use sqlite::{Alter, Connection, params};
 use std::alloc::Global;
 

@@ -1,5 +1,5 @@
 -- What is found of runs.
-use Rattle.std.proofs.Common.{◌≡◌, ◌+◌, ◌<◌, ◌≤◌, ℕ, List, [], ◌∷◌, ◌++◌, map, filter, take, length, get_or, Option, Some, None, option_map, sym, ap, subst, ◌∙◌}
+use Rattle.std.proofs.Common.{◌≡◌, ◌+◌, ◌<◌, ◌≤◌, ℕ, List, [], ◌∷◌, ◌++◌, map, filter, take, length, get_or, Some, None, sym, ap, ◌∙◌}
 use Rattle.std.specs.Prelude.{option_and_then}
 use Rattle.std.proofs.lemmas.List.{take_more, take_all, map-append}
 use Rattle.sqlite.specs.State.{State}
@@ -13,7 +13,7 @@ use Rattle.canary_rows.specs.declared.rows.RunRow.{RunRow}
 use Rattle.canary_rows.specs.declared.rows.TallyRow.{TallyRow}
 use Rattle.canary_rows.specs.Tables.{Tables, is_run, is_open_run_of, is_tally_of}
 use Rattle.canary_schema.specs.Stores.{IsUsable, Stores}
-use Rattle.canary_stored.specs.Finding.{IsFound, first_row, tallies_of, record_of_row, open_run_of}
+use Rattle.canary_stored.specs.Finding.{tallies_of, record_of_row, open_run_of}
 use Rattle.canary_stored.specs.Laws.{TalliesAreFound, RunsAreFound, OpenRunsAreFound}
 use Rattle.canary_reads.specs.Finds.{IsSame, first}
 use Rattle.canary_reads.specs.Sorts.{Sorts, number_of, metric_of}

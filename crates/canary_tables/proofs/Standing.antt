@@ -1,8 +1,7 @@
 -- What stays as it is while a database is read.
-use Rattle.std.proofs.Common.{◌≡◌, List, ap, sym, subst, ◌∙◌}
+use Rattle.std.proofs.Common.{◌≡◌, ap, sym, subst, ◌∙◌}
 use Rattle.sqlite.specs.State.{State}
 use Rattle.sqlite.specs.Effect.{Database}
-use Rattle.canary_once.specs.Contents.{Contents}
 use Rattle.canary_schema.specs.Cells.{tables_in}
 use Rattle.canary_schema.specs.Schema.{desk_schema}
 use Rattle.canary_schema.specs.Stores.{IsUsable, Holds}

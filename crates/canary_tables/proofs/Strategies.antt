@@ -1,7 +1,7 @@
 -- The strategy of a service is the same by templates that agree on the names that it has.
 use Rattle.std.proofs.Common.{◌≡◌, ℕ, List, [], ◌∷◌, ◌++◌, refl, ap}
 use Rattle.std.specs.Prelude.{map, Option, Some, None}
-use Rattle.std.specs.List.{AllByRecursion, flat_map, filter_map}
+use Rattle.std.specs.List.{AllByRecursion, filter_map}
 use Rattle.canary_metric.specs.Metrics.{MetricValue}
 use Rattle.canary_plan.specs.declared.step.Step.{Step}
 use Rattle.canary_plan.specs.declared.step.Step.TheVariants.{SetWeight, Pause, Analysis}
