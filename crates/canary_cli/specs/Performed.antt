@@ -109,8 +109,8 @@ IsSomeServer None = ⊥
 IsSomeServer (Some program) = IsServer program
 
 -- the words are those of `serve`
-abbrev pub Serves : List Text → Type 0
-Serves words = (faults_of words ≡ []) × IsSomeServer (program_of words)
+abbrev pub AsksToServe : List Text → Type 0
+AsksToServe words = (faults_of words ≡ []) × IsSomeServer (program_of words)
 
 -- ---- what comes of words that have no program
 
