@@ -190,7 +190,8 @@ const ROLLOUTS: &str = r#""paused":true,"strategy":{"blueGreen":{}} =>
      spec.strategy.canary.analysis.dryRun: expected none or an empty list (others are unsupported) |
      spec.strategy.canary.analysis.templates[0].templateName: expected 1 to 63 bytes of a-z 0-9 -,
      the first and the last no - |
-     spec.strategy.canary.analysis.templates[1].clusterScope: expected false or none (true is unsupported)
+     spec.strategy.canary.analysis.templates[1].clusterScope:
+     expected false or none (true is unsupported)
 "strategy":{"canary":{"analysis":{}}} =>
      spec.strategy.canary.analysis.templates: expected a list of 1 to 8 objects with templateName"#;
 

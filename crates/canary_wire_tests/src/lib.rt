@@ -1,5 +1,5 @@
-//! The tests of `canary_manifest` and `canary_wire`: bodies with what they read as, streams as clients
-//! send them with the bytes that answer them, and readers and writers that fail.
+//! The tests of `canary_manifest` and `canary_wire`: bodies with what they read as, streams as
+//! clients send them with the bytes that answer them, and readers and writers that fail.
 #![tactic(auto)]
 
 #[cfg(test)]
