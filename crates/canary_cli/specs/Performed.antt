@@ -1,5 +1,5 @@
 -- What a command line comes to: what is read, what is written, and the exit status.
-use Rattle.std.specs.Prelude.{◌≡◌, ◌⊎◌, ◌++◌, ℕ, true, List, [], ◌∷◌, Option, Some, None, Result, Ok, Err, codes, string_bytes}
+use Rattle.std.specs.Prelude.{◌≡◌, ◌≢◌, ◌⊎◌, ◌++◌, ℕ, Bool, true, false, List, [], ◌∷◌, Option, Some, None, Result, Ok, Err, codes, string_bytes}
 use Rattle.std.specs.Io.KnownBytes.{Appends}
 use Rattle.clap.specs.Words.{Kinds, Text}
 use Rattle.canary_once.specs.Contents.{Contents, no_contents}
@@ -84,6 +84,15 @@ abbrev pub IsPiped : Known → Known → Known → Known → ℕ → ℕ → Res
 IsPiped r new_r w new_w at step done = (served : Result Ended ServeFault)
     × (done ≡ done_of served) × IsServed r new_r w new_w (fresh at step) served
 
+-- (here the `Bool` is whether the desk takes the manifest)
+-- a manifest was judged so: `ok` was written where the desk takes it, and something else where it
+-- does not; or memory ran out, or the output failed
+abbrev pub IsJudged : Bool → Known → Known → Result Outcome Fault → Type 0
+IsJudged taken w new_w (Ok Done) = (taken ≡ true) × Appends w new_w (codes "ok\n")
+IsJudged taken w new_w (Ok Findings) =
+    (taken ≡ false) × (text : List ℕ) × (text ≢ codes "ok\n") × Appends w new_w text
+IsJudged taken w new_w (Err f) = (f ≡ fault.Memory) ⊎ (f ≡ fault.Write)
+
 -- where a check found nothing, it wrote `ok`
 abbrev pub IsChecked : Known → Known → Result Outcome Fault → Type 0
 IsChecked w new_w done = done ≡ Ok Done → Appends w new_w (codes "ok\n")
@@ -109,8 +118,8 @@ IsSomeServer None = ⊥
 IsSomeServer (Some program) = IsServer program
 
 -- the words are those of `serve`
-abbrev pub Serves : List Text → Type 0
-Serves words = (faults_of words ≡ []) × IsSomeServer (program_of words)
+abbrev pub AsksToServe : List Text → Type 0
+AsksToServe words = (faults_of words ≡ []) × IsSomeServer (program_of words)
 
 -- ---- what comes of words that have no program
 

@@ -1,8 +1,11 @@
 //! `check`: what the desk would refuse of a manifest.
 ghost use Rattle.std.specs.Prelude.{◌≡◌, Ok, codes};
 ghost use Rattle.std.specs.Io.KnownBytes.{Appends};
+ghost use Rattle.canary_check.specs.Taken.{is_taken};
+ghost use Rattle.canary_cli.specs.Performed.{IsJudged};
 
 use crate::perform::{Fault, Outcome, show};
+use std::alloc::Global;
 use std::fs::{File, Files};
 use std::io::{self, ErrorKind, Read, Write};
 
@@ -20,7 +23,15 @@ pub(crate) fn check<P: Files + AllocGlobal, W: Write>(
         → Appends (W.contents output.old) (W.contents output.new) (codes "ok\n") }
 {
     let manifest = read_file(rt, file)?;
-    let Ok(findings) = canary_check::check::check(rt.alloc(), manifest.as_slice()) else {
+    judge(rt.alloc(), manifest.as_slice(), output)
+}
+
+// Writes `ok` where the desk takes this manifest, and otherwise what it would refuse of it.
+fn judge<W: Write>(alloc: Global, manifest: &[u8], output: &mut W) -> Result<Outcome, Fault>
+    ensures { IsJudged (is_taken manifest.now)
+        (W.contents output.old) (W.contents output.new) result }
+{
+    let Ok(findings) = canary_check::check::check(alloc, manifest) else {
         return Err(Fault::Memory);
     };
     show(findings.text(), output)?;

@@ -6,7 +6,7 @@ ghost use Rattle.std.specs.Io.KnownBytes.{Appends};
 ghost use Rattle.canary_cli.specs.CommandLine.{faults_of, program_of};
 ghost use Rattle.canary_cli.specs.Performed.{done_of, line_of, status_of};
 ghost use Rattle.canary_cli.specs.Performed.{IsPiped, IsPipedTo, IsRun, IsTold, IsTurnedAway};
-ghost use Rattle.canary_cli.specs.Performed.{Serves, IsServer};
+ghost use Rattle.canary_cli.specs.Performed.{AsksToServe, IsServer};
 
 use crate::check::check;
 use crate::serve::serve;
@@ -127,7 +127,7 @@ pub fn perform<P: Files + Net + time::Clock + AllocGlobal, R: Read, W: Write, F:
         → IsTurnedAway (faults_of (map string_bytes words.now))
         (W.contents output.old) (W.contents output.new) result }
     ensures unread { (faults_of (map string_bytes words.now) ≡ [] → ⊥) → input.new ≡ input.old }
-    ensures quiet { result ≡ DONE → (Serves (map string_bytes words.now) → ⊥)
+    ensures quiet { result ≡ DONE → (AsksToServe (map string_bytes words.now) → ⊥)
         → errors.new ≡ errors.old }
 {
     match read_words(rt.alloc(), words) {

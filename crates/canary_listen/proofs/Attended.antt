@@ -6,10 +6,10 @@ use Rattle.std.proofs.lemmas.List.{append-nil, append_assoc}
 use Rattle.std.proofs.lemmas.Grind.{flat_map-append}
 use Rattle.std.proofs.lemmas.Bool.{cases_lt}
 use Rattle.std.proofs.lemmas.Bool.Decides.{eqb_tells}
-use Rattle.canary_wire.specs.Conversing.{Talk, begun, so_far, KeepsOrder}
+use Rattle.canary_wire.specs.Conversing.{Talk, begun, so_far, TakesTurn}
 use Rattle.canary_wire.specs.Crowds.{Turn, Crowd, all_held, IsCrowd, IsNew, Becomes, Comes, HasTurn, Goes}
 use Rattle.canary_wire.specs.Exchanges.{Exchange, Point, Went, Holds}
-use Rattle.canary_listen.specs.Attending.{Attendance, attendance, nobody, IsServed, Keeps, Attends, IsTurn, Serves}
+use Rattle.canary_listen.specs.Attending.{Attendance, attendance, nobody, IsServed, Keeps, Attends, ServesAll}
 
 -- ---- nothing, and one after another
 
@@ -60,7 +60,7 @@ served_nobody = record {
   free = λ client h. refl;
 }
 
-pub serves_all : (p q : Point) (a b : Attendance) → a ≡ nobody → Attends p q a b → ((xs : List Exchange) → Went p q xs → Holds p q xs) → Serves p q
+pub serves_all : (p q : Point) (a b : Attendance) → a ≡ nobody → Attends p q a b → ((xs : List Exchange) → Went p q xs → Holds p q xs) → ServesAll p q
 serves_all p q a b e x on =
     let s : IsServed x.turns b = x.keeps [] (subst (λ (t : Attendance). IsServed [] t) (sym e) served_nobody) in
     record {
@@ -110,7 +110,7 @@ some_is_none o t e h = cc (e, h)
 there_below : (crowd : Crowd) (n next : ℕ) (t : Talk) → ((client : ℕ) → next ≤ client → crowd client ≡ None) → crowd n ≡ Some t → n < next
 there_below crowd n next t free there = elim (cases_lt n next) [ inl h ↦ h | inr h ↦ absurd (some_is_none (crowd n) t there (free n h)) ]
 
-pub turn_attends : HasTurn → (p q : Point) (crowd new : Crowd) (n next : ℕ) (a b : Talk) → crowd n ≡ Some a → IsTurn p q a b → Becomes crowd new n (Some b) → Attends p q (attendance crowd next) (attendance new next)
+pub turn_attends : HasTurn → (p q : Point) (crowd new : Crowd) (n next : ℕ) (a b : Talk) → crowd n ≡ Some a → TakesTurn None None None None p q a b → Becomes crowd new n (Some b) → Attends p q (attendance crowd next) (attendance new next)
 turn_attends law p q crowd new n next a b there x becomes =
     let one : Turn = record { client = n; got = x.got; put = x.put; held = x.held } in
     record {

@@ -1,9 +1,9 @@
 -- Many clients, each answered in order.
 use Rattle.std.specs.Prelude.{◌≡◌, ℕ, ◌<◌, ◌≤◌, List, ◌++◌, None}
 use Rattle.std.specs.List.{AllByRecursion}
-use Rattle.canary_wire.specs.Conversing.{Talk, KeepsOrder}
+use Rattle.canary_wire.specs.Conversing.{Talk}
 use Rattle.canary_wire.specs.Crowds.{Turn, Crowd, all_held, InOrderBy, IsCrowd}
-use Rattle.canary_wire.specs.Exchanges.{Exchange, Point, Went, Holds}
+use Rattle.canary_wire.specs.Exchanges.{Point, Went, Holds}
 
 -- ---- what is served
 
@@ -14,7 +14,7 @@ AreInOrder turns = (client : ℕ) → (t : Talk) × InOrderBy turns client t
 
 -- from one point of the desk to another clients had these turns, in this order: each conversation
 -- is in order, and all exchanges together were held by the desk, one after another
-pub record Serves (old new : Point) : Type 0 where
+pub record ServesAll (old new : Point) : Type 0 where
   pub turns : List Turn
   pub order : AreInOrder turns
   pub holds : Holds old new (all_held turns)
@@ -48,11 +48,3 @@ pub record Attends (p q : Point) (old new : Attendance) : Type 0 where
   pub turns : List Turn
   pub went : Went p q (all_held turns)
   pub keeps : (before : List Turn) → IsServed before old → IsServed (before ++ turns) new
-
--- a client had its turn
-pub record IsTurn (p q : Point) (old new : Talk) : Type 0 where
-  pub got : List ℕ
-  pub put : List ℕ
-  pub held : List Exchange
-  pub went : Went p q held
-  pub order : KeepsOrder old new got put held

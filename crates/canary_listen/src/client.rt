@@ -1,8 +1,8 @@
 //! A client: its connection, the conversation with it, and how long it may take.
-ghost use Rattle.std.specs.Prelude.{◌≡◌};
+ghost use Rattle.std.specs.Prelude.{◌≡◌, None};
+ghost use Rattle.canary_wire.specs.Conversing.{TakesTurn};
 ghost use Rattle.canary_wire.specs.Exchanges.{point};
 ghost use Rattle.canary_wire.specs.Talks.{talk_of};
-ghost use Rattle.canary_listen.specs.Attending.{IsTurn};
 ghost use Rattle.canary_listen.specs.Crowd.{client_talk};
 
 use crate::limits::Limits;
@@ -106,7 +106,8 @@ impl Client {
         book: &mut B,
         now: u64,
     ) -> Fate
-        ensures { IsTurn (point (C.tells clock.old) (B.state book.old))
+        ensures { TakesTurn None None None None
+            (point (C.tells clock.old) (B.state book.old))
             (point (C.tells clock.new) (B.state book.new))
             (client_talk self.old) (client_talk self.new) }
     {

@@ -1,7 +1,7 @@
 //! Serving clients on a socket.
 ghost use Rattle.std.specs.Prelude.{◌≡◌, IfOk};
 ghost use Rattle.canary_wire.specs.Exchanges.{point};
-ghost use Rattle.canary_listen.specs.Attending.{Attends, Serves, nobody};
+ghost use Rattle.canary_listen.specs.Attending.{Attends, ServesAll, nobody};
 ghost use Rattle.canary_listen.specs.Crowd.{attendance_of};
 
 use crate::attendant::{Attendant, SOCKET};
@@ -117,7 +117,7 @@ impl Listener {
             (point (C.tells clock.new) (B.state book.new))
             (attendance_of self.old) (attendance_of self.new) }
         ensures serves { attendance_of self.old ≡ nobody
-            → Serves (point (C.tells clock.old) (B.state book.old))
+            → ServesAll (point (C.tells clock.old) (B.state book.old))
             (point (C.tells clock.new) (B.state book.new)) }
     {
         going_on::<C, B>();

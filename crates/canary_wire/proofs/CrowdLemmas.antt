@@ -4,11 +4,8 @@ use Rattle.std.specs.Prelude.{Option, None, Some, if◌then◌else◌}
 use Rattle.std.proofs.lemmas.List.{append-nil}
 use Rattle.std.proofs.lemmas.Grind.{flat_map-append}
 use Rattle.std.proofs.lemmas.Bool.Decides.{eqb_tells}
-use Rattle.canary_once.specs.Laws.{RunsOn}
-use Rattle.canary_wire.specs.Exchanges.{Exchange, AreHandled}
 use Rattle.canary_wire.specs.Conversing.{Talk, begun, InOrder, KeepsOrder, so_far}
-use Rattle.canary_wire.specs.Crowds.{Turn, by, IsNew, InOrderBy, IsTalk, all_held, Comes, HasTurn, Goes, GoesOn, IsOfTheMachine}
-use Rattle.canary_wire.proofs.ExchangeLemmas.{handled-append, handled_are}
+use Rattle.canary_wire.specs.Crowds.{Turn, by, IsNew, InOrderBy, IsTalk, Comes, HasTurn, Goes}
 use Rattle.canary_wire.proofs.ServeLemmas.{begins_none}
 use Rattle.canary_wire.proofs.OrderLemmas.{order_as}
 
@@ -103,16 +100,3 @@ goes turns old new who crowd becomes w = elim (eqb_tells w who) [
   | inl h ↦ (let t = crowd w in (t.0, t.1, subst (λ o. IsTalk o t.0) (sym (ap new h.1 ∙ becomes.changed)) tt))
   | inr h ↦ (let t = crowd w in (t.0, t.1, subst (λ o. IsTalk o t.0) (sym (becomes.others w h.1)) t.2))
 ]
-
--- ---- all turns together
-
-all_with : (turns : List Turn) (one : Turn) → all_held turns ++ one.held ≡ all_held (turns ++ one ∷ [])
-all_with turns one = sym (flat_map-append (λ (t : Turn). t.held) turns (one ∷ []) ∙ ap (λ z. all_held turns ++ z) (append-nil one.held))
-
-pub goes_on : GoesOn
-goes_on c d e turns one before now =
-    let P : List Exchange → Type 0 = λ xs. AreHandled c xs e in
-    subst P (all_with turns one) (handled-append c d e (all_held turns) one.held before now)
-
-pub of_the_machine : RunsOn → IsOfTheMachine
-of_the_machine on c d turns h = handled_are on c d (all_held turns) h

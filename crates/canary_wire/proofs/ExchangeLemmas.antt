@@ -59,7 +59,7 @@ len_is xs ys = omega (arith, length-append xs ys)
 
 -- ---- what is handled
 
-pub handled-append : (c d e : Contents) (xs ys : List Exchange) → AreHandled c xs d → AreHandled d ys e → AreHandled c (xs ++ ys) e
+handled-append : (c d e : Contents) (xs ys : List Exchange) → AreHandled c xs d → AreHandled d ys e → AreHandled c (xs ++ ys) e
 handled-append c d e [] ys p q = let P : Contents → Type 0 = λ t. AreHandled t ys e in subst P p q
 handled-append c d e (x ∷ xs) ys p q = (p.0, p.1, handled-append p.0 d e xs ys p.2 q)
 
@@ -135,7 +135,7 @@ heard_first (posted r (Unavailable fault)) es gs = refl
 heard_first (viewed at q (Replied reply)) es gs = refl
 heard_first (viewed at q (Unavailable fault)) es gs = refl
 
-pub handled_are : RunsOn → (d new : Contents) (xs : List Exchange) → AreHandled d xs new
+handled_are : RunsOn → (d new : Contents) (xs : List Exchange) → AreHandled d xs new
     → (replies_in (answers_in xs) ≡ answers_of d (heard (events_of xs) (answers_in xs))) × (new ≡ after d (heard (events_of xs) (answers_in xs)))
 handled_are goes d new [] h = (refl, h)
 handled_are goes d new (x ∷ xs) h =

@@ -2,9 +2,7 @@
 use Rattle.std.specs.Prelude.{◌≡◌, ◌≢◌, ℕ, ◌==◌, List, [], ◌∷◌, ◌++◌, flat_map}
 use Rattle.std.specs.Prelude.{Option, None, Some, if◌then◌else◌}
 use Rattle.std.specs.List.{AllByRecursion}
-use Rattle.canary_once.specs.Contents.{Contents}
-use Rattle.canary_once.specs.Answers.{replies_in, heard, answers_of, after}
-use Rattle.canary_wire.specs.Exchanges.{Exchange, events_of, answers_in, AreHandled}
+use Rattle.canary_wire.specs.Exchanges.{Exchange}
 use Rattle.canary_wire.specs.Conversing.{Talk, begun, InOrder, KeepsOrder}
 
 -- ---- turns
@@ -76,17 +74,3 @@ abbrev pub Goes : Type 0
 Goes =
     (turns : List Turn) (old new : Crowd) (client : ℕ) → IsCrowd turns old
     → Becomes old new client None → IsCrowd turns new
-
--- with one turn more all turns went from the first contents to the last
-abbrev pub GoesOn : Type 0
-GoesOn =
-    (c d e : Contents) (turns : List Turn) (one : Turn) → AreHandled c (all_held turns) d
-    → AreHandled d one.held e → AreHandled c (all_held (turns ++ one ∷ [])) e
-
--- what all turns answered otherwise than by 503 is what the small machine answers to all that was
--- asked in them, in their order, and so are the contents
-abbrev pub IsOfTheMachine : Type 0
-IsOfTheMachine =
-    (c d : Contents) (turns : List Turn) → AreHandled c (all_held turns) d
-    → let asked = heard (events_of (all_held turns)) (answers_in (all_held turns)) in
-    (replies_in (answers_in (all_held turns)) ≡ answers_of c asked) × (d ≡ after c asked)

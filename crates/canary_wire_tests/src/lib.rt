@@ -1,12 +1,7 @@
-//! The tests of `canary_manifest`, `canary_wire`, `canary_check` and `canary_cli`: bodies with what
-//! they read as, streams as clients send them with the bytes that answer them, readers and writers
-//! that fail, manifests with what is found in them, and command lines.
+//! The tests of `canary_manifest` and `canary_wire`: bodies with what they read as, streams as
+//! clients send them with the bytes that answer them, and readers and writers that fail.
 #![tactic(auto)]
 
-#[cfg(test)]
-mod checking;
-#[cfg(test)]
-mod cli;
 #[cfg(test)]
 mod wire_command;
 #[cfg(test)]
