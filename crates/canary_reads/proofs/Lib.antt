@@ -6,6 +6,7 @@ pub mod ByColumns
 pub mod Asking
 pub mod Ordering
 pub mod Texts
+pub mod Fronts
 pub mod FoundCallers
 pub mod FoundServices
 pub mod FoundRuns

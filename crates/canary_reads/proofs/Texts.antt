@@ -1,9 +1,9 @@
 -- What the texts of the queries ask for.
-use Rattle.std.proofs.Common.{ℕ, List, [], ◌∷◌, codes, refl}
+use Rattle.std.proofs.Common.{ℕ, pos, List, [], ◌∷◌, codes, refl}
 use Rattle.sqlite.specs.Term.{Term, lit, col, op2}
 use Rattle.sqlite.specs.Listing.{understood}
 use Rattle.sqlite_sql.specs.declared.ops.BinaryOp.TheVariants.{Compare, Is}
-use Rattle.sqlite.specs.declared.types.Value.TheVariants.{Null}
+use Rattle.sqlite.specs.declared.types.Value.TheVariants.{Null, Int}
 use Rattle.sqlite_sql.specs.declared.ops.CompareOp.TheVariants.{Eq}
 use Rattle.sqlite_value.specs.declared.keys.Collation.TheVariants.{Binary}
 use Rattle.sqlite_tied.specs.Compute.{everything}
@@ -116,6 +116,23 @@ open_runs_query = tt
 pub open_runs_asks : Asks open_runs_text 9 open_runs_tests open_runs_shown (by_column 2) no_limit from_start
 unfolding understood everything
 open_runs_asks = record { names = _; is = refl; plain = (refl, refl); unlisted = refl }
+
+abbrev pub front_runs_text : List ℕ
+front_runs_text = codes "SELECT number, step, started, closed, outside, verdict FROM run WHERE service = ?1 ORDER BY closed LIMIT 3"
+
+abbrev pub front_runs_tests : List Term
+front_runs_tests = equals 1 0 ∷ []
+
+abbrev pub three : Term
+three = lit (Int (pos 3))
+
+pub front_runs_query : IsQuery front_runs_text
+unfolding everything
+front_runs_query = tt
+
+pub front_runs_asks : Asks front_runs_text 9 front_runs_tests open_runs_shown (by_column 5) three from_start
+unfolding understood everything
+front_runs_asks = record { names = _; is = refl; plain = (refl, refl); unlisted = refl }
 
 abbrev pub run_text : List ℕ
 run_text = codes "SELECT number, step, started, closed, outside, verdict FROM run WHERE service = ?1 AND number = ?2 ORDER BY rowid"
