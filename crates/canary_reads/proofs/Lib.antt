@@ -11,3 +11,5 @@ pub mod FoundCallers
 pub mod FoundServices
 pub mod FoundRuns
 pub mod FoundLines
+pub mod Holding
+pub mod FoundLists

@@ -201,3 +201,42 @@ measurements_query = tt
 pub measurements_asks : Asks measurements_text 13 measurements_tests measurements_shown (by_column 0) (col 0 2) (col 0 1)
 unfolding understood everything
 measurements_asks = record { names = _; is = refl; plain = (refl, refl); unlisted = refl }
+
+abbrev pub callers_text : List ℕ
+callers_text = codes "SELECT name, settled FROM caller ORDER BY rowid"
+
+abbrev pub callers_shown : List Term
+callers_shown = col 1 1 ∷ col 1 2 ∷ []
+
+pub callers_query : IsQuery callers_text
+unfolding everything
+callers_query = tt
+
+pub callers_asks : Asks callers_text 1 [] callers_shown (by_column 0) no_limit from_start
+unfolding understood everything
+callers_asks = record { names = _; is = refl; plain = (refl, refl); unlisted = refl }
+
+abbrev pub name_shown : List Term
+name_shown = col 1 1 ∷ []
+
+abbrev pub template_names_text : List ℕ
+template_names_text = codes "SELECT name FROM template ORDER BY rowid"
+
+pub template_names_query : IsQuery template_names_text
+unfolding everything
+template_names_query = tt
+
+pub template_names_asks : Asks template_names_text 5 [] name_shown (by_column 0) no_limit from_start
+unfolding understood everything
+template_names_asks = record { names = _; is = refl; plain = (refl, refl); unlisted = refl }
+
+abbrev pub service_names_text : List ℕ
+service_names_text = codes "SELECT name FROM service ORDER BY rowid"
+
+pub service_names_query : IsQuery service_names_text
+unfolding everything
+service_names_query = tt
+
+pub service_names_asks : Asks service_names_text 7 [] name_shown (by_column 0) no_limit from_start
+unfolding understood everything
+service_names_asks = record { names = _; is = refl; plain = (refl, refl); unlisted = refl }

@@ -2,3 +2,6 @@ pub mod Queries
 pub mod Finds
 pub mod Parts
 pub mod Sorts
+pub mod Limits
+pub mod Readable
+pub mod Breaks
