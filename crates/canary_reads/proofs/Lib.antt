@@ -13,3 +13,5 @@ pub mod FoundRuns
 pub mod FoundLines
 pub mod Holding
 pub mod FoundLists
+pub mod Counting
+pub mod CountTexts

@@ -3,6 +3,7 @@
 
 pub mod callers;
 mod columns;
+pub mod counts;
 pub mod fault;
 mod held;
 pub mod histories;
