@@ -11,7 +11,7 @@ use Rattle.canary_rows.specs.declared.rows.ServiceRow.{ServiceRow}
 use Rattle.canary_rows.specs.Tables.{Tables}
 use Rattle.canary_schema.specs.Cells.{caller_cells, template_cells, service_cells}
 use Rattle.canary_schema.specs.Stores.{Stores}
-use Rattle.canary_reads.specs.Limits.{IsCallerWithin, IsTemplateWithin, IsServiceWithin}
+use Rattle.canary_rows.specs.Limits.{IsCallerWithin, IsTemplateWithin, IsServiceWithin}
 use Rattle.canary_reads.specs.Readable.{name_in, number_in, name_of, caller_with, caller_of}
 use Rattle.canary_reads.proofs.Answer.{passes, shows, by_column, no_limit, from_start}
 use Rattle.canary_reads.proofs.Asking.{Asks, Reads, all_found}

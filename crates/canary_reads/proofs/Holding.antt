@@ -5,7 +5,7 @@ use Rattle.std.proofs.lemmas.Bool.Decides.{nat_tests}
 use Rattle.sqlite.specs.declared.types.Value.TheVariants.{Int, Text as Words}
 use Rattle.canary_base.specs.Names.{is_name}
 use Rattle.canary_rows.specs.declared.rows.CallerRow.{CallerRow}
-use Rattle.canary_reads.specs.Limits.{IsCallerWithin}
+use Rattle.canary_rows.specs.Limits.{IsCallerWithin}
 use Rattle.canary_reads.specs.Readable.{name_in, number_in, caller_with}
 
 -- where one is none, they are not all there

@@ -14,8 +14,8 @@ use crate::query;
 use sqlite::types::ValueRef;
 use sqlite::{Alter, Connection, Row};
 
-/// How many requests that are settled there are. SQLite counts to 2^63 - 1 at most. `Memory` where there is not enough,
-/// `Storage` where the database fails.
+/// How many settled requests there are, of which SQLite counts 2^63 - 1 at most. `Memory` where there is
+/// not enough, `Storage` where the database fails.
 pub fn kept_count<S: Alter>(conn: &mut Connection<S>) -> Result<u64, ReadFault>
     requires autocommit { conn.old.in_transaction ≡ false }
     ensures mode { conn.new.in_transaction ≡ false }
@@ -27,8 +27,8 @@ pub fn kept_count<S: Alter>(conn: &mut Connection<S>) -> Result<u64, ReadFault>
     count_of(conn, "SELECT count(*) FROM kept")
 }
 
-/// How many runs there are. SQLite counts to 2^63 - 1 at most. `Memory` where there is not enough,
-/// `Storage` where the database fails.
+/// How many runs there are, of which SQLite counts 2^63 - 1 at most. `Memory` where there is
+/// not enough, `Storage` where the database fails.
 pub fn run_count<S: Alter>(conn: &mut Connection<S>) -> Result<u64, ReadFault>
     requires autocommit { conn.old.in_transaction ≡ false }
     ensures mode { conn.new.in_transaction ≡ false }
@@ -40,8 +40,8 @@ pub fn run_count<S: Alter>(conn: &mut Connection<S>) -> Result<u64, ReadFault>
     count_of(conn, "SELECT count(*) FROM run")
 }
 
-/// How many tallies there are. SQLite counts to 2^63 - 1 at most. `Memory` where there is not enough,
-/// `Storage` where the database fails.
+/// How many tallies there are, of which SQLite counts 2^63 - 1 at most. `Memory` where there is
+/// not enough, `Storage` where the database fails.
 pub fn tally_count<S: Alter>(conn: &mut Connection<S>) -> Result<u64, ReadFault>
     requires autocommit { conn.old.in_transaction ≡ false }
     ensures mode { conn.new.in_transaction ≡ false }
@@ -53,8 +53,8 @@ pub fn tally_count<S: Alter>(conn: &mut Connection<S>) -> Result<u64, ReadFault>
     count_of(conn, "SELECT count(*) FROM tally")
 }
 
-/// How many measurements there are. SQLite counts to 2^63 - 1 at most. `Memory` where there is not enough,
-/// `Storage` where the database fails.
+/// How many measurements there are, of which SQLite counts 2^63 - 1 at most. `Memory` where there is
+/// not enough, `Storage` where the database fails.
 pub fn measurement_count<S: Alter>(conn: &mut Connection<S>) -> Result<u64, ReadFault>
     requires autocommit { conn.old.in_transaction ≡ false }
     ensures mode { conn.new.in_transaction ≡ false }
@@ -66,8 +66,8 @@ pub fn measurement_count<S: Alter>(conn: &mut Connection<S>) -> Result<u64, Read
     count_of(conn, "SELECT count(*) FROM measurement")
 }
 
-/// How many lines of histories there are. SQLite counts to 2^63 - 1 at most. `Memory` where there is not enough,
-/// `Storage` where the database fails.
+/// How many lines of histories there are, of which SQLite counts 2^63 - 1 at most. `Memory` where there is
+/// not enough, `Storage` where the database fails.
 pub fn history_count<S: Alter>(conn: &mut Connection<S>) -> Result<u64, ReadFault>
     requires autocommit { conn.old.in_transaction ≡ false }
     ensures mode { conn.new.in_transaction ≡ false }

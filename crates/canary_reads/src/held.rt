@@ -69,7 +69,8 @@ fn number_at(row: &Row, at: usize) -> Option<u32>
     }
 }
 
-/// What is held of all rows, in their order, or `Memory`; `Broken` where a program can hold one not.
+/// What is held of all rows, in their order. `Memory` where there is not enough, `Broken` where a
+/// program cannot hold one of them.
 pub(crate) fn all<R: Held>(alloc: Global, rows: &[Row]) -> Result<Listed<R>, ReadFault>
     ensures found { IfOk result (λ all. map Some all ≡ map R.held rows.now) }
     ensures broken { result ≡ Err ReadFault.Broken

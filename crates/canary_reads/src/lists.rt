@@ -4,7 +4,7 @@ ghost use Rattle.std.specs.List.{AllByRecursion};
 ghost use Rattle.sqlite.specs.Held.{state};
 ghost use Rattle.canary_reads.specs.Finds.{IsSame, Finds};
 ghost use Rattle.canary_reads.specs.Breaks.{BreaksUnless};
-ghost use Rattle.canary_reads.specs.Limits.{IsCallerWithin, IsTemplateWithin, IsServiceWithin};
+ghost use Rattle.canary_rows.specs.Limits.{IsCallerWithin, IsTemplateWithin, IsServiceWithin};
 
 use crate::fault::ReadFault;
 use crate::{held, query};
