@@ -3,7 +3,6 @@
 
 pub mod callers;
 mod columns;
-pub mod counts;
 pub mod fault;
 mod held;
 pub mod histories;

@@ -4,7 +4,7 @@ use Rattle.sqlite.specs.Held.{state}
 use Rattle.canary_schema.specs.Cells.{kept_cells}
 use Rattle.canary_reads.proofs.Counting.{count_found}
 use Rattle.canary_reads.proofs.CountTexts.{kept_count_text, kept_count_query, kept_counts}
-use Rattle.canary_reads.proofs.counts.kept_count.Goals as goal
+use Rattle.canary_reads.proofs.lists.kept_count.Goals as goal
 
 pub count_of-requires-clause-query : goal.count_of-requires-clause-query
 count_of-requires-clause-query g c = kept_count_query

@@ -4,7 +4,7 @@ use Rattle.sqlite.specs.Held.{state}
 use Rattle.canary_schema.specs.Cells.{run_cells}
 use Rattle.canary_reads.proofs.Counting.{count_found}
 use Rattle.canary_reads.proofs.CountTexts.{run_count_text, run_count_query, run_counts}
-use Rattle.canary_reads.proofs.counts.run_count.Goals as goal
+use Rattle.canary_reads.proofs.lists.run_count.Goals as goal
 
 pub count_of-requires-clause-query : goal.count_of-requires-clause-query
 count_of-requires-clause-query g c = run_count_query

@@ -4,7 +4,7 @@ use Rattle.sqlite.specs.Held.{state}
 use Rattle.canary_schema.specs.Cells.{measurement_cells}
 use Rattle.canary_reads.proofs.Counting.{count_found}
 use Rattle.canary_reads.proofs.CountTexts.{measurement_count_text, measurement_count_query, measurement_counts}
-use Rattle.canary_reads.proofs.counts.measurement_count.Goals as goal
+use Rattle.canary_reads.proofs.lists.measurement_count.Goals as goal
 
 pub count_of-requires-clause-query : goal.count_of-requires-clause-query
 count_of-requires-clause-query g c = measurement_count_query

@@ -4,7 +4,7 @@ use Rattle.sqlite.specs.Held.{state}
 use Rattle.canary_schema.specs.Cells.{tally_cells}
 use Rattle.canary_reads.proofs.Counting.{count_found}
 use Rattle.canary_reads.proofs.CountTexts.{tally_count_text, tally_count_query, tally_counts}
-use Rattle.canary_reads.proofs.counts.tally_count.Goals as goal
+use Rattle.canary_reads.proofs.lists.tally_count.Goals as goal
 
 pub count_of-requires-clause-query : goal.count_of-requires-clause-query
 count_of-requires-clause-query g c = tally_count_query

@@ -4,7 +4,7 @@ use Rattle.sqlite.specs.Held.{state}
 use Rattle.canary_schema.specs.Cells.{history_cells}
 use Rattle.canary_reads.proofs.Counting.{count_found}
 use Rattle.canary_reads.proofs.CountTexts.{history_count_text, history_count_query, history_counts}
-use Rattle.canary_reads.proofs.counts.history_count.Goals as goal
+use Rattle.canary_reads.proofs.lists.history_count.Goals as goal
 
 pub count_of-requires-clause-query : goal.count_of-requires-clause-query
 count_of-requires-clause-query g c = history_count_query
