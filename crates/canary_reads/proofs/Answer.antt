@@ -60,7 +60,7 @@ same_either : {A : Type 0} (b : Bool) (x : A) → cond b x x ≡ x
 same_either true x = refl
 same_either false x = refl
 
-stored : (db : Trees) (tree : ℕ) → overlay db [] tree ≡ db tree
+pub stored : (db : Trees) (tree : ℕ) → overlay db [] tree ≡ db tree
 stored db tree = ap (λ (o : Option (List Row)). unwrap_or o (db tree)) (same_either (nat_le (2 ^ 31) tree) None)
 
 module _ (lost : Value) (tree : ℕ) (tests shown : List Term) (order : List (Term × Key)) (limit offset : Term) (db : Trees) (params : Row) (rows : List Row) where

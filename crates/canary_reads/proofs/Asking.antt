@@ -49,7 +49,7 @@ module _ {X Y : Type 0} (text : List ℕ) (tree : ℕ) (tests shown : List Term)
   all_found h = let p = page_found text tree tests shown no_limit from_start asks cells test told whole params tells xs rows h in ap (map whole) p.1 ∙ p.2
 
 -- in another order
-pub ordered_found : {X : Type 0} (text : List ℕ) (tree : ℕ) (tests shown : List Term) (order : List (Term × Key)) → Asks text tree tests shown order no_limit from_start → (cells : X → Row) (params : Row) (xs : List X) (rows : List Row)
-    → (h : Reads text tree cells xs params rows) → IsOrdered Null tree tests shown order no_limit from_start h.old.now.trees params rows
-ordered_found text tree tests shown order asks cells params xs rows h =
-    is_ordered Null tree tests shown order no_limit from_start h.old.now.trees params rows ((reads_as text params h.old h.new desk_schema h.schema _ asks.is asks.plain asks.unlisted rows h.shows_rows).answer Null)
+pub ordered_found : {X : Type 0} (text : List ℕ) (tree : ℕ) (tests shown : List Term) (order : List (Term × Key)) (limit : Term) → Asks text tree tests shown order limit from_start → (cells : X → Row) (params : Row) (xs : List X) (rows : List Row)
+    → (h : Reads text tree cells xs params rows) → IsOrdered Null tree tests shown order limit from_start h.old.now.trees params rows
+ordered_found text tree tests shown order limit asks cells params xs rows h =
+    is_ordered Null tree tests shown order limit from_start h.old.now.trees params rows ((reads_as text params h.old h.new desk_schema h.schema _ asks.is asks.plain asks.unlisted rows h.shows_rows).answer Null)

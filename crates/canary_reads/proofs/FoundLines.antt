@@ -13,7 +13,7 @@ use Rattle.canary_reads.proofs.Answer.{passes, shows}
 use Rattle.canary_reads.proofs.Asking.{all_found, page_found}
 use Rattle.canary_reads.proofs.Tests.{and_true, words_same, same_words}
 use Rattle.canary_reads.proofs.Texts.{history_text, history_tests, history_shown, history_asks, measurements_text, measurements_tests, measurements_shown, measurements_asks}
-use Rattle.canary_reads.proofs.Typed.{Tells, same_rows}
+use Rattle.canary_reads.proofs.Typed.{Tells, same_rows, taken}
 
 tells_line : (service : List ℕ) → Tells history_cells (is_line_of service) history_cells (λ row. Null ∷ Words service ∷ row) (passes history_tests (Words service ∷ [])) (shows history_shown (Words service ∷ []))
 tells_line service = record {
@@ -37,11 +37,6 @@ tells_measurement service rest = record {
   tests = λ id x. and_true _ ∙ words_same x.service service;
   shown = λ id x h. ap (λ n. Null ∷ Words n ∷ whole x.run ∷ whole x.metric ∷ whole x.ordinal ∷ whole x.taken ∷ whole x.phase ∷ Words x.outcome ∷ []) (same_words service x.service h);
 }
-
-taken : {A B : Type 0} (f : A → B) (most : ℕ) (xs : List A) → map f (take most xs) ≡ take most (map f xs)
-taken f zero xs = refl
-taken f (suc most) [] = refl
-taken f (suc most) (x ∷ xs) = ap (λ others. f x ∷ others) (taken f most xs)
 
 dropped : {A B : Type 0} (f : A → B) (from : ℕ) (xs : List A) → map f (drop from xs) ≡ drop from (map f xs)
 dropped f zero xs = refl

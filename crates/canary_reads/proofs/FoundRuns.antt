@@ -1,8 +1,9 @@
 -- What the queries on `run` and on `tally` find.
-use Rattle.std.proofs.Common.{◌≡◌, ◌∷◌, ◌&&◌, [], ℕ, List, map, filter, Option, Some, None, option_map, slice_get, refl, ap, ap₂, subst, ◌∙◌}
+use Rattle.std.proofs.Common.{◌≡◌, ◌∷◌, ◌&&◌, [], ℕ, List, map, filter, take, true, Option, Some, None, option_map, slice_get, refl, sym, ap, ap₂, subst, ◌∙◌}
 use Rattle.sqlite.specs.declared.types.Value.TheVariants.{Text as Words}
 use Rattle.sqlite.specs.Order.{Row, column}
 use Rattle.sqlite.specs.State.{State, Shown}
+use Rattle.sqlite_keyed.proofs.ListLemmas.{ascending_weaker}
 use Rattle.canary_rows.specs.declared.rows.RunRow.{RunRow}
 use Rattle.canary_rows.specs.declared.rows.TallyRow.{TallyRow}
 use Rattle.canary_rows.specs.Tables.{Tables, is_run, is_open_run_of}
@@ -10,14 +11,14 @@ use Rattle.canary_schema.specs.Cells.{whole, whole_or_null, number_or_null, run_
 use Rattle.canary_schema.specs.Stores.{Stores}
 use Rattle.canary_reads.specs.Finds.{first}
 use Rattle.canary_reads.specs.Parts.{counts_cells}
-use Rattle.canary_reads.specs.Sorts.{Sorts, number_of, metric_of}
+use Rattle.canary_reads.specs.Sorts.{Sorts, IsFront, is_open, is_run_of, number_of, metric_of}
 use Rattle.canary_rows.specs.Tables.{is_tally_of}
 use Rattle.canary_reads.proofs.Answer.{passes, shows}
 use Rattle.canary_reads.proofs.Asking.{all_found}
-use Rattle.canary_reads.proofs.Ordering.{sorted_found}
-use Rattle.canary_reads.proofs.Tests.{and_true, words_same, both_same, first_same, null_same}
-use Rattle.canary_reads.proofs.Texts.{run_text, run_tests, run_shown, run_asks, open_runs_text, open_runs_tests, open_runs_shown, open_runs_asks, tallies_text, tallies_tests, tallies_shown, tallies_asks}
-use Rattle.canary_reads.proofs.Typed.{Tells, same_first}
+use Rattle.canary_reads.proofs.Ordering.{sorted_found, listed_found}
+use Rattle.canary_reads.proofs.Tests.{and_true, words_same, same_words, both_same, first_same, null_same, null_first}
+use Rattle.canary_reads.proofs.Texts.{run_text, run_tests, run_shown, run_asks, open_runs_text, open_runs_tests, open_runs_shown, open_runs_asks, front_runs_text, front_runs_tests, front_runs_asks, three, tallies_text, tallies_tests, tallies_shown, tallies_asks}
+use Rattle.canary_reads.proofs.Typed.{Tells, same_first, same_rows, taken}
 
 number_back : (n : Option ℕ) → number_or_null (whole_or_null n) ≡ Some n
 number_back None = refl
@@ -66,6 +67,35 @@ open_runs_found old new t service params rows found has given h read =
     sorted_found run_cells (λ row. Words service ∷ row) number_of 0 (run_keyed service) run_in run_back open_runs_text 9 open_runs_tests open_runs_shown 2 open_runs_asks (is_open_run_of service)
     (Words service ∷ []) (tells_open service) (λ row. refl) t.runs rows found
     (record { old = old; new = new; schema = has.schema; numbered = has.numbered.1.1.1.1.1.0; stored = has.runs; shows_rows = subst (λ p. Shown open_runs_text p old new rows) given h }) read
+
+tells_of : (service : List ℕ) → Tells run_cells (is_run_of service) run_cells (λ row. Words service ∷ row) (passes front_runs_tests (Words service ∷ [])) (shows open_runs_shown (Words service ∷ []))
+tells_of service = record {
+  filled = λ x. (_, _, refl);
+  tests = λ id x. and_true _ ∙ words_same x.service service;
+  shown = λ id x h. ap (λ n. of_service n x) (same_words service x.service h);
+}
+
+run_marked : (service : List ℕ) (x : RunRow) (row : Row) → run_cells x ≡ Words service ∷ row → column row 3 ≡ whole_or_null x.ending.closed
+run_marked service x [] e = absurd (cc)
+run_marked service x (a ∷ []) e = absurd (cc)
+run_marked service x (a ∷ b ∷ []) e = absurd (cc)
+run_marked service x (a ∷ b ∷ c ∷ []) e = absurd (cc)
+run_marked service x (a ∷ b ∷ c ∷ d ∷ row) e = cc
+
+-- the rows are three runs of the service, the open ones first
+pub front_runs_found : (old new : State) (t : Tables) (service : List ℕ) (params : Row) (rows : List Row) (found : List RunRow) → Stores old t → params ≡ Words service ∷ [] → Shown front_runs_text params old new rows
+    → map run_cells found ≡ map (λ row. Words service ∷ row) rows → IsFront 3 (filter (is_run_of service) t.runs) found
+front_runs_found old new t service params rows found has given h read =
+    let l = listed_found run_cells (λ row. Words service ∷ row) (λ x. whole_or_null x.ending.closed) 3 (run_marked service) run_in run_back front_runs_text 9 front_runs_tests open_runs_shown 5 three front_runs_asks (is_run_of service)
+    (Words service ∷ []) (tells_of service) (λ row. refl) t.runs rows
+    (record { old = old; new = new; schema = has.schema; numbered = has.numbered.1.1.1.1.1.0; stored = has.runs; shows_rows = subst (λ p. Shown front_runs_text p old new rows) given h }) in
+    let cut : rows ≡ take 3 l.0 = l.1 in
+    record {
+      ordered = l.2.ordered;
+      same = l.2.same;
+      open_first = ascending_weaker _ (λ x y. is_open y ≡ true → is_open x ≡ true) (λ x y. null_first x.ending.closed y.ending.closed) l.2.ordered l.2.rising;
+      front = same_rows run_cells run_in run_back found (take 3 l.2.ordered) (read ∙ ap (map (λ row. Words service ∷ row)) cut ∙ taken (λ row. Words service ∷ row) 3 l.0 ∙ ap (take 3) (sym l.2.are) ∙ sym (taken run_cells 3 l.2.ordered));
+    }
 
 tells_tally : (service : List ℕ) (run : ℕ)
     → Tells tally_cells (is_tally_of service run) tally_cells (λ row. Words service ∷ row) (passes tallies_tests (Words service ∷ whole run ∷ [])) (shows tallies_shown (Words service ∷ whole run ∷ []))

@@ -6,7 +6,12 @@ pub mod ByColumns
 pub mod Asking
 pub mod Ordering
 pub mod Texts
+pub mod Fronts
 pub mod FoundCallers
 pub mod FoundServices
 pub mod FoundRuns
 pub mod FoundLines
+pub mod Holding
+pub mod FoundLists
+pub mod Counting
+pub mod CountTexts

@@ -14,7 +14,7 @@ use Rattle.sqlite.specs.declared.types.Value.{Value}
 use Rattle.sqlite.specs.declared.types.Value.TheVariants.{Null}
 use Rattle.sqlite.specs.Order.{Row, column, value_cmp}
 use Rattle.sqlite.specs.Term.{Term}
-use Rattle.sqlite.specs.Query.{Output, output_cmp}
+use Rattle.sqlite.specs.Query.{Output, output_cmp, page}
 use Rattle.sqlite.specs.Tree.{IsAscending}
 use Rattle.sqlite_sql.proofs.QueryLemmas.{output_cmp_total}
 use Rattle.sqlite_exec.proofs.PartitionLemmas.{ascending_from_sorted}
@@ -24,7 +24,7 @@ use Rattle.canary_schema.specs.Cells.{whole as number}
 use Rattle.canary_reads.specs.Sorts.{Sorts}
 use Rattle.canary_reads.proofs.Answer.{query_of, no_limit, from_start, by_column, passes, shows, put_out}
 use Rattle.canary_reads.proofs.Asking.{Asks, Reads, ordered_found}
-use Rattle.canary_reads.proofs.Typed.{Tells, typed}
+use Rattle.canary_reads.proofs.Typed.{Tells, typed, same_rows}
 
 then_equal : (o : Ordering) → is_gt (ordering_then o Equal) ≡ false → is_gt o ≡ false
 then_equal Less h = refl
@@ -62,15 +62,42 @@ module _ {X : Type 0} (cells : X → Row) (known : Row → Option X) (back : (x 
   pub same_in_order : (xs ys : List X) → IsPermutation (map cells xs) (map cells ys) → IsPermutation xs ys
   same_in_order xs ys h = subst₂ IsPermutation (all_known xs) (all_known ys) (IsPermutation-flat_map (λ row. listed (known row)) _ _ h)
 
--- What is sorted by the column at `at` and shows it at `place` is sorted by the key that stands there.
-module _ {X : Type 0} (cells : X → Row) (whole : Row → Row) (key : X → ℕ) (place : ℕ) (keyed : (x : X) (row : Row) → cells x ≡ whole row → column row place ≡ number (key x)) where
-  abbrev NotAbove : Value → Value → Type 0
-  NotAbove u v = is_gt (value_cmp u v) ≡ false
+abbrev pub NotAbove : Value → Value → Type 0
+NotAbove u v = is_gt (value_cmp u v) ≡ false
 
+-- what a query shows of these rows, in the order of a value of theirs
+pub record IsListed {X : Type 0} (cells : X → Row) (whole : Row → Row) (mark : X → Value) (all : List X) (listed : List Row) : Type 0 where
+  pub ordered : List X
+  pub same : IsPermutation all ordered
+  pub rising : IsAscending (λ x y. NotAbove (mark x) (mark y)) ordered
+  pub are : map cells ordered ≡ map whole listed
+
+each : {P : Row → Type 0} (rows : List Row) → ((row : Row) → P row) → AllByRecursion P rows
+each [] h = tt
+each (row ∷ rows) h = (h row, each rows h)
+
+-- rows with cells, in another order, are the cells of rows
+module _ {X : Type 0} (cells : X → Row) where
+  abbrev IsCells : Row → Type 0
+  IsCells row = (x : X) × (row ≡ cells x)
+
+  cells_are : (xs : List X) → AllByRecursion IsCells (map cells xs)
+  cells_are [] = tt
+  cells_are (x ∷ xs) = ((x, refl), cells_are xs)
+
+  lifted : (rows : List Row) → AllByRecursion IsCells rows → (xs : List X) × (map cells xs ≡ rows)
+  lifted [] h = ([], refl)
+  lifted (row ∷ rows) h = let rest = lifted rows h.1 in (h.0.0 ∷ rest.0, ap₂ (λ first others. first ∷ others) (sym h.0.1) rest.1)
+
+  moved_cells : (xs : List X) (rows : List Row) → IsPermutation (map cells xs) rows → (ys : List X) × (map cells ys ≡ rows)
+  moved_cells xs rows h = lifted rows (recursion_from_All IsCells rows (All-permutation IsCells _ rows h (All-from_recursion IsCells (map cells xs) (cells_are xs))))
+
+-- What is sorted by the column at `at` and shows it at `place` is sorted by the value that stands there.
+module _ {X : Type 0} (cells : X → Row) (whole : Row → Row) (mark : X → Value) (place : ℕ) (keyed : (x : X) (row : Row) → cells x ≡ whole row → column row place ≡ mark x) where
   abbrev lead : Output → Value
   lead o = column o.0 0
 
-  values : (os : List Output) (xs : List X) → map cells xs ≡ map whole (map (λ (o : Output). o.1) os) → AllByRecursion (λ (o : Output). lead o ≡ column o.1 place) os → map lead os ≡ map (λ x. number (key x)) xs
+  values : (os : List Output) (xs : List X) → map cells xs ≡ map whole (map (λ (o : Output). o.1) os) → AllByRecursion (λ (o : Output). lead o ≡ column o.1 place) os → map lead os ≡ map mark xs
   values [] [] e h = refl
   values [] (x ∷ xs) e h = absurd (cc)
   values (o ∷ os) [] e h = absurd (cc)
@@ -79,31 +106,38 @@ module _ {X : Type 0} (cells : X → Row) (whole : Row → Row) (key : X → ℕ
       let later : map cells xs ≡ map whole (map (λ (p : Output). p.1) os) = cc in
       ap₂ (λ first others. first ∷ others) (h.0 ∙ keyed x o.1 here) (values os xs later h.1)
 
-  ascend : (os : List Output) (xs : List X) → map cells xs ≡ map whole (map (λ (o : Output). o.1) os) → AllByRecursion (λ (o : Output). lead o ≡ column o.1 place) os → IsAscending (λ (o p : Output). NotAbove (lead o) (lead p)) os → IsNonDecreasingBy key xs
-  ascend os xs e h up =
-      never_falls key xs (ascending_weaker (λ x y. NotAbove (number (key x)) (number (key y))) (λ x y. key x ≤ key y) (λ x y b. not_above (key x) (key y) b) xs
-      (ascending_from_map NotAbove (λ x. number (key x)) xs (subst (IsAscending NotAbove) (values os xs e h) (ascending-map NotAbove lead os up))))
+  rise : (os : List Output) (xs : List X) → map cells xs ≡ map whole (map (λ (o : Output). o.1) os) → AllByRecursion (λ (o : Output). lead o ≡ column o.1 place) os → IsAscending (λ (o p : Output). NotAbove (lead o) (lead p)) os
+      → IsAscending (λ x y. NotAbove (mark x) (mark y)) xs
+  rise os xs e h up = ascending_from_map NotAbove mark xs (subst (IsAscending NotAbove) (values os xs e h) (ascending-map NotAbove lead os up))
 
-  module _ (known : Row → Option X) (back : (x : X) → known (cells x) ≡ Some x) (text : List ℕ) (tree : ℕ) (tests shown : List Term) (at : ℕ) (asks : Asks text tree tests shown (by_column at) no_limit from_start) (test : X → Bool)
+  module _ (known : Row → Option X) (back : (x : X) → known (cells x) ≡ Some x) (text : List ℕ) (tree : ℕ) (tests shown : List Term) (at : ℕ) (limit : Term) (asks : Asks text tree tests shown (by_column at) limit from_start) (test : X → Bool)
       (params : Row) (tells : Tells cells test cells whole (passes tests params) (shows shown params)) (leads : (row : Row) → column row at ≡ column (shows shown params row) place) where
-    pub sorted_found : (xs : List X) (rows : List Row) (all : List X) → Reads text tree cells xs params rows → map cells all ≡ map whole rows → Sorts key (filter test xs) all
-    sorted_found xs rows all h read =
-        let o = ordered_found text tree tests shown (by_column at) asks cells params xs rows h in
-        let out = put_out Null tree tests shown (by_column at) no_limit from_start h.old.now.trees params rows in
+    pub listed_found : (xs : List X) (rows : List Row) → Reads text tree cells xs params rows
+        → (listed : List Row) × (rows ≡ page (query_of tree tests shown (by_column at) limit from_start) params listed) × IsListed cells whole mark (filter test xs) listed
+    listed_found xs rows h =
+        let o = ordered_found text tree tests shown (by_column at) limit asks cells params xs rows h in
+        let out = put_out Null tree tests shown (by_column at) limit from_start h.old.now.trees params rows in
         let found = filter (passes tests params) (h.old.now.trees tree) in
-        let q = query_of tree tests shown (by_column at) no_limit from_start in
-        let is : map cells all ≡ map whole (map (λ (p : Output). p.1) o.ordered) = read ∙ ap (map whole) o.shown_are in
-        let moved : IsPermutation (map whole (map (λ (p : Output). p.1) (map out found))) (map whole (map (λ (p : Output). p.1) o.ordered)) = IsPermutation-map whole _ _ (IsPermutation-map (λ (p : Output). p.1) _ _ o.same) in
+        let q = query_of tree tests shown (by_column at) limit from_start in
+        let listed = map (λ (p : Output). p.1) o.ordered in
         let left : map whole (map (λ (p : Output). p.1) (map out found)) ≡ map cells (filter test xs) =
         ap (map whole) (map-map (λ (p : Output). p.1) out found) ∙ typed cells test cells whole (passes tests params) (shows shown params) tells (h.old.now.trees tree) xs h.stored in
+        let moved : IsPermutation (map cells (filter test xs)) (map whole listed) = subst (λ rows. IsPermutation rows (map whole listed)) left (IsPermutation-map whole _ _ (IsPermutation-map (λ (p : Output). p.1) _ _ o.same)) in
+        let ys = moved_cells cells (filter test xs) (map whole listed) moved in
         let led = recursion_from_All (λ (p : Output). lead p ≡ column p.1 place) o.ordered
         (All-permutation (λ (p : Output). lead p ≡ column p.1 place) _ o.ordered o.same (All-from_recursion _ (map out found) (all_map (λ (p : Output). lead p ≡ column p.1 place) out found (each found leads)))) in
         let up = ascending_weaker _ (λ (a b : Output). NotAbove (lead a) (lead b)) (λ a b k. then_equal _ k) o.ordered (ascending_from_sorted (output_cmp q) (output_cmp_total q) o.ordered o.sorted) in
-        record {
-          same = same_in_order cells known back (filter test xs) all (subst₂ IsPermutation left (sym is) moved);
-          ascend = ascend o.ordered all is led up;
-        }
-      where
-        each : {P : Row → Type 0} (rows : List Row) → ((row : Row) → P row) → AllByRecursion P rows
-        each [] h = tt
-        each (row ∷ rows) h = (h row, each rows h)
+        (listed, o.shown_are, record { ordered = ys.0; same = same_in_order cells known back (filter test xs) ys.0 (subst (IsPermutation (map cells (filter test xs))) (sym ys.1) moved); rising = rise o.ordered ys.0 ys.1 led up; are = ys.1 })
+
+-- all of them, by a number of theirs
+module _ {X : Type 0} (cells : X → Row) (whole : Row → Row) (key : X → ℕ) (place : ℕ) (keyed : (x : X) (row : Row) → cells x ≡ whole row → column row place ≡ number (key x)) (known : Row → Option X) (back : (x : X) → known (cells x) ≡ Some x)
+    (text : List ℕ) (tree : ℕ) (tests shown : List Term) (at : ℕ) (asks : Asks text tree tests shown (by_column at) no_limit from_start) (test : X → Bool) (params : Row)
+    (tells : Tells cells test cells whole (passes tests params) (shows shown params)) (leads : (row : Row) → column row at ≡ column (shows shown params row) place) where
+  pub sorted_found : (xs : List X) (rows : List Row) (all : List X) → Reads text tree cells xs params rows → map cells all ≡ map whole rows → Sorts key (filter test xs) all
+  sorted_found xs rows all h read =
+      let l = listed_found cells whole (λ x. number (key x)) place keyed known back text tree tests shown at no_limit asks test params tells leads xs rows h in
+      let is : l.2.ordered ≡ all = same_rows cells known back l.2.ordered all (l.2.are ∙ ap (map whole) (sym l.1) ∙ sym read) in
+      subst (Sorts key (filter test xs)) is (record {
+        same = l.2.same;
+        ascend = never_falls key l.2.ordered (ascending_weaker (λ x y. NotAbove (number (key x)) (number (key y))) (λ x y. key x ≤ key y) (λ x y b. not_above (key x) (key y) b) l.2.ordered l.2.rising);
+      })

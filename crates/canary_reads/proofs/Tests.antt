@@ -1,6 +1,6 @@
 -- What a comparison in SQL says of a cell, as the tests of rows say it.
 use Rattle.std.proofs.Common.{◌≡◌, ◌&&◌, ◌==◌, ℕ, pos, List, Bool, true, false, Option, None, Some, is_none, refl, sym, ap, ap₂, ◌∙◌}
-use Rattle.std.specs.Ordering.{is_eq, int_eq}
+use Rattle.std.specs.Ordering.{is_eq, is_gt, int_eq}
 use Rattle.std.specs.Str.{bytes_eq}
 use Rattle.std.proofs.lemmas.Bool.Decides.{same_from_decides, Decides-like, Decides-eqb, Decides-int_eq}
 use Rattle.std.proofs.lemmas.Slice.Eq.{bytes_eq-Decides}
@@ -59,3 +59,12 @@ pub null_same : (n : Option ℕ) → is_true (binary (Is Binary) (whole_or_null 
 unfolding binary
 null_same None = as_truth _ ∙ ap is_eq (value_cmp-Null Null)
 null_same (Some n) = as_truth _ ∙ ap is_eq (value_cmp-apart (Int (pos n)) Null (λ e. absurd (cc)))
+
+-- what is not above NULL is NULL
+pub null_first : (m n : Option ℕ) → is_gt (value_cmp (whole_or_null m) (whole_or_null n)) ≡ false → is_none n ≡ true → is_none m ≡ true
+null_first None n h e = refl
+null_first (Some m) None h e = absurd (above h)
+  where
+    above : is_gt (value_cmp (Int (pos m)) Null) ≡ false → ⊥
+    above k = absurd (let it : is_gt (value_cmp (Int (pos m)) Null) ≡ true = ap is_gt (value_cmp-apart (Int (pos m)) Null (λ e. absurd (cc))) in cc)
+null_first (Some m) (Some n) h e = absurd (cc)

@@ -1,9 +1,9 @@
 -- What the texts of the queries ask for.
-use Rattle.std.proofs.Common.{ℕ, List, [], ◌∷◌, codes, refl}
+use Rattle.std.proofs.Common.{ℕ, pos, List, [], ◌∷◌, codes, refl}
 use Rattle.sqlite.specs.Term.{Term, lit, col, op2}
 use Rattle.sqlite.specs.Listing.{understood}
 use Rattle.sqlite_sql.specs.declared.ops.BinaryOp.TheVariants.{Compare, Is}
-use Rattle.sqlite.specs.declared.types.Value.TheVariants.{Null}
+use Rattle.sqlite.specs.declared.types.Value.TheVariants.{Null, Int}
 use Rattle.sqlite_sql.specs.declared.ops.CompareOp.TheVariants.{Eq}
 use Rattle.sqlite_value.specs.declared.keys.Collation.TheVariants.{Binary}
 use Rattle.sqlite_tied.specs.Compute.{everything}
@@ -117,6 +117,23 @@ pub open_runs_asks : Asks open_runs_text 9 open_runs_tests open_runs_shown (by_c
 unfolding understood everything
 open_runs_asks = record { names = _; is = refl; plain = (refl, refl); unlisted = refl }
 
+abbrev pub front_runs_text : List ℕ
+front_runs_text = codes "SELECT number, step, started, closed, outside, verdict FROM run WHERE service = ?1 ORDER BY closed LIMIT 3"
+
+abbrev pub front_runs_tests : List Term
+front_runs_tests = equals 1 0 ∷ []
+
+abbrev pub three : Term
+three = lit (Int (pos 3))
+
+pub front_runs_query : IsQuery front_runs_text
+unfolding everything
+front_runs_query = tt
+
+pub front_runs_asks : Asks front_runs_text 9 front_runs_tests open_runs_shown (by_column 5) three from_start
+unfolding understood everything
+front_runs_asks = record { names = _; is = refl; plain = (refl, refl); unlisted = refl }
+
 abbrev pub run_text : List ℕ
 run_text = codes "SELECT number, step, started, closed, outside, verdict FROM run WHERE service = ?1 AND number = ?2 ORDER BY rowid"
 
@@ -184,3 +201,42 @@ measurements_query = tt
 pub measurements_asks : Asks measurements_text 13 measurements_tests measurements_shown (by_column 0) (col 0 2) (col 0 1)
 unfolding understood everything
 measurements_asks = record { names = _; is = refl; plain = (refl, refl); unlisted = refl }
+
+abbrev pub callers_text : List ℕ
+callers_text = codes "SELECT name, settled FROM caller ORDER BY rowid"
+
+abbrev pub callers_shown : List Term
+callers_shown = col 1 1 ∷ col 1 2 ∷ []
+
+pub callers_query : IsQuery callers_text
+unfolding everything
+callers_query = tt
+
+pub callers_asks : Asks callers_text 1 [] callers_shown (by_column 0) no_limit from_start
+unfolding understood everything
+callers_asks = record { names = _; is = refl; plain = (refl, refl); unlisted = refl }
+
+abbrev pub name_shown : List Term
+name_shown = col 1 1 ∷ []
+
+abbrev pub template_names_text : List ℕ
+template_names_text = codes "SELECT name FROM template ORDER BY rowid"
+
+pub template_names_query : IsQuery template_names_text
+unfolding everything
+template_names_query = tt
+
+pub template_names_asks : Asks template_names_text 5 [] name_shown (by_column 0) no_limit from_start
+unfolding understood everything
+template_names_asks = record { names = _; is = refl; plain = (refl, refl); unlisted = refl }
+
+abbrev pub service_names_text : List ℕ
+service_names_text = codes "SELECT name FROM service ORDER BY rowid"
+
+pub service_names_query : IsQuery service_names_text
+unfolding everything
+service_names_query = tt
+
+pub service_names_asks : Asks service_names_text 7 [] name_shown (by_column 0) no_limit from_start
+unfolding understood everything
+service_names_asks = record { names = _; is = refl; plain = (refl, refl); unlisted = refl }

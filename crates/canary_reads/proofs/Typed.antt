@@ -1,5 +1,5 @@
 -- From the cells of a tree's rows to the rows of a table.
-use Rattle.std.proofs.Common.{◌≡◌, List, [], ◌∷◌, map, filter, drop, if◌then◌else◌, Bool, true, false, Option, Some, None, slice_get, option_map, refl, sym, ap, ap₂, ◌∙◌}
+use Rattle.std.proofs.Common.{◌≡◌, ℕ, zero, suc, List, [], ◌∷◌, map, filter, take, drop, if◌then◌else◌, Bool, true, false, Option, Some, None, slice_get, option_map, refl, sym, ap, ap₂, ◌∙◌}
 use Rattle.sqlite.specs.declared.types.Value.{Value}
 use Rattle.sqlite.specs.Order.{Row}
 
@@ -55,3 +55,9 @@ module _ {X : Type 0} (cells : X → Row) (known : Row → Option X) (back : (x 
       let one : cells y ≡ whole row = cc in
       let other : whole row ≡ cells x = cc in
       ap Some (same_row y x (one ∙ other))
+
+-- the first of them
+pub taken : {A B : Type 0} (f : A → B) (most : ℕ) (xs : List A) → map f (take most xs) ≡ take most (map f xs)
+taken f zero xs = refl
+taken f (suc most) [] = refl
+taken f (suc most) (x ∷ xs) = ap (λ others. f x ∷ others) (taken f most xs)

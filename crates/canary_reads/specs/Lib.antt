@@ -2,3 +2,5 @@ pub mod Queries
 pub mod Finds
 pub mod Parts
 pub mod Sorts
+pub mod Readable
+pub mod Breaks

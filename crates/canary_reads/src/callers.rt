@@ -4,10 +4,10 @@ ghost use Rattle.sqlite.specs.Held.{state};
 ghost use Rattle.canary_rows.specs.Tables.{is_caller, is_kept};
 ghost use Rattle.canary_reads.specs.Finds.{IsSame, Finds, first};
 
-use canary_schema::fault::StoreFault;
 use crate::{query, shown};
 use canary_base::names::Name;
 use canary_rows::rows::{CallerRow, KeptRow};
+use canary_schema::fault::StoreFault;
 use sqlite::{Alter, Connection, params};
 
 /// How many requests of the caller are settled, if it is known. `Memory` where there is not enough,

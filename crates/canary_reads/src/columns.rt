@@ -5,10 +5,10 @@ ghost use Rattle.sqlite.specs.Order.{column};
 ghost use Rattle.sqlite.specs.declared.types.Value.TheVariants.{Text as Words};
 ghost use Rattle.canary_schema.specs.Cells.{whole, whole_or_null};
 
-use canary_schema::fault::{StoreFault, fault_of};
 use canary_base::lists::Text;
 use canary_base::moments::Moment;
 use canary_base::names::Label;
+use canary_schema::fault::{StoreFault, fault_of};
 use sqlite::Row;
 use sqlite::types::ValueRef;
 

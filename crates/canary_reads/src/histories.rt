@@ -4,11 +4,11 @@ ghost use Rattle.sqlite.specs.Held.{state};
 ghost use Rattle.canary_rows.specs.Tables.{is_line_of, is_measurement_of};
 ghost use Rattle.canary_reads.specs.Finds.{IsSame, Finds};
 
-use canary_schema::fault::StoreFault;
 use crate::{query, shown};
 use canary_base::lists::Listed;
 use canary_base::names::Name;
 use canary_rows::rows::{HistoryRow, MeasurementRow};
+use canary_schema::fault::StoreFault;
 use sqlite::{Alter, Connection, params};
 use std::alloc::Global;
 

@@ -3,7 +3,10 @@
 
 pub mod callers;
 mod columns;
+pub mod fault;
+mod held;
 pub mod histories;
+pub mod lists;
 mod query;
 pub mod runs;
 pub mod services;

@@ -1,16 +1,17 @@
 //! Runs, and the counts of their metrics.
-ghost use Rattle.std.specs.Prelude.{◌≡◌, false, filter};
+ghost use Rattle.std.specs.Prelude.{◌≡◌, false, filter, IfOk};
 ghost use Rattle.sqlite.specs.Held.{state};
 ghost use Rattle.canary_rows.specs.Tables.{is_run, is_open_run_of};
 ghost use Rattle.canary_reads.specs.Finds.{IsSame, Finds, FindsSuch, first};
-ghost use Rattle.canary_reads.specs.Sorts.{Sorts, number_of, metric_of};
+ghost use Rattle.canary_reads.specs.Sorts.{Sorts, IsFront, is_open, is_run_of, number_of, metric_of};
 ghost use Rattle.canary_rows.specs.Tables.{is_tally_of};
 
-use canary_schema::fault::StoreFault;
 use crate::{query, shown};
+use canary_base::error::Memory;
 use canary_base::lists::Listed;
 use canary_base::names::Name;
 use canary_rows::rows::{RunRow, TallyRow};
+use canary_schema::fault::StoreFault;
 use sqlite::{Alter, Connection, params};
 use std::alloc::Global;
 
@@ -49,6 +50,48 @@ pub fn open_runs<S: Alter>(
     ensures found { FindsSuch (λ t. Sorts number_of (filter (is_open_run_of service.now) t.runs))
         (state S.Store conn.old) (state S.Store conn.new) result }
 {
+    let front = front_runs(conn, alloc, service)?;
+    let open = open_among(alloc, front.as_slice())?;
+    if open.as_slice().len() < 3 {
+        Ok(by_number(open)?)
+    } else {
+        all_open_runs(conn, alloc, service)
+    }
+}
+
+// Three runs of the service, the open ones first: then no run that is closed before them is read.
+fn front_runs<S: Alter>(
+    conn: &mut Connection<S>,
+    alloc: Global,
+    service: &Name,
+) -> Result<Listed<RunRow>, StoreFault>
+    requires autocommit { conn.old.in_transaction ≡ false }
+    ensures mode { conn.new.in_transaction ≡ false }
+    ensures same { IsSame (state S.Store conn.old) (state S.Store conn.new) }
+    ensures found { FindsSuch (λ t. IsFront 3 (filter (is_run_of service.now) t.runs))
+        (state S.Store conn.old) (state S.Store conn.new) result }
+{
+    let rows = query::rows_of(
+        conn,
+        "SELECT number, step, started, closed, outside, verdict FROM run \
+         WHERE service = ?1 ORDER BY closed LIMIT 3",
+        params![service.as_str()],
+    )?;
+    shown::all(alloc, service, rows.as_slice())
+}
+
+// The open runs of the service, for which all its runs are gone over.
+fn all_open_runs<S: Alter>(
+    conn: &mut Connection<S>,
+    alloc: Global,
+    service: &Name,
+) -> Result<Listed<RunRow>, StoreFault>
+    requires autocommit { conn.old.in_transaction ≡ false }
+    ensures mode { conn.new.in_transaction ≡ false }
+    ensures same { IsSame (state S.Store conn.old) (state S.Store conn.new) }
+    ensures found { FindsSuch (λ t. Sorts number_of (filter (is_open_run_of service.now) t.runs))
+        (state S.Store conn.old) (state S.Store conn.new) result }
+{
     let rows = query::rows_of(
         conn,
         "SELECT number, step, started, closed, outside, verdict FROM run \
@@ -56,6 +99,26 @@ pub fn open_runs<S: Alter>(
         params![service.as_str()],
     )?;
     shown::all(alloc, service, rows.as_slice())
+}
+
+fn open_among(alloc: Global, runs: &[RunRow]) -> Result<Listed<RunRow>, Memory>
+    ensures { IfOk result (λ found. found ≡ filter is_open runs.now) }
+{
+    let mut open = Listed::of(Vec::new(alloc));
+    for run in runs {
+        if run.ending.closed.is_none() {
+            open.push(*run)?;
+        }
+    }
+    Ok(open)
+}
+
+fn by_number(runs: Listed<RunRow>) -> Result<Listed<RunRow>, Memory>
+    ensures { IfOk result (Sorts number_of runs) }
+{
+    let mut rows = runs.into_vec();
+    rows.sort_by_key(|run| run.number)?;
+    Ok(Listed::of(rows))
 }
 
 /// The counts of a run's metrics, by the places of the metrics. `Memory` where there is not enough,

@@ -5,11 +5,11 @@ ghost use Rattle.sqlite.specs.Held.{state};
 ghost use Rattle.canary_rows.specs.Tables.{is_template, is_service};
 ghost use Rattle.canary_reads.specs.Finds.{IsSame, Finds, first};
 
-use canary_schema::fault::StoreFault;
 use crate::{query, shown};
 use canary_base::lists::Text;
 use canary_base::names::Name;
 use canary_rows::rows::{ServiceRow, TemplateRow};
+use canary_schema::fault::StoreFault;
 use sqlite::{Alter, Connection, params};
 
 /// The text of the template, if there is one of that name. `Memory` where there is not enough,

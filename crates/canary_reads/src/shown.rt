@@ -5,7 +5,6 @@ ghost use Rattle.sqlite.specs.Order.{Row as Cells, column};
 ghost use Rattle.canary_reads.specs.Parts.{standing_cells, counts_cells};
 
 use crate::columns;
-use canary_schema::fault::StoreFault;
 use canary_base::lists::Listed;
 use canary_base::names::Name;
 use canary_metric::tally::Tally;
@@ -13,6 +12,7 @@ use canary_rows::rows::{
     CallerRow, Ending, HistoryRow, KeptRow, MeasurementRow, RunRow, ServiceRow, Standing, TallyRow,
     TemplateRow,
 };
+use canary_schema::fault::StoreFault;
 use sqlite::Row;
 use std::alloc::Global;
 

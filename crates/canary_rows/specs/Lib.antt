@@ -1,2 +1,3 @@
 pub mod Tables
 pub mod Changes
+pub mod Limits

@@ -1,0 +1,14 @@
+use Rattle.std.proofs.lemmas.Result.{IfOk-weaker}
+use Rattle.sqlite.specs.Held.{state}
+use Rattle.canary_schema.specs.Cells.{kept_cells}
+use Rattle.canary_reads.proofs.Counting.{count_found}
+use Rattle.canary_reads.proofs.CountTexts.{kept_count_text, kept_count_query, kept_counts}
+use Rattle.canary_reads.proofs.lists.kept_count.Goals as goal
+
+pub count_of-requires-clause-query : goal.count_of-requires-clause-query
+count_of-requires-clause-query g c = kept_count_query
+
+pub returns-clause-found : goal.returns-clause-found
+returns-clause-found g c usable t has =
+    IfOk-weaker c.count_of.result _ _
+    (λ n told. count_found kept_count_text 3 kept_counts kept_cells t.kept (state g.S.Store c.args.conn.now) (state g.S.Store c.count_of.new.conn) _ told.0 n has.schema has.kept told.1 told.2) (c.count_of.ensures.shown usable)

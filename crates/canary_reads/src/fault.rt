@@ -1,0 +1,39 @@
+//! Why a read told nothing.
+use canary_base::error::Memory;
+use canary_schema::fault::StoreFault;
+
+/// Why a read told nothing.
+#[derive(Clone, Copy, Debug, PartialEq, Eq)]
+pub enum ReadFault {
+    /// An allocation was refused.
+    Memory,
+    /// A statement of the store failed.
+    Storage,
+    /// A row holds a value that no desk writes.
+    Broken,
+}
+
+impl From<Memory> for ReadFault {
+    ghost use Rattle.std.specs.Prelude.{◌≡◌};
+    ghost use Rattle.canary_reads.specs.declared.fault.ReadFault.TheVariants as fault;
+
+    ghost from_gives = { λ _ made. made ≡ fault.Memory };
+
+    fn from(_: Memory) -> ReadFault {
+        ReadFault::Memory
+    }
+}
+
+impl From<StoreFault> for ReadFault {
+    ghost use Rattle.std.specs.Prelude.{◌≢◌};
+    ghost use Rattle.canary_reads.specs.declared.fault.ReadFault.TheVariants as fault;
+
+    ghost from_gives = { λ _ made. made ≢ fault.Broken };
+
+    fn from(fault: StoreFault) -> ReadFault {
+        match fault {
+            StoreFault::Memory => ReadFault::Memory,
+            StoreFault::Storage => ReadFault::Storage,
+        }
+    }
+}
