@@ -1,0 +1,2 @@
+pub mod Soundness
+pub mod Strays
