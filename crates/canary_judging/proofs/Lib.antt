@@ -1,2 +1,4 @@
 pub mod Soundness
 pub mod Strays
+pub mod Numbers
+pub mod Named
