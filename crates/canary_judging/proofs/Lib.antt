@@ -2,3 +2,5 @@ pub mod Soundness
 pub mod Strays
 pub mod Numbers
 pub mod Named
+pub mod Templates
+pub mod Callers

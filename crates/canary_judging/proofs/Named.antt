@@ -1,5 +1,5 @@
 -- Rows under names, and what stands there.
-use Rattle.std.proofs.Common.{◌≡◌, ◌⊎◌, inl, inr, ℕ, zero, suc, List, [], ◌∷◌, length, Bool, true, false, Some, None, true≢false, refl, sym, ap, ◌∙◌, subst, arith}
+use Rattle.std.proofs.Common.{◌≡◌, ◌⊎◌, inl, inr, ℕ, zero, suc, ◌≤◌, List, [], ◌∷◌, length, Bool, true, false, Some, None, true≢false, refl, sym, ap, ◌∙◌, subst, arith}
 use Rattle.std.specs.Prelude.{Option, cond, ◌&&◌, filter, slice_get}
 use Rattle.std.specs.Ordering.{nat_cmp}
 use Rattle.std.specs.Cmp.Lexicographic.{slice_cmp, nat_list_cmp_total}
@@ -10,7 +10,8 @@ use Rattle.std.specs.FinMap.{FinMap, get, insert, get-insert, get-empty, same_ma
 use Rattle.std.proofs.lemmas.Map.Text.{is_eq-slice_cmp}
 use Rattle.std.proofs.lemmas.Slice.Eq.{bytes_eq-Decides}
 use Rattle.canary_stored.specs.Reading.{put_some, map_of}
-use Rattle.canary_judging.proofs.Strays.{Apart}
+use Rattle.canary_stored.specs.Tables.{row_if}
+use Rattle.canary_judging.proofs.Strays.{Apart, AreApart}
 
 -- Maps by names.
 
@@ -101,3 +102,94 @@ one_of name P rows ones q (row ∷ found) is all =
 pub none_or_one : {R : Type 0} (name : R → List ℕ) (P : R → Type 0) (rows : List R) → ((row : R) → P row → filter (λ r. bytes_eq (name row) (name r)) rows ≡ row ∷ []) → AllByRecursion P rows
     → (q : List ℕ) → (filter (λ r. bytes_eq q (name r)) rows ≡ []) ⊎ IsOneOf name P rows q
 none_or_one name P rows ones all q = one_of name P rows ones q (filter (λ r. bytes_eq q (name r)) rows) refl (passing (λ r. bytes_eq q (name r)) P rows all)
+
+-- Elements.
+
+abbrev pub IsIn : {X : Type 0} → X → List X → Type 0
+IsIn x [] = ⊥
+IsIn x (y ∷ ys) = (y ≡ x) ⊎ IsIn x ys
+
+pub each_in : {X : Type 0} (P : X → Type 0) (xs : List X) → ((x : X) → IsIn x xs → P x) → AllByRecursion P xs
+each_in P [] all = tt
+each_in P (x ∷ xs) all = (all x (inl refl), each_in P xs (λ y i. all y (inr i)))
+
+in_kept : {X : Type 0} (p : X → Bool) (x y : X) (ys : List X) (b : Bool) → p y ≡ b → p x ≡ true → (y ≡ x) ⊎ IsIn x (filter p ys) → IsIn x (cond b (y ∷ filter p ys) (filter p ys))
+in_kept p x y ys true is passes at = at
+in_kept p x y ys false is passes (inl same) = absurd (true≢false (sym passes ∙ ap p (sym same) ∙ is))
+in_kept p x y ys false is passes (inr at) = at
+
+pub in_filter : {X : Type 0} (p : X → Bool) (x : X) (xs : List X) → IsIn x xs → p x ≡ true → IsIn x (filter p xs)
+in_filter p x [] at passes = at
+in_filter p x (y ∷ ys) (inl same) passes = in_kept p x y ys (p y) refl passes (inl same)
+in_filter p x (y ∷ ys) (inr at) passes = in_kept p x y ys (p y) refl passes (inr (in_filter p x ys at passes))
+
+-- a row that is there, where the rows of its name are those of what there is
+pub record OwnRow {A R : Type 0} (f : A → R) (o : Option A) (row : R) : Type 0 where
+  pub value : A
+  pub there : o ≡ Some value
+  pub is : f value ≡ row
+
+own_in : {A R : Type 0} (f : A → R) (o : Option A) (row : R) → IsIn row (row_if f o) → OwnRow f o row
+own_in f None row at = absurd at
+own_in f (Some v) row (inl same) = record { value = v; there = refl; is = same }
+own_in f (Some v) row (inr at) = absurd at
+
+pub own_row : {A R : Type 0} (p : R → Bool) (f : A → R) (o : Option A) (row : R) (rows : List R) → IsIn row rows → p row ≡ true → filter p rows ≡ row_if f o → OwnRow f o row
+own_row p f o row rows at passes is = own_in f o row (subst (IsIn row) is (in_filter p row rows at passes))
+
+pub own_alone : {A R : Type 0} (p : R → Bool) (f : A → R) (o : Option A) (row : R) (rows : List R) → filter p rows ≡ row_if f o → OwnRow f o row → filter p rows ≡ row ∷ []
+own_alone p f o row rows is own = is ∙ ap (row_if f) own.there ∙ ap (λ r. r ∷ []) own.is
+
+pub both : {X : Type 0} (P Q : X → Type 0) (xs : List X) → AllByRecursion P xs → AllByRecursion Q xs → AllByRecursion (λ x. P x × Q x) xs
+both P Q [] ps qs = tt
+both P Q (x ∷ xs) ps qs = ((ps.0, qs.0), both P Q xs ps.1 qs.1)
+
+pub weaker : {X : Type 0} (P Q : X → Type 0) → ((x : X) → P x → Q x) → (xs : List X) → AllByRecursion P xs → AllByRecursion Q xs
+weaker P Q so [] all = tt
+weaker P Q so (x ∷ xs) all = (so x all.0, weaker P Q so xs all.1)
+
+none_kept : {X : Type 0} (p : X → Bool) (x : X) (xs : List X) (b : Bool) → p x ≡ b → cond b (x ∷ filter p xs) (filter p xs) ≡ [] → (p x ≡ false) × (filter p xs ≡ [])
+none_kept p x xs true is e = absurd (cc)
+none_kept p x xs false is e = (is, e)
+
+pub none_pass : {X : Type 0} (p : X → Bool) (xs : List X) → filter p xs ≡ [] → AllByRecursion (λ x. p x ≡ false) xs
+none_pass p [] e = tt
+none_pass p (x ∷ xs) e = let parts : (p x ≡ false) × (filter p xs ≡ []) = none_kept p x xs (p x) refl e in (parts.0, none_pass p xs parts.1)
+
+-- Names that stand once each.
+
+empty_of : {X : Type 0} (xs : List X) → suc (length xs) ≤ 1 → xs ≡ []
+empty_of [] few = refl
+empty_of (x ∷ xs) few = absurd (omega arith)
+
+fewer_behind : {X : Type 0} (p : X → Bool) (x : X) (xs : List X) (b : Bool) → length (filter p xs) ≤ length (cond b (x ∷ filter p xs) (filter p xs))
+fewer_behind p x xs true = omega arith
+fewer_behind p x xs false = omega arith
+
+once_behind : {R : Type 0} (name : R → List ℕ) (row : R) (rows ks : List R) → AllByRecursion (λ k. length (filter (λ r. bytes_eq (name k) (name r)) (row ∷ rows)) ≤ 1) ks
+    → AllByRecursion (λ k. length (filter (λ r. bytes_eq (name k) (name r)) rows) ≤ 1) ks
+once_behind name row rows ks all =
+    weaker (λ k. length (filter (λ r. bytes_eq (name k) (name r)) (row ∷ rows)) ≤ 1) (λ k. length (filter (λ r. bytes_eq (name k) (name r)) rows) ≤ 1) (λ k h.
+      let few : length (filter (λ r. bytes_eq (name k) (name r)) rows) ≤ length (filter (λ r. bytes_eq (name k) (name r)) (row ∷ rows)) = fewer_behind (λ r. bytes_eq (name k) (name r)) row rows (bytes_eq (name k) (name row)) in
+      let most : length (filter (λ r. bytes_eq (name k) (name r)) (row ∷ rows)) ≤ 1 = h in
+      omega arith) ks all
+
+differ : (a b : List ℕ) → bytes_eq a b ≡ false → a ≡ b → ⊥
+differ a b fails same = true≢false (sym ((bytes_eq-Decides a b).1 same) ∙ fails)
+
+-- rows of another table that name one of these rows name no other of them
+pub distinct : {R S : Type 0} (name : R → List ℕ) (key : S → List ℕ) (rows : List R) → AllByRecursion (λ k. length (filter (λ r. bytes_eq (name k) (name r)) rows) ≤ 1) rows
+    → AreApart (λ (k : R) (s : S). bytes_eq (name k) (key s)) rows
+distinct name key [] once = tt
+distinct {R} {S} name key (row ∷ rows) once =
+    let same : R → Bool = λ r. bytes_eq (name row) (name r) in
+    let first : suc (length (filter same rows)) ≤ 1 = subst (λ (l : List R). length l ≤ 1) (first_kept same row rows (own_key (name row))) once.0 in
+    let none : AllByRecursion (λ r. same r ≡ false) rows = none_pass same rows (empty_of (filter same rows) first) in
+    (weaker (λ r. same r ≡ false) (λ r. Apart (λ (s : S). bytes_eq (name row) (key s)) (λ (s : S). bytes_eq (name r) (key s))) (λ r fails s is. names_apart (name row) (name r) (key s) (differ (name row) (name r) fails) is) rows none,
+    distinct name key rows (once_behind name row rows rows once.1))
+
+-- a name that no row has
+pub unnamed : {R S : Type 0} (name : R → List ℕ) (key : S → List ℕ) (rows : List R) (q : List ℕ) → filter (λ r. bytes_eq q (name r)) rows ≡ []
+    → AllByRecursion (λ k. Apart (λ (s : S). bytes_eq (name k) (key s)) (λ (s : S). bytes_eq q (key s))) rows
+unnamed {R} {S} name key rows q none =
+    weaker (λ r. bytes_eq q (name r) ≡ false) (λ k. Apart (λ (s : S). bytes_eq (name k) (key s)) (λ (s : S). bytes_eq q (key s))) (λ r fails s is. names_apart (name r) q (key s) (λ e. differ q (name r) fails (sym e)) is) rows (none_pass (λ r. bytes_eq q (name r)) rows none)

@@ -1,5 +1,6 @@
 //! Laws over the definitions alone.
 ghost use Rattle.canary_judging.specs.Soundness.{ExactlyThose};
+ghost use Rattle.canary_judging.specs.Judged.{TemplatesAreJudged};
 
 use canary_stored::laws as table_laws;
 
@@ -9,3 +10,9 @@ pub fn exactly_those()
 {
     table_laws::reads_back();
 }
+
+/// Templates are judged key by key: their rows are those of accepted templates exactly where each
+/// name has one row, which is read as an accepted template of that name.
+pub fn templates_judged()
+    ensures { TemplatesAreJudged }
+{}
