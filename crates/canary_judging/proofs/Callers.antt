@@ -40,7 +40,8 @@ of_receipt : (row : KeptRow) (c : Option Command) (s : Option ReplyStatus) (r : 
 of_receipt row None s r e = absurd (cc)
 of_receipt row (Some command) None r e = absurd (cc)
 of_receipt row (Some command) (Some status) r e =
-    let same : (record { command = command; reply = record { status = status; body = row.body } } : Receipt) ≡ r = cc e in
+    let made : Receipt = record { command = command; reply = record { status = status; body = row.body } } in
+    let same : made ≡ r = cc e in
     subst (IsOfReceipt row (Some command) (Some status)) same (record { command = refl; status = refl; body = refl })
 
 record IsOfStatus (n : ℕ) (s : ReplyStatus) : Type 0 where
