@@ -68,11 +68,11 @@ of_status n s e =
     ] refl e
 
 -- a kept row under a key, read
-record IsKeptAt (t : Tables) (q : List ℕ) (number : ℕ) (r : Receipt) : Type 0 where
-  rows : filter (is_kept q number) t.kept ≡ kept_row q number r ∷ []
-  values : filter_map receipt_of_row (filter (is_kept q number) t.kept) ≡ r ∷ []
-  readable : IsReadableCommand r.command
-  settled : IsSettledStatus r.reply.status
+pub record IsKeptAt (t : Tables) (q : List ℕ) (number : ℕ) (r : Receipt) : Type 0 where
+  pub rows : filter (is_kept q number) t.kept ≡ kept_row q number r ∷ []
+  pub values : filter_map receipt_of_row (filter (is_kept q number) t.kept) ≡ r ∷ []
+  pub readable : IsReadableCommand r.command
+  pub settled : IsSettledStatus r.reply.status
 
 both_hold : (a b : Bool) → a && b ≡ true → (a ≡ true) × (b ≡ true)
 both_hold true b e = (refl, e)
@@ -130,7 +130,7 @@ none_behind (x ∷ xs) (suc i) behind = none_behind xs i (omega arith)
 abbrev pub AreKept : Tables → List ℕ → ℕ → Type 0
 AreKept t q n = (number : ℕ) → 1 ≤ number → number ≤ n → IsOneRead (is_kept q number) receipt_of_row t.kept
 
-so_many : (t : Tables) (q : List ℕ) (n : ℕ) → AreKept t q n → length (receipts_to t.kept q n) ≡ n
+pub so_many : (t : Tables) (q : List ℕ) (n : ℕ) → AreKept t q n → length (receipts_to t.kept q n) ≡ n
 so_many t q zero kept = refl
 so_many t q (suc n) kept =
     let last : IsOneRead (is_kept q (suc n)) receipt_of_row t.kept = kept (suc n) (omega arith) (omega arith) in
@@ -141,12 +141,12 @@ so_many t q (suc n) kept =
     omega arith
 
 -- what is kept under a number stands in its place
-record StandsKept (t : Tables) (q : List ℕ) (n place : ℕ) : Type 0 where
-  receipt : Receipt
-  there : slice_get (receipts_to t.kept q n) place ≡ Some receipt
-  kept : IsKeptAt t q (suc place) receipt
+pub record StandsKept (t : Tables) (q : List ℕ) (n place : ℕ) : Type 0 where
+  pub receipt : Receipt
+  pub there : slice_get (receipts_to t.kept q n) place ≡ Some receipt
+  pub kept : IsKeptAt t q (suc place) receipt
 
-stands : (t : Tables) (q : List ℕ) (n place : ℕ) → AreKept t q n → place < n → StandsKept t q n place
+pub stands : (t : Tables) (q : List ℕ) (n place : ℕ) → AreKept t q n → place < n → StandsKept t q n place
 stands t q zero place kept below = absurd (omega arith)
 stands t q (suc n) place kept below =
     let front : AreKept t q n = λ number a b. kept number a (omega arith) in

@@ -4,3 +4,4 @@ pub mod Numbers
 pub mod Named
 pub mod Templates
 pub mod Callers
+pub mod CallersHold
