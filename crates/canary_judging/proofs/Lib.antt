@@ -5,3 +5,4 @@ pub mod Named
 pub mod Templates
 pub mod Callers
 pub mod CallersHold
+pub mod CallersJudged

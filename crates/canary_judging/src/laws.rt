@@ -1,6 +1,6 @@
 //! Laws over the definitions alone.
 ghost use Rattle.canary_judging.specs.Soundness.{ExactlyThose};
-ghost use Rattle.canary_judging.specs.Judged.{TemplatesAreJudged};
+ghost use Rattle.canary_judging.specs.Judged.{CallersAreJudged, TemplatesAreJudged};
 
 use canary_stored::laws as table_laws;
 
@@ -10,6 +10,13 @@ pub fn exactly_those()
 {
     table_laws::reads_back();
 }
+
+/// Callers are judged key by key: their rows, and those of what is kept, are those of receipts
+/// exactly where each name has one row, each of its numbers from 1 on has one that is read, and
+/// there are no more kept rows than these.
+pub fn callers_judged()
+    ensures { CallersAreJudged }
+{}
 
 /// Templates are judged key by key: their rows are those of accepted templates exactly where each
 /// name has one row, which is read as an accepted template of that name.
