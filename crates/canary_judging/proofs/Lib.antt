@@ -6,3 +6,4 @@ pub mod Templates
 pub mod Callers
 pub mod CallersHold
 pub mod CallersJudged
+pub mod Counting
