@@ -64,21 +64,21 @@ both_hold : (a b : Bool) → a && b ≡ true → (a ≡ true) × (b ≡ true)
 both_hold true b e = (refl, e)
 both_hold false b e = absurd (cc)
 
-is_of_both : (r m : ℕ) (x : Recorded) → is_of r m x ≡ true → (x.run ≡ r) × (x.metric ≡ m)
+pub is_of_both : (r m : ℕ) (x : Recorded) → is_of r m x ≡ true → (x.run ≡ r) × (x.metric ≡ m)
 is_of_both r m x e = let h : ((x.run == r) ≡ true) × ((x.metric == m) ≡ true) = both_hold (x.run == r) (x.metric == m) e in ((Decides-eqb x.run r).0 h.0, (Decides-eqb x.metric m).0 h.1)
 
 is_not_both : (r m : ℕ) (x : Recorded) → is_of r m x ≡ false → x.run ≡ r → x.metric ≡ m → ⊥
 is_not_both r m x e a b = true≢false ((λ i. sym ((Decides-eqb x.run r).1 a) i && sym ((Decides-eqb x.metric m).1 b) i) ∙ e)
 
-own_of : (x : Recorded) → is_of x.run x.metric x ≡ true
+pub own_of : (x : Recorded) → is_of x.run x.metric x ≡ true
 own_of x = λ i. (Decides-eqb x.run x.run).1 refl i && (Decides-eqb x.metric x.metric).1 refl i
 
-counted_here : (r m : ℕ) (x : Recorded) (tallies : List (List Counts)) → is_of r m x ≡ true → of_metric r m (counted_at x tallies) ≡ option_map (counted x) (of_metric r m tallies)
+pub counted_here : (r m : ℕ) (x : Recorded) (tallies : List (List Counts)) → is_of r m x ≡ true → of_metric r m (counted_at x tallies) ≡ option_map (counted x) (of_metric r m tallies)
 counted_here r m x tallies e =
     let h : (x.run ≡ r) × (x.metric ≡ m) = is_of_both r m x e in
     subst (λ q. of_metric q m (counted_at x tallies) ≡ option_map (counted x) (of_metric q m tallies)) h.0 (subst (λ k. of_metric x.run k (counted_at x tallies) ≡ option_map (counted x) (of_metric x.run k tallies)) h.1 (of_here x.run x.metric (counted x) tallies))
 
-counted_there : (r m : ℕ) (x : Recorded) (tallies : List (List Counts)) → is_of r m x ≡ false → of_metric r m (counted_at x tallies) ≡ of_metric r m tallies
+pub counted_there : (r m : ℕ) (x : Recorded) (tallies : List (List Counts)) → is_of r m x ≡ false → of_metric r m (counted_at x tallies) ≡ of_metric r m tallies
 counted_there r m x tallies e = of_other x.run x.metric r m (counted x) tallies (is_not_both r m x e)
 
 -- The tally of a metric after a list.
@@ -125,7 +125,7 @@ none_at_run [] place m metric e = absurd (cc)
 none_at_run (ms ∷ runs) zero m metric e = in_replicate ms (counts []) m metric e
 none_at_run (ms ∷ runs) (suc place) m metric e = none_at_run runs place m metric e
 
-none_of : (runs : List (List MetricValue)) (r m : ℕ) (metric : MetricValue) → of_metric r m runs ≡ Some metric → of_metric r m (none_counted runs) ≡ Some (counts [])
+pub none_of : (runs : List (List MetricValue)) (r m : ℕ) (metric : MetricValue) → of_metric r m runs ≡ Some metric → of_metric r m (none_counted runs) ≡ Some (counts [])
 none_of runs zero m metric e = absurd (cc)
 none_of runs (suc place) m metric e = none_at_run runs place m metric e
 

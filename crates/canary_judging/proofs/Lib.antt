@@ -7,3 +7,4 @@ pub mod Callers
 pub mod CallersHold
 pub mod CallersJudged
 pub mod Counting
+pub mod CountingExact

@@ -1,7 +1,9 @@
 //! Laws over the definitions alone.
 ghost use Rattle.canary_judging.specs.Soundness.{ExactlyThose};
 ghost use Rattle.canary_judging.specs.Judged.{CallersAreJudged, TemplatesAreJudged};
+ghost use Rattle.canary_judging.specs.Counting.{CountingIsExact, CountingCounts};
 
+use canary_metric::laws as metric_laws;
 use canary_stored::laws as table_laws;
 
 /// The tables with just the rows of some sound contents are the sound ones.
@@ -23,3 +25,13 @@ pub fn callers_judged()
 pub fn templates_judged()
     ensures { TemplatesAreJudged }
 {}
+
+/// Measurements are counted one after another, from no counts on, exactly where the list of each
+/// metric is in order, is judged by its conditions and has room; and then each metric has the
+/// counts of its list.
+pub fn counting()
+    ensures exact { CountingIsExact }
+    ensures counts { CountingCounts }
+{
+    metric_laws::one_more();
+}
