@@ -79,7 +79,7 @@ passes_own row = λ i. own_key row.caller i && (Decides-eqb row.number row.numbe
 there_is : (t : Tables) → HoldCallers t → (row : KeptRow) → IsIn row t.kept → IsIn row (kept_rows row.caller row.number (receipts_of (contents_of t) row.caller))
 there_is t hold row at = subst (IsIn row) (hold.kept row.caller row.number) (in_filter (is_kept row.caller row.number) row t.kept at (passes_own row))
 
-below_length : {A : Type 0} (xs : List A) (place : ℕ) (x : A) → slice_get xs place ≡ Some x → place < length xs
+pub below_length : {A : Type 0} (xs : List A) (place : ℕ) (x : A) → slice_get xs place ≡ Some x → place < length xs
 below_length [] place x e = absurd (cc)
 below_length (y ∷ xs) zero x e = omega arith
 below_length (y ∷ xs) (suc place) x e = let behind : place < length xs = below_length xs place x e in omega arith

@@ -83,7 +83,7 @@ counted_there r m x tallies e = of_other x.run x.metric r m (counted x) tallies 
 
 -- The tally of a metric after a list.
 
-tally_after : Counts → List Recorded → Counts
+pub tally_after : Counts → List Recorded → Counts
 tally_after c [] = c
 tally_after c (x ∷ xs) = tally_after (counted x c) xs
 
@@ -102,7 +102,7 @@ same_option : (o : Option Counts) → o ≡ option_map (λ c. c) o
 same_option None = refl
 same_option (Some c) = refl
 
-after_all : (r m : ℕ) (tallies : List (List Counts)) (xs : List Recorded) → of_metric r m (counted_all tallies xs) ≡ option_map (λ c. tally_after c (filter (is_of r m) xs)) (of_metric r m tallies)
+pub after_all : (r m : ℕ) (tallies : List (List Counts)) (xs : List Recorded) → of_metric r m (counted_all tallies xs) ≡ option_map (λ c. tally_after c (filter (is_of r m) xs)) (of_metric r m tallies)
 unfolding tally_after
 after_all r m tallies [] = same_option (of_metric r m tallies)
 after_all r m tallies (x ∷ xs) =

@@ -8,3 +8,5 @@ pub mod CallersHold
 pub mod CallersJudged
 pub mod Counting
 pub mod CountingExact
+pub mod Levels
+pub mod CountingRuns

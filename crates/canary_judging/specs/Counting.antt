@@ -8,6 +8,7 @@ use Rattle.canary_release.specs.Order.{AreOrdered, is_of}
 use Rattle.canary_release.specs.Pasts.{change_at, counts_of}
 use Rattle.canary_release.specs.Sound.{IsJudgedBy}
 use Rattle.canary_release.specs.Watching.{counted}
+use Rattle.canary_stored.specs.Values.{lists_in}
 
 -- Lists for the runs 1, 2 and so on, each with something for its metrics from 0 on.
 
@@ -79,3 +80,9 @@ abbrev pub CountingCounts : Type 0
 CountingCounts =
     (runs : List (List MetricValue)) (xs : List Recorded) (run place : ℕ) (metric : MetricValue) → of_metric run place runs ≡ Some metric
     → of_metric run place (counted_all (none_counted runs) xs) ≡ Some (counts_of (filter (is_of run place) xs))
+
+-- the law: what a run has then is the counts of its lists, a list for each of its metrics
+abbrev pub RunsAreTallied : Type 0
+RunsAreTallied =
+    (runs : List (List MetricValue)) (xs : List Recorded) (place : ℕ) (metrics : List MetricValue) → slice_get runs place ≡ Some metrics
+    → slice_get (counted_all (none_counted runs) xs) place ≡ Some (map counts_of (lists_in xs (suc place) 0 (length metrics)))

@@ -1,7 +1,7 @@
 //! Laws over the definitions alone.
 ghost use Rattle.canary_judging.specs.Soundness.{ExactlyThose};
 ghost use Rattle.canary_judging.specs.Judged.{CallersAreJudged, TemplatesAreJudged};
-ghost use Rattle.canary_judging.specs.Counting.{CountingIsExact, CountingCounts};
+ghost use Rattle.canary_judging.specs.Counting.{CountingIsExact, CountingCounts, RunsAreTallied};
 
 use canary_metric::laws as metric_laws;
 use canary_stored::laws as table_laws;
@@ -28,10 +28,11 @@ pub fn templates_judged()
 
 /// Measurements are counted one after another, from no counts on, exactly where the list of each
 /// metric is in order, is judged by its conditions and has room; and then each metric has the
-/// counts of its list.
+/// counts of its list, and each run those of its lists.
 pub fn counting()
     ensures exact { CountingIsExact }
     ensures counts { CountingCounts }
+    ensures runs { RunsAreTallied }
 {
     metric_laws::one_more();
 }
