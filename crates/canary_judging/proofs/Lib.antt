@@ -10,3 +10,4 @@ pub mod Counting
 pub mod CountingExact
 pub mod Levels
 pub mod CountingRuns
+pub mod Parts

@@ -2,6 +2,7 @@
 ghost use Rattle.canary_judging.specs.Soundness.{ExactlyThose};
 ghost use Rattle.canary_judging.specs.Judged.{CallersAreJudged, TemplatesAreJudged};
 ghost use Rattle.canary_judging.specs.Counting.{CountingIsExact, CountingCounts, RunsAreTallied};
+ghost use Rattle.canary_judging.specs.Services.{PartsMakeThemSound};
 
 use canary_metric::laws as metric_laws;
 use canary_stored::laws as table_laws;
@@ -36,3 +37,8 @@ pub fn counting()
 {
     metric_laws::one_more();
 }
+
+/// Tables are sound exactly where they are in their callers, their templates and their services.
+pub fn parts()
+    ensures { PartsMakeThemSound }
+{}
