@@ -1,32 +1,25 @@
 -- Callers and receipts that are judged key by key are those of contents.
-use Rattle.std.proofs.Common.{◌≡◌, ◌⊎◌, inl, inr, ℕ, zero, suc, ◌+◌, ◌-◌, ◌≤◌, ◌<◌, List, [], ◌∷◌, ◌++◌, length, Bool, true, false, Some, None, refl, sym, ap, ◌∙◌, subst, arith}
-use Rattle.std.specs.Prelude.{Option, ◌==◌, ◌&&◌, cond, filter, slice_get, unwrap_or}
-use Rattle.std.specs.Ordering.{nat_cmp}
-use Rattle.std.specs.Cmp.Lexicographic.{slice_cmp}
+use Rattle.std.proofs.Common.{◌≡◌, inl, inr, ℕ, zero, suc, ◌+◌, ◌≤◌, ◌<◌, List, [], ◌∷◌, ◌++◌, length, Bool, true, false, Some, None, refl, sym, ap, ◌∙◌, subst, arith}
+use Rattle.std.specs.Prelude.{Option, ◌==◌, ◌&&◌, cond, filter, slice_get}
 use Rattle.std.specs.Str.{bytes_eq}
-use Rattle.std.specs.List.{AllByRecursion, filter_map, cons_option, sum_by}
-use Rattle.std.specs.FinMap.{get, get-empty}
+use Rattle.std.specs.List.{AllByRecursion, filter_map, cons_option}
 use Rattle.std.proofs.lemmas.List.{length-append}
 use Rattle.std.proofs.lemmas.Bool.Decides.{Decides-eqb}
 use Rattle.canary_plan.specs.declared.command.Command.{Command}
-use Rattle.canary_canonical.specs.Texts.{command_text}
 use Rattle.canary_canonical.specs.Readings.{canonical_in}
 use Rattle.canary_release.specs.declared.reply.ReplyStatus.{ReplyStatus}
 use Rattle.canary_release.specs.declared.reply.ReplyStatus.TheVariants.{Accepted, Refused}
 use Rattle.canary_release.specs.Replies.{status_code}
 use Rattle.canary_once.specs.declared.book.Receipt.{Receipt}
-use Rattle.canary_once.specs.Contents.{IsSettledStatus, receipts_of, receipt_at}
-use Rattle.canary_rows.specs.declared.rows.CallerRow.{CallerRow}
+use Rattle.canary_once.specs.Contents.{IsSettledStatus}
 use Rattle.canary_rows.specs.declared.rows.KeptRow.{KeptRow}
-use Rattle.canary_rows.specs.Tables.{Tables, is_caller, is_kept}
+use Rattle.canary_rows.specs.Tables.{Tables, is_kept}
 use Rattle.canary_stored.specs.Numbers.{status_of}
-use Rattle.canary_stored.specs.Values.{caller_row, kept_row, receipt_from, receipt_of_row}
-use Rattle.canary_stored.specs.Tables.{row_if, kept_rows, IsReadableCommand}
-use Rattle.canary_stored.specs.Reading.{receipts_to, callers_of, contents_of}
-use Rattle.canary_judging.specs.Judged.{IsOneRead, IsCallerJudged, AreCallersJudged, HoldCallers}
-use Rattle.canary_judging.proofs.Strays.{Apart, AreApart, HaveAtLeast, together, no_strays, just_so_many}
-use Rattle.canary_judging.proofs.Numbers.{is_numbered, numbers_together, no_other_number}
-use Rattle.canary_judging.proofs.Named.{at_key, own_key, equal_keys, filter_twice, IsOneOf, none_or_one, both, weaker, distinct, unnamed}
+use Rattle.canary_stored.specs.Values.{kept_row, receipt_from, receipt_of_row}
+use Rattle.canary_stored.specs.Tables.{IsReadableCommand}
+use Rattle.canary_stored.specs.Reading.{receipts_to}
+use Rattle.canary_judging.specs.Judged.{IsOneRead}
+use Rattle.canary_judging.proofs.Named.{equal_keys}
 use Rattle.canary_judging.proofs.Templates.{canonical_text, still_canonical}
 
 -- A kept row.

@@ -1,6 +1,6 @@
 -- Where callers are judged, their rows are those of contents.
 use Rattle.std.proofs.Common.{◌≡◌, ◌⊎◌, inl, inr, ℕ, zero, suc, ◌+◌, ◌-◌, ◌≤◌, ◌<◌, List, [], ◌∷◌, length, Bool, true, false, Some, None, refl, sym, ap, ◌∙◌, subst, arith}
-use Rattle.std.specs.Prelude.{Option, ◌==◌, cond, filter, slice_get, unwrap_or}
+use Rattle.std.specs.Prelude.{Option, cond, filter, slice_get, unwrap_or}
 use Rattle.std.specs.Ordering.{nat_cmp}
 use Rattle.std.specs.Cmp.Lexicographic.{slice_cmp}
 use Rattle.std.specs.Str.{bytes_eq}
@@ -11,14 +11,14 @@ use Rattle.canary_once.specs.Contents.{IsSettledStatus, receipts_of, receipt_at}
 use Rattle.canary_rows.specs.declared.rows.CallerRow.{CallerRow}
 use Rattle.canary_rows.specs.declared.rows.KeptRow.{KeptRow}
 use Rattle.canary_rows.specs.Tables.{Tables, is_caller, is_kept}
-use Rattle.canary_stored.specs.Values.{caller_row, kept_row, receipt_of_row}
+use Rattle.canary_stored.specs.Values.{caller_row, kept_row}
 use Rattle.canary_stored.specs.Tables.{row_if, kept_rows, IsReadableCommand}
 use Rattle.canary_stored.specs.Reading.{receipts_to, callers_of, contents_of}
-use Rattle.canary_judging.specs.Judged.{IsOneRead, IsCallerJudged, AreCallersJudged, HoldCallers}
+use Rattle.canary_judging.specs.Judged.{IsCallerJudged, AreCallersJudged, HoldCallers}
 use Rattle.canary_judging.proofs.Strays.{AreApart, HaveAtLeast, no_strays, just_so_many}
 use Rattle.canary_judging.proofs.Numbers.{is_numbered, numbers_together, no_other_number}
-use Rattle.canary_judging.proofs.Named.{at_key, filter_twice, IsOneOf, none_or_one, both, weaker, distinct, unnamed}
-use Rattle.canary_judging.proofs.Callers.{IsKeptAt, AreKept, so_many, StandsKept, stands, none_behind}
+use Rattle.canary_judging.proofs.Named.{at_key, filter_twice, none_or_one, both, weaker, distinct, unnamed}
+use Rattle.canary_judging.proofs.Callers.{AreKept, so_many, StandsKept, stands, none_behind}
 
 -- What is read under a name.
 
@@ -173,7 +173,7 @@ one_at t row judged just =
 at_caller : (t : Tables) → AreCallersJudged t → (q : List ℕ) → AtCaller t q
 at_caller t judged q =
     elim (none_or_one caller_name (λ row. IsCallerJudged t row × (length (filter (names_caller row) t.kept) ≡ settled_in row)) t.callers (λ row h. h.0.one)
-      (both (IsCallerJudged t) (λ row. length (filter (names_caller row) t.kept) ≡ settled_in row) t.callers judged.each (just_kept t judged)) q) as (λ x. AtCaller t q) [
+    (both (IsCallerJudged t) (λ row. length (filter (names_caller row) t.kept) ≡ settled_in row) t.callers judged.each (just_kept t judged)) q) as (λ x. AtCaller t q) [
       | inl none ↦ none_at t q none (none_kept t judged q none)
       | inr one ↦ subst (AtCaller t) one.named (one_at t one.row one.has.0 one.has.1)
     ]

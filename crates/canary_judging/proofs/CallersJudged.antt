@@ -1,6 +1,6 @@
 -- Callers and receipts of contents pass each test by key.
 use Rattle.std.proofs.Common.{◌≡◌, ◌⊎◌, inl, inr, ℕ, zero, suc, ◌+◌, ◌-◌, ◌≤◌, ◌<◌, List, [], ◌∷◌, length, Bool, true, false, Some, None, refl, sym, ap, ◌∙◌, subst, arith}
-use Rattle.std.specs.Prelude.{Option, ◌==◌, ◌&&◌, cond, filter, slice_get, unwrap_or}
+use Rattle.std.specs.Prelude.{Option, ◌&&◌, cond, filter, slice_get, unwrap_or}
 use Rattle.std.specs.Str.{bytes_eq}
 use Rattle.std.specs.List.{AllByRecursion, sum_by}
 use Rattle.std.specs.FinMap.{get}
@@ -17,10 +17,10 @@ use Rattle.canary_stored.specs.Values.{caller_row, kept_row, receipt_from, recei
 use Rattle.canary_stored.specs.Tables.{row_if, kept_rows, IsReadableCommand}
 use Rattle.canary_stored.specs.Reading.{contents_of}
 use Rattle.canary_judging.specs.Judged.{IsOneRead, IsCallerJudged, AreCallersJudged, HoldCallers, CallersAreJudged}
-use Rattle.canary_judging.proofs.Strays.{HasKey, HaveAtMost, together, at_most}
+use Rattle.canary_judging.proofs.Strays.{HasKey, together, at_most}
 use Rattle.canary_judging.proofs.Numbers.{is_numbered, numbers_at_most}
 use Rattle.canary_judging.proofs.Named.{own_key, equal_keys, IsIn, each_in, in_filter, OwnRow, own_row, own_alone, passing}
-use Rattle.canary_judging.proofs.CallersHold.{get_none, of_caller, kept_number, numbered_of, caller_name, settled_in, names_caller, callers_apart, callers_have, hold_callers}
+use Rattle.canary_judging.proofs.CallersHold.{get_none, of_caller, kept_number, numbered_of, settled_in, names_caller, callers_apart, callers_have, hold_callers}
 
 status_back : (s : ReplyStatus) → IsSettledStatus s → status_of (status_code s) ≡ Some s
 status_back s (inl e) = subst (λ (x : ReplyStatus). status_of (status_code x) ≡ Some x) (sym e) refl
@@ -116,9 +116,9 @@ few_kept t hold row at =
     let numbers : AllByRecursion (λ k. (1 ≤ kept_number k) × (kept_number k < 1 + length own.value)) (filter (of_caller row.name) t.kept) =
     by_test (of_caller row.name) P (λ k. (1 ≤ kept_number k) × (kept_number k < 1 + length own.value)) (λ k passes h. h (equal_keys row.name k.caller passes)) (filter (of_caller row.name) t.kept) (passing (of_caller row.name) P t.kept all) in
     let few : length (filter (of_caller row.name) t.kept) ≤ length own.value = numbers_at_most kept_number (filter (of_caller row.name) t.kept) 1 (length own.value) numbers (λ k.
-      let same : length (filter (is_numbered kept_number k) (filter (of_caller row.name) t.kept)) ≡ length (kept_rows row.name k (receipts_of (contents_of t) row.name)) = ap length (numbered_of t row.name k ∙ hold.kept row.name k) in
-      let one : length (kept_rows row.name k (receipts_of (contents_of t) row.name)) ≤ 1 = once row.name k (receipts_of (contents_of t) row.name) in
-      omega arith) in
+    let same : length (filter (is_numbered kept_number k) (filter (of_caller row.name) t.kept)) ≡ length (kept_rows row.name k (receipts_of (contents_of t) row.name)) = ap length (numbered_of t row.name k ∙ hold.kept row.name k) in
+    let one : length (kept_rows row.name k (receipts_of (contents_of t) row.name)) ≤ 1 = once row.name k (receipts_of (contents_of t) row.name) in
+    omega arith) in
     omega arith
 
 has_named : (rows : List CallerRow) (row : KeptRow) → (filter (is_caller row.caller) rows ≡ [] → ⊥) → HasKey names_caller rows row
@@ -137,8 +137,8 @@ no_rows q (suc place) = refl
 of_some_caller : (t : Tables) → HoldCallers t → (row : KeptRow) → IsIn row t.kept → HasKey names_caller t.callers row
 of_some_caller t hold row at =
     has_named t.callers row (λ none.
-      let nothing : receipts_of (contents_of t) row.caller ≡ [] = ap (λ (o : Option (List Receipt)). unwrap_or o []) (get_none t row.caller none) in
-      subst (IsIn row) (ap (kept_rows row.caller row.number) nothing ∙ no_rows row.caller row.number) (there_is t hold row at))
+    let nothing : receipts_of (contents_of t) row.caller ≡ [] = ap (λ (o : Option (List Receipt)). unwrap_or o []) (get_none t row.caller none) in
+    subst (IsIn row) (ap (kept_rows row.caller row.number) nothing ∙ no_rows row.caller row.number) (there_is t hold row at))
 
 equal_by : (a b : ℕ) → a ≤ b → b ≤ a → a ≡ b
 equal_by a b x y = omega arith

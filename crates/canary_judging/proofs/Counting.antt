@@ -1,20 +1,15 @@
 -- Counting measurements one after another.
-use Rattle.std.proofs.Common.{◌≡◌, ◌⊎◌, inl, inr, ℕ, zero, suc, ◌+◌, ◌≤◌, ◌<◌, List, [], ◌∷◌, ◌++◌, length, Bool, true, false, Some, None, true≢false, refl, sym, ap, ◌∙◌, subst, arith}
+use Rattle.std.proofs.Common.{◌≡◌, ℕ, zero, suc, List, [], ◌∷◌, ◌++◌, length, Bool, true, false, Some, None, true≢false, refl, sym, ap, ◌∙◌, subst}
 use Rattle.std.specs.Prelude.{Option, ◌==◌, ◌&&◌, cond, filter, map, replicate, option_map, slice_get}
-use Rattle.std.specs.List.{AllByRecursion}
 use Rattle.std.proofs.lemmas.Bool.Decides.{Decides-eqb}
 use Rattle.std.proofs.lemmas.List.{map-append, append_assoc, append-nil}
-use Rattle.canary_condition.specs.declared.outcome.Phase.{Phase}
-use Rattle.canary_condition.specs.declared.outcome.Phase.TheVariants.{Pending, Running, Successful, Inconclusive, Error, Failed}
 use Rattle.canary_metric.specs.Metrics.{MetricValue}
-use Rattle.canary_metric.specs.declared.measurement.Measurement.{Measurement}
-use Rattle.canary_metric.specs.Counts.{Counts, counts, size, with_one_more, CountsOneMore}
+use Rattle.canary_metric.specs.Counts.{Counts, counts, CountsOneMore}
 use Rattle.canary_release.specs.declared.effect.Recorded.{Recorded}
-use Rattle.canary_release.specs.Order.{AreOrdered, is_of}
+use Rattle.canary_release.specs.Order.{is_of}
 use Rattle.canary_release.specs.Pasts.{change_at, measurement_of, counts_of}
-use Rattle.canary_release.specs.Sound.{IsJudgedBy}
 use Rattle.canary_release.specs.Watching.{counted}
-use Rattle.canary_judging.specs.Counting.{at_run, at_metric, of_metric, change_run, none_counted, counted_at, counted_all, IsNext, AreCounted, IsOfMetric, IsList, AreListed, CountingIsExact, CountingCounts}
+use Rattle.canary_judging.specs.Counting.{at_metric, of_metric, change_run, none_counted, counted_at, counted_all, CountingCounts}
 
 -- One place is changed.
 

@@ -1,5 +1,5 @@
 -- Measurements are counted exactly where their lists are in order, with room, and judged.
-use Rattle.std.proofs.Common.{◌≡◌, ℕ, suc, ◌+◌, ◌≤◌, List, [], ◌∷◌, length, Bool, true, false, Some, refl, sym, ap, ◌∙◌, subst, arith}
+use Rattle.std.proofs.Common.{◌≡◌, ℕ, suc, ◌+◌, ◌≤◌, List, [], ◌∷◌, length, true, false, Some, refl, sym, ap, ◌∙◌, subst, arith}
 use Rattle.std.specs.Prelude.{cond, filter, option_map}
 use Rattle.std.specs.List.{AllByRecursion}
 use Rattle.canary_condition.specs.declared.outcome.Phase.{Phase}
@@ -67,7 +67,7 @@ listed_from runs tallies (x ∷ xs) all r m metric c planned there room =
           let rest : ListFrom r m metric (suc (size (counted x c))) (filter (is_of r m) xs) =
           listed_from runs (counted_at x tallies) xs all.1 r m metric (counted x c) planned (counted_here r m x tallies e ∙ ap (option_map (counted x)) there) (omega arith) in
           with_first r m metric (suc (size c)) x (filter (is_of r m) xs) h.0 h.1 (omega arith) (subst (λ (v : MetricValue). IsJudgedBy v x) own next.judged)
-            (subst (λ n. ListFrom r m metric (suc n) (filter (is_of r m) xs)) larger rest)
+          (subst (λ n. ListFrom r m metric (suc n) (filter (is_of r m) xs)) larger rest)
       | false ↦ λ e. listed_from runs (counted_at x tallies) xs all.1 r m metric c planned (counted_there r m x tallies e ∙ there) room
     ] refl
 
@@ -144,8 +144,8 @@ from_list r m metric list l = let few : length list ≤ 1000000 = l.few in recor
 are_counted : (runs : List (List MetricValue)) (xs : List Recorded) → AreListed runs xs → AreCounted runs (none_counted runs) xs
 are_counted runs xs l =
     counted_from runs (none_counted runs) xs l.placed (λ r m metric planned. record { counts = counts []; there = none_of runs r m metric planned }) (λ r m metric c planned there.
-      let same : counts [] ≡ c = same_counts (counts []) c r m (none_counted runs) (none_of runs r m metric planned) there in
-      subst (λ n. ListFrom r m metric (suc n) (filter (is_of r m) xs)) (ap size same) (from_list r m metric (filter (is_of r m) xs) (l.lists r m metric planned)))
+    let same : counts [] ≡ c = same_counts (counts []) c r m (none_counted runs) (none_of runs r m metric planned) there in
+    subst (λ n. ListFrom r m metric (suc n) (filter (is_of r m) xs)) (ap size same) (from_list r m metric (filter (is_of r m) xs) (l.lists r m metric planned)))
 
 pub counting_is_exact : CountingIsExact
 counting_is_exact runs xs = (are_listed runs xs, are_counted runs xs)

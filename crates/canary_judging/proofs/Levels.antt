@@ -1,5 +1,5 @@
 -- Rows under keys, and under each key numbered without a gap: none has another key or another number.
-use Rattle.std.proofs.Common.{◌≡◌, ◌⊎◌, ℕ, ◌+◌, ◌≤◌, ◌<◌, List, [], ◌∷◌, length, Bool, arith}
+use Rattle.std.proofs.Common.{◌≡◌, ◌⊎◌, ℕ, ◌+◌, ◌≤◌, ◌<◌, List, [], length, Bool, arith}
 use Rattle.std.specs.Prelude.{filter}
 use Rattle.std.specs.List.{AllByRecursion, sum_by}
 use Rattle.canary_judging.proofs.Strays.{Apart, AreApart, HaveAtLeast, no_strays, just_so_many}
@@ -27,6 +27,6 @@ pub no_others : {R K : Type 0} (is : K → R → Bool) (n : K → ℕ) (number :
     → AllByRecursion (HasNoOthers is n number first rows) ks
 no_others is n number first rows ks apart each few =
     weaker (λ k. HasNumbers is n number first rows k × (length (filter (is k) rows) ≡ n k)) (HasNoOthers is n number first rows) (λ k h.
-      let many : length (filter (is k) rows) ≡ n k = h.1 in
-      no_other_number number (filter (is k) rows) first (n k) h.0 (omega arith)) ks
-      (both (HasNumbers is n number first rows) (λ k. length (filter (is k) rows) ≡ n k) ks each (just_so_many is n ks rows apart (have_numbers is n number first rows ks each) few))
+    let many : length (filter (is k) rows) ≡ n k = h.1 in
+    no_other_number number (filter (is k) rows) first (n k) h.0 (omega arith)) ks
+    (both (HasNumbers is n number first rows) (λ k. length (filter (is k) rows) ≡ n k) ks each (just_so_many is n ks rows apart (have_numbers is n number first rows ks each) few))

@@ -1,12 +1,12 @@
 -- Rows under names, and what stands there.
-use Rattle.std.proofs.Common.{◌≡◌, ◌⊎◌, inl, inr, ℕ, zero, suc, ◌≤◌, List, [], ◌∷◌, length, Bool, true, false, Some, None, true≢false, refl, sym, ap, ◌∙◌, subst, arith}
-use Rattle.std.specs.Prelude.{Option, cond, ◌&&◌, filter, slice_get}
+use Rattle.std.proofs.Common.{◌≡◌, ◌⊎◌, inl, inr, ℕ, suc, ◌≤◌, List, [], ◌∷◌, length, Bool, true, false, Some, None, true≢false, refl, sym, ap, ◌∙◌, subst, arith}
+use Rattle.std.specs.Prelude.{Option, cond, ◌&&◌, filter}
 use Rattle.std.specs.Ordering.{nat_cmp}
 use Rattle.std.specs.Cmp.Lexicographic.{slice_cmp, nat_list_cmp_total}
 use Rattle.std.specs.Str.{bytes_eq}
 use Rattle.std.specs.Option.{option_or}
 use Rattle.std.specs.List.{AllByRecursion}
-use Rattle.std.specs.FinMap.{FinMap, get, insert, get-insert, get-empty, same_map, nat_cmp-IsAntisymmetric, slice_cmp-IsAntisymmetric}
+use Rattle.std.specs.FinMap.{FinMap, get, insert, get-insert, get-empty}
 use Rattle.std.proofs.lemmas.Map.Text.{is_eq-slice_cmp}
 use Rattle.std.proofs.lemmas.Slice.Eq.{bytes_eq-Decides}
 use Rattle.canary_stored.specs.Reading.{put_some, map_of}
@@ -170,9 +170,9 @@ once_behind : {R : Type 0} (name : R → List ℕ) (row : R) (rows ks : List R) 
     → AllByRecursion (λ k. length (filter (λ r. bytes_eq (name k) (name r)) rows) ≤ 1) ks
 once_behind name row rows ks all =
     weaker (λ k. length (filter (λ r. bytes_eq (name k) (name r)) (row ∷ rows)) ≤ 1) (λ k. length (filter (λ r. bytes_eq (name k) (name r)) rows) ≤ 1) (λ k h.
-      let few : length (filter (λ r. bytes_eq (name k) (name r)) rows) ≤ length (filter (λ r. bytes_eq (name k) (name r)) (row ∷ rows)) = fewer_behind (λ r. bytes_eq (name k) (name r)) row rows (bytes_eq (name k) (name row)) in
-      let most : length (filter (λ r. bytes_eq (name k) (name r)) (row ∷ rows)) ≤ 1 = h in
-      omega arith) ks all
+    let few : length (filter (λ r. bytes_eq (name k) (name r)) rows) ≤ length (filter (λ r. bytes_eq (name k) (name r)) (row ∷ rows)) = fewer_behind (λ r. bytes_eq (name k) (name r)) row rows (bytes_eq (name k) (name row)) in
+    let most : length (filter (λ r. bytes_eq (name k) (name r)) (row ∷ rows)) ≤ 1 = h in
+    omega arith) ks all
 
 differ : (a b : List ℕ) → bytes_eq a b ≡ false → a ≡ b → ⊥
 differ a b fails same = true≢false (sym ((bytes_eq-Decides a b).1 same) ∙ fails)
@@ -184,9 +184,10 @@ distinct name key [] once = tt
 distinct {R} {S} name key (row ∷ rows) once =
     let same : R → Bool = λ r. bytes_eq (name row) (name r) in
     let first : suc (length (filter same rows)) ≤ 1 = subst (λ (l : List R). length l ≤ 1) (first_kept same row rows (own_key (name row))) once.0 in
-    let none : AllByRecursion (λ r. same r ≡ false) rows = none_pass same rows (empty_of (filter same rows) first) in
-    (weaker (λ r. same r ≡ false) (λ r. Apart (λ (s : S). bytes_eq (name row) (key s)) (λ (s : S). bytes_eq (name r) (key s))) (λ r fails s is. names_apart (name row) (name r) (key s) (differ (name row) (name r) fails) is) rows none,
-    distinct name key rows (once_behind name row rows rows once.1))
+    let none : AllByRecursion (λ r. same r ≡ false) rows = none_pass same rows (empty_of (filter same rows) first) in (
+      weaker (λ r. same r ≡ false) (λ r. Apart (λ (s : S). bytes_eq (name row) (key s)) (λ (s : S). bytes_eq (name r) (key s))) (λ r fails s is. names_apart (name row) (name r) (key s) (differ (name row) (name r) fails) is) rows none,
+      distinct name key rows (once_behind name row rows rows once.1),
+    )
 
 -- a name that no row has
 pub unnamed : {R S : Type 0} (name : R → List ℕ) (key : S → List ℕ) (rows : List R) (q : List ℕ) → filter (λ r. bytes_eq q (name r)) rows ≡ []

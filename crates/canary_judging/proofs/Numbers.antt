@@ -1,10 +1,10 @@
 -- Rows that are numbered from one number on, without a gap.
-use Rattle.std.proofs.Common.{◌≡◌, ◌⊎◌, inl, inr, ℕ, zero, suc, ◌+◌, ◌≤◌, ◌<◌, ◌==◌, List, [], ◌∷◌, length, Bool, true, false, refl, sym, ap, ◌∙◌, subst, arith}
+use Rattle.std.proofs.Common.{◌≡◌, ◌⊎◌, inl, inr, ℕ, zero, suc, ◌+◌, ◌≤◌, ◌<◌, ◌==◌, List, [], ◌∷◌, length, Bool, true, false, refl, sym, ◌∙◌, arith}
 use Rattle.std.specs.Prelude.{filter}
 use Rattle.std.specs.List.{AllByRecursion, sum_by}
 use Rattle.std.proofs.lemmas.Bool.Decides.{Decides-eqb}
 use Rattle.std.proofs.lemmas.List.Sums.{sum_by-cons}
-use Rattle.canary_judging.proofs.Strays.{Apart, AreApart, HaveAtLeast, HaveAtMost, HasKey, count_up, together, no_strays, at_most}
+use Rattle.canary_judging.proofs.Strays.{Apart, AreApart, HasKey, count_up, together, no_strays, at_most}
 
 abbrev pub is_numbered : {R : Type 0} → (R → ℕ) → ℕ → R → Bool
 is_numbered number k row = k == number row

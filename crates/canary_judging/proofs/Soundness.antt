@@ -16,5 +16,5 @@ holds_these t c same rows readable lawful sound =
 pub exactly_those : ReadsBack → ExactlyThose
 exactly_those back t = (
   λ (h : HaveSoundRows t). holds_these t h.0 (sym (back t h.0 h.1 h.2 h.3)) h.1 h.2 h.3 h.4,
-  λ (h : AreSoundTables t). (contents_of t, h.0.rows, h.0.readable, h.0.lawful, h.1)
+  λ (h : AreSoundTables t). (contents_of t, h.0.rows, h.0.readable, h.0.lawful, h.1),
 )

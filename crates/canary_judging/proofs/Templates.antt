@@ -1,9 +1,8 @@
 -- Templates are judged key by key.
-use Rattle.std.proofs.Common.{◌≡◌, ◌⊎◌, inl, inr, ℕ, List, [], ◌∷◌, Bool, true, false, Some, None, refl, sym, ap, ◌∙◌, subst}
-use Rattle.std.specs.Prelude.{Option, ◌↔◌, cond, option_and_then, filter}
+use Rattle.std.proofs.Common.{◌≡◌, inl, inr, ℕ, List, [], ◌∷◌, true, false, Some, None, refl, sym, ap, ◌∙◌, subst}
+use Rattle.std.specs.Prelude.{Option, cond, option_and_then, filter}
 use Rattle.std.specs.Str.{bytes_eq}
 use Rattle.std.specs.Option.{option_or}
-use Rattle.std.specs.List.{AllByRecursion}
 use Rattle.std.specs.FinMap.{get}
 use Rattle.std.proofs.lemmas.Slice.Eq.{bytes_eq-Decides}
 use Rattle.canary_plan.specs.declared.template.Template.{Template}
@@ -17,7 +16,7 @@ use Rattle.canary_rows.specs.declared.rows.TemplateRow.{TemplateRow}
 use Rattle.canary_rows.specs.Tables.{Tables, is_template}
 use Rattle.canary_stored.specs.Values.{template_row, template_from, template_of_row}
 use Rattle.canary_stored.specs.Tables.{row_if, IsReadableCommand}
-use Rattle.canary_stored.specs.Reading.{templates_of, contents_of}
+use Rattle.canary_stored.specs.Reading.{contents_of}
 use Rattle.canary_judging.specs.Judged.{IsTemplateJudged, AreTemplatesJudged, HoldTemplates, TemplatesAreJudged}
 use Rattle.canary_judging.proofs.Named.{first_of, get-map, own_key, IsOneOf, none_or_one, IsIn, each_in, OwnRow, own_row, own_alone}
 

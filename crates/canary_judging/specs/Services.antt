@@ -11,7 +11,7 @@ use Rattle.canary_plan.specs.declared.service.ServiceSpec.{ServiceSpec}
 use Rattle.canary_plan.specs.declared.strategy.CheckedStrategy.{CheckedStrategy}
 use Rattle.canary_plan.specs.declared.command.Command.TheVariants as command
 use Rattle.canary_plan.specs.declared.line.Line.{Line}
-use Rattle.canary_plan.specs.Plans.{Templates, strategy_of, metrics_at}
+use Rattle.canary_plan.specs.Plans.{strategy_of, metrics_at}
 use Rattle.canary_plan.specs.PlanRefusals.{strategy_refusal}
 use Rattle.canary_canonical.specs.Readings.{canonical_in}
 use Rattle.canary_release.specs.declared.effect.Recorded.{Recorded}
