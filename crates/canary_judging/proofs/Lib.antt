@@ -11,3 +11,4 @@ pub mod CountingExact
 pub mod Levels
 pub mod CountingRuns
 pub mod Parts
+pub mod NamedRows
