@@ -12,3 +12,4 @@ pub mod Levels
 pub mod CountingRuns
 pub mod Parts
 pub mod NamedRows
+pub mod RowTexts
