@@ -13,3 +13,4 @@ pub mod CountingRuns
 pub mod Parts
 pub mod NamedRows
 pub mod RowTexts
+pub mod MeasurementRows
