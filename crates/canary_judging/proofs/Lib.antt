@@ -1,0 +1,16 @@
+pub mod Soundness
+pub mod Strays
+pub mod Numbers
+pub mod Named
+pub mod Templates
+pub mod Callers
+pub mod CallersHold
+pub mod CallersJudged
+pub mod Counting
+pub mod CountingExact
+pub mod Levels
+pub mod CountingRuns
+pub mod Parts
+pub mod NamedRows
+pub mod RowTexts
+pub mod MeasurementRows

@@ -1,0 +1,4 @@
+pub mod Soundness
+pub mod Judged
+pub mod Counting
+pub mod Services

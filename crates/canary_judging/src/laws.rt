@@ -1,0 +1,44 @@
+//! Laws over the definitions alone.
+ghost use Rattle.canary_judging.specs.Soundness.{ExactlyThose};
+ghost use Rattle.canary_judging.specs.Judged.{CallersAreJudged, TemplatesAreJudged};
+ghost use Rattle.canary_judging.specs.Counting.{CountingIsExact, CountingCounts, RunsAreTallied};
+ghost use Rattle.canary_judging.specs.Services.{PartsMakeThemSound};
+
+use canary_metric::laws as metric_laws;
+use canary_stored::laws as table_laws;
+
+/// The tables with just the rows of some sound contents are the sound ones.
+pub fn exactly_those()
+    ensures { ExactlyThose }
+{
+    table_laws::reads_back();
+}
+
+/// Callers are judged key by key: their rows, and those of what is kept, are those of receipts
+/// exactly where each name has one row, each of its numbers from 1 on has one that is read, and
+/// there are no more kept rows than these.
+pub fn callers_judged()
+    ensures { CallersAreJudged }
+{}
+
+/// Templates are judged key by key: their rows are those of accepted templates exactly where each
+/// name has one row, which is read as an accepted template of that name.
+pub fn templates_judged()
+    ensures { TemplatesAreJudged }
+{}
+
+/// Measurements are counted one after another, from no counts on, exactly where the list of each
+/// metric is in order, is judged by its conditions and has room; and then each metric has the
+/// counts of its list, and each run those of its lists.
+pub fn counting()
+    ensures exact { CountingIsExact }
+    ensures counts { CountingCounts }
+    ensures runs { RunsAreTallied }
+{
+    metric_laws::one_more();
+}
+
+/// Tables are sound exactly where they are in their callers, their templates and their services.
+pub fn parts()
+    ensures { PartsMakeThemSound }
+{}
