@@ -6,3 +6,4 @@ pub mod Makes
 pub mod Adds
 pub mod Faults
 pub mod Known
+pub mod Formed
