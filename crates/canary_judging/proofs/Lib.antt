@@ -14,3 +14,10 @@ pub mod Parts
 pub mod NamedRows
 pub mod RowTexts
 pub mod MeasurementRows
+pub mod ServicesJudgedLists
+pub mod ServicesJudgedRuns
+pub mod ServicesJudgedCounted
+pub mod ServicesJudgedOne
+pub mod Keys
+pub mod ServicesJudgedSums
+pub mod ServicesJudged
