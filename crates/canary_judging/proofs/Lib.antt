@@ -21,3 +21,13 @@ pub mod ServicesJudgedOne
 pub mod Keys
 pub mod ServicesJudgedSums
 pub mod ServicesJudged
+pub mod ServicesHoldFacts
+pub mod ServicesHoldLists
+pub mod ServicesHoldRows
+pub mod ServicesHoldRuns
+pub mod ServicesHoldTallies
+pub mod ServicesHoldSound
+pub mod ServicesHold
+pub mod Judging
+pub mod TemplatesFound
+pub mod Totals

@@ -30,7 +30,7 @@ pub no_other_name : {R S : Type 0} (name : R → List ℕ) (key : S → List ℕ
 no_other_name name key rows xs once all q none =
     no_strays (names name key) (naming name key xs) rows xs (distinct name key rows once) (at_least_these name key rows xs) (omega arith) (λ x. bytes_eq q (key x)) (unnamed name key rows q none)
 
-has_named : {R S : Type 0} (name : R → List ℕ) (key : S → List ℕ) (rows : List R) (x : S) → (filter (λ r. bytes_eq (key x) (name r)) rows ≡ [] → ⊥) → HasKey (names name key) rows x
+pub has_named : {R S : Type 0} (name : R → List ℕ) (key : S → List ℕ) (rows : List R) (x : S) → (filter (λ r. bytes_eq (key x) (name r)) rows ≡ [] → ⊥) → HasKey (names name key) rows x
 has_named name key [] x some = some refl
 has_named name key (r ∷ rows) x some =
     elim (bytes_eq (key x) (name r))

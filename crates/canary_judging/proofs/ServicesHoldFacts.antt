@@ -1,5 +1,5 @@
 -- What holds of each run of a service that is judged.
-use Rattle.std.proofs.Common.{◌≡◌, ℕ, zero, suc, ◌≤◌, List, [], ◌∷◌, length, Some, None, refl, sym, ap, ◌∙◌, subst}
+use Rattle.std.proofs.Common.{◌≡◌, ℕ, suc, List, [], length, Some, sym, ap, ◌∙◌, subst}
 use Rattle.std.specs.Prelude.{Option, map, filter, slice_get, option_map, unwrap_or}
 use Rattle.std.proofs.lemmas.Option.{slice_get-map}
 use Rattle.canary_metric.specs.Metrics.{MetricValue}

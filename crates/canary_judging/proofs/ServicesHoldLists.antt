@@ -1,14 +1,13 @@
 -- Where services are judged, the rows of their measurements and lines are those of contents.
-use Rattle.std.proofs.Common.{◌≡◌, inl, inr, ℕ, List, [], ◌∷◌, Bool, true, refl, sym, ap, ◌∙◌, subst}
+use Rattle.std.proofs.Common.{◌≡◌, inl, inr, ℕ, List, Bool, true, refl, sym, ap, ◌∙◌, subst}
 use Rattle.std.specs.Prelude.{filter, map}
-use Rattle.std.specs.Str.{bytes_eq}
 use Rattle.std.specs.List.{AllByRecursion}
 use Rattle.canary_release.specs.Pasts.{Past}
 use Rattle.canary_once.specs.Records.{past_of}
 use Rattle.canary_rows.specs.declared.rows.ServiceRow.{ServiceRow}
 use Rattle.canary_rows.specs.declared.rows.MeasurementRow.{MeasurementRow}
 use Rattle.canary_rows.specs.declared.rows.HistoryRow.{HistoryRow}
-use Rattle.canary_rows.specs.Tables.{Tables, is_service, is_measurement_of, is_line_of}
+use Rattle.canary_rows.specs.Tables.{Tables, is_measurement_of, is_line_of}
 use Rattle.canary_stored.specs.Values.{measurement_row, history_row}
 use Rattle.canary_stored.specs.Tables.{IsReadableMeasurement}
 use Rattle.canary_stored.specs.Reading.{contents_of}

@@ -24,7 +24,7 @@ use Rattle.canary_once.specs.declared.record.RunRecord.{RunRecord}
 use Rattle.canary_rows.specs.declared.rows.Standing.{Standing}
 use Rattle.canary_rows.specs.declared.rows.ServiceRow.{ServiceRow}
 use Rattle.canary_rows.specs.declared.rows.RunRow.{RunRow}
-use Rattle.canary_rows.specs.Tables.{Tables, is_run, is_line_of}
+use Rattle.canary_rows.specs.Tables.{Tables, is_run}
 use Rattle.canary_stored.specs.Numbers.{bit, truth_of}
 use Rattle.canary_stored.specs.Values.{service_row, made_from, standing_of, stand_from, stand_of, ending_of, closing_from, closing_of, lists_in, metric_count, run_from, run_of_row, history_row, line_of_row}
 use Rattle.canary_stored.specs.Numbers.{state_number, state_of, hold_number, hold_of}

@@ -1,5 +1,5 @@
 -- Where services are judged, their rows and those of their runs are those of contents.
-use Rattle.std.proofs.Common.{◌≡◌, ◌⊎◌, inl, inr, ℕ, zero, suc, ◌+◌, ◌≤◌, ◌<◌, List, [], ◌∷◌, length, Bool, true, false, Some, None, refl, sym, ap, ◌∙◌, subst, arith}
+use Rattle.std.proofs.Common.{◌≡◌, ◌⊎◌, inl, inr, ℕ, zero, suc, ◌≤◌, List, [], ◌∷◌, length, Bool, Some, None, refl, sym, ap, ◌∙◌, subst, arith}
 use Rattle.std.specs.Prelude.{Option, filter, map, option_map, slice_get}
 use Rattle.std.specs.Str.{bytes_eq}
 use Rattle.std.specs.Option.{option_or}
@@ -9,16 +9,14 @@ use Rattle.std.proofs.lemmas.List.{length-map}
 use Rattle.std.proofs.lemmas.Option.{slice_get-map}
 use Rattle.canary_release.specs.Pasts.{Run, Past, no_past}
 use Rattle.canary_release.specs.Desks.{ModelService}
-use Rattle.canary_once.specs.declared.record.RunRecord.{RunRecord}
 use Rattle.canary_once.specs.Records.{past_in, past_of}
 use Rattle.canary_rows.specs.declared.rows.ServiceRow.{ServiceRow}
 use Rattle.canary_rows.specs.declared.rows.RunRow.{RunRow}
 use Rattle.canary_rows.specs.Tables.{Tables, is_service, is_run}
 use Rattle.canary_stored.specs.Values.{service_row, run_row}
-use Rattle.canary_stored.specs.Tables.{row_if, run_at, run_rows}
+use Rattle.canary_stored.specs.Tables.{row_if, run_rows}
 use Rattle.canary_stored.specs.Reading.{service_of_row, contents_of}
-use Rattle.canary_judging.specs.Services.{row_of_record, IsServiceJudged, AreServicesJudged}
-use Rattle.canary_judging.proofs.Strays.{AreApart}
+use Rattle.canary_judging.specs.Services.{IsServiceJudged, AreServicesJudged}
 use Rattle.canary_judging.proofs.Numbers.{is_numbered}
 use Rattle.canary_judging.proofs.Named.{first_of, get-map, filter_twice, IsOneOf, none_or_one, both, weaker, distinct, unnamed}
 use Rattle.canary_judging.proofs.NamedRows.{names, StandOnce}

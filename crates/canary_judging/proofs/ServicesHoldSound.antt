@@ -1,13 +1,11 @@
 -- A service that is judged is in order, and its runs are sound.
 use Rattle.std.proofs.Common.{◌≡◌, ℕ, zero, suc, ◌+◌, ◌≤◌, ◌<◌, ◌==◌, List, [], ◌∷◌, length, Bool, true, false, Some, None, refl, sym, ap, ◌∙◌, subst, arith}
-use Rattle.std.specs.Prelude.{Option, ◌&&◌, ◌||◌, cond, filter, map, nat_lt, option_map, slice_get, IsTrue}
+use Rattle.std.specs.Prelude.{Option, ◌&&◌, ◌||◌, cond, filter, map, nat_lt, option_map, slice_get}
 use Rattle.std.specs.List.{AllByRecursion, list_all, list_any, zip}
-use Rattle.std.specs.FinMap.{get}
 use Rattle.std.proofs.lemmas.Bool.{lt-ltb}
 use Rattle.std.proofs.lemmas.Bool.Decides.{Decides-eqb}
 use Rattle.std.proofs.lemmas.List.{length-map}
 use Rattle.std.proofs.lemmas.Option.{slice_get-map}
-use Rattle.canary_condition.specs.declared.outcome.Phase.TheVariants.{Running}
 use Rattle.canary_metric.specs.Metrics.{MetricValue}
 use Rattle.canary_metric.specs.Counts.{Counts, counts}
 use Rattle.canary_metric.specs.Verdicts.{verdict_of_counts}
@@ -15,12 +13,11 @@ use Rattle.canary_plan.specs.declared.strategy.CheckedStrategy.{CheckedStrategy}
 use Rattle.canary_plan.specs.Plans.{strategy_of, metrics_at}
 use Rattle.canary_release.specs.declared.effect.Recorded.{Recorded}
 use Rattle.canary_release.specs.declared.effect.Closing.{Closing}
-use Rattle.canary_release.specs.declared.runs.OpenRun.{OpenRun}
 use Rattle.canary_release.specs.declared.runs.Runs.{Runs}
 use Rattle.canary_release.specs.Courses.{run_metrics}
 use Rattle.canary_release.specs.Order.{AreNumbered, AreOrdered, AreLists, is_of, IsRun, is_measured_by, is_of_some, IsInOrder}
 use Rattle.canary_release.specs.Parts.{is_broken}
-use Rattle.canary_release.specs.Pasts.{Run, Past, measurement_of, counts_of, is_open, tallied, watched}
+use Rattle.canary_release.specs.Pasts.{Run, measurement_of, counts_of, is_open, tallied, watched}
 use Rattle.canary_release.specs.Desks.{ModelService}
 use Rattle.canary_release.specs.Sound.{IsJudgedBy, AreJudged, HasVerdict, IsSoundRun}
 use Rattle.canary_once.specs.declared.record.RunRecord.{RunRecord}
@@ -28,7 +25,7 @@ use Rattle.canary_rows.specs.declared.rows.ServiceRow.{ServiceRow}
 use Rattle.canary_rows.specs.Tables.{Tables}
 use Rattle.canary_stored.specs.Values.{lists_in}
 use Rattle.canary_stored.specs.Tables.{IsReadableClosing, IsReadableRun, IsReadablePast}
-use Rattle.canary_judging.specs.Counting.{at_metric, of_metric, IsOfMetric, IsList, AreListed, CountingIsExact, RunsAreTallied}
+use Rattle.canary_judging.specs.Counting.{at_metric, of_metric, IsOfMetric, IsList, CountingIsExact, RunsAreTallied}
 use Rattle.canary_judging.specs.Services.{HasVerdictBy, is_open_record, open_of_record, open_runs_in, metrics_of_runs, IsServiceJudged}
 use Rattle.canary_judging.proofs.CallersJudged.{HasPlace, has_place, below_length}
 use Rattle.canary_judging.proofs.Named.{weaker}
@@ -119,7 +116,7 @@ has_verdict s run tallies (Some x) same closed v = (
 is_sound_run : (s : ModelService) (xs : List Recorded) (number : ℕ) (r : RunRecord) → IsRunOf s.stand.strategy xs number r → IsSoundRun s (run_made s.stand.strategy xs r)
 is_sound_run s xs number r of = (
   are_judged xs r.number 0 (run_metrics s.stand.strategy r.step) (λ place metric there.
-  subst (λ m. AllByRecursion (IsJudgedBy metric) (filter (is_of r.number m) xs)) (let e : place ≡ 0 + place = omega arith in e) (of.lists place metric there).judged),
+      subst (λ m. AllByRecursion (IsJudgedBy metric) (filter (is_of r.number m) xs)) (let e : place ≡ 0 + place = omega arith in e) (of.lists place metric there).judged),
   has_verdict s (run_made s.stand.strategy xs r) r.tallies r.closed of.tallied of.closed of.verdict,
 )
 

@@ -15,7 +15,7 @@ use Rattle.canary_once.specs.Records.{past_of}
 use Rattle.canary_rows.specs.declared.rows.ServiceRow.{ServiceRow}
 use Rattle.canary_rows.specs.declared.rows.RunRow.{RunRow}
 use Rattle.canary_rows.specs.declared.rows.TallyRow.{TallyRow}
-use Rattle.canary_rows.specs.Tables.{Tables, is_service, is_run, is_tally, is_tally_of}
+use Rattle.canary_rows.specs.Tables.{Tables, is_run, is_tally, is_tally_of}
 use Rattle.canary_stored.specs.Values.{run_row, tally_row}
 use Rattle.canary_stored.specs.Tables.{row_if, run_at, run_rows, tally_rows_of, tally_rows}
 use Rattle.canary_stored.specs.Reading.{contents_of}
@@ -28,7 +28,7 @@ use Rattle.canary_judging.proofs.Callers.{none_behind}
 use Rattle.canary_judging.proofs.CallersHold.{below_or}
 use Rattle.canary_judging.proofs.CallersJudged.{HasPlace, has_place}
 use Rattle.canary_judging.proofs.ServicesHoldRows.{run_made}
-use Rattle.canary_judging.proofs.ServicesHoldRuns.{IsServiceAlone, none_or_service, past_gone, past_there, runs_hold_at}
+use Rattle.canary_judging.proofs.ServicesHoldRuns.{none_or_service, past_gone, past_there, runs_hold_at}
 use Rattle.canary_judging.proofs.ServicesHoldFacts.{IsRunOf, run_of_judged}
 
 -- Rows that stand once each under a key of two parts.

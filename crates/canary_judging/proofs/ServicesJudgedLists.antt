@@ -62,7 +62,7 @@ some_passes p (x ∷ xs) e = some_first p x xs (p x) refl e (some_passes p xs)
 
 -- Rows with just these numbers.
 
-within_numbers : {R : Type 0} (number : R → ℕ) (rows : List R) (first n : ℕ) → ((k : ℕ) → (k < first) ⊎ (first + n ≤ k) → filter (is_numbered number k) rows ≡ []) → (row : R) → IsIn row rows
+pub within_numbers : {R : Type 0} (number : R → ℕ) (rows : List R) (first n : ℕ) → ((k : ℕ) → (k < first) ⊎ (first + n ≤ k) → filter (is_numbered number k) rows ≡ []) → (row : R) → IsIn row rows
     → (first ≤ number row) × (number row < first + n)
 within_numbers number rows first n none row at =
     let here : IsIn row (filter (is_numbered number (number row)) rows) = in_filter (is_numbered number (number row)) row rows at ((Decides-eqb (number row) (number row)).1 refl) in
