@@ -52,7 +52,7 @@ distinct_keys {K} {R} {S} eq tells key of (row ∷ rows) once =
       distinct_keys eq tells key of rows (once_behind eq key row rows rows once.1),
     )
 
-has_key : {K R S : Type 0} (eq : K → K → Bool) → Tells eq → (key : R → K) (of : S → K) (rows : List R) (x : S) → (filter (λ r. eq (of x) (key r)) rows ≡ [] → ⊥) → HasKey (λ (r : R) (s : S). eq (key r) (of s)) rows x
+pub has_key : {K R S : Type 0} (eq : K → K → Bool) → Tells eq → (key : R → K) (of : S → K) (rows : List R) (x : S) → (filter (λ r. eq (of x) (key r)) rows ≡ [] → ⊥) → HasKey (λ (r : R) (s : S). eq (key r) (of s)) rows x
 has_key eq tells key of [] x some = some refl
 has_key eq tells key of (r ∷ rows) x some =
     elim (eq (of x) (key r))
