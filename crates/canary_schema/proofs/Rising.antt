@@ -1,5 +1,5 @@
 -- What a store that is opened anew shows: the same database, and the rows of each table in the order of their rowids.
-use Rattle.std.proofs.Common.{◌≡◌, ◌≤◌, List, ◌++◌, IsTrue, sym, ap, ap₂, subst, ◌∙◌, arith}
+use Rattle.std.proofs.Common.{◌≡◌, ◌≤◌, ◌↔◌, Bool, List, ◌++◌, Ok, Err, Result, IfOk, IfErr, IsTrue, sym, ap, ap₂, subst, ◌∙◌, arith}
 use Rattle.std.specs.List.{AllByRecursion}
 use Rattle.sqlite.specs.Schema.{Schema}
 use Rattle.sqlite.specs.Table.{Table}
@@ -7,16 +7,15 @@ use Rattle.sqlite.specs.Effect.{Database, IsDatabase}
 use Rattle.sqlite.specs.State.{State, HasCleanDisk, Opens, IsLive}
 use Rattle.sqlite.specs.Held.{Held, state}
 use Rattle.sqlite_trees.specs.declared.store.Store.{Ghosts}
-use Rattle.sqlite_trees.specs.declared.store.Shape.TheVariants as shape
 use Rattle.sqlite_trees.specs.Tree.{Trees, IsTable}
-use Rattle.sqlite_trees.specs.View.{View, IsClean, doubt, IsOrdered, IsShaped, IsRolledBack}
+use Rattle.sqlite_trees.specs.View.{View, IsClean, doubt, IsOrdered, IsShaped, IsRolledBack, IsQuiet}
 use Rattle.sqlite_trees.specs.Objects.{catalog_tree, IsListed}
 use Rattle.sqlite_catalog.specs.Listing.{Lists}
 use Rattle.sqlite_catalog.proofs.LayoutLemmas.{table_shape}
 use Rattle.sqlite_catalog.proofs.ReadLemmas.{lists_once}
 use Rattle.sqlite_rules.proofs.ListLemmas.{all_from}
 use Rattle.canary_schema.specs.Known.{early_tables, late_tables}
-use Rattle.canary_schema.specs.Formed.{IsDeskSchema}
+use Rattle.canary_schema.specs.Formed.{IsDeskSchema, HasWholeTallies}
 use Rattle.canary_schema.specs.Numbered.{IsOpenedAnew, IsLeft}
 use Rattle.canary_schema.specs.Stores.{AreNumbered, IsNumbered, IsUsable}
 use Rattle.canary_schema.proofs.Wholes.{tables_known}
@@ -51,7 +50,7 @@ taken g old mid undone falls settled clean is_open =
 
 -- a connection that is opened over a store that was taken out of another one
 module _ {S : Type 0} (g : Ghosts S) (old : State) (mid : S) (left : IsLeft old (g.view mid)) (is_open : IsClean (g.view mid) → IsTrue (g.view mid).is_open) where
-  pub opened : (live : IsLive old) (ordered : IsClean (g.view mid) → IsOrdered (g.view mid).shape (g.view mid).trees)
+  opened : (live : IsLive old) (ordered : IsClean (g.view mid) → IsOrdered (g.view mid).shape (g.view mid).trees)
       (listed : IsClean (g.view mid) → IsListed ((g.view mid).trees catalog_tree) (g.view mid).shape (g.view mid).reals)
       (new : Held S) → doubt (g.view mid).is_clean ≤ doubt (state g new).is_clean → (HasCleanDisk (state g new) → (state g new).now.trees ≡ (g.view mid).trees)
       → (HasCleanDisk (state g new) → Opens (state g new) × IsLive (state g new)) → IsUsable (state g new) → IsOpenedAnew old (state g new)
@@ -67,8 +66,24 @@ module _ {S : Type 0} (g : Ghosts S) (old : State) (mid : S) (left : IsLeft old 
         numbered = λ desk. subst AreNumbered (sym is) (of_desk (g.view mid) (state g new).now.schema (ordered clean) (listed clean) listing desk);
       }
 
-  pub still_left : (e : S) → doubt (g.view mid).is_clean ≤ doubt (g.view e).is_clean → (IsClean (g.view e) → IsTrue (g.view e).is_open → (g.view e).trees ≡ (g.view mid).trees) → IsLeft old (g.view e)
-  still_left e falls same clean alive =
+  pub all_opened : {F : Type 0} (live : IsLive old) (ordered : IsClean (g.view mid) → IsOrdered (g.view mid).shape (g.view mid).trees)
+      (listed : IsClean (g.view mid) → IsListed ((g.view mid).trees catalog_tree) (g.view mid).shape (g.view mid).reals)
+      (r : Result (Held S × Bool) F) → IfOk r (λ p. doubt (g.view mid).is_clean ≤ doubt (state g p.0).is_clean) → IfOk r (λ p. HasCleanDisk (state g p.0) → (state g p.0).now.trees ≡ (g.view mid).trees)
+      → IfOk r (λ p. HasCleanDisk (state g p.0) → Opens (state g p.0) × IsLive (state g p.0)) → IfOk r (λ p. IsUsable (state g p.0) → IsOpenedAnew old (state g p.0))
+  all_opened live ordered listed (Ok p) falls trees opens = opened live ordered listed p.0 falls trees opens
+  all_opened live ordered listed (Err e) falls trees opens = tt
+
+  pub all_left : {T F : Type 0} (r : Result T (F × S)) → IfErr r (λ e. IsQuiet g.view g.faults g.recovers g.is_shielded mid e.1)
+      → IfErr r (λ e. IsClean (g.view e.1) → IsTrue (g.view e.1).is_open → (g.view e.1).trees ≡ (g.view mid).trees) → IfErr r (λ e. IsLeft old (g.view e.1))
+  all_left (Ok p) quiet same = tt
+  all_left (Err e) quiet same = λ clean alive.
+      let falls = quiet.clean in
       let before : IsClean (g.view mid) = omega (arith, falls, clean) in
       let was = left before (is_open before) in
       (was.0, same clean alive ∙ was.1)
+
+-- what was found in a store holds of a connection over it
+pub all_whole : {S F : Type 0} (g : Ghosts S) (trees : Trees) (r : Result (Held S × Bool) F) → IfOk r (λ p. HasCleanDisk (state g p.0) → (state g p.0).now.trees ≡ trees)
+    → IfOk r (λ p. HasCleanDisk (state g p.0) → IsTrue p.1 ↔ HasWholeTallies trees) → IfOk r (λ p. IsUsable (state g p.0) → IsTrue p.1 ↔ HasWholeTallies (state g p.0).now.trees)
+all_whole g trees (Ok p) same whole = λ usable. subst (λ (t : Trees). IsTrue p.1 ↔ HasWholeTallies t) (sym (same usable.clean)) (whole usable.clean)
+all_whole g trees (Err e) same whole = tt

@@ -9,3 +9,4 @@ pub mod laws;
 mod layout;
 mod parts;
 mod tables;
+mod whole;
