@@ -11,7 +11,7 @@ use Rattle.canary_reads.proofs.Answer.{passes, shows}
 use Rattle.canary_reads.proofs.Asking.{all_found}
 use Rattle.canary_reads.proofs.Tests.{and_true, words_same, same_words, both_same, first_same}
 use Rattle.canary_reads.proofs.Texts.{settled_text, settled_tests, settled_shown, settled_asks, kept_text, kept_tests, kept_shown, kept_asks}
-use Rattle.canary_reads.proofs.Typed.{Tells}
+use Rattle.canary_reads.proofs.TypedRows.{Tells}
 
 tells_caller : (name : List ℕ) → Tells caller_cells (is_caller name) caller_cells (λ row. Words name ∷ row) (passes settled_tests (Words name ∷ [])) (shows settled_shown (Words name ∷ []))
 tells_caller name = record {

@@ -12,7 +12,7 @@ use Rattle.canary_reads.proofs.Answer.{passes, shows}
 use Rattle.canary_reads.proofs.Asking.{all_found, page_found}
 use Rattle.canary_reads.proofs.Tests.{and_true, words_same, same_words}
 use Rattle.canary_reads.proofs.Texts.{history_text, history_tests, history_shown, history_asks, measurements_text, measurements_tests, measurements_shown, measurements_asks, all_measurements_text, all_measurements_asks}
-use Rattle.canary_reads.proofs.Typed.{Tells, taken}
+use Rattle.canary_reads.proofs.TypedRows.{Tells, taken}
 
 tells_line : (service : List ℕ) → Tells history_cells (is_line_of service) history_cells (λ row. Null ∷ Words service ∷ row) (passes history_tests (Words service ∷ [])) (shows history_shown (Words service ∷ []))
 tells_line service = record {

@@ -21,7 +21,7 @@ use Rattle.canary_reads.proofs.ByColumns.{number_back}
 use Rattle.canary_reads.proofs.Ordering.{sorted_rows, listed_found}
 use Rattle.canary_reads.proofs.Tests.{and_true, words_same, same_words, both_same, first_same, null_same, null_first}
 use Rattle.canary_reads.proofs.Texts.{run_text, run_tests, run_shown, run_asks, open_runs_text, open_runs_tests, open_runs_shown, open_runs_asks, front_runs_text, front_runs_tests, front_runs_asks, three, tallies_text, tallies_tests, tallies_shown, tallies_asks}
-use Rattle.canary_reads.proofs.Typed.{Tells, taken}
+use Rattle.canary_reads.proofs.TypedRows.{Tells, taken}
 
 pub run_back : (x : RunRow) → run_in (run_cells x) ≡ Some x
 run_back x = ap₂ (λ step closed. run_with x.service x.number step x.started closed x.ending.outside x.ending.verdict) (number_back x.step) (number_back x.ending.closed)

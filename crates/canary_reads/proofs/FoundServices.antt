@@ -15,7 +15,7 @@ use Rattle.canary_reads.proofs.Answer.{passes, shows}
 use Rattle.canary_reads.proofs.Asking.{all_found}
 use Rattle.canary_reads.proofs.Tests.{and_true, words_same, same_words}
 use Rattle.canary_reads.proofs.Texts.{template_text, template_tests, template_shown, template_asks, service_text, service_tests, service_shown, service_asks, has_service_text, has_service_tests, has_service_shown, has_service_asks}
-use Rattle.canary_reads.proofs.Typed.{Tells}
+use Rattle.canary_reads.proofs.TypedRows.{Tells}
 
 tells_template : (name : List ℕ) → Tells template_cells (is_template name) template_cells (λ row. Words name ∷ row) (passes template_tests (Words name ∷ [])) (shows template_shown (Words name ∷ []))
 tells_template name = record {

@@ -25,7 +25,7 @@ use Rattle.canary_reads.specs.Finds.{TellsCells}
 use Rattle.canary_reads.specs.Sorts.{Sorts}
 use Rattle.canary_reads.proofs.Answer.{query_of, no_limit, from_start, by_column, passes, shows, put_out}
 use Rattle.canary_reads.proofs.Asking.{Asks, Reads, ordered_found}
-use Rattle.canary_reads.proofs.Typed.{Tells, typed}
+use Rattle.canary_reads.proofs.TypedRows.{Tells, typed}
 
 then_equal : (o : Ordering) → is_gt (ordering_then o Equal) ≡ false → is_gt o ≡ false
 then_equal Less h = refl

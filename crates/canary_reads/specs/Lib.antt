@@ -5,3 +5,4 @@ pub mod Sorts
 pub mod Readable
 pub mod Breaks
 pub mod Faults
+pub mod Told

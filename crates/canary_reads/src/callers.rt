@@ -72,8 +72,8 @@ fn caller_shown<S: Alter>(conn: &mut Connection<S>, name: &Name) -> Result<Vec<R
 }
 
 /// What is kept of the caller's request of that number, if it is settled. `Memory` where there is
-/// not enough, `Storage` where the database fails, `Broken` where the row is none that a program can
-/// hold.
+/// not enough, `Storage` where the database fails, `Broken` where the row is none that a program
+/// can hold.
 pub fn kept<S: Alter>(
     conn: &mut Connection<S>,
     caller: &Name,

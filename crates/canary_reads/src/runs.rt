@@ -8,7 +8,8 @@ ghost use Rattle.canary_rows.specs.Limits.{IsRunWithin, IsTallyWithin};
 ghost use Rattle.canary_schema.specs.Cells.{run_cells};
 ghost use Rattle.canary_reads.specs.Breaks.{BreaksUnless};
 ghost use Rattle.canary_reads.specs.Finds.{IsSame, Finds, FindsSuch, TellsCells, first};
-ghost use Rattle.canary_reads.specs.Sorts.{Sorts, IsFront, is_open, is_run_of, number_of, metric_of};
+ghost use Rattle.canary_reads.specs.Sorts.{Sorts, IsFront, is_open, is_run_of};
+ghost use Rattle.canary_reads.specs.Sorts.{number_of, metric_of};
 
 use crate::fault::ReadFault;
 use crate::{query, shown};
@@ -21,7 +22,8 @@ use sqlite::{Alter, Connection, Row, params};
 use std::alloc::Global;
 
 /// The run of the service under that number, if there is one. `Memory` where there is not enough,
-/// `Storage` where the database fails, `Broken` where the run's row is none that a program can hold.
+/// `Storage` where the database fails, `Broken` where the run's row is none that a program can
+/// hold.
 pub fn run<S: Alter>(
     conn: &mut Connection<S>,
     service: &Name,

@@ -36,8 +36,8 @@ pub fn template<S: Alter>(conn: &mut Connection<S>, name: &Name) -> Result<Optio
     Ok(found.map(|row| row.spec))
 }
 
-/// The rows of the template, of which a desk writes one at most. `Memory` where there is not enough,
-/// `Storage` where the database fails, `Broken` where one is none that a program can hold.
+/// The rows of the template, of which a desk writes one at most. `Memory` where there is not
+/// enough, `Storage` where the database fails, `Broken` where one is none that a program can hold.
 pub fn template_rows<S: Alter>(
     conn: &mut Connection<S>,
     alloc: Global,

@@ -6,7 +6,7 @@ use Rattle.canary_rows.specs.Tables.{is_caller}
 use Rattle.canary_rows.specs.Limits.{IsCallerWithin}
 use Rattle.canary_schema.specs.Cells.{caller_cells, caller_in}
 use Rattle.canary_reads.proofs.Breaking.{unless_broken}
-use Rattle.canary_reads.proofs.Typed.{told_all}
+use Rattle.canary_reads.proofs.TypedRows.{told_all}
 use Rattle.canary_reads.proofs.callers.caller_rows.Goals as goal
 
 pub returns-clause-found : goal.returns-clause-found

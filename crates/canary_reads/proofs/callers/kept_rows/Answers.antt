@@ -6,7 +6,7 @@ use Rattle.canary_rows.specs.Tables.{is_kept}
 use Rattle.canary_rows.specs.Limits.{IsKeptWithin}
 use Rattle.canary_schema.specs.Cells.{kept_cells, kept_in}
 use Rattle.canary_reads.proofs.Breaking.{unless_broken}
-use Rattle.canary_reads.proofs.Typed.{told_all}
+use Rattle.canary_reads.proofs.TypedRows.{told_all}
 use Rattle.canary_reads.proofs.callers.kept_rows.Goals as goal
 
 pub returns-clause-found : goal.returns-clause-found

@@ -6,7 +6,7 @@ use Rattle.canary_rows.specs.Tables.{is_caller}
 use Rattle.canary_rows.specs.Limits.{IsCallerWithin}
 use Rattle.canary_schema.specs.Cells.{caller_cells, caller_in}
 use Rattle.canary_reads.proofs.Breaking.{unless_broken}
-use Rattle.canary_reads.proofs.Typed.{same_first}
+use Rattle.canary_reads.proofs.TypedRows.{same_first}
 use Rattle.canary_reads.proofs.callers.settled.Goals as goal
 
 pub returns-in_err-found-clause-broken : goal.returns-in_err-found-clause-broken

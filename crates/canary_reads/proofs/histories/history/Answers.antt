@@ -8,7 +8,7 @@ use Rattle.canary_rows.specs.Limits.{IsLineWithin}
 use Rattle.canary_schema.specs.Cells.{history_cells, history_in}
 use Rattle.canary_reads.proofs.Breaking.{unless_broken}
 use Rattle.canary_reads.proofs.Texts.{history_query}
-use Rattle.canary_reads.proofs.Typed.{told_all}
+use Rattle.canary_reads.proofs.TypedRows.{told_all}
 use Rattle.canary_reads.proofs.FoundLines.{line_rows}
 use Rattle.canary_reads.proofs.histories.history.Goals as goal
 

@@ -8,7 +8,7 @@ use Rattle.canary_rows.specs.Limits.{IsMeasurementWithin}
 use Rattle.canary_schema.specs.Cells.{measurement_cells, measurement_in}
 use Rattle.canary_reads.proofs.Breaking.{unless_broken}
 use Rattle.canary_reads.proofs.Texts.{all_measurements_query}
-use Rattle.canary_reads.proofs.Typed.{told_all}
+use Rattle.canary_reads.proofs.TypedRows.{told_all}
 use Rattle.canary_reads.proofs.FoundLines.{measurement_rows}
 use Rattle.canary_reads.proofs.histories.measurement_rows.Goals as goal
 

@@ -9,7 +9,7 @@ use Rattle.canary_schema.specs.Cells.{run_cells, run_in}
 use Rattle.canary_reads.specs.Sorts.{Sorts, number_of}
 use Rattle.canary_reads.proofs.Breaking.{unless_broken, all_moved}
 use Rattle.canary_reads.proofs.Texts.{open_runs_query}
-use Rattle.canary_reads.proofs.Typed.{told_all}
+use Rattle.canary_reads.proofs.TypedRows.{told_all}
 use Rattle.canary_reads.proofs.FoundRuns.{open_rows, run_back}
 use Rattle.canary_reads.proofs.runs.all_open_runs.Goals as goal
 

@@ -8,7 +8,7 @@ use Rattle.canary_schema.specs.Cells.{run_cells, run_in}
 use Rattle.canary_reads.specs.Sorts.{IsFront, is_run_of}
 use Rattle.canary_reads.proofs.Breaking.{unless_broken}
 use Rattle.canary_reads.proofs.Texts.{front_runs_query}
-use Rattle.canary_reads.proofs.Typed.{told_all}
+use Rattle.canary_reads.proofs.TypedRows.{told_all}
 use Rattle.canary_reads.proofs.FoundRuns.{front_rows, front_within, run_back}
 use Rattle.canary_reads.proofs.runs.front_runs.Goals as goal
 

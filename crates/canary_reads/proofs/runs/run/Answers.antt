@@ -7,7 +7,7 @@ use Rattle.canary_rows.specs.Limits.{IsRunWithin}
 use Rattle.canary_schema.specs.Cells.{run_cells, run_in}
 use Rattle.canary_reads.proofs.FoundRuns.{run_back}
 use Rattle.canary_reads.proofs.Breaking.{unless_broken}
-use Rattle.canary_reads.proofs.Typed.{same_first}
+use Rattle.canary_reads.proofs.TypedRows.{same_first}
 use Rattle.canary_reads.proofs.runs.run.Goals as goal
 
 pub returns-clause-found : goal.returns-clause-found

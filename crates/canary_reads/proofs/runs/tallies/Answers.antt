@@ -9,7 +9,7 @@ use Rattle.canary_schema.specs.Cells.{tally_cells, tally_in}
 use Rattle.canary_reads.specs.Sorts.{Sorts, metric_of}
 use Rattle.canary_reads.proofs.Breaking.{unless_broken, all_moved}
 use Rattle.canary_reads.proofs.Texts.{tallies_query}
-use Rattle.canary_reads.proofs.Typed.{told_all}
+use Rattle.canary_reads.proofs.TypedRows.{told_all}
 use Rattle.canary_reads.proofs.FoundRuns.{tally_rows, tally_back}
 use Rattle.canary_reads.proofs.runs.tallies.Goals as goal
 

@@ -6,7 +6,7 @@ use Rattle.canary_rows.specs.Tables.{is_service}
 use Rattle.canary_rows.specs.Limits.{IsServiceWithin}
 use Rattle.canary_schema.specs.Cells.{service_cells, service_in}
 use Rattle.canary_reads.proofs.Breaking.{unless_broken}
-use Rattle.canary_reads.proofs.Typed.{same_first}
+use Rattle.canary_reads.proofs.TypedRows.{same_first}
 use Rattle.canary_reads.proofs.services.service.Goals as goal
 
 pub returns-clause-found : goal.returns-clause-found

@@ -6,7 +6,7 @@ use Rattle.canary_rows.specs.Tables.{is_template}
 use Rattle.canary_rows.specs.Limits.{IsTemplateWithin}
 use Rattle.canary_schema.specs.Cells.{template_cells, template_in}
 use Rattle.canary_reads.proofs.Breaking.{unless_broken}
-use Rattle.canary_reads.proofs.Typed.{same_first}
+use Rattle.canary_reads.proofs.TypedRows.{same_first}
 use Rattle.canary_reads.proofs.services.template.Goals as goal
 
 pub returns-in_err-found-clause-broken : goal.returns-in_err-found-clause-broken
