@@ -1,0 +1,2 @@
+//! Adopting tables: a desk's tables are judged row by row, by reads, before they are believed.
+#![tactic(auto)]
