@@ -1,0 +1,10 @@
+mod Standing
+mod Each
+mod Names
+mod JudgedCallers
+mod JudgedTemplates
+mod Alike
+mod NamedTemplates
+mod JudgedStrategies
+mod JudgedServices
+mod AllServices
