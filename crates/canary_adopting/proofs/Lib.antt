@@ -1,0 +1,5 @@
+mod PlacedLemmas
+mod CountLemmas
+mod RunLemmas
+mod HistoryLemmas
+mod StateLemmas

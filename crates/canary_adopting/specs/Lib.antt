@@ -1,1 +1,2 @@
 pub mod Judges
+pub mod OfService
