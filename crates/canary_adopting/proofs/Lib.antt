@@ -8,3 +8,8 @@ mod NamedTemplates
 mod JudgedStrategies
 mod JudgedServices
 mod AllServices
+mod PlacedLemmas
+mod CountLemmas
+mod RunLemmas
+mod HistoryLemmas
+mod StateLemmas
