@@ -165,8 +165,3 @@ past_totals t row stand runs measurements history are read told totals count sum
     let taken = measured ∙ as_long measurement_of_row (filter (is_measurement_of row.name) t.measurements) measurements read.each in
     let said = lines ∙ sym (same_length (history_row row.name) history) ∙ ap length (sym told.told) in
     λ i. record { runs = count i; tallies = tallies i; measurements = taken i; lines = said i }
-
--- What is read of its past is all that there is.
-
-pub same_measurements : (t : Tables) (name : List ℕ) (found others : List Recorded) → AreMeasurementsOf name t found → AreMeasurementsOf name t others → others ≡ found
-same_measurements t name found others one other = sym other.values ∙ one.values

@@ -13,3 +13,6 @@ mod CountLemmas
 mod RunLemmas
 mod HistoryLemmas
 mod StateLemmas
+mod RunsSame
+mod JudgedPasts
+mod OpenRuns

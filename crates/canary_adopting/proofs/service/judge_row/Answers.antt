@@ -1,18 +1,25 @@
-use Rattle.std.proofs.Common.{sym, ◌∙◌}
+use Rattle.std.proofs.Common.{◌≡◌, Err, rules}
 use Rattle.std.proofs.lemmas.Result.{IfOk-weaker}
 use Rattle.sqlite.specs.Held.{state}
+use Rattle.canary_reads.specs.declared.fault.ReadFault.TheVariants.{Broken}
 use Rattle.canary_adopting.proofs.JudgedServices.{service_judged, made_there, no_stand, past_there}
 use Rattle.canary_adopting.proofs.Standing.{stores_then}
 use Rattle.canary_adopting.proofs.service.judge_row.Goals as goal
 
-pub returns-in_err-made_by-clause-refused : goal.returns-in_err-made_by-clause-refused
-returns-in_err-made_by-clause-refused g c = ?
+pub returns-in_err-made-clause-refused : goal.returns-in_err-made-clause-refused
+returns-in_err-made-clause-refused g c usable t has judged is within row_judged =
+    let broken : c.made_by.result ≡ Err Broken = search rules in
+    c.made_by.ensures.broken broken row_judged.made row_judged.is row_judged.named
 
 pub returns-in_err-strategy-clause-refused : goal.returns-in_err-strategy-clause-refused
-returns-in_err-strategy-clause-refused g c = ?
+returns-in_err-strategy-clause-refused g c usable t has judged is within row_judged =
+    let broken : c.strategy.result ≡ Err Broken = search rules in
+    c.strategy.ensures.broken usable t has judged broken within (made_there t c.args.row.now c.in_ok-made.made c.in_ok-made.ensures.made.0 row_judged)
 
-pub returns-in_err-stand_by-clause-refused : goal.returns-in_err-stand_by-clause-refused
-returns-in_err-stand_by-clause-refused g c = ?
+pub returns-in_err-stand-clause-refused : goal.returns-in_err-stand-clause-refused
+returns-in_err-stand-clause-refused g c usable t has judged is within row_judged =
+    let broken : c.stand_by.result ≡ Err Broken = search rules in
+    no_stand t c.args.row.now c.in_ok-made.made c.in_ok-strategy.strategy c.in_ok-made.ensures.made.0 (c.in_ok-strategy.ensures.found usable t has judged).1 (c.stand_by.ensures.broken broken) row_judged
 
 pub returns-clause-judged : goal.returns-clause-judged
 returns-clause-judged g c usable t has judged =
