@@ -1,7 +1,6 @@
 //! A service, with its runs, its measurements and its history.
 ghost use Rattle.std.specs.Prelude.{◌≡◌, ◌≢◌, false, [], ◌∷◌, Some, None, IfOk, OnOk, Err};
-ghost use Rattle.std.specs.Prelude.{filter, length};
-ghost use Rattle.std.specs.List.{sum_by};
+ghost use Rattle.std.specs.Prelude.{filter};
 ghost use Rattle.sqlite.specs.Held.{state};
 ghost use Rattle.canary_plan.specs.declared.service.ServiceSpec.{ServiceSpec};
 ghost use Rattle.canary_canonical.specs.Readings.{canonical_in};
@@ -16,8 +15,8 @@ ghost use Rattle.canary_adopting.specs.OneService.{FindsJudged, RefusesJudged, I
 ghost use Rattle.canary_adopting.specs.OneService.{totals_of, IsServiceUnder, IsServiceFound};
 
 use crate::fault::read_fault;
-use crate::totals::{self, Totals};
-use crate::{alone, counting, histories, runs, strategies};
+use crate::totals::Totals;
+use crate::{alone, counting, counts, histories, runs, strategies};
 use canary_base::error::Memory;
 use canary_base::lists::Listed;
 use canary_base::names::Name;
@@ -144,22 +143,10 @@ fn judge_past<S: Alter>(
     judge_parts(alloc, stand, count, runs.as_slice())?;
     Ok(Totals {
         runs: u64::from(count),
-        tallies: tally_count(runs.as_slice())?,
+        tallies: counts::tally_count(runs.as_slice())?,
         measurements: measurements.as_slice().len() as u64,
         lines: history.as_slice().len() as u64,
     })
-}
-
-// How many tallies they have. `Storage` where there are more than can be counted.
-fn tally_count(runs: &[RunRecord]) -> Result<u64, ReadFault>
-    ensures count { IfOk result (λ count. count ≡ sum_by (λ run. length run.tallies) runs.now) }
-    ensures whole { result ≢ Err Broken }
-{
-    let mut count = 0;
-    for run in runs {
-        count = totals::sum(count, run.tallies.as_slice().len() as u64)?;
-    }
-    Ok(count)
 }
 
 // That a service can stand so, with those of these runs that are open.
