@@ -3,3 +3,4 @@ mod CountLemmas
 mod RunLemmas
 mod HistoryLemmas
 mod StateLemmas
+mod RunsSame

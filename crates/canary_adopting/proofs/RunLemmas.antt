@@ -156,10 +156,6 @@ module _ (strategy : CheckedStrategy) (name : List ℕ) (number : ℕ) (t : Tabl
       let other : record_of_row a.tallies (row_of_record name a) ≡ Some b = run_read (row_of_record name a ∷ []) (row_of_record name a) a.tallies b (sym there) refl (has_tallies a first) second in
       some_same a b (sym one ∙ other)
 
--- there is one list of runs at most
-pub same_runs : (strategy : CheckedStrategy) (name : List ℕ) (count : ℕ) (t : Tables) (xs ys : List RunRecord) → AreRunsOf strategy name count t xs → AreRunsOf strategy name count t ys → xs ≡ ys
-same_runs strategy name count t xs ys first second = same_list xs ys (first.as_many ∙ sym second.as_many) (λ k x y a b. same_run strategy name (suc k) t x y (first.each k x a) (second.each k y b))
-
 -- Run after run.
 
 at_end : (place : ℕ) (xs : List RunRecord) (x y : RunRecord) → slice_get (xs ++ x ∷ []) place ≡ Some y → (P : ℕ → RunRecord → Type 0) → ((k : ℕ) (z : RunRecord) → slice_get xs k ≡ Some z → P k z) → P (length xs) x → P place y
