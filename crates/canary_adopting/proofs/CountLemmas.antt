@@ -1,16 +1,17 @@
 -- Measurements counted so far.
-use Rattle.std.proofs.Common.{◌≡◌, ℕ, zero, suc, ◌<◌, ◌≤◌, List, [], ◌∷◌, length, refl, ap, ◌∙◌, arith}
-use Rattle.std.specs.Prelude.{Option, Some, option_map, unwrap_or, slice_get, slice_set, slice_index_or}
+use Rattle.std.proofs.Common.{◌≡◌, ℕ, zero, suc, ◌+◌, ◌<◌, ◌≤◌, List, [], ◌∷◌, length, map, drop, get_or, refl, sym, ap, ◌∙◌, arith}
+use Rattle.std.specs.Prelude.{Option, Some, None, option_map, slice_get, slice_set, slice_index_or}
+use Rattle.std.specs.List.{sum_by}
+use Rattle.std.proofs.lemmas.List.Sums.{sum_by-drop_more}
 use Rattle.std.proofs.lemmas.Option.{slice_get-map}
 use Rattle.canary_metric.specs.Metrics.{MetricValue}
 use Rattle.canary_metric.specs.Counts.{Counts}
 use Rattle.canary_plan.specs.declared.strategy.CheckedStrategy.{CheckedStrategy}
-use Rattle.canary_plan.specs.Plans.{metrics_at}
 use Rattle.canary_release.specs.declared.effect.Recorded.{Recorded}
 use Rattle.canary_release.specs.Courses.{run_metrics}
 use Rattle.canary_release.specs.Pasts.{change_at}
 use Rattle.canary_once.specs.declared.record.RunRecord.{RunRecord}
-use Rattle.canary_judging.specs.Counting.{at_metric, of_metric, none_counted, counted_all, AreCounted}
+use Rattle.canary_judging.specs.Counting.{at_run, at_metric, of_metric, change_run, none_counted, counted_all, AreCounted}
 use Rattle.canary_judging.specs.Services.{metrics_of_runs}
 
 -- all are counted where those that are left are, from these tallies on
@@ -33,10 +34,25 @@ change_past_end (suc k) f (x ∷ xs) h = ap (λ ys. x ∷ ys) (change_past_end k
 
 -- The metrics of a run.
 
-pub planned_at : (strategy : CheckedStrategy) (runs : List RunRecord) (run place metric : ℕ) (r : RunRecord) → run ≡ suc place → slice_get runs place ≡ Some r → of_metric run metric (metrics_of_runs strategy runs) ≡ slice_get (run_metrics strategy r.step) metric
-planned_at strategy runs run place metric r is there =
-    ap (λ n. of_metric n metric (metrics_of_runs strategy runs)) is
-    ∙ ap (at_metric metric) (slice_get-map (λ (x : RunRecord). run_metrics strategy x.step) runs place ∙ ap (option_map (λ (x : RunRecord). run_metrics strategy x.step)) there)
+run_at : {A B : Type 0} (f : A → B) (xs : List A) (run : ℕ) → at_run run (map f xs) ≡ option_map f (at_run run xs)
+run_at f xs zero = refl
+run_at f xs (suc place) = slice_get-map f xs place
 
-pub planned : (strategy : CheckedStrategy) (step : Option ℕ) (metric : ℕ) (o : Option (List MetricValue)) → metrics_at strategy step ≡ o → slice_get (run_metrics strategy step) metric ≡ slice_get (unwrap_or o []) metric
-planned strategy step metric o is = ap (λ (found : Option (List MetricValue)). slice_get (unwrap_or found []) metric) is
+pub planned_none : (strategy : CheckedStrategy) (runs : List RunRecord) (run metric : ℕ) → None ≡ at_run run runs → None ≡ of_metric run metric (metrics_of_runs strategy runs)
+planned_none strategy runs run metric is =
+    let metrics : RunRecord → List MetricValue = λ r. run_metrics strategy r.step in
+    ap (λ (o : Option RunRecord). at_metric metric (option_map metrics o)) is ∙ sym (ap (at_metric metric) (run_at metrics runs run))
+
+pub planned : (strategy : CheckedStrategy) (runs : List RunRecord) (run metric : ℕ) (r : RunRecord) → Some r ≡ at_run run runs → slice_get (run_metrics strategy r.step) metric ≡ of_metric run metric (metrics_of_runs strategy runs)
+planned strategy runs run metric r is =
+    let metrics : RunRecord → List MetricValue = λ r. run_metrics strategy r.step in
+    ap (λ (o : Option RunRecord). at_metric metric (option_map metrics o)) is ∙ sym (ap (at_metric metric) (run_at metrics runs run))
+
+-- The tallies of the runs that are left.
+
+pub tallies_left : (runs : List RunRecord) (i : ℕ) (r : RunRecord) → i < length runs → r ≡ get_or runs i r → sum_by (λ (x : RunRecord). length x.tallies) (drop i runs) ≡ length r.tallies + sum_by (λ (x : RunRecord). length x.tallies) (drop (i + 1) runs)
+tallies_left runs i r below at =
+    sum_by-drop_more (λ (x : RunRecord). length x.tallies) runs i r below ∙ ap (λ (x : RunRecord). length x.tallies + sum_by (λ (x : RunRecord). length x.tallies) (drop (i + 1) runs)) (sym at)
+
+pub run_changed : {A : Type 0} (run place : ℕ) (f : A → A) (xs : List A) → run ≡ suc place → change_run run f xs ≡ change_at place f xs
+run_changed run place f xs is = ap (λ n. change_run n f xs) is

@@ -43,14 +43,19 @@ none_told o (Err Storage) told e = absurd (cc e)
 
 -- What is read.
 
-all_there : {A : Type 0} (xs : List A) → filter_map (λ (x : Option A). x) (map Some xs) ≡ xs
-all_there [] = refl
-all_there (x ∷ xs) = ap (λ (ys : List _). x ∷ ys) (all_there xs)
+read_values : {R A : Type 0} (reads : R → Option A) (rows : List R) (found : List A) → map reads rows ≡ map Some found → filter_map reads rows ≡ found
+read_values reads [] [] told = refl
+read_values reads [] (x ∷ found) told = absurd (cc told)
+read_values reads (row ∷ rows) [] told = absurd (cc told)
+read_values reads (row ∷ rows) (x ∷ found) told =
+    let here : reads row ≡ Some x = cc told in
+    let later : map reads rows ≡ map Some found = cc told in
+    ap (λ o. cons_option o (filter_map reads rows)) here ∙ ap (λ (ys : List _). x ∷ ys) (read_values reads rows found later)
 
 pub read_all : {R A : Type 0} (reads : R → Option A) (rows there : List R) (found : List A) → rows ≡ there → map reads rows ≡ map Some found → AreRead reads there found
 read_all reads rows there found are told =
     let each : map reads there ≡ map Some found = ap (map reads) (sym are) ∙ told in
-    record { values = ap (filter_map (λ x. x)) each ∙ all_there found; each = each }
+    record { values = read_values reads there found each; each = each }
 
 pub told_found : {R A : Type 0} (reads : R → Option A) (rows there : List R) (result : Result (List A) ReadFault) → rows ≡ there → AreTold reads rows result → IfOk result (AreRead reads there)
 told_found reads rows there (Ok found) are told = read_all reads rows there found are told

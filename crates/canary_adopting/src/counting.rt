@@ -1,14 +1,11 @@
 //! Measurements, counted one after another.
-ghost use Rattle.std.specs.Prelude.{◌≡◌, ◌↔◌, ◌+◌, ◌≤◌, IsTrue, IfOk, OnOk, Err, length, map, true};
+ghost use Rattle.std.specs.Prelude.{◌≡◌, ◌↔◌, ◌+◌, ◌≤◌, IsTrue, IfOk, OnOk, Err, length, slice_get};
 ghost use Rattle.std.specs.Option.{option_copied};
 ghost use Rattle.canary_metric.specs.Counts.{size};
-ghost use Rattle.canary_metric.specs.Measurements.{is_measured};
-ghost use Rattle.canary_once.specs.declared.record.RunRecord.{RunRecord};
 ghost use Rattle.canary_release.specs.Courses.{run_metrics};
-ghost use Rattle.canary_release.specs.Recording.{is_not_full};
 ghost use Rattle.canary_release.specs.Sound.{IsJudgedBy};
 ghost use Rattle.canary_reads.specs.declared.fault.ReadFault.TheVariants as fault;
-ghost use Rattle.canary_judging.specs.Counting.{of_metric, none_counted, counted_at, IsNext};
+ghost use Rattle.canary_judging.specs.Counting.{at_run, of_metric, none_counted, IsNext};
 ghost use Rattle.canary_judging.specs.Services.{metrics_of_runs};
 ghost use Rattle.canary_adopting.specs.OfService.{AreTallied};
 
@@ -91,6 +88,7 @@ fn is_next(strategy: &Strategy, runs: &[RunRecord], counts: &Counts, next: &Reco
 }
 
 // The metric of the measurement, if it is one of its run.
+#[tactic(auto, using(crate::proofs::CountLemmas::planned_none, crate::proofs::CountLemmas::planned))]
 fn metric_of<'a>(
     strategy: &'a Strategy,
     runs: &[RunRecord],
@@ -99,11 +97,26 @@ fn metric_of<'a>(
     ensures { option_copied result
         ≡ of_metric measurement.now.run measurement.now.metric (metrics_of_runs strategy.now runs.now) }
 {
-    let place = measurement.run.checked_sub(1)?;
-    let run = runs.get(place as usize)?;
-    strategy
-        .metrics(run.step)?
-        .get(measurement.metric as usize)
+    match run_of(runs, measurement.run) {
+        Some(run) => metric_in(strategy, run.step, measurement.metric),
+        None => None,
+    }
+}
+
+fn run_of(runs: &[RunRecord], number: u32) -> Option<&RunRecord>
+    ensures { option_copied result ≡ at_run number runs.now }
+{
+    let place = number.checked_sub(1)?;
+    runs.get(place as usize)
+}
+
+fn metric_in(strategy: &Strategy, step: Option<u32>, place: u32) -> Option<&Metric>
+    ensures { option_copied result ≡ slice_get (run_metrics strategy.now step) place }
+{
+    match strategy.metrics(step) {
+        Some(metrics) => metrics.get(place as usize),
+        None => None,
+    }
 }
 
 // Whether it has the next ordinal, for which there is room, and is judged by the metric's

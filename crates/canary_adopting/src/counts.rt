@@ -1,5 +1,8 @@
 //! Tallies of runs, as measurements are counted.
-ghost use Rattle.std.specs.Prelude.{◌≡◌, ◌↔◌, ◌∷◌, ◌++◌, [], IsTrue, OnOk, map, slice_get, true};
+ghost use Rattle.std.specs.Prelude.{◌≡◌, ◌≢◌, ◌↔◌, ◌∷◌, ◌++◌, [], IsTrue, IfOk, OnOk, Err};
+ghost use Rattle.std.specs.Prelude.{length, map, slice_get, true};
+ghost use Rattle.std.specs.List.{sum_by};
+ghost use Rattle.canary_reads.specs.declared.fault.ReadFault.TheVariants as fault;
 ghost use Rattle.std.specs.Option.{option_copied};
 ghost use Rattle.canary_metric.specs.Measurements.{is_measured};
 ghost use Rattle.canary_once.specs.declared.record.RunRecord.{RunRecord};
@@ -12,6 +15,7 @@ use canary_base::error::Memory;
 use canary_base::lists::Listed;
 use canary_metric::tally::Tally;
 use canary_once::record::RunRecord;
+use canary_reads::fault::ReadFault;
 use canary_release::effect::Recorded;
 use std::alloc::Global;
 use std::marker::Model;
@@ -156,4 +160,24 @@ fn is_same(ours: &Tally, theirs: &Tally) -> bool
     ensures { IsTrue result ↔ (theirs.now ≡ ours.now) }
 {
     ours == theirs
+}
+
+/// How many tallies the runs have.
+///
+/// # Errors
+/// `Storage` where there are 2^64 or more.
+#[tactic(auto, using(crate::proofs::CountLemmas::tallies_left))]
+pub(crate) fn tally_count(runs: &[RunRecord]) -> Result<u64, ReadFault>
+    ensures value { IfOk result (λ count. count
+        ≡ sum_by (λ (r : RunRecord). length r.tallies) runs.now) }
+    ensures whole { result ≢ Err fault.Broken }
+{
+    let mut count = 0_u64;
+    for run in runs {
+        let Some(more) = count.checked_add(run.tallies.as_slice().len() as u64) else {
+            return Err(ReadFault::Storage);
+        };
+        count = more;
+    }
+    Ok(count)
 }
