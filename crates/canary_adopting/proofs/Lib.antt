@@ -15,4 +15,3 @@ mod HistoryLemmas
 mod StateLemmas
 mod RunsSame
 mod JudgedPasts
-mod OpenRuns
