@@ -95,11 +95,7 @@ fn only(rows: &[RunRow]) -> Option<RunRow>
     ensures one { IfSome result (λ row. rows.now ≡ row ∷ []) }
     ensures other { result ≡ None → length rows.now ≢ 1 }
 {
-    if rows.len() == 1 {
-        Some(rows[0])
-    } else {
-        None
-    }
+    if rows.len() == 1 { Some(rows[0]) } else { None }
 }
 
 // The tallies of the run of that number.
