@@ -125,10 +125,6 @@ module _ (strategy : CheckedStrategy) (name : List ℕ) (number : ℕ) (t : Tabl
       let found = told_of row tallies r (closing_of row.number row.ending) refl told in
       subst (IsRunOf strategy name number t) found.2 (closed_run row tallies found.0 (sym are ∙ one) counted found.1 (subst (HasAnalysis strategy) (sym found.2) has))
 
-  -- the run has one row
-  pub has_row : (rows : List RunRow) (r : RunRecord) → rows ≡ filter (is_run name number) t.runs → IsRunOf strategy name number t r → length rows ≡ 1
-  has_row rows r are run = ap length are ∙ ap (λ n. length (filter (is_run name n) t.runs)) (sym run.0) ∙ ap length run.1.one
-
   pub has_tallies : (r : RunRecord) → IsRunOf strategy name number t r → AreTalliesOf name number t r.tallies
   has_tallies r run = subst (λ n. AreTalliesOf name n t r.tallies) run.0 (record { each = run.1.tallies; no_more = run.1.no_more })
 
