@@ -32,14 +32,17 @@ change_past_end k f [] h = refl
 change_past_end zero f (x ∷ xs) h = absurd (omega arith)
 change_past_end (suc k) f (x ∷ xs) h = ap (λ ys. x ∷ ys) (change_past_end k f xs (omega arith))
 
+pub run_changed : {A : Type 0} (run place : ℕ) (f : A → A) (xs : List A) → run ≡ suc place → change_run run f xs ≡ change_at place f xs
+run_changed run place f xs is = ap (λ n. change_run n f xs) is
+
 -- The metrics of a run.
 
 run_at : {A B : Type 0} (f : A → B) (xs : List A) (run : ℕ) → at_run run (map f xs) ≡ option_map f (at_run run xs)
 run_at f xs zero = refl
 run_at f xs (suc place) = slice_get-map f xs place
 
-pub planned_none : (strategy : CheckedStrategy) (runs : List RunRecord) (run metric : ℕ) → None ≡ at_run run runs → None ≡ of_metric run metric (metrics_of_runs strategy runs)
-planned_none strategy runs run metric is =
+pub unplanned : (strategy : CheckedStrategy) (runs : List RunRecord) (run metric : ℕ) → None ≡ at_run run runs → None ≡ of_metric run metric (metrics_of_runs strategy runs)
+unplanned strategy runs run metric is =
     let metrics : RunRecord → List MetricValue = λ r. run_metrics strategy r.step in
     ap (λ (o : Option RunRecord). at_metric metric (option_map metrics o)) is ∙ sym (ap (at_metric metric) (run_at metrics runs run))
 
@@ -53,6 +56,3 @@ planned strategy runs run metric r is =
 pub tallies_left : (runs : List RunRecord) (i : ℕ) (r : RunRecord) → i < length runs → r ≡ get_or runs i r → sum_by (λ (x : RunRecord). length x.tallies) (drop i runs) ≡ length r.tallies + sum_by (λ (x : RunRecord). length x.tallies) (drop (i + 1) runs)
 tallies_left runs i r below at =
     sum_by-drop_more (λ (x : RunRecord). length x.tallies) runs i r below ∙ ap (λ (x : RunRecord). length x.tallies + sum_by (λ (x : RunRecord). length x.tallies) (drop (i + 1) runs)) (sym at)
-
-pub run_changed : {A : Type 0} (run place : ℕ) (f : A → A) (xs : List A) → run ≡ suc place → change_run run f xs ≡ change_at place f xs
-run_changed run place f xs is = ap (λ n. change_run n f xs) is

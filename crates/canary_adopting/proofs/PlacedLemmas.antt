@@ -196,10 +196,11 @@ placed_from first (row ∷ rows) rise low one =
     let same : row.metric ≡ first = omega (arith, least, not_above) in
     let kept : filter (has_metric first) (row ∷ rows) ≡ row ∷ filter (has_metric first) rows = first_kept (has_metric first) row rows (eq-eqb first row.metric (sym same)) in
     let many : suc (length (filter (has_metric first) rows)) ≡ 1 = sym (ap length kept) ∙ here in
-    let none : length (filter (has_metric first) rows) ≡ 0 = omega (arith, many) in
-    (same,
-    placed_from (suc first) rows rise.1 (none_here first rows none (subst (λ m. AllByRecursion (λ (r : TallyRow). m ≤ r.metric) rows) same rise.0))
-        (λ place a b. sym (ap length (first_left (has_metric place) row rows (not_equal place row.metric (λ e. omega (arith, a, same, e))))) ∙ one place (omega (arith, a)) (omega (arith, b))))
+    let none : length (filter (has_metric first) rows) ≡ 0 = omega (arith, many) in (
+      same,
+      placed_from (suc first) rows rise.1 (none_here first rows none (subst (λ m. AllByRecursion (λ (r : TallyRow). m ≤ r.metric) rows) same rise.0))
+          (λ place a b. sym (ap length (first_left (has_metric place) row rows (not_equal place row.metric (λ e. omega (arith, a, same, e))))) ∙ one place (omega (arith, a)) (omega (arith, b))),
+    )
 
 zero_low : (rows : List TallyRow) → AllByRecursion (λ (row : TallyRow). 0 ≤ row.metric) rows
 zero_low [] = tt
@@ -216,8 +217,8 @@ tallies_are_placed name run t rows tallies sorts are =
     let many : length rows ≡ length tallies = length_permutation all rows sorts.same ∙ are.no_more in
     placed_from 0 rows (rises rows sorts.ascend) (zero_low rows)
     (λ place a b.
-        let there = some_at tallies place (omega (arith, b, many)) in
-        many_pass (has_metric place) all rows sorts.same ∙ ap length (by_metric name run place t.tallies ∙ are.each place there.0 there.1))
+    let there = some_at tallies place (omega (arith, b, many)) in
+    many_pass (has_metric place) all rows sorts.same ∙ ap length (by_metric name run place t.tallies ∙ are.each place there.0 there.1))
 
 -- There are no other tallies.
 

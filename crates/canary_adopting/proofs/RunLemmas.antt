@@ -1,5 +1,5 @@
 -- A run that is judged: its row, its tallies and its verdict.
-use Rattle.std.proofs.Common.{◌≡◌, ℕ, zero, suc, ◌+◌, ◌<◌, ◌≤◌, ◌==◌, List, [], ◌∷◌, ◌++◌, length, Bool, true, false, refl, sym, ap, ◌∙◌, subst, arith, eqb-true}
+use Rattle.std.proofs.Common.{◌≡◌, ℕ, zero, suc, ◌+◌, ◌<◌, ◌==◌, List, [], ◌∷◌, ◌++◌, length, Bool, true, false, refl, sym, ap, ◌∙◌, subst, arith, eqb-true}
 use Rattle.std.specs.Prelude.{Option, Some, None, cond, ◌&&◌, filter, option_map, slice_get}
 use Rattle.std.specs.Str.{bytes_eq}
 use Rattle.std.proofs.lemmas.Slice.Eq.{bytes_eq-Decides}
@@ -15,14 +15,14 @@ use Rattle.canary_schema.specs.Stores.{IsUsable, Stores}
 use Rattle.canary_reads.specs.Finds.{IsSame}
 use Rattle.canary_rows.specs.declared.rows.Ending.{Ending}
 use Rattle.canary_rows.specs.declared.rows.RunRow.{RunRow}
-use Rattle.canary_rows.specs.Tables.{Tables, is_run, is_tally, is_tally_of}
+use Rattle.canary_rows.specs.Tables.{Tables, is_run}
 use Rattle.canary_stored.specs.Numbers.{bit, truth_of, phase_column}
-use Rattle.canary_stored.specs.Values.{tally_row, ending_of, closing_of, closing_from}
+use Rattle.canary_stored.specs.Values.{ending_of, closing_of, closing_from}
 use Rattle.canary_stored.specs.Tables.{IsReadableClosing}
 use Rattle.canary_stored.specs.Finding.{record_closed, record_of_row}
-use Rattle.canary_judging.specs.Services.{row_of_record, IsRunJudged}
+use Rattle.canary_judging.specs.Services.{row_of_record}
 use Rattle.canary_adopting.specs.OfService.{AreTalliesOf, HasAnalysis, IsRunOf, AreRunsOf}
-use Rattle.canary_adopting.proofs.PlacedLemmas.{both, head_passes, same_tallies, same_list, some_at}
+use Rattle.canary_adopting.proofs.PlacedLemmas.{both, head_passes, same_tallies, some_at}
 use Rattle.canary_adopting.proofs.StateLemmas.{stay, same_then}
 
 -- How a run was closed.
@@ -70,7 +70,7 @@ closed_read number at outside verdict c (Some b) (Some p) truth phase e =
     let first : bit b ≡ outside = truth_again outside b truth in
     let second : phase_column p ≡ verdict = phase_again verdict p phase in
     subst (λ y. (ending_of y ≡ (record { closed = Some at; outside = outside; verdict = verdict })) × IsReadableClosing number y) is
-        (λ i. record { closed = Some at; outside = first i; verdict = second i }, (refl, ap phase_of_number second ∙ phase))
+    (λ i. record { closed = Some at; outside = first i; verdict = second i }, (refl, ap phase_of_number second ∙ phase))
 closed_read number at outside verdict c (Some b) None truth phase e = absurd (cc e)
 closed_read number at outside verdict c None p truth phase e = absurd (cc e)
 
@@ -106,26 +106,24 @@ module _ (strategy : CheckedStrategy) (name : List ℕ) (number : ℕ) (t : Tabl
       let same : number ≡ row.number = eqb-true number row.number passes.1 in
       let ending = closing_read row.number row.ending closed read in
       let as_record : row ≡ row_of_record name (record_closed row tallies closed) = λ i. record { service = sym service i; number = row.number; step = row.step; started = row.started; ending = sym ending.0 i } in
-      let moved : AreTalliesOf name row.number t tallies = subst (λ n. AreTalliesOf name n t tallies) same are in
-      (sym same, record {
-        one = subst (λ n. filter (is_run name n) t.runs ≡ row ∷ []) same one ∙ ap (λ (x : RunRow). x ∷ []) as_record;
-        closed = ending.1;
-        metrics = has.metrics;
-        analysis = has.analysis;
-        tallies = moved.each;
-        no_more = moved.no_more;
-        verdict = has.verdict;
-      })
+      let moved : AreTalliesOf name row.number t tallies = subst (λ n. AreTalliesOf name n t tallies) same are in (
+        sym same,
+        record {
+          one = subst (λ n. filter (is_run name n) t.runs ≡ row ∷ []) same one ∙ ap (λ (x : RunRow). x ∷ []) as_record;
+          closed = ending.1;
+          metrics = has.metrics;
+          analysis = has.analysis;
+          tallies = moved.each;
+          no_more = moved.no_more;
+          verdict = has.verdict;
+        },
+      )
 
   pub run_told : (rows : List RunRow) (row : RunRow) (tallies : List Counts) (r : RunRecord) → rows ≡ filter (is_run name number) t.runs → rows ≡ row ∷ [] → AreTalliesOf name number t tallies → record_of_row tallies row ≡ Some r → HasAnalysis strategy r
       → IsRunOf strategy name number t r
   run_told rows row tallies r are one counted told has =
       let found = told_of row tallies r (closing_of row.number row.ending) refl told in
       subst (IsRunOf strategy name number t) found.2 (closed_run row tallies found.0 (sym are ∙ one) counted found.1 (subst (HasAnalysis strategy) (sym found.2) has))
-
-  -- the run has one row
-  pub has_row : (rows : List RunRow) (r : RunRecord) → rows ≡ filter (is_run name number) t.runs → IsRunOf strategy name number t r → length rows ≡ 1
-  has_row rows r are run = ap length are ∙ ap (λ n. length (filter (is_run name n) t.runs)) (sym run.0) ∙ ap length run.1.one
 
   pub has_tallies : (r : RunRecord) → IsRunOf strategy name number t r → AreTalliesOf name number t r.tallies
   has_tallies r run = subst (λ n. AreTalliesOf name n t r.tallies) run.0 (record { each = run.1.tallies; no_more = run.1.no_more })

@@ -88,14 +88,14 @@ fn is_next(strategy: &Strategy, runs: &[RunRecord], counts: &Counts, next: &Reco
 }
 
 // The metric of the measurement, if it is one of its run.
-#[tactic(auto, using(crate::proofs::CountLemmas::planned_none, crate::proofs::CountLemmas::planned))]
+#[tactic(auto, using(crate::proofs::CountLemmas::unplanned, crate::proofs::CountLemmas::planned))]
 fn metric_of<'a>(
     strategy: &'a Strategy,
     runs: &[RunRecord],
     measurement: &Recorded,
 ) -> Option<&'a Metric>
-    ensures { option_copied result
-        ≡ of_metric measurement.now.run measurement.now.metric (metrics_of_runs strategy.now runs.now) }
+    ensures { option_copied result ≡ of_metric measurement.now.run measurement.now.metric
+        (metrics_of_runs strategy.now runs.now) }
 {
     match run_of(runs, measurement.run) {
         Some(run) => metric_in(strategy, run.step, measurement.metric),

@@ -1,6 +1,6 @@
 //! The runs of a service, judged with their tallies.
-ghost use Rattle.std.specs.Prelude.{◌≡◌, ◌≢◌, ◌∷◌, ◌↔◌, [], false, IsTrue, IfOk, IfSome, Some, None};
-ghost use Rattle.std.specs.Prelude.{length, map};
+ghost use Rattle.std.specs.Prelude.{◌≡◌, ◌≢◌, ◌∷◌, ◌↔◌, [], false, IsTrue, IfOk, IfSome, None};
+ghost use Rattle.std.specs.Prelude.{Some, length, map};
 ghost use Rattle.sqlite.specs.Held.{state};
 ghost use Rattle.canary_rows.specs.declared.rows.TallyRow.{TallyRow};
 ghost use Rattle.canary_stored.specs.Finding.{record_of_row};
@@ -95,11 +95,7 @@ fn only(rows: &[RunRow]) -> Option<RunRow>
     ensures one { IfSome result (λ row. rows.now ≡ row ∷ []) }
     ensures other { result ≡ None → length rows.now ≢ 1 }
 {
-    if rows.len() == 1 {
-        Some(rows[0])
-    } else {
-        None
-    }
+    if rows.len() == 1 { Some(rows[0]) } else { None }
 }
 
 // The tallies of the run of that number.

@@ -1,7 +1,7 @@
-use Rattle.std.proofs.Common.{◌≡◌, true, false, refl, sym, ap, ◌∙◌, subst, rules, arith}
+use Rattle.std.proofs.Common.{◌≡◌, refl, ◌∙◌, subst, rules, arith}
 use Rattle.sqlite.specs.Held.{state}
 use Rattle.canary_adopting.specs.OfService.{AreRunsOf}
-use Rattle.canary_adopting.proofs.RunLemmas.{RunsSoFar, no_runs, more_found, run_among}
+use Rattle.canary_adopting.proofs.RunLemmas.{no_runs, more_found, run_among}
 use Rattle.canary_adopting.proofs.StateLemmas.{stay}
 use Rattle.canary_adopting.proofs.runs.runs.Goals as goal
 
@@ -17,7 +17,7 @@ loop-place-preserved g c = (
 pub returns-in_err-run-clause-broken : goal.returns-in_err-run-clause-broken
 returns-in_err-run-clause-broken g c usable t stores told has =
     c.run.ensures.broken usable t (stay (state g.S.Store c.args.conn.now) (state g.S.Store c.loop-place.conn) t c.loop-place.invariant.1.same (c.run.ensures.same usable).0 stores) (search rules)
-        (has.0, run_among c.args.strategy.now c.args.name.now t c.loop-place.place c.args.count has.1.0 (omega arith) has.1.1)
+    (has.0, run_among c.args.strategy.now c.args.name.now t c.loop-place.place c.args.count has.1.0 (omega arith) has.1.1)
 
 pub returns-clause-found : goal.returns-clause-found
 returns-clause-found g c usable t stores =

@@ -1,4 +1,4 @@
-use Rattle.std.proofs.Common.{◌≡◌, Bool, true, false, sym, ap, ◌∙◌, subst, rules}
+use Rattle.std.proofs.Common.{◌≡◌, true, sym, ap, ◌∙◌, subst, rules}
 use Rattle.canary_adopting.specs.OfService.{ArePlaced, AreTalliesOf}
 use Rattle.canary_adopting.proofs.PlacedLemmas.{counts_in, placed_are_tallies, tallies_are_placed, refused}
 use Rattle.canary_adopting.proofs.runs.tallies.Goals as goal
@@ -12,4 +12,4 @@ pub returns-clause-found : goal.returns-clause-found
 returns-clause-found g c usable t stores =
     let is : c.are_placed.result ≡ true = search rules in
     subst (AreTalliesOf c.args.name.now c.args.number t) (sym (c.in_ok-counts_of.ensures ∙ ap counts_in c.as_slice-2.ensures))
-        (placed_are_tallies c.args.name.now c.args.number t c.in_ok-rows.rows (c.in_ok-rows.ensures.found usable t stores) (subst (ArePlaced 0) c.as_slice.ensures (c.are_placed.ensures.0 is)))
+    (placed_are_tallies c.args.name.now c.args.number t c.in_ok-rows.rows (c.in_ok-rows.ensures.found usable t stores) (subst (ArePlaced 0) c.as_slice.ensures (c.are_placed.ensures.0 is)))
