@@ -144,7 +144,7 @@ run_by_run f g (r ∷ rs) each =
 tallies_sum : (t : Tables) (strategy : CheckedStrategy) (name : List ℕ) (count : ℕ) (runs : List RunRecord) → AreRunsOf strategy name count t runs → sum_by (λ (r : RunRecord). length r.tallies) runs ≡ tallies_to t.tallies name count
 tallies_sum t strategy name count runs are =
     sym (run_by_run (λ k. length (filter (is_tally_of name k) t.tallies)) (λ (r : RunRecord). length r.tallies) runs (λ place r at.
-      let e = are.each place r at in ap (λ k. length (filter (is_tally_of name k) t.tallies)) (sym e.0) ∙ e.1.no_more))
+    let e = are.each place r at in ap (λ k. length (filter (is_tally_of name k) t.tallies)) (sym e.0) ∙ e.1.no_more))
     ∙ sym (tallies_up t.tallies name (length runs))
     ∙ ap (tallies_to t.tallies name) are.as_many
 

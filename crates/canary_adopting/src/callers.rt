@@ -53,7 +53,7 @@ fn judge_each<S: Alter>(
     ensures mode { conn.new.in_transaction ≡ false }
     ensures same { IsSame (state S.Store conn.old) (state S.Store conn.new) }
     ensures judged { FindsSuch (λ t settled. AllByRecursion (IsCallerJudged t) callers.now
-            × (settled ≡ sum_by (λ (row : _). row.settled) callers.now))
+        × (settled ≡ sum_by (λ (row : _). row.settled) callers.now))
         (state S.Store conn.old) (state S.Store conn.new) result }
     ensures refused { RefusesUnless (λ t. AllByRecursion (IsCallerJudged t) callers.now)
         (state S.Store conn.old) (state S.Store conn.new) result }
@@ -119,10 +119,10 @@ fn judge_receipts<S: Alter>(
     ensures mode { conn.new.in_transaction ≡ false }
     ensures same { IsSame (state S.Store conn.old) (state S.Store conn.new) }
     ensures judged { FindsThat (λ t. (number : ℕ) → 1 ≤ number → number ≤ settled
-            → IsOneRead (is_kept caller.now number) receipt_of_row t.kept)
+        → IsOneRead (is_kept caller.now number) receipt_of_row t.kept)
         (state S.Store conn.old) (state S.Store conn.new) result }
     ensures refused { RefusesUnless (λ t. (number : ℕ) → 1 ≤ number → number ≤ settled
-            → IsOneRead (is_kept caller.now number) receipt_of_row t.kept)
+        → IsOneRead (is_kept caller.now number) receipt_of_row t.kept)
         (state S.Store conn.old) (state S.Store conn.new) result }
 {
     for before in 0..settled {

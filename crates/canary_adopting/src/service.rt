@@ -70,8 +70,8 @@ fn judge_row<S: Alter>(
     ensures mode { conn.new.in_transaction ≡ false }
     ensures same { IsSame (state S.Store conn.old) (state S.Store conn.new) }
     ensures judged { FindsJudged (λ t totals.
-            filter (is_service row.now.name) t.services ≡ row.now ∷ []
-            → IsServiceJudged t row.now × (totals ≡ totals_of t row.now))
+        filter (is_service row.now.name) t.services ≡ row.now ∷ []
+        → IsServiceJudged t row.now × (totals ≡ totals_of t row.now))
         (state S.Store conn.old) (state S.Store conn.new) result }
     ensures refused { RefusesJudged (λ t. IsServiceJudged t row.now)
         (state S.Store conn.old) (state S.Store conn.new) result }
@@ -150,19 +150,14 @@ fn judge_past<S: Alter>(
 }
 
 // That a service can stand so, with those of these runs that are open.
-fn judge_parts(
-    alloc: Global,
-    stand: Stand,
-    count: u32,
-    runs: &[RunRecord],
-) -> Result<(), ReadFault>
+fn judge_parts(alloc: Global, stand: Stand, count: u32, runs: &[RunRecord]) -> Result<(), ReadFault>
     ensures judged { OnOk result (is_broken (record {
-        stand = stand;
-        runs = record { count = count; open_runs = open_runs_in runs.now };
+      stand = stand;
+      runs = record { count = count; open_runs = open_runs_in runs.now };
     }) ≡ false) }
     ensures refused { result ≡ Err Broken → is_broken (record {
-        stand = stand;
-        runs = record { count = count; open_runs = open_runs_in runs.now };
+      stand = stand;
+      runs = record { count = count; open_runs = open_runs_in runs.now };
     }) ≢ false }
 {
     let open_runs = open_among(alloc, runs)?;

@@ -105,7 +105,8 @@ fn is_of(template: &Template, name: &Name) -> bool
 /// refuses the template; `Memory`.
 pub(crate) fn read(alloc: Global, text: &str) -> Result<Template, ReadFault>
     ensures found { IfOk result (IsAcceptedIn text.now) }
-    ensures broken { result ≡ Err Broken → (template : Template) → ¬ IsAcceptedIn text.now template }
+    ensures broken { result ≡ Err Broken
+        → (template : Template) → ¬ IsAcceptedIn text.now template }
 {
     match reading::template(alloc, text) {
         Ok(template) => Ok(template),

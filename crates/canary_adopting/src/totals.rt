@@ -32,10 +32,10 @@ impl Totals {
     /// These and more. `Storage` where a sum is beyond what is counted.
     pub(crate) fn with(self, more: Totals) -> Result<Totals, ReadFault>
         ensures sum { IfOk result (λ sum. sum ≡ record {
-            runs = self.runs + more.runs;
-            tallies = self.tallies + more.tallies;
-            measurements = self.measurements + more.measurements;
-            lines = self.lines + more.lines;
+          runs = self.runs + more.runs;
+          tallies = self.tallies + more.tallies;
+          measurements = self.measurements + more.measurements;
+          lines = self.lines + more.lines;
         }) }
         ensures whole { result ≢ Err Broken }
     {
