@@ -7,7 +7,6 @@ use Rattle.canary_plan.specs.declared.step.Step.{Step}
 use Rattle.canary_plan.specs.declared.step.Step.TheVariants.{SetWeight, Pause, Analysis}
 use Rattle.canary_plan.specs.declared.service.Background.{Background}
 use Rattle.canary_plan.specs.declared.service.ServiceSpec.{ServiceSpec}
-use Rattle.canary_plan.specs.declared.strategy.CheckedStrategy.{CheckedStrategy}
 use Rattle.canary_plan.specs.declared.refusal.Refusal.TheVariants.{DuplicateMetric, UnknownTemplate, EndlessMetric, BadStrategy}
 use Rattle.canary_plan.specs.Plans.{Templates, metrics_in, metrics_named, has_weight_in_range, are_metrics_of_run, step_metrics, background_metrics, strategy_of}
 use Rattle.canary_plan.specs.Commands.{all_names}

@@ -1,22 +1,20 @@
 -- What is judged of all services, one after another.
-use Rattle.std.proofs.Common.{◌≡◌, ◌⊎◌, inl, inr, ◌+◌, ◌<◌, ◌≤◌, ℕ, zero, suc, List, [], ◌∷◌, ◌++◌, length, map, take, get_or, refl, sym, ap, ◌∙◌, subst, arith}
+use Rattle.std.proofs.Common.{◌≡◌, inl, inr, ◌+◌, ◌<◌, ◌≤◌, ℕ, List, [], ◌∷◌, ◌++◌, length, map, take, get_or, refl, sym, ap, ◌∙◌, subst, arith}
 use Rattle.std.specs.Prelude.{filter}
 use Rattle.std.specs.List.{AllByRecursion, sum_by}
-use Rattle.std.specs.Str.{bytes_eq}
 use Rattle.std.proofs.lemmas.List.{take_more, take_all}
 use Rattle.std.proofs.lemmas.List.Sums.{sum_by-cons, sum_by-append}
 use Rattle.sqlite.specs.State.{State}
-use Rattle.canary_rows.specs.declared.rows.RunRow.{RunRow}
 use Rattle.canary_rows.specs.declared.rows.ServiceRow.{ServiceRow}
 use Rattle.canary_rows.specs.Limits.{AreWithin}
-use Rattle.canary_rows.specs.Tables.{Tables, is_service, is_tally_of}
+use Rattle.canary_rows.specs.Tables.{Tables, is_service}
 use Rattle.canary_schema.specs.Stores.{IsUsable, Stores}
 use Rattle.canary_judging.specs.Judged.{AreTemplatesJudged}
 use Rattle.canary_judging.specs.Services.{AreServicesJudged, IsServiceJudged}
 use Rattle.canary_judging.specs.Totals.{RunsAreSummedByService, tallies_under}
 use Rattle.canary_reads.specs.Finds.{IsSame}
 use Rattle.canary_adopting.specs.declared.totals.Totals.{Totals}
-use Rattle.canary_adopting.specs.OneService.{measurements_under, lines_under, totals_of, AreTotalsOf, IsServiceFound, IsServiceUnder, AreServicesFound, HaveTotals}
+use Rattle.canary_adopting.specs.OneService.{measurements_under, lines_under, AreTotalsOf, IsServiceFound, IsServiceUnder, AreServicesFound, HaveTotals}
 use Rattle.canary_adopting.proofs.Each.{all_more, one_of_all}
 use Rattle.canary_adopting.proofs.Names.{IsIn, in_filter, in_one, same_name, names_of_rows}
 use Rattle.canary_adopting.proofs.Standing.{same_then, stores_then}

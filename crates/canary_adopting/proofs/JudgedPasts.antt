@@ -1,5 +1,5 @@
 -- What is past of a service that is judged is what is read of it.
-use Rattle.std.proofs.Common.{◌≡◌, ℕ, List, false, sym, subst, ◌∙◌}
+use Rattle.std.proofs.Common.{◌≡◌, List, false, sym, subst, ◌∙◌}
 use Rattle.canary_release.specs.declared.effect.Recorded.{Recorded}
 use Rattle.canary_release.specs.declared.stand.Stand.{Stand}
 use Rattle.canary_release.specs.Parts.{is_broken}

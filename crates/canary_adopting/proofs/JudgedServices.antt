@@ -1,10 +1,9 @@
 -- What is judged of services, from what is read of them.
-use Rattle.std.proofs.Common.{◌≡◌, ◌≢◌, ◌⊎◌, inl, inr, ◌+◌, ◌<◌, ◌≤◌, ℕ, zero, suc, List, [], ◌∷◌, ◌++◌, length, map, take, get_or, Bool, true, false, Option, Some, None, refl, sym, ap, ◌∙◌, subst, arith}
+use Rattle.std.proofs.Common.{◌≡◌, ◌+◌, ℕ, zero, suc, List, [], ◌∷◌, length, map, false, Option, Some, None, refl, sym, ap, ◌∙◌, subst, arith}
 use Rattle.std.specs.Prelude.{filter, slice_get}
-use Rattle.std.specs.List.{AllByRecursion, sum_by, filter_map}
+use Rattle.std.specs.List.{sum_by}
 use Rattle.std.specs.FinMap.{get}
 use Rattle.std.proofs.lemmas.List.Sums.{sum_by-cons}
-use Rattle.canary_metric.specs.Counts.{Counts}
 use Rattle.canary_plan.specs.declared.line.Line.{Line}
 use Rattle.canary_plan.specs.declared.service.ServiceSpec.{ServiceSpec}
 use Rattle.canary_plan.specs.declared.strategy.CheckedStrategy.{CheckedStrategy}
@@ -17,14 +16,13 @@ use Rattle.canary_release.specs.Parts.{is_broken}
 use Rattle.canary_once.specs.declared.record.RunRecord.{RunRecord}
 use Rattle.canary_rows.specs.declared.rows.ServiceRow.{ServiceRow}
 use Rattle.canary_rows.specs.declared.rows.TallyRow.{TallyRow}
-use Rattle.canary_rows.specs.Tables.{Tables, is_service, is_tally_of, is_measurement_of, is_line_of}
-use Rattle.canary_stored.specs.Finding.{AreRead}
+use Rattle.canary_rows.specs.Tables.{Tables, is_service, is_tally_of, is_measurement_of}
 use Rattle.canary_stored.specs.Reading.{contents_of}
 use Rattle.canary_stored.specs.Values.{made_from, stand_of, history_row, measurement_of_row}
 use Rattle.canary_judging.specs.Services.{IsServiceJudged, open_runs_in}
 use Rattle.canary_judging.specs.Totals.{tallies_to}
 use Rattle.canary_adopting.specs.declared.totals.Totals.{Totals}
-use Rattle.canary_adopting.specs.OfService.{AreRunsOf, AreMeasurementsOf, AreTallied, IsHistoryOf}
+use Rattle.canary_adopting.specs.OfService.{AreRunsOf, AreMeasurementsOf, IsHistoryOf}
 use Rattle.canary_adopting.specs.Alone.{only}
 use Rattle.canary_adopting.specs.OneService.{IsPastJudged, IsServiceUnder, IsServiceFound, totals_of}
 use Rattle.canary_adopting.specs.Strategies.{IsStrategyOf, IsStrategyAccepted}

@@ -1,5 +1,5 @@
 -- What is told of a strategy, from the templates that are read.
-use Rattle.std.proofs.Common.{◌≡◌, ◌+◌, ◌<◌, ◌≤◌, ℕ, List, [], ◌∷◌, filter, take, length, get_or, Bool, true, false, Option, Some, None, option_map, refl, sym, ap, ◌∙◌, subst}
+use Rattle.std.proofs.Common.{◌≡◌, ◌+◌, ◌<◌, ◌≤◌, ℕ, List, [], ◌∷◌, filter, take, length, get_or, Bool, true, false, Option, Some, None, option_map, refl, sym, ap, ◌∙◌}
 use Rattle.std.specs.Prelude.{Ok, Err, cond, option_and_then}
 use Rattle.std.specs.Ordering.{nat_cmp}
 use Rattle.std.specs.Cmp.Lexicographic.{slice_cmp}
@@ -13,13 +13,12 @@ use Rattle.canary_plan.specs.declared.service.ServiceSpec.{ServiceSpec}
 use Rattle.canary_plan.specs.declared.strategy.CheckedStrategy.{CheckedStrategy}
 use Rattle.canary_plan.specs.declared.template.Template.{Template}
 use Rattle.canary_plan.specs.Commands.{all_names}
-use Rattle.canary_plan.specs.Plans.{template_of, strategy_of}
+use Rattle.canary_plan.specs.Plans.{strategy_of}
 use Rattle.canary_plan.specs.PlanRefusals.{analyses, template_refusal, strategy_refusal}
 use Rattle.canary_canonical.specs.Readings.{canonical_in}
 use Rattle.canary_once.specs.Contents.{templates_named}
 use Rattle.canary_rows.specs.declared.rows.TemplateRow.{TemplateRow}
 use Rattle.canary_rows.specs.Tables.{Tables, is_template}
-use Rattle.canary_rows.specs.Limits.{AreWithin}
 use Rattle.canary_schema.specs.Stores.{IsUsable, Stores}
 use Rattle.canary_stored.specs.declared.fault.RowFault.TheVariants.{Broken}
 use Rattle.canary_stored.specs.Reads.{IsTemplateRead}

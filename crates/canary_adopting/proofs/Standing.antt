@@ -1,5 +1,5 @@
 -- What stays as it is while a database is read.
-use Rattle.std.proofs.Common.{◌≡◌, sym, subst, ◌∙◌}
+use Rattle.std.proofs.Common.{sym, subst, ◌∙◌}
 use Rattle.sqlite.specs.State.{State}
 use Rattle.sqlite.specs.Effect.{Database}
 use Rattle.canary_rows.specs.Tables.{Tables}

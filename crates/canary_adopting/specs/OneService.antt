@@ -1,5 +1,5 @@
 -- What is found of services.
-use Rattle.std.specs.Prelude.{◌≡◌, ℕ, false, List, [], ◌∷◌, length, map, filter, Result, Err, IfOk}
+use Rattle.std.specs.Prelude.{◌≡◌, ℕ, false, List, length, map, filter, Result, Err, IfOk}
 use Rattle.std.specs.List.{AllByRecursion, sum_by}
 use Rattle.sqlite.specs.State.{State}
 use Rattle.canary_plan.specs.declared.line.Line.{Line}

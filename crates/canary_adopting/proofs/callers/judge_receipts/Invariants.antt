@@ -1,6 +1,6 @@
 use Rattle.std.proofs.Common.{◌≡◌, false}
 use Rattle.sqlite.specs.Held.{state}
-use Rattle.canary_rows.specs.Tables.{Tables, is_kept}
+use Rattle.canary_rows.specs.Tables.{is_kept}
 use Rattle.canary_stored.specs.Values.{receipt_of_row}
 use Rattle.canary_judging.specs.Judged.{IsOneRead}
 use Rattle.canary_adopting.proofs.JudgedCallers.{NumbersSoFar}

@@ -1,8 +1,5 @@
 use Rattle.std.proofs.lemmas.Result.{IfOk-weaker}
-use Rattle.std.proofs.Common.{◌∙◌, subst, List, ℕ}
-use Rattle.sqlite.specs.Held.{state}
-use Rattle.canary_once.specs.Contents.{templates_named}
-use Rattle.canary_stored.specs.Reading.{contents_of}
+use Rattle.std.proofs.Common.{◌∙◌}
 use Rattle.canary_adopting.proofs.JudgedStrategies.{strategy_told, strategy_refused}
 use Rattle.canary_adopting.proofs.strategies.strategy.Goals as goal
 

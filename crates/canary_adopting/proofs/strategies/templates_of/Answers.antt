@@ -1,6 +1,6 @@
 use Rattle.std.proofs.Common.{arith, sym, ◌∙◌}
 use Rattle.sqlite.specs.Held.{state}
-use Rattle.canary_adopting.proofs.JudgedStrategies.{none_so_far, template_more, no_template_more, templates_done}
+use Rattle.canary_adopting.proofs.JudgedStrategies.{none_so_far, template_more, no_template_more}
 use Rattle.canary_adopting.proofs.strategies.templates_of.Goals as goal
 use Rattle.canary_adopting.proofs.strategies.templates_of.Goals.{in-Some+in_ok-insert, in_default}
 

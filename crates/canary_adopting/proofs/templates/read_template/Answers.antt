@@ -1,4 +1,4 @@
-use Rattle.std.proofs.Common.{rules, subst, sym, ◌∙◌}
+use Rattle.std.proofs.Common.{rules, subst}
 use Rattle.canary_adopting.specs.Templates.{IsAcceptedIn}
 use Rattle.canary_adopting.proofs.JudgedCallers.{only_one}
 use Rattle.canary_adopting.proofs.templates.read_template.Goals as goal
