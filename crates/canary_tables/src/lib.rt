@@ -3,7 +3,9 @@
 
 pub mod book;
 mod commit;
+pub mod create;
 mod effects;
+pub mod fault;
 mod found;
 mod found_runs;
 mod found_services;
