@@ -3,6 +3,8 @@ pub mod Answer
 pub mod Typed
 pub mod Tests
 pub mod ByColumns
+pub mod Breaking
+pub mod Consistent
 pub mod Asking
 pub mod Ordering
 pub mod Texts

@@ -4,3 +4,4 @@ pub mod Parts
 pub mod Sorts
 pub mod Readable
 pub mod Breaks
+pub mod Faults
