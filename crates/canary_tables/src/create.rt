@@ -32,8 +32,8 @@ impl<S: Alter> TableBook<S> {
         ensures schema { IfOk result (λ _. (state S.Store conn).now.schema ≡ no_schema) }
         ensures held { IfOk result
             (λ book. IsUsable (state S.Store book) → IsUsable (state S.Store conn)) }
-        ensures nothing { IfOk result
-            (λ book. IsUsable (state S.Store book) → contents_in (state S.Store book) ≡ no_contents) }
+        ensures nothing { IfOk result (λ book. IsUsable (state S.Store book)
+            → contents_in (state S.Store book) ≡ no_contents) }
         ensures other { IfErr result
             (λ e. e.0 ≡ fault.OtherSchema → (state S.Store conn).now.schema ≢ no_schema) }
         ensures unread { IfErr result (λ e. e.0 ≢ fault.BrokenRow) }
