@@ -2,7 +2,7 @@
 //! book in memory. The test holds as well where any one allocation is refused.
 
 use crate::asked::name;
-use crate::stories::{Books, RELEASE, new_books, tell};
+use crate::stories::{Books, RELEASE, told};
 use canary_base::error::Memory;
 use canary_once::book::Book;
 use canary_release::effect::Recorded;
@@ -57,17 +57,16 @@ fn page<B: Book>(alloc: Global, book: &mut B, row: &str) -> Option<(usize, Strin
 /// memory was refused.
 fn is_found(alloc: Global, books: &mut Books, row: &str) -> Option<bool> {
     let (_, count) = row.rsplit_once(' ')?;
-    let (told, text) = page(alloc, &mut books.memory, row)?;
+    let (known, text) = page(alloc, &mut books.memory, row)?;
     let (found, lines) = page(alloc, &mut books.tables, row)?;
     let count: usize = count.parse().ok()?;
-    Some(told == count && found == count && lines.as_str() == text.as_str())
+    Some(known == count && found == count && lines.as_str() == text.as_str())
 }
 
 #[test]
 fn pages_in_tables(rt: HostRuntime) -> Result<(), Fail> {
     let alloc = rt.alloc();
-    let mut books = new_books(alloc)?;
-    tell(&rt, alloc, &mut books, RELEASE)?;
+    let mut books = told(&rt, alloc, RELEASE)?;
     for row in PAGES.lines() {
         let found = is_found(alloc, &mut books, row).or(is_found(alloc, &mut books, row));
         assert!(rt; found == Some(true), "{row}");

@@ -2,17 +2,20 @@
 //! as well where any one allocation is refused: what was answered 503 is sent again.
 
 use crate::asked::event;
+use canary_base::error::Memory;
 use canary_once::book::Book;
 use canary_once::event::Answer;
 use canary_once::memory::MemoryBook;
 use canary_once::run::run;
 use canary_tables::book::TableBook;
+use canary_tables::fault::Left;
 use sqlite::{Connection, MemStore};
 use std::alloc::Global;
 use std::process::Abort;
 use std::test::Fail;
 
-/// A row is the status that answers it, and what is sent.
+/// A row is the status that answers it, and what is sent. Between two parts the tables are adopted
+/// anew.
 pub(crate) const RELEASE: &str = "404 ? 0 service web
 200 ops 1 0 template errs m,interval=60
 200 ops 2 0 template t a,success=result>10,failure=result<5 b dryRun:b
@@ -26,6 +29,7 @@ pub(crate) const RELEASE: &str = "404 ? 0 service web
 200 ? 0 history web
 404 ? 0 run web 1
 422 ops 6 0 promote
+
 200 ops 7 0 start v2
 200 ? 0 run web 1
 200 agent 1 0 report 1 m:1:0:!down
@@ -36,6 +40,7 @@ pub(crate) const RELEASE: &str = "404 ? 0 service web
 200 ? 400 service web
 200 ? 400 history web
 200 ? 400 run web 2
+
 200 ops 8 100 promote
 200 agent 4 100 report 2 a:1:100:7 b:1:100:1
 200 ? 100 service web
@@ -47,6 +52,7 @@ pub(crate) const RELEASE: &str = "404 ? 0 service web
 200 agent 5 500 report 4 a:1:500:1
 422 agent 6 500 report 4 a:1:500:1
 200 ? 500 run web 4
+
 200 ops 13 510 start v1
 200 ops 14 520 start v3
 200 ops 15 530 promoteFull
@@ -95,7 +101,7 @@ fn tables(alloc: Global) -> Option<TableBook<MemStore>> {
 }
 
 /// Two new books.
-pub(crate) fn new_books(alloc: Global) -> Result<Books, Fail> {
+fn new_books(alloc: Global) -> Result<Books, Fail> {
     Ok(Books {
         memory: MemoryBook::new(alloc),
         tables: tables(alloc).or(tables(alloc)).ok_or("tables")?,
@@ -131,27 +137,49 @@ fn send(rt: &impl Abort, alloc: Global, books: &mut Books, row: &str) -> Result<
     Ok(())
 }
 
-/// Sends a story to both books.
-pub(crate) fn tell(
-    rt: &impl Abort,
-    alloc: Global,
-    books: &mut Books,
-    story: &str,
-) -> Result<(), Fail> {
-    for row in story.lines() {
+/// Sends a part of a story to both books.
+fn send_all(rt: &impl Abort, alloc: Global, books: &mut Books, part: &str) -> Result<(), Fail> {
+    for row in part.lines() {
         send(rt, alloc, books, row)?;
     }
     Ok(())
 }
 
+/// The book over the tables of another, with its connection; once more where memory was refused.
+fn adopted(alloc: Global, tables: TableBook<MemStore>) -> Result<TableBook<MemStore>, Fail> {
+    let left = match TableBook::adopt(alloc, tables.into_connection()) {
+        Ok(tables) => return Ok(tables),
+        Err((_, left)) => left,
+    };
+    let Left::Connection(conn) = left else {
+        return Err(Memory.into());
+    };
+    match TableBook::adopt(alloc, conn) {
+        Ok(tables) => Ok(tables),
+        Err((fault, _)) => Err(fault.into()),
+    }
+}
+
+/// The two books after a story.
+pub(crate) fn told(rt: &impl Abort, alloc: Global, story: &str) -> Result<Books, Fail> {
+    let mut books = new_books(alloc)?;
+    for part in story.split("\n\n") {
+        send_all(rt, alloc, &mut books, part)?;
+        let Books { memory, tables } = books;
+        let tables = adopted(alloc, tables)?;
+        books = Books { memory, tables };
+    }
+    Ok(books)
+}
+
 #[test]
 fn a_release_in_tables(rt: HostRuntime) -> Result<(), Fail> {
-    let mut books = new_books(rt.alloc())?;
-    tell(&rt, rt.alloc(), &mut books, RELEASE)
+    told(&rt, rt.alloc(), RELEASE)?;
+    Ok(())
 }
 
 #[test]
 fn judged_runs_in_tables(rt: HostRuntime) -> Result<(), Fail> {
-    let mut books = new_books(rt.alloc())?;
-    tell(&rt, rt.alloc(), &mut books, JUDGED)
+    told(&rt, rt.alloc(), JUDGED)?;
+    Ok(())
 }
