@@ -17,7 +17,7 @@ use Rattle.canary_judging.proofs.Counting.{counting_counts, tally_after, after_a
 
 -- Lists with the same in each place.
 
-lists_same : {A : Type 0} (xs ys : List A) → ((i : ℕ) → slice_get xs i ≡ slice_get ys i) → xs ≡ ys
+pub lists_same : {A : Type 0} (xs ys : List A) → ((i : ℕ) → slice_get xs i ≡ slice_get ys i) → xs ≡ ys
 lists_same [] [] same = refl
 lists_same [] (y ∷ ys) same = let e : None ≡ Some y = same 0 in absurd (cc)
 lists_same (x ∷ xs) [] same = let e : Some x ≡ None = same 0 in absurd (cc)
@@ -37,11 +37,11 @@ as_many_runs : {A : Type 0} (run : ℕ) (f : A → A) (runs : List A) → length
 as_many_runs zero f runs = refl
 as_many_runs (suc place) f runs = as_long place f runs
 
-as_many : (tallies : List (List Counts)) (xs : List Recorded) → length (counted_all tallies xs) ≡ length tallies
+pub as_many : (tallies : List (List Counts)) (xs : List Recorded) → length (counted_all tallies xs) ≡ length tallies
 as_many tallies [] = refl
 as_many tallies (x ∷ xs) = as_many (counted_at x tallies) xs ∙ as_many_runs x.run (change_at x.metric (counted x)) tallies
 
-as_mapped : {A B : Type 0} (f : A → B) (xs : List A) → length (map f xs) ≡ length xs
+pub as_mapped : {A B : Type 0} (f : A → B) (xs : List A) → length (map f xs) ≡ length xs
 as_mapped f [] = refl
 as_mapped f (x ∷ xs) = ap suc (as_mapped f xs)
 

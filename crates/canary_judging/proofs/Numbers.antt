@@ -22,7 +22,7 @@ later_apart : {R : Type 0} (number : R → ℕ) (k first n : ℕ) → k < first 
 later_apart number k first zero below = tt
 later_apart number k first (suc n) below = (numbers_apart number k first (λ e. omega arith), later_apart number k (suc first) n (omega arith))
 
-all_apart : {R : Type 0} (number : R → ℕ) (first n : ℕ) → AreApart (is_numbered number) (count_up first n)
+pub all_apart : {R : Type 0} (number : R → ℕ) (first n : ℕ) → AreApart (is_numbered number) (count_up first n)
 all_apart number first zero = tt
 all_apart number first (suc n) = (later_apart number first (suc first) n (omega arith), all_apart number (suc first) n)
 
@@ -39,7 +39,7 @@ ones first (suc n) =
     omega arith
 
 -- what holds of each number in a row of numbers
-each_up : (P : ℕ → Type 0) (first n : ℕ) → ((k : ℕ) → first ≤ k → k < first + n → P k) → AllByRecursion P (count_up first n)
+pub each_up : (P : ℕ → Type 0) (first n : ℕ) → ((k : ℕ) → first ≤ k → k < first + n → P k) → AllByRecursion P (count_up first n)
 each_up P first zero all = tt
 each_up P first (suc n) all = (all first (omega arith) (omega arith), each_up P (suc first) n (λ k a b. all k (omega arith) (omega arith)))
 
@@ -68,7 +68,7 @@ has_number number row first (suc n) low high =
           inr (has_number number row (suc first) n (omega arith) (omega arith))
     ] refl
 
-all_have : {R : Type 0} (number : R → ℕ) (rows : List R) (first n : ℕ) → AllByRecursion (λ row. (first ≤ number row) × (number row < first + n)) rows → AllByRecursion (HasKey (is_numbered number) (count_up first n)) rows
+pub all_have : {R : Type 0} (number : R → ℕ) (rows : List R) (first n : ℕ) → AllByRecursion (λ row. (first ≤ number row) × (number row < first + n)) rows → AllByRecursion (HasKey (is_numbered number) (count_up first n)) rows
 all_have number [] first n all = tt
 all_have number (row ∷ rows) first n all = (has_number number row first n all.0.0 all.0.1, all_have number rows first n all.1)
 

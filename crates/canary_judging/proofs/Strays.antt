@@ -104,7 +104,7 @@ keys_left : {R K : Type 0} (is : K → R → Bool) (k : K) (ks : List K) (row : 
 keys_left is k ks row rows true same has rest = rest
 keys_left is k ks row rows false same has rest = (other_key (is k row) false (HasKey is ks row) same refl has, rest)
 
-keys_without : {R K : Type 0} (is : K → R → Bool) (k : K) (ks : List K) (rows : List R) → AllByRecursion (HasKey is (k ∷ ks)) rows → AllByRecursion (HasKey is ks) (without (is k) rows)
+pub keys_without : {R K : Type 0} (is : K → R → Bool) (k : K) (ks : List K) (rows : List R) → AllByRecursion (HasKey is (k ∷ ks)) rows → AllByRecursion (HasKey is ks) (without (is k) rows)
 keys_without is k ks [] all = tt
 keys_without is k ks (row ∷ rows) all = keys_left is k ks row rows (is k row) refl all.0 (keys_without is k ks rows all.1)
 

@@ -3,6 +3,9 @@ ghost use Rattle.canary_judging.specs.Soundness.{ExactlyThose};
 ghost use Rattle.canary_judging.specs.Judged.{CallersAreJudged, TemplatesAreJudged};
 ghost use Rattle.canary_judging.specs.Counting.{CountingIsExact, CountingCounts, RunsAreTallied};
 ghost use Rattle.canary_judging.specs.Services.{PartsMakeThemSound};
+ghost use Rattle.canary_judging.specs.Laws.{JudgedTemplatesAreFound, JudgedTemplatesAreUnique};
+ghost use Rattle.canary_judging.specs.Laws.{ServicesAreJudged, JudgingIsExact};
+ghost use Rattle.canary_judging.specs.Totals.{RunsAreSummedByService};
 
 use canary_metric::laws as metric_laws;
 use canary_stored::laws as table_laws;
@@ -27,6 +30,15 @@ pub fn templates_judged()
     ensures { TemplatesAreJudged }
 {}
 
+/// In tables whose templates are judged, what stands under a name is the row of the template that
+/// there is, and no other, or none.
+pub fn templates_found()
+    ensures found { JudgedTemplatesAreFound }
+    ensures unique { JudgedTemplatesAreUnique }
+{
+    templates_judged();
+}
+
 /// Measurements are counted one after another, from no counts on, exactly where the list of each
 /// metric is in order, is judged by its conditions and has room; and then each metric has the
 /// counts of its list, and each run those of its lists.
@@ -42,3 +54,30 @@ pub fn counting()
 pub fn parts()
     ensures { PartsMakeThemSound }
 {}
+
+/// Services are judged key by key: they, their runs with their tallies, their measurements and
+/// their lines are those of sound contents exactly where each name has one row, whose runs have a
+/// row for each number from 1 on, with the tallies that their measurements come to, and no table
+/// has other rows.
+pub fn services_judged()
+    ensures { ServicesAreJudged }
+{
+    counting();
+}
+
+/// Where each service is judged, and there are no more runs than theirs, the tallies of all runs
+/// can be added up service by service, and run by run within.
+pub fn totals()
+    ensures { RunsAreSummedByService }
+{}
+
+/// Tables are judged, in their callers, their templates and their services, exactly where they are
+/// those of sound contents.
+pub fn judging()
+    ensures { JudgingIsExact }
+{
+    callers_judged();
+    templates_judged();
+    services_judged();
+    parts();
+}

@@ -13,7 +13,7 @@ use Rattle.canary_schema.specs.Schema.{desk_schema}
 use Rattle.canary_schema.specs.Cells.{cells_of}
 use Rattle.canary_schema.specs.Stores.{IsNumbered}
 use Rattle.canary_reads.proofs.Answer.{query_of, no_limit, from_start, by_column, passes, shows, rowid_answer, IsOrdered, is_ordered}
-use Rattle.canary_reads.proofs.Typed.{Tells, typed}
+use Rattle.canary_reads.proofs.TypedRows.{Tells, typed}
 
 -- what a text asks for: of the rows of a tree, those that pass the tests, with these columns, in that order
 pub record Asks (text : List ℕ) (tree : ℕ) (tests shown : List Term) (order : List (Term × Key)) (limit offset : Term) : Type 0 where

@@ -1,19 +1,17 @@
 -- What the queries on `caller` and on `kept` find.
-use Rattle.std.proofs.Common.{◌≡◌, ◌∷◌, [], ℕ, List, filter, Option, option_map, slice_get, refl, ap, subst, ◌∙◌}
+use Rattle.std.proofs.Common.{◌≡◌, ◌∷◌, [], ℕ, List, filter, refl, ap, subst, ◌∙◌}
 use Rattle.sqlite.specs.declared.types.Value.TheVariants.{Text as Words}
 use Rattle.sqlite.specs.Order.{Row}
 use Rattle.sqlite.specs.State.{State, Shown}
-use Rattle.canary_rows.specs.declared.rows.CallerRow.{CallerRow}
-use Rattle.canary_rows.specs.declared.rows.KeptRow.{KeptRow}
 use Rattle.canary_rows.specs.Tables.{Tables, is_caller, is_kept}
-use Rattle.canary_schema.specs.Cells.{whole, caller_cells, caller_in, kept_cells, kept_in}
+use Rattle.canary_schema.specs.Cells.{whole, caller_cells, kept_cells}
 use Rattle.canary_schema.specs.Stores.{Stores}
-use Rattle.canary_reads.specs.Finds.{first}
+use Rattle.canary_reads.specs.Finds.{TellsCells}
 use Rattle.canary_reads.proofs.Answer.{passes, shows}
 use Rattle.canary_reads.proofs.Asking.{all_found}
 use Rattle.canary_reads.proofs.Tests.{and_true, words_same, same_words, both_same, first_same}
 use Rattle.canary_reads.proofs.Texts.{settled_text, settled_tests, settled_shown, settled_asks, kept_text, kept_tests, kept_shown, kept_asks}
-use Rattle.canary_reads.proofs.Typed.{Tells, same_first}
+use Rattle.canary_reads.proofs.TypedRows.{Tells}
 
 tells_caller : (name : List ℕ) → Tells caller_cells (is_caller name) caller_cells (λ row. Words name ∷ row) (passes settled_tests (Words name ∷ [])) (shows settled_shown (Words name ∷ []))
 tells_caller name = record {
@@ -22,13 +20,11 @@ tells_caller name = record {
   shown = λ id x h. ap (λ n. Words n ∷ whole x.settled ∷ []) (same_words name x.name h);
 }
 
--- the first row is the caller that is asked for
-pub caller_found : (old new : State) (t : Tables) (name : List ℕ) (params : Row) (rows : List Row) (found : Option CallerRow) → Stores old t → params ≡ Words name ∷ [] → Shown settled_text params old new rows
-    → option_map caller_cells found ≡ option_map (λ row. Words name ∷ row) (slice_get rows 0) → found ≡ first (filter (is_caller name) t.callers)
-caller_found old new t name params rows found has given h =
-    same_first caller_cells caller_in (λ x. refl) (λ row. Words name ∷ row) rows _ found
-    (all_found settled_text 1 settled_tests settled_shown settled_asks caller_cells (is_caller name) caller_cells (λ row. Words name ∷ row) (Words name ∷ []) (tells_caller name) t.callers rows
-    (record { old = old; new = new; schema = has.schema; numbered = has.numbered.1.0; stored = has.callers; shows_rows = subst (λ p. Shown settled_text p old new rows) given h }))
+-- what is shown are the rows of the caller
+pub caller_rows : (old new : State) (t : Tables) (name : List ℕ) (params : Row) (rows : List Row) → Stores old t → params ≡ Words name ∷ [] → Shown settled_text params old new rows → TellsCells caller_cells (λ row. Words name ∷ row) (filter (is_caller name) t.callers) rows
+caller_rows old new t name params rows has given h =
+    all_found settled_text 1 settled_tests settled_shown settled_asks caller_cells (is_caller name) caller_cells (λ row. Words name ∷ row) (Words name ∷ []) (tells_caller name) t.callers rows
+    (record { old = old; new = new; schema = has.schema; numbered = has.numbered.1.0; stored = has.callers; shows_rows = subst (λ p. Shown settled_text p old new rows) given h })
 
 tells_kept : (caller : List ℕ) (number : ℕ) → Tells kept_cells (is_kept caller number) kept_cells (λ row. Words caller ∷ row) (passes kept_tests (Words caller ∷ whole number ∷ [])) (shows kept_shown (Words caller ∷ whole number ∷ []))
 tells_kept caller number = record {
@@ -37,10 +33,9 @@ tells_kept caller number = record {
   shown = λ id x h. ap (λ n. Words n ∷ whole x.number ∷ Words x.command ∷ whole x.status ∷ Words x.body ∷ []) (first_same caller x.caller _ h);
 }
 
--- the first row is the request that is asked for
-pub kept_found : (old new : State) (t : Tables) (caller : List ℕ) (number : ℕ) (params : Row) (rows : List Row) (found : Option KeptRow) → Stores old t → params ≡ Words caller ∷ whole number ∷ [] → Shown kept_text params old new rows
-    → option_map kept_cells found ≡ option_map (λ row. Words caller ∷ row) (slice_get rows 0) → found ≡ first (filter (is_kept caller number) t.kept)
-kept_found old new t caller number params rows found has given h =
-    same_first kept_cells kept_in (λ x. refl) (λ row. Words caller ∷ row) rows _ found
-    (all_found kept_text 3 kept_tests kept_shown kept_asks kept_cells (is_kept caller number) kept_cells (λ row. Words caller ∷ row) (Words caller ∷ whole number ∷ []) (tells_kept caller number) t.kept rows
-    (record { old = old; new = new; schema = has.schema; numbered = has.numbered.1.1.0; stored = has.kept; shows_rows = subst (λ p. Shown kept_text p old new rows) given h }))
+-- what is shown are the rows of the request
+pub kept_rows : (old new : State) (t : Tables) (caller : List ℕ) (number : ℕ) (params : Row) (rows : List Row) → Stores old t → params ≡ Words caller ∷ whole number ∷ [] → Shown kept_text params old new rows
+    → TellsCells kept_cells (λ row. Words caller ∷ row) (filter (is_kept caller number) t.kept) rows
+kept_rows old new t caller number params rows has given h =
+    all_found kept_text 3 kept_tests kept_shown kept_asks kept_cells (is_kept caller number) kept_cells (λ row. Words caller ∷ row) (Words caller ∷ whole number ∷ []) (tells_kept caller number) t.kept rows
+    (record { old = old; new = new; schema = has.schema; numbered = has.numbered.1.1.0; stored = has.kept; shows_rows = subst (λ p. Shown kept_text p old new rows) given h })

@@ -4,16 +4,15 @@ use Rattle.sqlite.specs.declared.types.Value.TheVariants.{Null, Text as Words}
 use Rattle.sqlite.specs.Order.{Row}
 use Rattle.sqlite.specs.Term.{col}
 use Rattle.sqlite.specs.State.{State, Shown}
-use Rattle.canary_rows.specs.declared.rows.MeasurementRow.{MeasurementRow}
-use Rattle.canary_rows.specs.declared.rows.HistoryRow.{HistoryRow}
 use Rattle.canary_rows.specs.Tables.{Tables, is_measurement_of, is_line_of}
-use Rattle.canary_schema.specs.Cells.{whole, history_cells, history_in, measurement_cells, measurement_in}
+use Rattle.canary_schema.specs.Cells.{whole, history_cells, measurement_cells}
 use Rattle.canary_schema.specs.Stores.{Stores}
+use Rattle.canary_reads.specs.Finds.{TellsCells}
 use Rattle.canary_reads.proofs.Answer.{passes, shows}
 use Rattle.canary_reads.proofs.Asking.{all_found, page_found}
 use Rattle.canary_reads.proofs.Tests.{and_true, words_same, same_words}
-use Rattle.canary_reads.proofs.Texts.{history_text, history_tests, history_shown, history_asks, measurements_text, measurements_tests, measurements_shown, measurements_asks}
-use Rattle.canary_reads.proofs.Typed.{Tells, same_rows, taken}
+use Rattle.canary_reads.proofs.Texts.{history_text, history_tests, history_shown, history_asks, measurements_text, measurements_tests, measurements_shown, measurements_asks, all_measurements_text, all_measurements_asks}
+use Rattle.canary_reads.proofs.TypedRows.{Tells, taken}
 
 tells_line : (service : List ℕ) → Tells history_cells (is_line_of service) history_cells (λ row. Null ∷ Words service ∷ row) (passes history_tests (Words service ∷ [])) (shows history_shown (Words service ∷ []))
 tells_line service = record {
@@ -22,13 +21,12 @@ tells_line service = record {
   shown = λ id x h. ap (λ n. Null ∷ Words n ∷ whole x.moment ∷ Words x.line ∷ []) (same_words service x.service h);
 }
 
--- the rows are the lines of the service, in their order
-pub history_found : (old new : State) (t : Tables) (service : List ℕ) (params : Row) (rows : List Row) (found : List HistoryRow) → Stores old t → params ≡ Words service ∷ [] → Shown history_text params old new rows
-    → map history_cells found ≡ map (λ row. Null ∷ Words service ∷ row) rows → found ≡ filter (is_line_of service) t.history
-history_found old new t service params rows found has given h read =
-    same_rows history_cells history_in (λ x. refl) found _
-    (read ∙ all_found history_text 16 history_tests history_shown history_asks history_cells (is_line_of service) history_cells (λ row. Null ∷ Words service ∷ row) (Words service ∷ []) (tells_line service) t.history rows
-    (record { old = old; new = new; schema = has.schema; numbered = has.numbered.1.1.1.1.1.1.1.1.0; stored = has.history; shows_rows = subst (λ p. Shown history_text p old new rows) given h }))
+-- what is shown are the lines of the service, in their order
+pub line_rows : (old new : State) (t : Tables) (service : List ℕ) (params : Row) (rows : List Row) → Stores old t → params ≡ Words service ∷ [] → Shown history_text params old new rows
+    → TellsCells history_cells (λ row. Null ∷ Words service ∷ row) (filter (is_line_of service) t.history) rows
+line_rows old new t service params rows has given h =
+    all_found history_text 16 history_tests history_shown history_asks history_cells (is_line_of service) history_cells (λ row. Null ∷ Words service ∷ row) (Words service ∷ []) (tells_line service) t.history rows
+    (record { old = old; new = new; schema = has.schema; numbered = has.numbered.1.1.1.1.1.1.1.1.0; stored = has.history; shows_rows = subst (λ p. Shown history_text p old new rows) given h })
 
 tells_measurement : (service : List ℕ) (rest : Row)
     → Tells measurement_cells (is_measurement_of service) measurement_cells (λ row. Null ∷ Words service ∷ row) (passes measurements_tests (Words service ∷ rest)) (shows measurements_shown (Words service ∷ rest))
@@ -46,14 +44,20 @@ dropped f (suc from) (x ∷ xs) = dropped f from xs
 paged : {A B : Type 0} (f : A → B) (most from : ℕ) (xs : List A) → map f (take most (drop from xs)) ≡ take most (drop from (map f xs))
 paged f most from xs = taken f most (drop from xs) ∙ ap (take most) (dropped f from xs)
 
--- the rows are a page of the measurements of the service, in their order
-pub measurements_found : (old new : State) (t : Tables) (service : List ℕ) (from most : ℕ) (params : Row) (rows : List Row) (found : List MeasurementRow) → Stores old t → params ≡ Words service ∷ whole from ∷ whole most ∷ []
-    → Shown measurements_text params old new rows → map measurement_cells found ≡ map (λ row. Null ∷ Words service ∷ row) rows → found ≡ take most (drop from (filter (is_measurement_of service) t.measurements))
-measurements_found old new t service from most params rows found has given h read =
+-- what is shown is a page of the measurements of the service, in their order
+pub page_rows : (old new : State) (t : Tables) (service : List ℕ) (from most : ℕ) (params : Row) (rows : List Row) → Stores old t → params ≡ Words service ∷ whole from ∷ whole most ∷ [] → Shown measurements_text params old new rows
+    → TellsCells measurement_cells (λ row. Null ∷ Words service ∷ row) (take most (drop from (filter (is_measurement_of service) t.measurements))) rows
+page_rows old new t service from most params rows has given h =
     let asked = Words service ∷ whole from ∷ whole most ∷ [] in
     let p = page_found measurements_text 13 measurements_tests measurements_shown (col 0 2) (col 0 1) measurements_asks measurement_cells (is_measurement_of service) measurement_cells (λ row. Null ∷ Words service ∷ row) asked
     (tells_measurement service (whole from ∷ whole most ∷ [])) t.measurements rows
     (record { old = old; new = new; schema = has.schema; numbered = has.numbered.1.1.1.1.1.1.1.0; stored = has.measurements; shows_rows = subst (λ p. Shown measurements_text p old new rows) given h }) in
-    same_rows measurement_cells measurement_in (λ x. refl) found _
-    (read ∙ ap (map (λ row. Null ∷ Words service ∷ row)) p.1 ∙ paged (λ row. Null ∷ Words service ∷ row) most from p.0 ∙ ap (λ rows. take most (drop from rows)) p.2
-    ∙ sym (paged measurement_cells most from (filter (is_measurement_of service) t.measurements)))
+    ap (map (λ row. Null ∷ Words service ∷ row)) p.1 ∙ paged (λ row. Null ∷ Words service ∷ row) most from p.0 ∙ ap (λ rows. take most (drop from rows)) p.2
+    ∙ sym (paged measurement_cells most from (filter (is_measurement_of service) t.measurements))
+
+-- what is shown are all measurements of the service, in their order
+pub measurement_rows : (old new : State) (t : Tables) (service : List ℕ) (params : Row) (rows : List Row) → Stores old t → params ≡ Words service ∷ [] → Shown all_measurements_text params old new rows
+    → TellsCells measurement_cells (λ row. Null ∷ Words service ∷ row) (filter (is_measurement_of service) t.measurements) rows
+measurement_rows old new t service params rows has given h =
+    all_found all_measurements_text 13 measurements_tests measurements_shown all_measurements_asks measurement_cells (is_measurement_of service) measurement_cells (λ row. Null ∷ Words service ∷ row) (Words service ∷ []) (tells_measurement service []) t.measurements rows
+    (record { old = old; new = new; schema = has.schema; numbered = has.numbered.1.1.1.1.1.1.1.0; stored = has.measurements; shows_rows = subst (λ p. Shown all_measurements_text p old new rows) given h })

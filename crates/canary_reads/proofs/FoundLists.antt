@@ -17,7 +17,7 @@ use Rattle.canary_reads.proofs.Answer.{passes, shows, by_column, no_limit, from_
 use Rattle.canary_reads.proofs.Asking.{Asks, Reads, all_found}
 use Rattle.canary_reads.proofs.Holding.{told_same, told_all, map_itself, all_pass, name_sound, name_full, caller_sound, caller_full}
 use Rattle.canary_reads.proofs.Texts.{callers_text, callers_shown, callers_asks, name_shown, template_names_text, template_names_asks, service_names_text, service_names_asks}
-use Rattle.canary_reads.proofs.Typed.{Tells}
+use Rattle.canary_reads.proofs.TypedRows.{Tells}
 
 -- a text that shows all rows of a table, of which this is held
 module _ {X Y : Type 0} (text : List ℕ) (tree : ℕ) (shown : List Term) (asks : Asks text tree [] shown (by_column 0) no_limit from_start) (cells : X → Row) (held : Row → Option Y) (of : X → Option Y)

@@ -1,22 +1,21 @@
 -- What the queries on `template` and on `service` find.
-use Rattle.std.proofs.Common.{◌≡◌, ◌∷◌, ◌==◌, [], ℕ, List, map, filter, length, not, Bool, true, false, Option, option_map, slice_get, refl, ap, subst, ◌∙◌, arith}
+use Rattle.std.proofs.Common.{◌≡◌, ◌∷◌, ◌==◌, [], ℕ, List, map, filter, length, not, Bool, true, false, refl, ap, subst, ◌∙◌, arith}
 use Rattle.std.specs.List.{list_any}
 use Rattle.sqlite_keyed.proofs.ListLemmas.{none_counted}
 use Rattle.sqlite.specs.declared.types.Value.TheVariants.{Text as Words}
 use Rattle.sqlite.specs.Order.{Row}
 use Rattle.sqlite.specs.State.{State, Shown}
-use Rattle.canary_rows.specs.declared.rows.TemplateRow.{TemplateRow}
 use Rattle.canary_rows.specs.declared.rows.ServiceRow.{ServiceRow}
 use Rattle.canary_rows.specs.Tables.{Tables, is_template, is_service}
-use Rattle.canary_schema.specs.Cells.{template_cells, template_in, service_cells, service_in}
+use Rattle.canary_schema.specs.Cells.{template_cells, service_cells}
 use Rattle.canary_schema.specs.Stores.{Stores}
-use Rattle.canary_reads.specs.Finds.{first}
+use Rattle.canary_reads.specs.Finds.{TellsCells}
 use Rattle.canary_reads.specs.Parts.{standing_cells}
 use Rattle.canary_reads.proofs.Answer.{passes, shows}
 use Rattle.canary_reads.proofs.Asking.{all_found}
 use Rattle.canary_reads.proofs.Tests.{and_true, words_same, same_words}
 use Rattle.canary_reads.proofs.Texts.{template_text, template_tests, template_shown, template_asks, service_text, service_tests, service_shown, service_asks, has_service_text, has_service_tests, has_service_shown, has_service_asks}
-use Rattle.canary_reads.proofs.Typed.{Tells, same_first}
+use Rattle.canary_reads.proofs.TypedRows.{Tells}
 
 tells_template : (name : List ℕ) → Tells template_cells (is_template name) template_cells (λ row. Words name ∷ row) (passes template_tests (Words name ∷ [])) (shows template_shown (Words name ∷ []))
 tells_template name = record {
@@ -25,13 +24,11 @@ tells_template name = record {
   shown = λ id x h. ap (λ n. Words n ∷ Words x.spec ∷ []) (same_words name x.name h);
 }
 
--- the first row is the template that is asked for
-pub template_found : (old new : State) (t : Tables) (name : List ℕ) (params : Row) (rows : List Row) (found : Option TemplateRow) → Stores old t → params ≡ Words name ∷ [] → Shown template_text params old new rows
-    → option_map template_cells found ≡ option_map (λ row. Words name ∷ row) (slice_get rows 0) → found ≡ first (filter (is_template name) t.templates)
-template_found old new t name params rows found has given h =
-    same_first template_cells template_in (λ x. refl) (λ row. Words name ∷ row) rows _ found
-    (all_found template_text 5 template_tests template_shown template_asks template_cells (is_template name) template_cells (λ row. Words name ∷ row) (Words name ∷ []) (tells_template name) t.templates rows
-    (record { old = old; new = new; schema = has.schema; numbered = has.numbered.1.1.1.0; stored = has.templates; shows_rows = subst (λ p. Shown template_text p old new rows) given h }))
+-- what is shown are the rows of the template
+pub template_rows : (old new : State) (t : Tables) (name : List ℕ) (params : Row) (rows : List Row) → Stores old t → params ≡ Words name ∷ [] → Shown template_text params old new rows → TellsCells template_cells (λ row. Words name ∷ row) (filter (is_template name) t.templates) rows
+template_rows old new t name params rows has given h =
+    all_found template_text 5 template_tests template_shown template_asks template_cells (is_template name) template_cells (λ row. Words name ∷ row) (Words name ∷ []) (tells_template name) t.templates rows
+    (record { old = old; new = new; schema = has.schema; numbered = has.numbered.1.1.1.0; stored = has.templates; shows_rows = subst (λ p. Shown template_text p old new rows) given h })
 
 tells_service : (name : List ℕ) → Tells service_cells (is_service name) service_cells (λ row. Words name ∷ row) (passes service_tests (Words name ∷ [])) (shows service_shown (Words name ∷ []))
 tells_service name = record {
@@ -40,13 +37,11 @@ tells_service name = record {
   shown = λ id x h. ap (λ n. Words n ∷ Words x.spec ∷ standing_cells x.standing) (same_words name x.name h);
 }
 
--- the first row is the service that is asked for
-pub service_found : (old new : State) (t : Tables) (name : List ℕ) (params : Row) (rows : List Row) (found : Option ServiceRow) → Stores old t → params ≡ Words name ∷ [] → Shown service_text params old new rows
-    → option_map service_cells found ≡ option_map (λ row. Words name ∷ row) (slice_get rows 0) → found ≡ first (filter (is_service name) t.services)
-service_found old new t name params rows found has given h =
-    same_first service_cells service_in (λ x. refl) (λ row. Words name ∷ row) rows _ found
-    (all_found service_text 7 service_tests service_shown service_asks service_cells (is_service name) service_cells (λ row. Words name ∷ row) (Words name ∷ []) (tells_service name) t.services rows
-    (record { old = old; new = new; schema = has.schema; numbered = has.numbered.1.1.1.1.0; stored = has.services; shows_rows = subst (λ p. Shown service_text p old new rows) given h }))
+-- what is shown are the rows of the service
+pub service_rows : (old new : State) (t : Tables) (name : List ℕ) (params : Row) (rows : List Row) → Stores old t → params ≡ Words name ∷ [] → Shown service_text params old new rows → TellsCells service_cells (λ row. Words name ∷ row) (filter (is_service name) t.services) rows
+service_rows old new t name params rows has given h =
+    all_found service_text 7 service_tests service_shown service_asks service_cells (is_service name) service_cells (λ row. Words name ∷ row) (Words name ∷ []) (tells_service name) t.services rows
+    (record { old = old; new = new; schema = has.schema; numbered = has.numbered.1.1.1.1.0; stored = has.services; shows_rows = subst (λ p. Shown service_text p old new rows) given h })
 
 abbrev name_of : ServiceRow → Row
 name_of x = Words x.name ∷ []

@@ -7,6 +7,7 @@ use Rattle.sqlite_keyed.proofs.ListLemmas.{IsPermutation-filter, filter_none, al
 use Rattle.canary_rows.specs.declared.rows.RunRow.{RunRow}
 use Rattle.canary_rows.specs.Tables.{is_open_run_of}
 use Rattle.canary_reads.specs.Sorts.{Sorts, IsFront, is_open, is_run_of, number_of}
+use Rattle.canary_reads.proofs.Breaking.{all_taken}
 
 module _ {X : Type 0} (p q : X → Bool) where
   both_step : (a b : Bool) (x : X) (inner outer : List X) → filter p inner ≡ outer → p x ≡ b → filter p (if a then x ∷ inner else inner) ≡ (if a && b then x ∷ outer else outer)
@@ -29,11 +30,6 @@ module _ {X : Type 0} (p : X → Bool) where
 
   none_behind : (x : X) (xs : List X) → p x ≡ false → AllByRecursion (λ y. p y ≡ true → p x ≡ true) xs → AllByRecursion (λ y. p y ≡ false) xs
   none_behind x xs e h = all_weaker (λ y. p y ≡ true → p x ≡ true) (λ y. p y ≡ false) (λ y k. fails (p y) (p x) e k) xs h
-
-  all_taken : (P : X → Type 0) (n : ℕ) (xs : List X) → AllByRecursion P xs → AllByRecursion P (take n xs)
-  all_taken P zero xs h = tt
-  all_taken P (suc n) [] h = tt
-  all_taken P (suc n) (x ∷ xs) h = (h.0, all_taken P n xs h.1)
 
   front_step : (b : Bool) (n : ℕ) (x : X) (few all : List X) → length (if b then x ∷ few else few) < suc n → (length few < n → few ≡ all) → (b ≡ false → few ≡ all) → (if b then x ∷ few else few) ≡ (if b then x ∷ all else all)
   front_step true n x few all lt h k = ap (λ others. x ∷ others) (h (omega arith))

@@ -1,8 +1,10 @@
 pub mod Queries
 pub mod Answer
-pub mod Typed
+pub mod TypedRows
 pub mod Tests
 pub mod ByColumns
+pub mod Breaking
+pub mod Consistent
 pub mod Asking
 pub mod Ordering
 pub mod Texts
@@ -15,3 +17,11 @@ pub mod Holding
 pub mod FoundLists
 pub mod Counting
 pub mod CountTexts
+pub mod Seeking
+pub mod SeekTexts
+pub mod Holdings
+pub mod StrictRows
+pub mod TableRows
+pub mod DeskRows
+pub mod Sequence
+pub mod Meta

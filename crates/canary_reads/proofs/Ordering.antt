@@ -21,10 +21,11 @@ use Rattle.sqlite_exec.proofs.PartitionLemmas.{ascending_from_sorted}
 use Rattle.sqlite_keyed.proofs.ListLemmas.{map-map, flat_map-map, flat_map_same_on, flat_map-one, IsPermutation-flat_map, ascending-map, ascending_from_map, ascending_weaker, all_map}
 use Rattle.sqlite_value.proofs.OrderLemmas.{value_cmp-Int}
 use Rattle.canary_schema.specs.Cells.{whole as number}
+use Rattle.canary_reads.specs.Finds.{TellsCells}
 use Rattle.canary_reads.specs.Sorts.{Sorts}
 use Rattle.canary_reads.proofs.Answer.{query_of, no_limit, from_start, by_column, passes, shows, put_out}
 use Rattle.canary_reads.proofs.Asking.{Asks, Reads, ordered_found}
-use Rattle.canary_reads.proofs.Typed.{Tells, typed, same_rows}
+use Rattle.canary_reads.proofs.TypedRows.{Tells, typed}
 
 then_equal : (o : Ordering) → is_gt (ordering_then o Equal) ≡ false → is_gt o ≡ false
 then_equal Less h = refl
@@ -133,11 +134,13 @@ module _ {X : Type 0} (cells : X → Row) (whole : Row → Row) (mark : X → Va
 module _ {X : Type 0} (cells : X → Row) (whole : Row → Row) (key : X → ℕ) (place : ℕ) (keyed : (x : X) (row : Row) → cells x ≡ whole row → column row place ≡ number (key x)) (known : Row → Option X) (back : (x : X) → known (cells x) ≡ Some x)
     (text : List ℕ) (tree : ℕ) (tests shown : List Term) (at : ℕ) (asks : Asks text tree tests shown (by_column at) no_limit from_start) (test : X → Bool) (params : Row)
     (tells : Tells cells test cells whole (passes tests params) (shows shown params)) (leads : (row : Row) → column row at ≡ column (shows shown params row) place) where
-  pub sorted_found : (xs : List X) (rows : List Row) (all : List X) → Reads text tree cells xs params rows → map cells all ≡ map whole rows → Sorts key (filter test xs) all
-  sorted_found xs rows all h read =
-      let l = listed_found cells whole (λ x. number (key x)) place keyed known back text tree tests shown at no_limit asks test params tells leads xs rows h in
-      let is : l.2.ordered ≡ all = same_rows cells known back l.2.ordered all (l.2.are ∙ ap (map whole) (sym l.1) ∙ sym read) in
-      subst (Sorts key (filter test xs)) is (record {
-        same = l.2.same;
-        ascend = never_falls key l.2.ordered (ascending_weaker (λ x y. NotAbove (number (key x)) (number (key y))) (λ x y. key x ≤ key y) (λ x y b. not_above (key x) (key y) b) l.2.ordered l.2.rising);
-      })
+  pub sorted_rows : (xs : List X) (rows : List Row) → Reads text tree cells xs params rows → (all : List X) × Sorts key (filter test xs) all × TellsCells cells whole all rows
+  sorted_rows xs rows h =
+      let l = listed_found cells whole (λ x. number (key x)) place keyed known back text tree tests shown at no_limit asks test params tells leads xs rows h in (
+        l.2.ordered,
+        record {
+          same = l.2.same;
+          ascend = never_falls key l.2.ordered (ascending_weaker (λ x y. NotAbove (number (key x)) (number (key y))) (λ x y. key x ≤ key y) (λ x y b. not_above (key x) (key y) b) l.2.ordered l.2.rising);
+        },
+        ap (map whole) l.1 ∙ sym l.2.are,
+      )

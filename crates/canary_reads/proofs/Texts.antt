@@ -202,6 +202,17 @@ pub measurements_asks : Asks measurements_text 13 measurements_tests measurement
 unfolding understood everything
 measurements_asks = record { names = _; is = refl; plain = (refl, refl); unlisted = refl }
 
+abbrev pub all_measurements_text : List ℕ
+all_measurements_text = codes "SELECT run, metric, ordinal, taken, phase, outcome FROM measurement WHERE service = ?1 ORDER BY place"
+
+pub all_measurements_query : IsQuery all_measurements_text
+unfolding everything
+all_measurements_query = tt
+
+pub all_measurements_asks : Asks all_measurements_text 13 measurements_tests measurements_shown (by_column 0) no_limit from_start
+unfolding understood everything
+all_measurements_asks = record { names = _; is = refl; plain = (refl, refl); unlisted = refl }
+
 abbrev pub callers_text : List ℕ
 callers_text = codes "SELECT name, settled FROM caller ORDER BY rowid"
 

@@ -1,6 +1,7 @@
 -- What a read does, and what it finds.
-use Rattle.std.specs.Prelude.{◌≡◌, List, Option, slice_get, Result, IfOk}
+use Rattle.std.specs.Prelude.{◌≡◌, List, Option, map, slice_get, Result, IfOk}
 use Rattle.sqlite.specs.State.{State}
+use Rattle.sqlite_value.specs.Order.{Row}
 use Rattle.canary_rows.specs.Tables.{Tables}
 use Rattle.canary_schema.specs.Stores.{IsUsable, Stores}
 
@@ -18,3 +19,7 @@ Finds told = FindsSuch (λ t found. found ≡ told t)
 
 abbrev pub first : {A : Type 0} → List A → Option A
 first xs = slice_get xs 0
+
+-- each row that a query shows tells the cells of one of these
+abbrev pub TellsCells : {X : Type 0} → (X → Row) → (Row → Row) → List X → List Row → Type 0
+TellsCells cells whole all rows = map whole rows ≡ map cells all

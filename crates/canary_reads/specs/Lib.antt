@@ -4,3 +4,5 @@ pub mod Parts
 pub mod Sorts
 pub mod Readable
 pub mod Breaks
+pub mod Faults
+pub mod Told

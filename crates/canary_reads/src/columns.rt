@@ -1,70 +1,102 @@
-//! The values in the columns of a row that a query shows. A value that does not fit what is asked
-//! for is a fault of the storage.
-ghost use Rattle.std.specs.Prelude.{◌≡◌, ℕ, List, length, IfOk, OnOk};
+//! The values in the columns of a row that a query shows. A value that a program cannot hold is
+//! broken.
+ghost use Rattle.std.specs.Prelude.{◌≡◌, ◌≢◌, ◌<◌, ℕ, List, Option, Err, IfOk, IfSome, OnErr, OnOk};
+ghost use Rattle.std.specs.Prelude.{length, IsTrue, IsUtf8};
 ghost use Rattle.sqlite.specs.Order.{column};
 ghost use Rattle.sqlite.specs.declared.types.Value.TheVariants.{Text as Words};
+ghost use Rattle.canary_base.specs.Names.{is_label};
+ghost use Rattle.canary_rows.specs.Limits.{FitsNumber, FitsMoment};
 ghost use Rattle.canary_schema.specs.Cells.{whole, whole_or_null};
 
+use crate::fault::ReadFault;
 use canary_base::lists::Text;
 use canary_base::moments::Moment;
 use canary_base::names::Label;
-use canary_schema::fault::{StoreFault, fault_of};
-use sqlite::Row;
 use sqlite::types::ValueRef;
+use sqlite::{Error, ErrorCode, Row};
 
-/// That the row has so many columns, or `Storage`.
-pub(crate) fn has_width(row: &Row, width: usize) -> Result<(), StoreFault>
-    ensures { OnOk result (length row.now ≡ width) }
+/// That the row has so many columns, or `Broken`.
+pub(crate) fn has_width(row: &Row, width: usize) -> Result<(), ReadFault>
+    ensures found { OnOk result (length row.now ≡ width) }
+    ensures broken { OnErr result (length row.now ≢ width) }
 {
     if row.column_count() == width {
         Ok(())
     } else {
-        Err(StoreFault::Storage)
+        Err(ReadFault::Broken)
     }
 }
 
-pub(crate) fn number_at(row: &Row, at: usize) -> Result<u32, StoreFault>
-    ensures { IfOk result (λ number. column row.now at ≡ whole number) }
+// Why a column was not read.
+fn fault_of(error: Error) -> ReadFault
+    ensures { result ≡ ReadFault.Broken → error ≢ Error.SqliteFailure ErrorCode.OutOfMemory }
+{
+    match error {
+        Error::SqliteFailure(ErrorCode::OutOfMemory) => ReadFault::Memory,
+        _ => ReadFault::Broken,
+    }
+}
+
+pub(crate) fn number_at(row: &Row, at: usize) -> Result<u32, ReadFault>
+    requires { at < length row.now }
+    ensures found { IfOk result (λ number. column row.now at ≡ whole number) }
+    ensures broken { result ≡ Err ReadFault.Broken
+        → (number : ℕ) → column row.now at ≡ whole number → ¬ FitsNumber number }
 {
     row.get::<u32>(at).map_err(fault_of)
 }
 
-pub(crate) fn maybe_number_at(row: &Row, at: usize) -> Result<Option<u32>, StoreFault>
-    ensures { IfOk result (λ number. column row.now at ≡ whole_or_null number) }
+pub(crate) fn maybe_number_at(row: &Row, at: usize) -> Result<Option<u32>, ReadFault>
+    requires { at < length row.now }
+    ensures found { IfOk result (λ number. column row.now at ≡ whole_or_null number) }
+    ensures broken { result ≡ Err ReadFault.Broken → (number : Option ℕ)
+        → column row.now at ≡ whole_or_null number → ¬ IfSome number FitsNumber }
 {
     row.get::<Option<u32>>(at).map_err(fault_of)
 }
 
-pub(crate) fn moment_at(row: &Row, at: usize) -> Result<Moment, StoreFault>
-    ensures { IfOk result (λ moment. column row.now at ≡ whole moment) }
+pub(crate) fn moment_at(row: &Row, at: usize) -> Result<Moment, ReadFault>
+    requires { at < length row.now }
+    ensures found { IfOk result (λ moment. column row.now at ≡ whole moment) }
+    ensures broken { result ≡ Err ReadFault.Broken
+        → (moment : ℕ) → column row.now at ≡ whole moment → ¬ FitsMoment moment }
 {
     let seconds = row.get::<u64>(at).map_err(fault_of)?;
-    Moment::new(seconds).ok_or(StoreFault::Storage)
+    Moment::new(seconds).ok_or(ReadFault::Broken)
 }
 
-pub(crate) fn maybe_moment_at(row: &Row, at: usize) -> Result<Option<Moment>, StoreFault>
-    ensures { IfOk result (λ moment. column row.now at ≡ whole_or_null moment) }
+pub(crate) fn maybe_moment_at(row: &Row, at: usize) -> Result<Option<Moment>, ReadFault>
+    requires { at < length row.now }
+    ensures found { IfOk result (λ moment. column row.now at ≡ whole_or_null moment) }
+    ensures broken { result ≡ Err ReadFault.Broken → (moment : Option ℕ)
+        → column row.now at ≡ whole_or_null moment → ¬ IfSome moment FitsMoment }
 {
     let Some(seconds) = row.get::<Option<u64>>(at).map_err(fault_of)? else {
         return Ok(None);
     };
     match Moment::new(seconds) {
         Some(moment) => Ok(Some(moment)),
-        None => Err(StoreFault::Storage),
+        None => Err(ReadFault::Broken),
     }
 }
 
-pub(crate) fn text_at(row: &Row, at: usize) -> Result<Text, StoreFault>
-    ensures { IfOk result (λ text. column row.now at ≡ Words text) }
+pub(crate) fn text_at(row: &Row, at: usize) -> Result<Text, ReadFault>
+    requires { at < length row.now }
+    ensures found { IfOk result (λ text. column row.now at ≡ Words text) }
+    ensures broken { result ≡ Err ReadFault.Broken
+        → (text : List ℕ) → column row.now at ≡ Words text → ¬ IsUtf8 text }
 {
     Ok(Text::of(row.get::<String>(at).map_err(fault_of)?))
 }
 
-pub(crate) fn label_at(row: &Row, at: usize) -> Result<Label, StoreFault>
-    ensures { IfOk result (λ label. column row.now at ≡ Words label) }
+pub(crate) fn label_at(row: &Row, at: usize) -> Result<Label, ReadFault>
+    requires { at < length row.now }
+    ensures found { IfOk result (λ label. column row.now at ≡ Words label) }
+    ensures broken { result ≡ Err ReadFault.Broken
+        → (label : List ℕ) → column row.now at ≡ Words label → ¬ IsTrue (is_label label) }
 {
     let ValueRef::Text(bytes) = row.get_ref(at).map_err(fault_of)? else {
-        return Err(StoreFault::Storage);
+        return Err(ReadFault::Broken);
     };
-    Label::read(bytes).ok_or(StoreFault::Storage)
+    Label::read(bytes).ok_or(ReadFault::Broken)
 }

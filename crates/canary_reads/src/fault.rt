@@ -37,3 +37,17 @@ impl From<StoreFault> for ReadFault {
         }
     }
 }
+
+impl From<ReadFault> for StoreFault {
+    ghost use Rattle.std.specs.Prelude.{◌≡◌};
+    ghost use Rattle.canary_reads.specs.Faults.{store_fault};
+
+    ghost from_gives = { λ fault made. made ≡ store_fault fault };
+
+    fn from(fault: ReadFault) -> StoreFault {
+        match fault {
+            ReadFault::Memory => StoreFault::Memory,
+            ReadFault::Storage | ReadFault::Broken => StoreFault::Storage,
+        }
+    }
+}

@@ -1,28 +1,33 @@
 //! What happened to a service: its history, and the measurements of its runs.
 ghost use Rattle.std.specs.Prelude.{◌≡◌, false, filter, take, drop};
+ghost use Rattle.std.specs.List.{AllByRecursion};
 ghost use Rattle.sqlite.specs.Held.{state};
 ghost use Rattle.canary_rows.specs.Tables.{is_line_of, is_measurement_of};
+ghost use Rattle.canary_rows.specs.Limits.{IsLineWithin, IsMeasurementWithin};
 ghost use Rattle.canary_reads.specs.Finds.{IsSame, Finds};
+ghost use Rattle.canary_reads.specs.Breaks.{BreaksUnless};
 
+use crate::fault::ReadFault;
 use crate::{query, shown};
 use canary_base::lists::Listed;
 use canary_base::names::Name;
 use canary_rows::rows::{HistoryRow, MeasurementRow};
-use canary_schema::fault::StoreFault;
 use sqlite::{Alter, Connection, params};
 use std::alloc::Global;
 
 /// The lines of the service's history, in their order. `Memory` where there is not enough,
-/// `Storage` where the database fails or holds what no desk writes.
+/// `Storage` where the database fails, `Broken` where a line is none that a program can hold.
 pub fn history<S: Alter>(
     conn: &mut Connection<S>,
     alloc: Global,
     service: &Name,
-) -> Result<Listed<HistoryRow>, StoreFault>
+) -> Result<Listed<HistoryRow>, ReadFault>
     requires autocommit { conn.old.in_transaction ≡ false }
     ensures mode { conn.new.in_transaction ≡ false }
     ensures same { IsSame (state S.Store conn.old) (state S.Store conn.new) }
     ensures found { Finds (λ t. filter (is_line_of service.now) t.history)
+        (state S.Store conn.old) (state S.Store conn.new) result }
+    ensures broken { BreaksUnless (λ t. AllByRecursion IsLineWithin t.history)
         (state S.Store conn.old) (state S.Store conn.new) result }
 {
     let rows = query::rows_of(
@@ -34,30 +39,56 @@ pub fn history<S: Alter>(
 }
 
 /// The measurements of the service's runs, in their order: from that one on, counted from 0, at
-/// most so many. `Memory` where there is not enough, `Storage` where the database fails or holds
-/// what no desk writes, and where `from` is 2^63 or more.
+/// most so many. `Memory` where there is not enough, `Storage` where the database fails, and where
+/// `from` is 2^63 or more, `Broken` where a measurement of these is none that a program can hold.
 pub fn measurements<S: Alter>(
     conn: &mut Connection<S>,
     alloc: Global,
     service: &Name,
     from: u64,
     most: u32,
-) -> Result<Listed<MeasurementRow>, StoreFault>
+) -> Result<Listed<MeasurementRow>, ReadFault>
     requires autocommit { conn.old.in_transaction ≡ false }
     ensures mode { conn.new.in_transaction ≡ false }
     ensures same { IsSame (state S.Store conn.old) (state S.Store conn.new) }
     ensures found { Finds
         (λ t. take most (drop from (filter (is_measurement_of service.now) t.measurements)))
         (state S.Store conn.old) (state S.Store conn.new) result }
+    ensures broken { BreaksUnless (λ t. AllByRecursion IsMeasurementWithin t.measurements)
+        (state S.Store conn.old) (state S.Store conn.new) result }
 {
     let Ok(offset) = i64::try_from(from) else {
-        return Err(StoreFault::Storage);
+        return Err(ReadFault::Storage);
     };
     let rows = query::rows_of(
         conn,
         "SELECT run, metric, ordinal, taken, phase, outcome FROM measurement \
          WHERE service = ?1 ORDER BY place LIMIT ?3 OFFSET ?2",
         params![service.as_str(), offset, most],
+    )?;
+    shown::all(alloc, service, rows.as_slice())
+}
+
+/// All measurements of the service's runs, in their order. `Memory` where there is not enough,
+/// `Storage` where the database fails, `Broken` where one is none that a program can hold.
+pub fn measurement_rows<S: Alter>(
+    conn: &mut Connection<S>,
+    alloc: Global,
+    service: &Name,
+) -> Result<Listed<MeasurementRow>, ReadFault>
+    requires autocommit { conn.old.in_transaction ≡ false }
+    ensures mode { conn.new.in_transaction ≡ false }
+    ensures same { IsSame (state S.Store conn.old) (state S.Store conn.new) }
+    ensures found { Finds (λ t. filter (is_measurement_of service.now) t.measurements)
+        (state S.Store conn.old) (state S.Store conn.new) result }
+    ensures broken { BreaksUnless (λ t. AllByRecursion IsMeasurementWithin t.measurements)
+        (state S.Store conn.old) (state S.Store conn.new) result }
+{
+    let rows = query::rows_of(
+        conn,
+        "SELECT run, metric, ordinal, taken, phase, outcome FROM measurement \
+         WHERE service = ?1 ORDER BY place",
+        params![service.as_str()],
     )?;
     shown::all(alloc, service, rows.as_slice())
 }

@@ -11,3 +11,4 @@ mod query;
 pub mod runs;
 pub mod services;
 mod shown;
+pub mod typed;

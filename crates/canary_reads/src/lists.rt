@@ -78,8 +78,8 @@ pub fn service_names<S: Alter>(
     held::all(alloc, rows.as_slice())
 }
 
-/// How many settled requests there are, of which SQLite counts 2^63 - 1 at most. `Memory` where there is
-/// not enough, `Storage` where the database fails.
+/// How many settled requests there are, of which SQLite counts 2^63 - 1 at most. `Memory` where
+/// there is not enough, `Storage` where the database fails.
 pub fn kept_count<S: Alter>(conn: &mut Connection<S>) -> Result<u64, ReadFault>
     requires autocommit { conn.old.in_transaction ≡ false }
     ensures mode { conn.new.in_transaction ≡ false }
@@ -117,8 +117,8 @@ pub fn tally_count<S: Alter>(conn: &mut Connection<S>) -> Result<u64, ReadFault>
     count_of(conn, "SELECT count(*) FROM tally")
 }
 
-/// How many measurements there are, of which SQLite counts 2^63 - 1 at most. `Memory` where there is
-/// not enough, `Storage` where the database fails.
+/// How many measurements there are, of which SQLite counts 2^63 - 1 at most. `Memory` where there
+/// is not enough, `Storage` where the database fails.
 pub fn measurement_count<S: Alter>(conn: &mut Connection<S>) -> Result<u64, ReadFault>
     requires autocommit { conn.old.in_transaction ≡ false }
     ensures mode { conn.new.in_transaction ≡ false }
@@ -130,8 +130,8 @@ pub fn measurement_count<S: Alter>(conn: &mut Connection<S>) -> Result<u64, Read
     count_of(conn, "SELECT count(*) FROM measurement")
 }
 
-/// How many lines of histories there are, of which SQLite counts 2^63 - 1 at most. `Memory` where there is
-/// not enough, `Storage` where the database fails.
+/// How many lines of histories there are, of which SQLite counts 2^63 - 1 at most. `Memory` where
+/// there is not enough, `Storage` where the database fails.
 pub fn history_count<S: Alter>(conn: &mut Connection<S>) -> Result<u64, ReadFault>
     requires autocommit { conn.old.in_transaction ≡ false }
     ensures mode { conn.new.in_transaction ≡ false }

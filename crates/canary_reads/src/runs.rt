@@ -1,53 +1,101 @@
 //! Runs, and the counts of their metrics.
-ghost use Rattle.std.specs.Prelude.{◌≡◌, false, filter, IfOk};
+ghost use Rattle.std.specs.Prelude.{◌≡◌, ◌∷◌, false, filter, IfOk};
+ghost use Rattle.std.specs.List.{AllByRecursion};
 ghost use Rattle.sqlite.specs.Held.{state};
-ghost use Rattle.canary_rows.specs.Tables.{is_run, is_open_run_of};
-ghost use Rattle.canary_reads.specs.Finds.{IsSame, Finds, FindsSuch, first};
-ghost use Rattle.canary_reads.specs.Sorts.{Sorts, IsFront, is_open, is_run_of, number_of, metric_of};
-ghost use Rattle.canary_rows.specs.Tables.{is_tally_of};
+ghost use Rattle.sqlite.specs.declared.types.Value.TheVariants.{Text as Words};
+ghost use Rattle.canary_rows.specs.Tables.{is_run, is_open_run_of, is_tally_of};
+ghost use Rattle.canary_rows.specs.Limits.{IsRunWithin, IsTallyWithin};
+ghost use Rattle.canary_schema.specs.Cells.{run_cells};
+ghost use Rattle.canary_reads.specs.Breaks.{BreaksUnless};
+ghost use Rattle.canary_reads.specs.Finds.{IsSame, Finds, FindsSuch, TellsCells, first};
+ghost use Rattle.canary_reads.specs.Sorts.{Sorts, IsFront, is_open, is_run_of};
+ghost use Rattle.canary_reads.specs.Sorts.{number_of, metric_of};
 
+use crate::fault::ReadFault;
 use crate::{query, shown};
 use canary_base::error::Memory;
 use canary_base::lists::Listed;
 use canary_base::names::Name;
 use canary_rows::rows::{RunRow, TallyRow};
 use canary_schema::fault::StoreFault;
-use sqlite::{Alter, Connection, params};
+use sqlite::{Alter, Connection, Row, params};
 use std::alloc::Global;
 
 /// The run of the service under that number, if there is one. `Memory` where there is not enough,
-/// `Storage` where the database fails or holds what no desk writes.
+/// `Storage` where the database fails, `Broken` where the run's row is none that a program can
+/// hold.
 pub fn run<S: Alter>(
     conn: &mut Connection<S>,
     service: &Name,
     number: u32,
-) -> Result<Option<RunRow>, StoreFault>
+) -> Result<Option<RunRow>, ReadFault>
     requires autocommit { conn.old.in_transaction ≡ false }
     ensures mode { conn.new.in_transaction ≡ false }
     ensures same { IsSame (state S.Store conn.old) (state S.Store conn.new) }
     ensures found { Finds (λ t. first (filter (is_run service.now number) t.runs))
         (state S.Store conn.old) (state S.Store conn.new) result }
+    ensures broken { BreaksUnless (λ t. AllByRecursion IsRunWithin t.runs)
+        (state S.Store conn.old) (state S.Store conn.new) result }
 {
-    let rows = query::rows_of(
+    let rows = run_shown(conn, service, number)?;
+    shown::first(service, rows.as_slice())
+}
+
+/// The rows of the service's run under that number, of which a desk writes one at most. `Memory`
+/// where there is not enough, `Storage` where the database fails, `Broken` where one is none that a
+/// program can hold.
+pub fn run_rows<S: Alter>(
+    conn: &mut Connection<S>,
+    alloc: Global,
+    service: &Name,
+    number: u32,
+) -> Result<Listed<RunRow>, ReadFault>
+    requires autocommit { conn.old.in_transaction ≡ false }
+    ensures mode { conn.new.in_transaction ≡ false }
+    ensures same { IsSame (state S.Store conn.old) (state S.Store conn.new) }
+    ensures found { Finds (λ t. filter (is_run service.now number) t.runs)
+        (state S.Store conn.old) (state S.Store conn.new) result }
+    ensures broken { BreaksUnless (λ t. AllByRecursion IsRunWithin t.runs)
+        (state S.Store conn.old) (state S.Store conn.new) result }
+{
+    let rows = run_shown(conn, service, number)?;
+    shown::all(alloc, service, rows.as_slice())
+}
+
+// What is shown of the run's rows, behind the service.
+fn run_shown<S: Alter>(
+    conn: &mut Connection<S>,
+    service: &Name,
+    number: u32,
+) -> Result<Vec<Row>, StoreFault>
+    requires autocommit { conn.old.in_transaction ≡ false }
+    ensures mode { conn.new.in_transaction ≡ false }
+    ensures same { IsSame (state S.Store conn.old) (state S.Store conn.new) }
+    ensures found { FindsSuch (λ t rows. TellsCells run_cells (λ row. Words service.now ∷ row)
+        (filter (is_run service.now number) t.runs) rows.items)
+        (state S.Store conn.old) (state S.Store conn.new) result }
+{
+    query::rows_of(
         conn,
         "SELECT number, step, started, closed, outside, verdict FROM run \
          WHERE service = ?1 AND number = ?2 ORDER BY rowid",
         params![service.as_str(), number],
-    )?;
-    shown::first(service, rows.as_slice())
+    )
 }
 
 /// The open runs of the service, by their numbers. `Memory` where there is not enough, `Storage`
-/// where the database fails or holds what no desk writes.
+/// where the database fails, `Broken` where a run that is read is none that a program can hold.
 pub fn open_runs<S: Alter>(
     conn: &mut Connection<S>,
     alloc: Global,
     service: &Name,
-) -> Result<Listed<RunRow>, StoreFault>
+) -> Result<Listed<RunRow>, ReadFault>
     requires autocommit { conn.old.in_transaction ≡ false }
     ensures mode { conn.new.in_transaction ≡ false }
     ensures same { IsSame (state S.Store conn.old) (state S.Store conn.new) }
     ensures found { FindsSuch (λ t. Sorts number_of (filter (is_open_run_of service.now) t.runs))
+        (state S.Store conn.old) (state S.Store conn.new) result }
+    ensures broken { BreaksUnless (λ t. AllByRecursion IsRunWithin t.runs)
         (state S.Store conn.old) (state S.Store conn.new) result }
 {
     let front = front_runs(conn, alloc, service)?;
@@ -64,11 +112,13 @@ fn front_runs<S: Alter>(
     conn: &mut Connection<S>,
     alloc: Global,
     service: &Name,
-) -> Result<Listed<RunRow>, StoreFault>
+) -> Result<Listed<RunRow>, ReadFault>
     requires autocommit { conn.old.in_transaction ≡ false }
     ensures mode { conn.new.in_transaction ≡ false }
     ensures same { IsSame (state S.Store conn.old) (state S.Store conn.new) }
     ensures found { FindsSuch (λ t. IsFront 3 (filter (is_run_of service.now) t.runs))
+        (state S.Store conn.old) (state S.Store conn.new) result }
+    ensures broken { BreaksUnless (λ t. AllByRecursion IsRunWithin t.runs)
         (state S.Store conn.old) (state S.Store conn.new) result }
 {
     let rows = query::rows_of(
@@ -85,11 +135,13 @@ fn all_open_runs<S: Alter>(
     conn: &mut Connection<S>,
     alloc: Global,
     service: &Name,
-) -> Result<Listed<RunRow>, StoreFault>
+) -> Result<Listed<RunRow>, ReadFault>
     requires autocommit { conn.old.in_transaction ≡ false }
     ensures mode { conn.new.in_transaction ≡ false }
     ensures same { IsSame (state S.Store conn.old) (state S.Store conn.new) }
     ensures found { FindsSuch (λ t. Sorts number_of (filter (is_open_run_of service.now) t.runs))
+        (state S.Store conn.old) (state S.Store conn.new) result }
+    ensures broken { BreaksUnless (λ t. AllByRecursion IsRunWithin t.runs)
         (state S.Store conn.old) (state S.Store conn.new) result }
 {
     let rows = query::rows_of(
@@ -122,18 +174,20 @@ fn by_number(runs: Listed<RunRow>) -> Result<Listed<RunRow>, Memory>
 }
 
 /// The counts of a run's metrics, by the places of the metrics. `Memory` where there is not enough,
-/// `Storage` where the database fails or holds what no desk writes.
+/// `Storage` where the database fails, `Broken` where a row is none that a program can hold.
 pub fn tallies<S: Alter>(
     conn: &mut Connection<S>,
     alloc: Global,
     service: &Name,
     run: u32,
-) -> Result<Listed<TallyRow>, StoreFault>
+) -> Result<Listed<TallyRow>, ReadFault>
     requires autocommit { conn.old.in_transaction ≡ false }
     ensures mode { conn.new.in_transaction ≡ false }
     ensures same { IsSame (state S.Store conn.old) (state S.Store conn.new) }
     ensures found { FindsSuch
         (λ t. Sorts metric_of (filter (is_tally_of service.now run) t.tallies))
+        (state S.Store conn.old) (state S.Store conn.new) result }
+    ensures broken { BreaksUnless (λ t. AllByRecursion IsTallyWithin t.tallies)
         (state S.Store conn.old) (state S.Store conn.new) result }
 {
     let rows = query::rows_of(

@@ -1,18 +1,25 @@
 //! Rows of tables, each read from the columns that a query shows to one who knows its name.
-ghost use Rattle.std.specs.Prelude.{◌≡◌, ◌∷◌, ℕ, List, IfOk, length, map, option_map};
+ghost use Rattle.std.specs.Prelude.{◌≡◌, ◌∷◌, ℕ, List, IfOk, Err, length, map, option_map};
 ghost use Rattle.std.specs.Prelude.{slice_get};
+ghost use Rattle.std.specs.List.{AllByRecursion};
 ghost use Rattle.sqlite.specs.Order.{Row as Cells, column};
+ghost use Rattle.sqlite.specs.declared.types.Value.TheVariants.{Text as Words};
+ghost use Rattle.canary_rows.specs.declared.rows.ServiceRow.{ServiceRow as OfService};
+ghost use Rattle.canary_rows.specs.declared.rows.TallyRow.{TallyRow as OfTally};
+ghost use Rattle.canary_rows.specs.Limits.{IsServiceWithin, IsTallyWithin};
+ghost use Rattle.canary_schema.specs.Cells.{whole as number};
 ghost use Rattle.canary_reads.specs.Parts.{standing_cells, counts_cells};
 
 use crate::columns;
+use crate::fault::ReadFault;
 use canary_base::lists::Listed;
 use canary_base::names::Name;
+use canary_metric::laws;
 use canary_metric::tally::Tally;
 use canary_rows::rows::{
     CallerRow, Ending, HistoryRow, KeptRow, MeasurementRow, RunRow, ServiceRow, Standing, TallyRow,
     TemplateRow,
 };
-use canary_schema::fault::StoreFault;
 use sqlite::Row;
 use std::alloc::Global;
 
@@ -24,21 +31,30 @@ pub(crate) trait Shown: Drop {
     /// The cells, by the name and what a query shows of them.
     ghost whole: { List ℕ → Cells → Cells };
 
-    /// The row with that name and these columns. `Storage` where they fit no row.
-    fn read(name: &Name, row: &Row) -> Result<Self, StoreFault>
-        ensures { IfOk result (λ read. cells read ≡ whole name.now row.now) };
+    /// That a program can hold it.
+    ghost Within: { Self → Type 0 };
+
+    /// The row with that name and these columns. `Memory` where there is not enough, `Broken` where
+    /// a program can hold no such row.
+    fn read(name: &Name, row: &Row) -> Result<Self, ReadFault>
+        ensures found { IfOk result (λ read. cells read ≡ whole name.now row.now) }
+        ensures broken { result ≡ Err ReadFault.Broken
+            → (read : Self) → cells read ≡ whole name.now row.now → ¬ Within read };
 }
 
 impl Shown for CallerRow {
     ghost use Rattle.std.specs.Prelude.{◌∷◌};
     ghost use Rattle.sqlite.specs.declared.types.Value.TheVariants.{Text as Words};
+    ghost use Rattle.canary_rows.specs.Limits.{IsCallerWithin};
     ghost use Rattle.canary_schema.specs.Cells.{caller_cells};
 
     ghost cells = { caller_cells };
 
     ghost whole = { λ name row. Words name ∷ row };
 
-    fn read(name: &Name, row: &Row) -> Result<CallerRow, StoreFault> {
+    ghost Within = { IsCallerWithin };
+
+    fn read(name: &Name, row: &Row) -> Result<CallerRow, ReadFault> {
         columns::has_width(row, 1)?;
         Ok(CallerRow {
             name: *name,
@@ -50,13 +66,16 @@ impl Shown for CallerRow {
 impl Shown for KeptRow {
     ghost use Rattle.std.specs.Prelude.{◌∷◌};
     ghost use Rattle.sqlite.specs.declared.types.Value.TheVariants.{Text as Words};
+    ghost use Rattle.canary_rows.specs.Limits.{IsKeptWithin};
     ghost use Rattle.canary_schema.specs.Cells.{kept_cells};
 
     ghost cells = { kept_cells };
 
     ghost whole = { λ name row. Words name ∷ row };
 
-    fn read(name: &Name, row: &Row) -> Result<KeptRow, StoreFault> {
+    ghost Within = { IsKeptWithin };
+
+    fn read(name: &Name, row: &Row) -> Result<KeptRow, ReadFault> {
         columns::has_width(row, 4)?;
         Ok(KeptRow {
             caller: *name,
@@ -71,13 +90,16 @@ impl Shown for KeptRow {
 impl Shown for TemplateRow {
     ghost use Rattle.std.specs.Prelude.{◌∷◌};
     ghost use Rattle.sqlite.specs.declared.types.Value.TheVariants.{Text as Words};
+    ghost use Rattle.canary_rows.specs.Limits.{IsTemplateWithin};
     ghost use Rattle.canary_schema.specs.Cells.{template_cells};
 
     ghost cells = { template_cells };
 
     ghost whole = { λ name row. Words name ∷ row };
 
-    fn read(name: &Name, row: &Row) -> Result<TemplateRow, StoreFault> {
+    ghost Within = { IsTemplateWithin };
+
+    fn read(name: &Name, row: &Row) -> Result<TemplateRow, ReadFault> {
         columns::has_width(row, 1)?;
         Ok(TemplateRow {
             name: *name,
@@ -89,13 +111,16 @@ impl Shown for TemplateRow {
 impl Shown for ServiceRow {
     ghost use Rattle.std.specs.Prelude.{◌∷◌};
     ghost use Rattle.sqlite.specs.declared.types.Value.TheVariants.{Text as Words};
+    ghost use Rattle.canary_rows.specs.Limits.{IsServiceWithin};
     ghost use Rattle.canary_schema.specs.Cells.{service_cells};
 
     ghost cells = { service_cells };
 
     ghost whole = { λ name row. Words name ∷ row };
 
-    fn read(name: &Name, row: &Row) -> Result<ServiceRow, StoreFault> {
+    ghost Within = { IsServiceWithin };
+
+    fn read(name: &Name, row: &Row) -> Result<ServiceRow, ReadFault> {
         columns::has_width(row, 10)?;
         Ok(ServiceRow {
             name: *name,
@@ -106,9 +131,12 @@ impl Shown for ServiceRow {
 }
 
 // How the service stands, behind its text.
-fn standing(row: &Row) -> Result<Standing, StoreFault>
+fn standing(row: &Row) -> Result<Standing, ReadFault>
     requires { length row.now ≡ 10 }
-    ensures { IfOk result (λ s. row.now ≡ column row.now 0 ∷ standing_cells s) }
+    ensures found { IfOk result (λ s. row.now ≡ column row.now 0 ∷ standing_cells s) }
+    ensures broken { result ≡ Err ReadFault.Broken → (service : OfService)
+        → row.now ≡ Words service.spec ∷ standing_cells service.standing
+        → ¬ IsServiceWithin service }
 {
     Ok(Standing {
         stable: columns::label_at(row, 1)?,
@@ -126,13 +154,16 @@ fn standing(row: &Row) -> Result<Standing, StoreFault>
 impl Shown for RunRow {
     ghost use Rattle.std.specs.Prelude.{◌∷◌};
     ghost use Rattle.sqlite.specs.declared.types.Value.TheVariants.{Text as Words};
+    ghost use Rattle.canary_rows.specs.Limits.{IsRunWithin};
     ghost use Rattle.canary_schema.specs.Cells.{run_cells};
 
     ghost cells = { run_cells };
 
     ghost whole = { λ name row. Words name ∷ row };
 
-    fn read(name: &Name, row: &Row) -> Result<RunRow, StoreFault> {
+    ghost Within = { IsRunWithin };
+
+    fn read(name: &Name, row: &Row) -> Result<RunRow, ReadFault> {
         columns::has_width(row, 6)?;
         Ok(RunRow {
             service: *name,
@@ -151,13 +182,16 @@ impl Shown for RunRow {
 impl Shown for TallyRow {
     ghost use Rattle.std.specs.Prelude.{◌∷◌};
     ghost use Rattle.sqlite.specs.declared.types.Value.TheVariants.{Text as Words};
+    ghost use Rattle.canary_rows.specs.Limits.{IsTallyWithin};
     ghost use Rattle.canary_schema.specs.Cells.{tally_cells};
 
     ghost cells = { tally_cells };
 
     ghost whole = { λ name row. Words name ∷ row };
 
-    fn read(name: &Name, row: &Row) -> Result<TallyRow, StoreFault> {
+    ghost Within = { IsTallyWithin };
+
+    fn read(name: &Name, row: &Row) -> Result<TallyRow, ReadFault> {
         columns::has_width(row, 8)?;
         Ok(TallyRow {
             service: *name,
@@ -169,11 +203,15 @@ impl Shown for TallyRow {
 }
 
 // The counts, behind the run and the metric.
-fn counts(row: &Row) -> Result<Tally, StoreFault>
+fn counts(row: &Row) -> Result<Tally, ReadFault>
     requires { length row.now ≡ 8 }
-    ensures { IfOk result (λ c. row.now
+    ensures found { IfOk result (λ c. row.now
         ≡ column row.now 0 ∷ column row.now 1 ∷ counts_cells c) }
+    ensures broken { result ≡ Err ReadFault.Broken → (tally : OfTally)
+        → row.now ≡ number tally.run ∷ number tally.metric ∷ counts_cells tally.counts
+        → ¬ IsTallyWithin tally }
 {
+    laws::one_more();
     let counted = columns::number_at(row, 2)?;
     let failed = columns::number_at(row, 3)?;
     let inconclusive = columns::number_at(row, 4)?;
@@ -182,20 +220,23 @@ fn counts(row: &Row) -> Result<Tally, StoreFault>
     let last = columns::maybe_moment_at(row, 7)?;
     match Tally::from_counts(counted, failed, inconclusive, errors, consecutive, last) {
         Some(counts) => Ok(counts),
-        None => Err(StoreFault::Storage),
+        None => Err(ReadFault::Broken),
     }
 }
 
 impl Shown for MeasurementRow {
     ghost use Rattle.std.specs.Prelude.{◌∷◌};
     ghost use Rattle.sqlite.specs.declared.types.Value.TheVariants.{Null, Text as Words};
+    ghost use Rattle.canary_rows.specs.Limits.{IsMeasurementWithin};
     ghost use Rattle.canary_schema.specs.Cells.{measurement_cells};
 
     ghost cells = { measurement_cells };
 
     ghost whole = { λ name row. Null ∷ Words name ∷ row };
 
-    fn read(name: &Name, row: &Row) -> Result<MeasurementRow, StoreFault> {
+    ghost Within = { IsMeasurementWithin };
+
+    fn read(name: &Name, row: &Row) -> Result<MeasurementRow, ReadFault> {
         columns::has_width(row, 6)?;
         Ok(MeasurementRow {
             service: *name,
@@ -212,13 +253,16 @@ impl Shown for MeasurementRow {
 impl Shown for HistoryRow {
     ghost use Rattle.std.specs.Prelude.{◌∷◌};
     ghost use Rattle.sqlite.specs.declared.types.Value.TheVariants.{Null, Text as Words};
+    ghost use Rattle.canary_rows.specs.Limits.{IsLineWithin};
     ghost use Rattle.canary_schema.specs.Cells.{history_cells};
 
     ghost cells = { history_cells };
 
     ghost whole = { λ name row. Null ∷ Words name ∷ row };
 
-    fn read(name: &Name, row: &Row) -> Result<HistoryRow, StoreFault> {
+    ghost Within = { IsLineWithin };
+
+    fn read(name: &Name, row: &Row) -> Result<HistoryRow, ReadFault> {
         columns::has_width(row, 2)?;
         Ok(HistoryRow {
             service: *name,
@@ -228,10 +272,13 @@ impl Shown for HistoryRow {
     }
 }
 
-/// The first of the rows, if there is one.
-pub(crate) fn first<R: Shown>(name: &Name, rows: &[Row]) -> Result<Option<R>, StoreFault>
-    ensures { IfOk result (λ found. option_map R.cells found
+/// The first of the rows, if there is one. `Memory` where there is not enough, `Broken` where a
+/// program cannot hold it.
+pub(crate) fn first<R: Shown>(name: &Name, rows: &[Row]) -> Result<Option<R>, ReadFault>
+    ensures found { IfOk result (λ found. option_map R.cells found
         ≡ option_map (R.whole name.now) (slice_get rows.now 0)) }
+    ensures broken { result ≡ Err ReadFault.Broken → (all : List R)
+        → map R.cells all ≡ map (R.whole name.now) rows.now → ¬ AllByRecursion R.Within all }
 {
     match rows.first() {
         Some(row) => Ok(Some(R::read(name, row)?)),
@@ -239,13 +286,16 @@ pub(crate) fn first<R: Shown>(name: &Name, rows: &[Row]) -> Result<Option<R>, St
     }
 }
 
-/// All rows, in their order, or `Memory`.
+/// All rows, in their order. `Memory` where there is not enough, `Broken` where a program cannot
+/// hold one of them.
 pub(crate) fn all<R: Shown>(
     alloc: Global,
     name: &Name,
     rows: &[Row],
-) -> Result<Listed<R>, StoreFault>
-    ensures { IfOk result (λ all. map R.cells all ≡ map (R.whole name.now) rows.now) }
+) -> Result<Listed<R>, ReadFault>
+    ensures found { IfOk result (λ all. map R.cells all ≡ map (R.whole name.now) rows.now) }
+    ensures broken { result ≡ Err ReadFault.Broken → (all : List R)
+        → map R.cells all ≡ map (R.whole name.now) rows.now → ¬ AllByRecursion R.Within all }
 {
     let mut all = Listed::of(Vec::new(alloc));
     for row in rows {

@@ -4,6 +4,7 @@ mod Kept
 mod Making
 mod Meta
 mod Readings
+mod Rising
 mod Texts
 mod Went
 mod Wholes

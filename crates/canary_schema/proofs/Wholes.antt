@@ -1,10 +1,11 @@
 -- A schema is known by its tables, its indexes and its views.
-use Rattle.std.proofs.Common.{◌≡◌, ◌↔◌, Bool, IsTrue, ◌++◌, refl, sym, ap, ◌∙◌, List, []}
+use Rattle.std.proofs.Common.{◌≡◌, ◌↔◌, Bool, IsTrue, ◌++◌, refl, sym, ap, ◌∙◌, List, [], inl, inr}
 use Rattle.sqlite_tied.specs.Compute.{everything}
 use Rattle.sqlite.specs.Schema.{Schema}
 use Rattle.sqlite.specs.Table.{Table}
 use Rattle.sqlite_schema.specs.declared.schema.Index.{Index}
 use Rattle.canary_schema.specs.Schema.{desk_schema, with_history}
+use Rattle.canary_schema.specs.Formed.{IsDeskSchema}
 use Rattle.canary_schema.specs.Known.{key_indexes, added_indexes, early_tables, late_tables}
 
 bare_is : with_history ≡ record { tables = early_tables ++ late_tables; indexes = key_indexes; views = [] }
@@ -31,3 +32,7 @@ desk_known b schema = known b schema desk_schema (key_indexes ++ added_indexes) 
 
 pub bare_known : (b : Bool) (schema : Schema) → AreParts b schema key_indexes → IsTrue b ↔ (schema ≡ with_history)
 bare_known b schema = known b schema with_history key_indexes bare_is
+
+pub tables_known : (schema : Schema) → IsDeskSchema schema → schema.tables ≡ early_tables ++ late_tables
+tables_known schema (inl desk) = ap (λ (s : Schema). s.tables) (desk ∙ desk_is)
+tables_known schema (inr bare) = ap (λ (s : Schema). s.tables) (bare ∙ bare_is)

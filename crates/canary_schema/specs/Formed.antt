@@ -1,5 +1,5 @@
 -- When a database has the desk's tables, whatever stands in their rows.
-use Rattle.std.specs.Prelude.{◌≡◌, ◌⊎◌, ℕ, length}
+use Rattle.std.specs.Prelude.{◌≡◌, ◌⊎◌, length}
 use Rattle.std.specs.List.{AllByRecursion}
 use Rattle.sqlite.specs.Tree.{Trees}
 use Rattle.sqlite.specs.Schema.{Schema}

@@ -7,3 +7,4 @@ pub mod Adds
 pub mod Faults
 pub mod Known
 pub mod Formed
+pub mod Numbered

@@ -1,9 +1,11 @@
 //! Why the database did not do what it was asked.
 ghost use Rattle.std.specs.Prelude.{◌≡◌};
+ghost use Rattle.sqlite.specs.State.{store_error};
 ghost use Rattle.canary_schema.specs.Faults.{fault_of};
 
 use canary_base::error::Memory;
 use sqlite::{Error, ErrorCode};
+use sqlite_trees::error::StoreError;
 use thiserror::Error;
 
 /// Why a database did not do what it was asked.
@@ -34,6 +36,16 @@ pub fn fault_of(error: Error) -> StoreFault
 {
     match error {
         Error::SqliteFailure(ErrorCode::OutOfMemory) => StoreFault::Memory,
+        _ => StoreFault::Storage,
+    }
+}
+
+// The fault that an error of the store itself comes to.
+pub(crate) fn fault_below(error: StoreError) -> StoreFault
+    ensures { result ≡ fault_of (store_error error) }
+{
+    match error {
+        StoreError::OutOfMemory => StoreFault::Memory,
         _ => StoreFault::Storage,
     }
 }

@@ -1,6 +1,7 @@
 //! Which schema a database has.
 ghost use Rattle.std.specs.Prelude.{◌≡◌, ◌↔◌, IsTrue, [], ◌++◌};
 ghost use Rattle.canary_schema.specs.Schema.{no_schema, with_history, desk_schema};
+ghost use Rattle.canary_schema.specs.Formed.{IsDeskSchema};
 ghost use Rattle.canary_schema.specs.Known.{early_tables, late_tables, key_indexes, added_indexes};
 
 use crate::layout::{IndexLayout, are_indexes};
@@ -89,4 +90,11 @@ pub fn is_bare(schema: &Schema) -> bool
     ensures { IsTrue result ↔ schema.now ≡ with_history }
 {
     has_tables(schema)
+}
+
+/// Whether the schema is that of a desk, with the three indexes or without them.
+pub fn is_known(schema: &Schema) -> bool
+    ensures { IsTrue result ↔ IsDeskSchema schema.now }
+{
+    is_desk(schema) || is_bare(schema)
 }

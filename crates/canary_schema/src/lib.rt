@@ -1,6 +1,7 @@
 //! The schema of the desk's database, and when a database stores rows.
 #![tactic(auto)]
 
+pub mod anew;
 pub mod create;
 pub mod fault;
 pub mod known;
@@ -8,3 +9,4 @@ pub mod laws;
 mod layout;
 mod parts;
 mod tables;
+mod whole;

@@ -8,3 +8,4 @@ mod FoundRuns
 mod TemplateLemmas
 mod Strategies
 mod FoundServices
+mod Adopting

@@ -23,8 +23,8 @@ use std::marker::Model;
 /// The book whose contents are the rows of nine tables. Nobody else writes them meanwhile.
 #[derive(Drop)]
 pub struct TableBook<S: Alter> {
-    alloc: Global,
-    conn: Connection<S>,
+    pub(crate) alloc: Global,
+    pub(crate) conn: Connection<S>,
 }
 
 impl<S: Alter> Model for TableBook<S> {

@@ -1,11 +1,16 @@
-//! A book whose contents are the rows of nine tables of SQLite.
+//! A book whose contents are the rows of nine tables of SQLite: over an empty database (`create`),
+//! over one that has a desk's tables (`adopt`), or over a file (`open`).
 #![tactic(auto)]
 
+pub mod adopt;
 pub mod book;
 mod commit;
+pub mod create;
 mod effects;
+pub mod fault;
 mod found;
 mod found_runs;
 mod found_services;
+pub mod open;
 mod pages;
 mod settle;

@@ -27,7 +27,7 @@ fn is_there<S: Alter>(conn: &mut Connection<S>, change: &DeskChange) -> Result<b
         (state S.Store conn.old) (state S.Store conn.new) result }
 {
     match change {
-        DeskChange::Service { service, .. } => has_service(conn, &service.name()),
+        DeskChange::Service { service, .. } => Ok(has_service(conn, &service.name())?),
         _ => Ok(false),
     }
 }

@@ -44,6 +44,10 @@ module _ {X : Type 0} (cells : X → Row) (known : Row → Option X) (back : (x 
       let later : map cells xs ≡ map cells ys = cc in
       ap₂ (λ first others. first ∷ others) (same_row x y here) (same_rows xs ys later)
 
+  -- what is read of the rows that are shown is what they tell
+  pub told_all : (whole : Row → Row) (rows : List Row) (xs found : List X) → map whole rows ≡ map cells xs → map cells found ≡ map whole rows → found ≡ xs
+  told_all whole rows xs found told read = same_rows found xs (read ∙ told)
+
   -- the first of the rows that are shown is the first row
   pub same_first : (whole : Row → Row) (rows : List Row) (xs : List X) (found : Option X) → map whole rows ≡ map cells xs → option_map cells found ≡ option_map whole (slice_get rows 0) → found ≡ slice_get xs 0
   same_first whole [] [] None e h = refl

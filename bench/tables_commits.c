@@ -1,0 +1,91 @@
+/* The statements that settle a request of the stream `one`, by libsqlite3: prepared once, one
+ * transaction a request, WAL, synchronous FULL. Prints microseconds a commit at 1,000, 10,000 and so
+ * on settled requests, up to MOST: tables_commits MOST PATH */
+#include <sqlite3.h>
+#include <stdio.h>
+#include <stdlib.h>
+#include <time.h>
+
+enum { CALLER, KEPT, SERVICE, LINE, STATEMENTS };
+
+static const char *SCHEMA =
+    "CREATE TABLE caller (name TEXT NOT NULL PRIMARY KEY, settled INTEGER NOT NULL) STRICT;"
+    "CREATE TABLE kept (caller TEXT NOT NULL REFERENCES caller (name), number INTEGER NOT NULL,"
+    " command TEXT NOT NULL, status INTEGER NOT NULL, body TEXT NOT NULL,"
+    " PRIMARY KEY (caller, number)) STRICT;"
+    "CREATE TABLE service (name TEXT NOT NULL PRIMARY KEY, spec TEXT NOT NULL,"
+    " stable TEXT NOT NULL, version TEXT NOT NULL, state INTEGER NOT NULL, step INTEGER NOT NULL,"
+    " entered INTEGER NOT NULL, hold INTEGER NOT NULL, background INTEGER NOT NULL,"
+    " runs INTEGER NOT NULL, last INTEGER NOT NULL) STRICT;"
+    "CREATE TABLE history (place INTEGER PRIMARY KEY AUTOINCREMENT, service TEXT NOT NULL,"
+    " moment INTEGER NOT NULL, line TEXT NOT NULL) STRICT;"
+    "CREATE INDEX history_service ON history (service);"
+    "INSERT INTO caller (name, settled) VALUES ('ops', 0);"
+    "INSERT INTO service (name, spec, stable, version, state, step, entered, hold, background, runs,"
+    " last) VALUES ('checkout', '{}', 'v1', 'v1', 2, 0, 1, 0, 0, 0, 1);";
+
+static const char *TEXTS[STATEMENTS] = {
+    "UPDATE caller SET settled = ?1 WHERE name = 'ops'",
+    "INSERT INTO kept (caller, number, command, status, body) VALUES ('ops', ?1,"
+    " '{\"promote\":{\"full\":false,\"service\":\"checkout\"}}', 200,"
+    " '{\"code\":\"ok\",\"service\":\"checkout\",\"status\":\"Progressing\",\"weight\":20}')",
+    "UPDATE service SET stable = 'v1', version = 'v2', state = 0, step = ?1 % 4, entered = ?1,"
+    " hold = 0, background = 0, runs = 0, last = ?1 WHERE name = 'checkout'",
+    "INSERT INTO history (service, moment, line) VALUES ('checkout', ?1, 'step 1 setWeight 20')",
+};
+
+static sqlite3 *db;
+
+static void check(int status) {
+    if (status != SQLITE_OK && status != SQLITE_DONE && status != SQLITE_ROW) {
+        fprintf(stderr, "tables_commits: %s\n", sqlite3_errmsg(db));
+        exit(1);
+    }
+}
+
+static void step(sqlite3_stmt *statement, int number) {
+    check(sqlite3_bind_int(statement, 1, number));
+    check(sqlite3_step(statement));
+    check(sqlite3_reset(statement));
+}
+
+static double micros(void) {
+    struct timespec now;
+    clock_gettime(CLOCK_MONOTONIC, &now);
+    return now.tv_sec * 1e6 + now.tv_nsec / 1e3;
+}
+
+int main(int count, char **words) {
+    if (count != 3) {
+        fprintf(stderr, "tables_commits: MOST and PATH are missing\n");
+        return 2;
+    }
+    int most = atoi(words[1]);
+    check(sqlite3_open(words[2], &db));
+    check(sqlite3_exec(db, "PRAGMA journal_mode = WAL; PRAGMA synchronous = FULL;"
+                           "PRAGMA foreign_keys = ON", 0, 0, 0));
+    check(sqlite3_exec(db, SCHEMA, 0, 0, 0));
+    sqlite3_stmt *begin, *commit, *statements[STATEMENTS];
+    check(sqlite3_prepare_v2(db, "BEGIN", -1, &begin, 0));
+    check(sqlite3_prepare_v2(db, "COMMIT", -1, &commit, 0));
+    for (int i = 0; i < STATEMENTS; i++) {
+        check(sqlite3_prepare_v2(db, TEXTS[i], -1, &statements[i], 0));
+    }
+    double start = micros();
+    for (int number = 1, from = 0, size = 1000; number <= most; number++) {
+        check(sqlite3_step(begin));
+        check(sqlite3_reset(begin));
+        for (int i = 0; i < STATEMENTS; i++) {
+            step(statements[i], number);
+        }
+        check(sqlite3_step(commit));
+        check(sqlite3_reset(commit));
+        if (number == size || number == most) {
+            printf("%8d %9.2f us a commit\n", number, (micros() - start) / (number - from));
+            start = micros();
+            from = number;
+            size *= 10;
+        }
+    }
+    return 0;
+}

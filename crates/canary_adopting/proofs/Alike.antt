@@ -1,0 +1,83 @@
+-- What refuses a strategy, and the strategy, are the same by templates that agree on the names that it has.
+use Rattle.std.proofs.Common.{◌≡◌, ℕ, List, [], ◌∷◌, ◌++◌, refl, ap}
+use Rattle.std.specs.Prelude.{◌||◌, nat_lt, not, Bool, length, map, Option, Some, None, is_none}
+use Rattle.std.specs.List.{AllByRecursion, list_any, list_all, filter_map}
+use Rattle.canary_metric.specs.Metrics.{MetricValue, effective_count}
+use Rattle.canary_plan.specs.declared.step.Step.{Step}
+use Rattle.canary_plan.specs.declared.step.Step.TheVariants.{SetWeight, Pause, Analysis}
+use Rattle.canary_plan.specs.declared.service.Background.{Background}
+use Rattle.canary_plan.specs.declared.service.ServiceSpec.{ServiceSpec}
+use Rattle.canary_plan.specs.declared.refusal.Refusal.TheVariants.{DuplicateMetric, UnknownTemplate, EndlessMetric, BadStrategy}
+use Rattle.canary_plan.specs.Plans.{Templates, metrics_in, metrics_named, has_weight_in_range, are_metrics_of_run, step_metrics, background_metrics, strategy_of}
+use Rattle.canary_plan.specs.Commands.{all_names}
+use Rattle.canary_plan.specs.Refusals.{first_that_holds}
+use Rattle.canary_plan.specs.PlanRefusals.{has_duplicate, has_unknown, repeats_metric, is_endless, is_misfit, names_of_step, names_of_background, step_analyses, analyses, strategy_refusal}
+use Rattle.canary_release.specs.Laws.{Agree}
+
+all_left : {X : Type 0} (P : X → Type 0) (xs ys : List X) → AllByRecursion P (xs ++ ys) → AllByRecursion P xs
+all_left P [] ys h = tt
+all_left P (x ∷ xs) ys h = (h.0, all_left P xs ys h.1)
+
+all_right : {X : Type 0} (P : X → Type 0) (xs ys : List X) → AllByRecursion P (xs ++ ys) → AllByRecursion P ys
+all_right P [] ys h = h
+all_right P (x ∷ xs) ys h = all_right P xs ys h.1
+
+-- what is said of all names is said of each analysis
+each : (P : List ℕ → Type 0) (xs : List (List (List ℕ))) → AllByRecursion P (all_names xs) → AllByRecursion (AllByRecursion P) xs
+each P [] h = tt
+each P (x ∷ xs) h = (all_left P x (all_names xs) h, each P xs (all_right P x (all_names xs) h))
+
+any_alike : {X : Type 0} (P : X → Type 0) (f g : X → Bool) → ((x : X) → P x → f x ≡ g x) → (xs : List X) → AllByRecursion P xs → list_any f xs ≡ list_any g xs
+any_alike P f g same [] h = refl
+any_alike P f g same (x ∷ xs) h = λ i. same x h.0 i || any_alike P f g same xs h.1 i
+
+named : (known other : Templates) (names : List (List ℕ)) → Agree known other names → metrics_named known names ≡ metrics_named other names
+named known other [] h = refl
+named known other (n ∷ ns) h = λ i. metrics_in (h.0 i) ++ named known other ns h.1 i
+
+unknown : (known other : Templates) (names : List (List ℕ)) → Agree known other names → has_unknown known names ≡ has_unknown other names
+unknown known other names h = any_alike (λ name. known name ≡ other name) (λ name. is_none (known name)) (λ name. is_none (other name)) (λ name e i. is_none (e i)) names h
+
+repeats : (known other : Templates) (names : List (List ℕ)) → Agree known other names → repeats_metric known names ≡ repeats_metric other names
+repeats known other names h = ap (λ (ms : List MetricValue). has_duplicate (map (λ (m : MetricValue). m.name) ms)) (named known other names h)
+
+endless : (known other : Templates) (names : List (List ℕ)) → Agree known other names → is_endless known names ≡ is_endless other names
+endless known other names h = ap (λ (ms : List MetricValue). list_any (λ (m : MetricValue). is_none (effective_count m)) ms) (named known other names h)
+
+misfit : (known other : Templates) (names : List (List ℕ)) → Agree known other names → is_misfit known names ≡ is_misfit other names
+misfit known other names h = ap (λ (ms : List MetricValue). nat_lt (length names) 1 || (nat_lt 8 (length names) || not (are_metrics_of_run ms))) (named known other names h)
+
+-- the refusal of a strategy
+refusal_alike : (known other : Templates) (spec : ServiceSpec) → AllByRecursion (Agree known other) (analyses spec) → strategy_refusal known spec ≡ strategy_refusal other spec
+refusal_alike known other spec h =
+    let all = analyses spec in
+    let steps = step_analyses spec in
+    let in_steps = all_left (Agree known other) steps (names_of_background spec.background) h in
+    let a = any_alike (Agree known other) (repeats_metric known) (repeats_metric other) (repeats known other) all h in
+    let b = any_alike (Agree known other) (has_unknown known) (has_unknown other) (unknown known other) all h in
+    let c = any_alike (Agree known other) (is_endless known) (is_endless other) (endless known other) steps in_steps in
+    let d = any_alike (Agree known other) (is_misfit known) (is_misfit other) (misfit known other) all h in
+    λ i. first_that_holds ((a i, DuplicateMetric) ∷ (b i, UnknownTemplate) ∷ (c i, EndlessMetric) ∷ (nat_lt 64 (length spec.steps) || (not (list_all has_weight_in_range spec.steps) || d i), BadStrategy) ∷ [])
+
+-- the metrics of a strategy
+steps_alike : (known other : Templates) (steps : List Step) → AllByRecursion (Agree known other) (filter_map names_of_step steps) → map (step_metrics known) steps ≡ map (step_metrics other) steps
+steps_alike known other [] h = refl
+steps_alike known other (SetWeight percent ∷ steps) h = ap (λ (ms : List (List MetricValue)). [] ∷ ms) (steps_alike known other steps h)
+steps_alike known other (Pause seconds ∷ steps) h = ap (λ (ms : List (List MetricValue)). [] ∷ ms) (steps_alike known other steps h)
+steps_alike known other (Analysis names ∷ steps) h = λ i. named known other names h.0 i ∷ steps_alike known other steps h.1 i
+
+background_alike : (known other : Templates) (b : Option Background) → AllByRecursion (Agree known other) (names_of_background b) → background_metrics known b ≡ background_metrics other b
+background_alike known other None h = refl
+background_alike known other (Some b) h = named known other b.templates h.0
+
+strategy_alike : (known other : Templates) (spec : ServiceSpec) → AllByRecursion (Agree known other) (analyses spec) → strategy_of known spec ≡ strategy_of other spec
+strategy_alike known other spec h =
+    let steps = steps_alike known other spec.steps (all_left (Agree known other) (step_analyses spec) (names_of_background spec.background) h) in
+    let background = background_alike known other spec.background (all_right (Agree known other) (step_analyses spec) (names_of_background spec.background) h) in
+    λ i. record { steps = spec.steps; background = spec.background; step_metrics = steps i; background_metrics = background i }
+
+pub refused_alike : (known other : Templates) (spec : ServiceSpec) → Agree known other (all_names (analyses spec)) → strategy_refusal known spec ≡ strategy_refusal other spec
+refused_alike known other spec agree = refusal_alike known other spec (each (λ name. known name ≡ other name) (analyses spec) agree)
+
+pub planned_alike : (known other : Templates) (spec : ServiceSpec) → Agree known other (all_names (analyses spec)) → strategy_of known spec ≡ strategy_of other spec
+planned_alike known other spec agree = strategy_alike known other spec (each (λ name. known name ≡ other name) (analyses spec) agree)

@@ -1,0 +1,165 @@
+-- What is judged of services, from what is read of them.
+use Rattle.std.proofs.Common.{◌≡◌, ◌+◌, ℕ, zero, suc, List, [], ◌∷◌, length, map, false, Option, Some, None, refl, sym, ap, ◌∙◌, subst, arith}
+use Rattle.std.specs.Prelude.{filter, slice_get}
+use Rattle.std.specs.List.{sum_by}
+use Rattle.std.specs.FinMap.{get}
+use Rattle.std.proofs.lemmas.List.Sums.{sum_by-cons}
+use Rattle.canary_plan.specs.declared.line.Line.{Line}
+use Rattle.canary_plan.specs.declared.service.ServiceSpec.{ServiceSpec}
+use Rattle.canary_plan.specs.declared.strategy.CheckedStrategy.{CheckedStrategy}
+use Rattle.canary_plan.specs.Plans.{strategy_of}
+use Rattle.canary_plan.specs.PlanRefusals.{strategy_refusal}
+use Rattle.canary_canonical.specs.Readings.{canonical_in}
+use Rattle.canary_release.specs.declared.effect.Recorded.{Recorded}
+use Rattle.canary_release.specs.declared.stand.Stand.{Stand}
+use Rattle.canary_release.specs.Parts.{is_broken}
+use Rattle.canary_once.specs.declared.record.RunRecord.{RunRecord}
+use Rattle.canary_rows.specs.declared.rows.ServiceRow.{ServiceRow}
+use Rattle.canary_rows.specs.declared.rows.TallyRow.{TallyRow}
+use Rattle.canary_rows.specs.Tables.{Tables, is_service, is_tally_of, is_measurement_of}
+use Rattle.canary_stored.specs.Reading.{contents_of}
+use Rattle.canary_stored.specs.Values.{made_from, stand_of, history_row, measurement_of_row}
+use Rattle.canary_judging.specs.Services.{IsServiceJudged, open_runs_in}
+use Rattle.canary_judging.specs.Totals.{tallies_to}
+use Rattle.canary_adopting.specs.declared.totals.Totals.{Totals}
+use Rattle.canary_adopting.specs.OfService.{AreRunsOf, AreMeasurementsOf, IsHistoryOf}
+use Rattle.canary_adopting.specs.Alone.{only}
+use Rattle.canary_adopting.specs.OneService.{IsPastJudged, IsServiceUnder, IsServiceFound, totals_of}
+use Rattle.canary_adopting.specs.Strategies.{IsStrategyOf, IsStrategyAccepted}
+use Rattle.canary_adopting.proofs.JudgedCallers.{only_one}
+use Rattle.canary_adopting.proofs.Names.{equal_names, first_passes}
+
+-- What a reader answers, it answers alone.
+
+same_value : {A : Type 0} (x y : A) → Some x ≡ Some y → x ≡ y
+same_value x y is = cc
+
+pub one_value : {A : Type 0} (o : Option A) (x y : A) → o ≡ Some x → o ≡ Some y → x ≡ y
+one_value o x y first second = same_value x y (sym first ∙ second)
+
+-- A name.
+
+pub service_found : (t : Tables) (name : List ℕ) (rows : List ServiceRow) (row : ServiceRow) (totals : Totals) → rows ≡ filter (is_service name) t.services → only rows ≡ Some row
+    → (filter (is_service row.name) t.services ≡ row ∷ [] → IsServiceJudged t row × (totals ≡ totals_of t row)) → IsServiceFound name t totals
+service_found t name rows row totals are one is =
+    let alone : filter (is_service name) t.services ≡ row ∷ [] = sym are ∙ only_one rows row one in
+    let named : name ≡ row.name = equal_names name row.name (first_passes (is_service name) t.services [] row alone) in
+    record { row = row; named = sym named; has = is (subst (λ n. filter (is_service n) t.services ≡ row ∷ []) named alone) }
+
+alone_under : (t : Tables) (name : List ℕ) (rows : List ServiceRow) → rows ≡ filter (is_service name) t.services → (under : IsServiceUnder t name) → only rows ≡ Some under.row
+alone_under t name rows are under = ap only (are ∙ subst (λ n. filter (is_service n) t.services ≡ under.row ∷ []) under.named under.has.one)
+
+pub no_service : (t : Tables) (name : List ℕ) (rows : List ServiceRow) → rows ≡ filter (is_service name) t.services → only rows ≡ None → ¬ IsServiceUnder t name
+no_service t name rows are none under = let some : None ≡ Some under.row = sym none ∙ alone_under t name rows are under in cc
+
+pub service_there : (t : Tables) (name : List ℕ) (rows : List ServiceRow) (row : ServiceRow) → rows ≡ filter (is_service name) t.services → only rows ≡ Some row → IsServiceUnder t name → IsServiceJudged t row
+service_there t name rows row are one under = subst (IsServiceJudged t) (one_value (only rows) under.row row (alone_under t name rows are under) one) under.has
+
+-- A service's row.
+
+pub service_judged : (t : Tables) (row : ServiceRow) (made : ServiceSpec) (strategy : CheckedStrategy) (stand : Stand) → filter (is_service row.name) t.services ≡ row ∷ [] → (made_from (canonical_in row.spec) ≡ Some made) × (made.name ≡ row.name)
+    → IsStrategyOf t made strategy → stand_of row.name strategy row.standing ≡ Some stand → IsPastJudged t row stand → IsServiceJudged t row
+service_judged t row made strategy stand one is plan stands past =
+    record {
+      one = one;
+      made = made;
+      is = is.0;
+      named = is.1;
+      accepted = plan.0;
+      stand = stand;
+      stands = subst (λ s. stand_of row.name s row.standing ≡ Some stand) plan.1 stands;
+      runs = past.runs;
+      as_many = past.are.as_many;
+      each = past.are.each;
+      measurements = past.measurements;
+      read = past.read;
+      counted = past.tallied.counted;
+      tallied = past.tallied.tallied;
+      history = past.history;
+      told = past.told.told;
+      lines = past.told.lines;
+      parts = subst (λ n. is_broken (record { stand = stand; runs = record { count = n; open_runs = open_runs_in past.runs } }) ≡ false) (sym past.are.as_many) past.parts;
+    }
+
+pub past_judged : (t : Tables) (row : ServiceRow) → (j : IsServiceJudged t row) → IsPastJudged t row j.stand
+past_judged t row j =
+    record {
+      runs = j.runs;
+      are = record { as_many = j.as_many; each = j.each };
+      measurements = j.measurements;
+      read = j.read;
+      tallied = record { counted = j.counted; tallied = j.tallied };
+      history = j.history;
+      told = record { told = j.told; lines = j.lines };
+      parts = subst (λ n. is_broken (record { stand = j.stand; runs = record { count = n; open_runs = open_runs_in j.runs } }) ≡ false) j.as_many j.parts;
+    }
+
+-- it is made by what is read, and this by a strategy that nothing refuses
+
+pub made_there : (t : Tables) (row : ServiceRow) (made : ServiceSpec) → made_from (canonical_in row.spec) ≡ Some made → IsServiceJudged t row → IsStrategyAccepted t made
+made_there t row made is j =
+    subst (λ m. strategy_refusal (get (contents_of t).desk.templates) m ≡ None) (one_value (made_from (canonical_in row.spec)) j.made made j.is is) j.accepted
+
+stands_there : (t : Tables) (row : ServiceRow) (made : ServiceSpec) (strategy : CheckedStrategy) → made_from (canonical_in row.spec) ≡ Some made → strategy ≡ strategy_of (get (contents_of t).desk.templates) made → (j : IsServiceJudged t row)
+    → stand_of row.name strategy row.standing ≡ Some j.stand
+stands_there t row made strategy is plan j =
+    ap (λ s. stand_of row.name s row.standing) (plan ∙ ap (strategy_of (get (contents_of t).desk.templates)) (one_value (made_from (canonical_in row.spec)) made j.made is j.is)) ∙ j.stands
+
+pub no_stand : (t : Tables) (row : ServiceRow) (made : ServiceSpec) (strategy : CheckedStrategy) → made_from (canonical_in row.spec) ≡ Some made → strategy ≡ strategy_of (get (contents_of t).desk.templates) made
+    → stand_of row.name strategy row.standing ≡ None → ¬ IsServiceJudged t row
+no_stand t row made strategy is plan none j = let some : None ≡ Some j.stand = sym none ∙ stands_there t row made strategy is plan j in cc
+
+pub past_there : (t : Tables) (row : ServiceRow) (made : ServiceSpec) (strategy : CheckedStrategy) (stand : Stand) → made_from (canonical_in row.spec) ≡ Some made → strategy ≡ strategy_of (get (contents_of t).desk.templates) made
+    → stand_of row.name strategy row.standing ≡ Some stand → IsServiceJudged t row → IsPastJudged t row stand
+past_there t row made strategy stand is plan stands j = subst (IsPastJudged t row) (one_value (stand_of row.name strategy row.standing) j.stand stand (stands_there t row made strategy is plan j) stands) (past_judged t row j)
+
+-- How much it has.
+
+up_to : (ℕ → ℕ) → ℕ → ℕ
+up_to f zero = 0
+up_to f (suc n) = up_to f n + f (suc n)
+
+up_from_first : (f : ℕ → ℕ) (n : ℕ) → up_to f (suc n) ≡ f 1 + up_to (λ k. f (suc k)) n
+unfolding up_to
+up_from_first f zero = omega arith
+up_from_first f (suc n) = let before : up_to f (suc n) ≡ f 1 + up_to (λ k. f (suc k)) n = up_from_first f n in omega arith
+
+tallies_up : (tallies : List TallyRow) (name : List ℕ) (n : ℕ) → tallies_to tallies name n ≡ up_to (λ k. length (filter (is_tally_of name k) tallies)) n
+unfolding up_to
+tallies_up tallies name zero = refl
+tallies_up tallies name (suc n) = ap (λ s. s + length (filter (is_tally_of name (suc n)) tallies)) (tallies_up tallies name n)
+
+run_by_run : {R : Type 0} (f : ℕ → ℕ) (g : R → ℕ) (runs : List R) → ((place : ℕ) (r : R) → slice_get runs place ≡ Some r → f (suc place) ≡ g r) → up_to f (length runs) ≡ sum_by g runs
+unfolding up_to
+run_by_run f g [] each = refl
+run_by_run f g (r ∷ rs) each =
+    let first : f 1 ≡ g r = each 0 r refl in
+    let rest : up_to (λ k. f (suc k)) (length rs) ≡ sum_by g rs = run_by_run (λ k. f (suc k)) g rs (λ place x at. each (suc place) x at) in
+    let all : sum_by g (r ∷ rs) ≡ g r + sum_by g rs = sum_by-cons g r rs in
+    let shift : up_to f (suc (length rs)) ≡ f 1 + up_to (λ k. f (suc k)) (length rs) = up_from_first f (length rs) in
+    shift ∙ (let e : f 1 + up_to (λ k. f (suc k)) (length rs) ≡ g r + sum_by g rs = omega arith in e) ∙ sym all
+
+tallies_sum : (t : Tables) (strategy : CheckedStrategy) (name : List ℕ) (count : ℕ) (runs : List RunRecord) → AreRunsOf strategy name count t runs → sum_by (λ (r : RunRecord). length r.tallies) runs ≡ tallies_to t.tallies name count
+tallies_sum t strategy name count runs are =
+    sym (run_by_run (λ k. length (filter (is_tally_of name k) t.tallies)) (λ (r : RunRecord). length r.tallies) runs (λ place r at.
+    let e = are.each place r at in ap (λ k. length (filter (is_tally_of name k) t.tallies)) (sym e.0) ∙ e.1.no_more))
+    ∙ sym (tallies_up t.tallies name (length runs))
+    ∙ ap (tallies_to t.tallies name) are.as_many
+
+as_long : {R A : Type 0} (reads : R → Option A) (rows : List R) (found : List A) → map reads rows ≡ map Some found → length found ≡ length rows
+as_long reads [] [] is = refl
+as_long reads [] (x ∷ xs) is = cc
+as_long reads (row ∷ rows) [] is = cc
+as_long reads (row ∷ rows) (x ∷ xs) is = let rest : map reads rows ≡ map Some xs = cc in ap suc (as_long reads rows xs rest)
+
+same_length : {A B : Type 0} (f : A → B) (xs : List A) → length (map f xs) ≡ length xs
+same_length f [] = refl
+same_length f (x ∷ xs) = ap suc (same_length f xs)
+
+pub past_totals : (t : Tables) (row : ServiceRow) (stand : Stand) (runs : List RunRecord) (measurements : List Recorded) (history : List Line) → AreRunsOf stand.strategy row.name row.standing.runs t runs → AreMeasurementsOf row.name t measurements → IsHistoryOf row.name t history
+    → (totals : Totals) → totals.runs ≡ row.standing.runs → totals.tallies ≡ sum_by (λ (r : RunRecord). length r.tallies) runs → totals.measurements ≡ length measurements → totals.lines ≡ length history → totals ≡ totals_of t row
+past_totals t row stand runs measurements history are read told totals count sum measured lines =
+    let tallies = sum ∙ tallies_sum t stand.strategy row.name row.standing.runs runs are in
+    let taken = measured ∙ as_long measurement_of_row (filter (is_measurement_of row.name) t.measurements) measurements read.each in
+    let said = lines ∙ sym (same_length (history_row row.name) history) ∙ ap length (sym told.told) in
+    λ i. record { runs = count i; tallies = tallies i; measurements = taken i; lines = said i }

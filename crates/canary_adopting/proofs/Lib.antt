@@ -1,0 +1,17 @@
+mod Standing
+mod Each
+mod Names
+mod JudgedCallers
+mod JudgedTemplates
+mod Alike
+mod NamedTemplates
+mod JudgedStrategies
+mod JudgedServices
+mod AllServices
+mod PlacedLemmas
+mod CountLemmas
+mod RunLemmas
+mod HistoryLemmas
+mod StateLemmas
+mod RunsSame
+mod JudgedPasts

@@ -1,0 +1,35 @@
+use Rattle.std.proofs.Common.{◌≡◌, Err, rules}
+use Rattle.std.proofs.lemmas.Result.{IfOk-weaker}
+use Rattle.sqlite.specs.Held.{state}
+use Rattle.canary_reads.specs.declared.fault.ReadFault.TheVariants.{Broken}
+use Rattle.canary_adopting.proofs.JudgedServices.{service_judged, made_there, no_stand, past_there}
+use Rattle.canary_adopting.proofs.Standing.{stores_then}
+use Rattle.canary_adopting.proofs.service.judge_row.Goals as goal
+
+pub returns-in_err-made-clause-refused : goal.returns-in_err-made-clause-refused
+returns-in_err-made-clause-refused g c usable t has judged is within row_judged =
+    let broken : c.made_by.result ≡ Err Broken = search rules in
+    c.made_by.ensures.broken broken row_judged.made row_judged.is row_judged.named
+
+pub returns-in_err-strategy-clause-refused : goal.returns-in_err-strategy-clause-refused
+returns-in_err-strategy-clause-refused g c usable t has judged is within row_judged =
+    let broken : c.strategy.result ≡ Err Broken = search rules in
+    c.strategy.ensures.broken usable t has judged broken within (made_there t c.args.row.now c.in_ok-made.made c.in_ok-made.ensures.made.0 row_judged)
+
+pub returns-in_err-stand-clause-refused : goal.returns-in_err-stand-clause-refused
+returns-in_err-stand-clause-refused g c usable t has judged is within row_judged =
+    let broken : c.stand_by.result ≡ Err Broken = search rules in
+    no_stand t c.args.row.now c.in_ok-made.made c.in_ok-strategy.strategy c.in_ok-made.ensures.made.0 (c.in_ok-strategy.ensures.found usable t has judged).1 (c.stand_by.ensures.broken broken) row_judged
+
+pub returns-clause-judged : goal.returns-clause-judged
+returns-clause-judged g c usable t has judged =
+    let mid = (c.judge_past.ensures.same usable).0 in
+    IfOk-weaker c.judge_past.result _ _
+    (λ totals is one. (service_judged t c.args.row.now c.in_ok-made.made c.in_ok-strategy.strategy c.in_ok-stand.stand one c.in_ok-made.ensures.made (c.in_ok-strategy.ensures.found mid t has judged) c.in_ok-stand.ensures.stand is.0, is.1))
+    (c.judge_past.ensures.judged usable t (stores_then (state g.S.Store c.args.conn.now) (state g.S.Store c.strategy.new.conn) t c.strategy.ensures.same mid has))
+
+pub returns-clause-refused : goal.returns-clause-refused
+returns-clause-refused g c usable t has judged is within row_judged =
+    let mid = (c.judge_past.ensures.same usable).0 in
+    c.judge_past.ensures.refused usable t (stores_then (state g.S.Store c.args.conn.now) (state g.S.Store c.strategy.new.conn) t c.strategy.ensures.same mid has) is
+    (within, past_there t c.args.row.now c.in_ok-made.made c.in_ok-strategy.strategy c.in_ok-stand.stand c.in_ok-made.ensures.made.0 (c.in_ok-strategy.ensures.found mid t has judged).1 c.in_ok-stand.ensures.stand row_judged)

@@ -1,0 +1,22 @@
+use Rattle.std.proofs.Common.{arith, sym, ◌∙◌}
+use Rattle.sqlite.specs.Held.{state}
+use Rattle.canary_adopting.proofs.JudgedStrategies.{none_so_far, template_more, no_template_more}
+use Rattle.canary_adopting.proofs.strategies.templates_of.Goals as goal
+use Rattle.canary_adopting.proofs.strategies.templates_of.Goals.{in-Some+in_ok-insert, in_default}
+
+pub loop-name-init : goal.loop-name-init
+loop-name-init g c = (c.requires.autocommit, none_so_far c.args.names.now (state g.S.Store c.args.conn.now) c.new-found.result c.new-found.ensures)
+
+pub loop-name-preserved : goal.loop-name-preserved
+loop-name-preserved g c = elim c.match-branch-2.branch [
+  | in-Some+in_ok-insert w ↦ (
+    c.template.ensures.mode,
+    template_more c.args.names.now c.loop-name.name-index (state g.S.Store c.args.conn.now) (state g.S.Store c.loop-name.conn) (state g.S.Store c.template.new.conn) c.loop-name.found c.match-branch-2.found c.name-item.result w.in-Some.template (omega arith) c.name-item.is c.loop-name.invariant.1 c.template.ensures.same
+        (λ usable t has judged. sym w.in-Some.is ∙ c.in_ok-template.ensures.found usable t has judged) (w.found-is ∙ w.in_ok-insert.ensures.ok),
+  )
+  | in_default w ↦ (
+    c.template.ensures.mode,
+    no_template_more c.args.names.now c.loop-name.name-index (state g.S.Store c.args.conn.now) (state g.S.Store c.loop-name.conn) (state g.S.Store c.template.new.conn) c.loop-name.found c.match-branch-2.found c.name-item.result (omega arith) c.name-item.is c.loop-name.invariant.1 c.template.ensures.same
+        (λ usable t has judged. sym w.in_default.is ∙ c.in_ok-template.ensures.found usable t has judged) w.found-is,
+  )
+]

@@ -1,0 +1,16 @@
+use Rattle.std.proofs.Common.{rules, subst}
+use Rattle.canary_adopting.specs.Templates.{IsAcceptedIn}
+use Rattle.canary_adopting.proofs.JudgedCallers.{only_one}
+use Rattle.canary_adopting.proofs.templates.read_template.Goals as goal
+
+pub returns-then-is_of-clause-judged : goal.returns-then-is_of-clause-judged
+returns-then-is_of-clause-judged c =
+    record {
+      row = c.in-Some.row;
+      one = only_one c.args.rows c.in-Some.row (search rules);
+      has = record {
+        read = c.in_ok-template.template;
+        is = subst (λ text. IsAcceptedIn text c.in_ok-template.template) c.as_str.ensures c.in_ok-template.ensures.found;
+        named = search rules;
+      };
+    }

@@ -1,0 +1,6 @@
+pub mod Judges
+pub mod Alone
+pub mod Templates
+pub mod Strategies
+pub mod OfService
+pub mod OneService

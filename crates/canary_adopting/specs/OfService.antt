@@ -1,0 +1,89 @@
+-- What is judged of one service's runs, measurements and lines.
+use Rattle.std.specs.Prelude.{◌≡◌, ◌≢◌, ℕ, suc, List, [], ◌∷◌, length, map, filter, Option, Some, None, slice_get, Result, Ok, Err}
+use Rattle.std.specs.List.{AllByRecursion}
+use Rattle.canary_metric.specs.Metrics.{MetricValue}
+use Rattle.canary_metric.specs.Counts.{Counts}
+use Rattle.canary_plan.specs.declared.line.Line.{Line}
+use Rattle.canary_plan.specs.declared.strategy.CheckedStrategy.{CheckedStrategy}
+use Rattle.canary_plan.specs.Plans.{metrics_at}
+use Rattle.canary_plan.specs.Lines.{words}
+use Rattle.canary_release.specs.declared.effect.Recorded.{Recorded}
+use Rattle.canary_once.specs.declared.record.RunRecord.{RunRecord}
+use Rattle.canary_rows.specs.declared.rows.TallyRow.{TallyRow}
+use Rattle.canary_rows.specs.Tables.{Tables, is_tally, is_tally_of, is_measurement_of, is_line_of}
+use Rattle.canary_stored.specs.Values.{tally_row, history_row, measurement_of_row}
+use Rattle.canary_stored.specs.Tables.{IsReadableLine}
+use Rattle.canary_stored.specs.Finding.{AreRead}
+use Rattle.canary_stored.specs.declared.fault.RowFault.{RowFault}
+use Rattle.canary_stored.specs.declared.fault.RowFault.TheVariants as row_fault
+use Rattle.canary_reads.specs.declared.fault.ReadFault.{ReadFault}
+use Rattle.canary_reads.specs.declared.fault.ReadFault.TheVariants.{Broken, Memory}
+use Rattle.canary_judging.specs.Counting.{none_counted, counted_all, AreCounted}
+use Rattle.canary_judging.specs.Services.{metrics_of_runs, HasVerdictBy, IsRunJudged}
+
+-- there is such a value in the tables
+abbrev pub HasSuch : {A : Type 0} → (Tables → A → Type 0) → Tables → Type 0
+HasSuch {A} such t = (value : A) × such t value
+
+-- the value that there is, or it tells that there is none, or why it cannot tell
+abbrev pub IsTold : {A : Type 0} → Option A → Result A ReadFault → Type 0
+IsTold value (Ok found) = value ≡ Some found
+IsTold value (Err Broken) = value ≡ None
+IsTold value (Err fault) = Unit {0}
+
+-- each row's value, or it tells that some row has none, or why it cannot tell
+abbrev pub AreTold : {R A : Type 0} → (R → Option A) → List R → Result (List A) ReadFault → Type 0
+AreTold reads rows (Ok found) = map reads rows ≡ map Some found
+AreTold {R} {A} reads rows (Err Broken) = (found : List A) → map reads rows ≢ map Some found
+AreTold reads rows (Err fault) = Unit {0}
+
+-- what a row that is not read tells of the tables
+abbrev pub read_fault : RowFault → ReadFault
+read_fault row_fault.Broken = Broken
+read_fault row_fault.Memory = Memory
+
+-- Runs.
+
+-- each row stands at the place of its metric, the first of them at this one
+abbrev pub ArePlaced : ℕ → List TallyRow → Type 0
+ArePlaced place [] = Unit {0}
+ArePlaced place (row ∷ rows) = (row.metric ≡ place) × ArePlaced (suc place) rows
+
+-- the tallies of the run of that number, by the places of its metrics
+pub record AreTalliesOf (name : List ℕ) (number : ℕ) (t : Tables) (tallies : List Counts) : Type 0 where
+  pub each : (place : ℕ) (c : Counts) → slice_get tallies place ≡ Some c → filter (is_tally name number place) t.tallies ≡ tally_row name number place c ∷ []
+  pub no_more : length (filter (is_tally_of name number) t.tallies) ≡ length tallies
+
+-- the run has an analysis, and the verdict of its metrics
+pub record HasAnalysis (strategy : CheckedStrategy) (r : RunRecord) : Type 0 where
+  pub metrics : List MetricValue
+  pub analysis : metrics_at strategy r.step ≡ Some metrics
+  pub verdict : HasVerdictBy metrics r.tallies r.closed
+
+-- the run of that number
+abbrev pub IsRunOf : CheckedStrategy → List ℕ → ℕ → Tables → RunRecord → Type 0
+IsRunOf strategy name number t r = (r.number ≡ number) × IsRunJudged t strategy name r
+
+-- the runs 1 to that number
+pub record AreRunsOf (strategy : CheckedStrategy) (name : List ℕ) (count : ℕ) (t : Tables) (runs : List RunRecord) : Type 0 where
+  pub as_many : length runs ≡ count
+  pub each : (place : ℕ) (r : RunRecord) → slice_get runs place ≡ Some r → IsRunOf strategy name (suc place) t r
+
+-- Measurements and lines.
+
+-- the measurements come one after another, and to the tallies of the runs
+pub record AreTallied (strategy : CheckedStrategy) (runs : List RunRecord) (measurements : List Recorded) : Type 0 where
+  pub counted : AreCounted (metrics_of_runs strategy runs) (none_counted (metrics_of_runs strategy runs)) measurements
+  pub tallied : map (λ (r : RunRecord). r.tallies) runs ≡ counted_all (none_counted (metrics_of_runs strategy runs)) measurements
+
+-- each row of its measurements is read
+abbrev pub AreMeasurementsOf : List ℕ → Tables → List Recorded → Type 0
+AreMeasurementsOf name t measurements = AreRead measurement_of_row (filter (is_measurement_of name) t.measurements) measurements
+
+abbrev pub line_words : Line → List ℕ
+line_words line = words line.event
+
+-- each row of its history is a line's, which is read back
+pub record IsHistoryOf (name : List ℕ) (t : Tables) (history : List Line) : Type 0 where
+  pub told : filter (is_line_of name) t.history ≡ map (history_row name) history
+  pub lines : AllByRecursion IsReadableLine history

@@ -1,0 +1,165 @@
+//! Callers, and what is kept of their requests.
+ghost use Rattle.std.specs.Prelude.{◌≡◌, ◌≤◌, ◌↔◌, false, ℕ, Some, IsTrue, OnOk, Err};
+ghost use Rattle.std.specs.List.{AllByRecursion, sum_by};
+ghost use Rattle.sqlite.specs.Held.{state};
+ghost use Rattle.canary_rows.specs.Tables.{is_kept};
+ghost use Rattle.canary_stored.specs.Values.{receipt_of_row};
+ghost use Rattle.canary_judging.specs.Judged.{AreCallersJudged, IsCallerJudged, IsOneRead};
+ghost use Rattle.canary_reads.specs.declared.fault.ReadFault.TheVariants.{Broken};
+ghost use Rattle.canary_reads.specs.Finds.{IsSame, FindsSuch};
+ghost use Rattle.canary_adopting.specs.Alone.{IsAlone, IsRead, only};
+ghost use Rattle.canary_adopting.specs.Judges.{FindsThat, RefusesUnless};
+
+use crate::fault::read_fault;
+use crate::{alone, totals};
+use canary_base::lists::Listed;
+use canary_base::names::Name;
+use canary_base::numbers::LAST_NUMBER;
+use canary_reads::fault::ReadFault;
+use canary_reads::{callers, lists};
+use canary_rows::rows::{CallerRow, KeptRow};
+use canary_stored::reading;
+use sqlite::{Alter, Connection};
+use std::alloc::Global;
+
+/// That each caller stands once, that each of its numbers has one row, which is read, and that
+/// there are no more kept rows than these.
+///
+/// # Errors
+/// `Broken` where that is not so, `Memory` where there is not enough, `Storage` where the database
+/// fails or has more rows than are counted.
+pub(crate) fn judge<S: Alter>(conn: &mut Connection<S>, alloc: Global) -> Result<(), ReadFault>
+    requires autocommit { conn.old.in_transaction ≡ false }
+    ensures mode { conn.new.in_transaction ≡ false }
+    ensures same { IsSame (state S.Store conn.old) (state S.Store conn.new) }
+    ensures judged { FindsThat AreCallersJudged
+        (state S.Store conn.old) (state S.Store conn.new) result }
+    ensures refused { RefusesUnless AreCallersJudged
+        (state S.Store conn.old) (state S.Store conn.new) result }
+{
+    let callers = lists::callers(conn, alloc)?;
+    let settled = judge_each(conn, alloc, callers.as_slice())?;
+    let kept = lists::kept_count(conn)?;
+    totals::are_all(settled, kept)
+}
+
+// How many requests of these callers are settled, where each is as it is to be.
+fn judge_each<S: Alter>(
+    conn: &mut Connection<S>,
+    alloc: Global,
+    callers: &[CallerRow],
+) -> Result<u64, ReadFault>
+    requires autocommit { conn.old.in_transaction ≡ false }
+    ensures mode { conn.new.in_transaction ≡ false }
+    ensures same { IsSame (state S.Store conn.old) (state S.Store conn.new) }
+    ensures judged { FindsSuch (λ t settled. AllByRecursion (IsCallerJudged t) callers.now
+        × (settled ≡ sum_by (λ (row : _). row.settled) callers.now))
+        (state S.Store conn.old) (state S.Store conn.new) result }
+    ensures refused { RefusesUnless (λ t. AllByRecursion (IsCallerJudged t) callers.now)
+        (state S.Store conn.old) (state S.Store conn.new) result }
+{
+    let mut settled = 0;
+    for caller in callers {
+        judge_one(conn, alloc, caller)?;
+        settled = totals::sum(settled, u64::from(caller.settled))?;
+    }
+    Ok(settled)
+}
+
+fn judge_one<S: Alter>(
+    conn: &mut Connection<S>,
+    alloc: Global,
+    caller: &CallerRow,
+) -> Result<(), ReadFault>
+    requires autocommit { conn.old.in_transaction ≡ false }
+    ensures mode { conn.new.in_transaction ≡ false }
+    ensures same { IsSame (state S.Store conn.old) (state S.Store conn.new) }
+    ensures judged { FindsThat (λ t. IsCallerJudged t caller.now)
+        (state S.Store conn.old) (state S.Store conn.new) result }
+    ensures refused { RefusesUnless (λ t. IsCallerJudged t caller.now)
+        (state S.Store conn.old) (state S.Store conn.new) result }
+{
+    let rows = callers::caller_rows(conn, alloc, &caller.name)?;
+    if !is_alone(rows, caller) || !is_number(caller.settled) {
+        return Err(ReadFault::Broken);
+    }
+    judge_receipts(conn, alloc, &caller.name, caller.settled)
+}
+
+fn is_alone(rows: Listed<CallerRow>, caller: &CallerRow) -> bool
+    ensures { IsTrue result ↔ (only rows ≡ Some caller.now) }
+{
+    match alone::only(rows) {
+        Some(row) => is_same(&row, caller),
+        None => false,
+    }
+}
+
+#[tactic(auto, using(crate::proofs::JudgedCallers::same_row))]
+fn is_same(one: &CallerRow, other: &CallerRow) -> bool
+    ensures { IsTrue result ↔ (one.now ≡ other.now) }
+{
+    one.name == other.name && one.settled == other.settled
+}
+
+fn is_number(number: u32) -> bool
+    ensures { IsTrue result ↔ ((1 ≤ number) × (number ≤ 1000000000)) }
+{
+    number >= 1 && number <= LAST_NUMBER
+}
+
+// That each of the caller's numbers from 1 to that one has one receipt.
+fn judge_receipts<S: Alter>(
+    conn: &mut Connection<S>,
+    alloc: Global,
+    caller: &Name,
+    settled: u32,
+) -> Result<(), ReadFault>
+    requires autocommit { conn.old.in_transaction ≡ false }
+    ensures mode { conn.new.in_transaction ≡ false }
+    ensures same { IsSame (state S.Store conn.old) (state S.Store conn.new) }
+    ensures judged { FindsThat (λ t. (number : ℕ) → 1 ≤ number → number ≤ settled
+        → IsOneRead (is_kept caller.now number) receipt_of_row t.kept)
+        (state S.Store conn.old) (state S.Store conn.new) result }
+    ensures refused { RefusesUnless (λ t. (number : ℕ) → 1 ≤ number → number ≤ settled
+        → IsOneRead (is_kept caller.now number) receipt_of_row t.kept)
+        (state S.Store conn.old) (state S.Store conn.new) result }
+{
+    for before in 0..settled {
+        judge_receipt(conn, alloc, caller, before + 1)?;
+    }
+    Ok(())
+}
+
+fn judge_receipt<S: Alter>(
+    conn: &mut Connection<S>,
+    alloc: Global,
+    caller: &Name,
+    number: u32,
+) -> Result<(), ReadFault>
+    requires autocommit { conn.old.in_transaction ≡ false }
+    ensures mode { conn.new.in_transaction ≡ false }
+    ensures same { IsSame (state S.Store conn.old) (state S.Store conn.new) }
+    ensures judged { FindsThat (λ t. IsOneRead (is_kept caller.now number) receipt_of_row t.kept)
+        (state S.Store conn.old) (state S.Store conn.new) result }
+    ensures refused { RefusesUnless
+        (λ t. IsOneRead (is_kept caller.now number) receipt_of_row t.kept)
+        (state S.Store conn.old) (state S.Store conn.new) result }
+{
+    let rows = callers::kept_rows(conn, alloc, caller, number)?;
+    read_receipt(alloc, rows)
+}
+
+// That there is one row, of a receipt.
+fn read_receipt(alloc: Global, rows: Listed<KeptRow>) -> Result<(), ReadFault>
+    ensures judged { OnOk result (IsAlone (IsRead receipt_of_row) rows) }
+    ensures refused { result ≡ Err Broken → ¬ IsAlone (IsRead receipt_of_row) rows }
+{
+    let Some(row) = alone::only(rows) else {
+        return Err(ReadFault::Broken);
+    };
+    match reading::receipt(alloc, row) {
+        Ok(_) => Ok(()),
+        Err(fault) => Err(read_fault(fault)),
+    }
+}

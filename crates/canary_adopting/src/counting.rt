@@ -1,0 +1,135 @@
+//! Measurements, counted one after another.
+ghost use Rattle.std.specs.Prelude.{◌≡◌, ◌↔◌, ◌+◌, ◌≤◌, IsTrue, IfOk, OnOk, Err, length, slice_get};
+ghost use Rattle.std.specs.Option.{option_copied};
+ghost use Rattle.canary_metric.specs.Counts.{size};
+ghost use Rattle.canary_release.specs.Courses.{run_metrics};
+ghost use Rattle.canary_release.specs.Sound.{IsJudgedBy};
+ghost use Rattle.canary_reads.specs.declared.fault.ReadFault.TheVariants as fault;
+ghost use Rattle.canary_judging.specs.Counting.{at_run, of_metric, none_counted, IsNext};
+ghost use Rattle.canary_judging.specs.Services.{metrics_of_runs};
+ghost use Rattle.canary_adopting.specs.OfService.{AreTallied};
+
+use crate::counts::{Counts, RunCounts};
+use canary_base::error::Memory;
+use canary_condition::measurement::measure;
+use canary_metric::metric::Metric;
+use canary_metric::tally::Tally;
+use canary_once::record::RunRecord;
+use canary_plan::strategy::Strategy;
+use canary_reads::fault::ReadFault;
+use canary_release::effect::Recorded;
+use canary_release::runs::new_tallies;
+use std::alloc::Global;
+
+/// That these measurements come one after another, each the next of a metric of its run and of the
+/// phase that the metric's conditions give its outcome, and that the tallies of the runs are their
+/// counts. The runs are numbered from 1 on, and of a service with that strategy.
+///
+/// # Errors
+/// `Broken` where it is not so; `Memory`.
+pub(crate) fn counted(
+    alloc: Global,
+    strategy: &Strategy,
+    runs: &[RunRecord],
+    measurements: &[Recorded],
+) -> Result<(), ReadFault>
+    ensures found { OnOk result (AreTallied strategy.now runs.now measurements.now) }
+    ensures broken { result ≡ Err fault.Broken
+        → ¬ AreTallied strategy.now runs.now measurements.now }
+{
+    let mut counts = none_counted(alloc, strategy, runs)?;
+    for measurement in measurements {
+        if !is_next(strategy, runs, &counts, measurement) {
+            return Err(ReadFault::Broken);
+        }
+        counts.count(measurement);
+    }
+    if counts.are_of(runs) {
+        Ok(())
+    } else {
+        Err(ReadFault::Broken)
+    }
+}
+
+// No measurements of any metric of the runs.
+fn none_counted(alloc: Global, strategy: &Strategy, runs: &[RunRecord]) -> Result<Counts, Memory>
+    ensures { IfOk result (λ counts. counts
+        ≡ none_counted (metrics_of_runs strategy.now runs.now)) }
+{
+    let mut counts = Counts::new(alloc);
+    for run in runs {
+        let tallies = new_tallies(alloc, metric_count(strategy, run.step))?;
+        counts.push(RunCounts::of(tallies))?;
+    }
+    Ok(counts)
+}
+
+fn metric_count(strategy: &Strategy, step: Option<u32>) -> u32
+    ensures { result ≡ length (run_metrics strategy.now step) }
+{
+    match strategy.metrics(step) {
+        Some(metrics) => metrics.len() as u32,
+        None => 0,
+    }
+}
+
+// Whether the measurement may come next.
+fn is_next(strategy: &Strategy, runs: &[RunRecord], counts: &Counts, next: &Recorded) -> bool
+    ensures { IsTrue result
+        ↔ IsNext (metrics_of_runs strategy.now runs.now) counts.now next.now }
+{
+    let Some(metric) = metric_of(strategy, runs, next) else {
+        return false;
+    };
+    let Some(tally) = counts.tally(next) else {
+        return false;
+    };
+    is_next_of(metric, tally, next)
+}
+
+// The metric of the measurement, if it is one of its run.
+#[tactic(auto, using(crate::proofs::CountLemmas::unplanned, crate::proofs::CountLemmas::planned))]
+fn metric_of<'a>(
+    strategy: &'a Strategy,
+    runs: &[RunRecord],
+    measurement: &Recorded,
+) -> Option<&'a Metric>
+    ensures { option_copied result ≡ of_metric measurement.now.run measurement.now.metric
+        (metrics_of_runs strategy.now runs.now) }
+{
+    match run_of(runs, measurement.run) {
+        Some(run) => metric_in(strategy, run.step, measurement.metric),
+        None => None,
+    }
+}
+
+fn run_of(runs: &[RunRecord], number: u32) -> Option<&RunRecord>
+    ensures { option_copied result ≡ at_run number runs.now }
+{
+    let place = number.checked_sub(1)?;
+    runs.get(place as usize)
+}
+
+fn metric_in(strategy: &Strategy, step: Option<u32>, place: u32) -> Option<&Metric>
+    ensures { option_copied result ≡ slice_get (run_metrics strategy.now step) place }
+{
+    match strategy.metrics(step) {
+        Some(metrics) => metrics.get(place as usize),
+        None => None,
+    }
+}
+
+// Whether it has the next ordinal, for which there is room, and is judged by the metric's
+// conditions.
+fn is_next_of(metric: &Metric, tally: &Tally, next: &Recorded) -> bool
+    ensures { IsTrue result ↔ ((next.now.ordinal ≡ size tally.now + 1)
+        × (size tally.now + 1 ≤ 1000000) × IsJudgedBy metric.now next.now) }
+{
+    !tally.full() && next.ordinal == tally.measurements() + 1 && is_judged_by(metric, next)
+}
+
+fn is_judged_by(metric: &Metric, measurement: &Recorded) -> bool
+    ensures { IsTrue result ↔ IsJudgedBy metric.now measurement.now }
+{
+    measurement.phase == measure(metric.success(), metric.failure(), &measurement.outcome)
+}

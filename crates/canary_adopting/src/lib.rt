@@ -1,0 +1,16 @@
+//! Adopting tables: a desk's tables are judged row by row, by reads, before they are believed.
+#![tactic(auto)]
+
+mod alone;
+mod callers;
+mod counting;
+mod counts;
+mod fault;
+mod histories;
+pub mod judge;
+mod runs;
+mod service;
+mod services;
+mod strategies;
+mod templates;
+mod totals;

@@ -1,0 +1,180 @@
+//! The runs of a service, judged with their tallies.
+ghost use Rattle.std.specs.Prelude.{◌≡◌, ◌≢◌, ◌∷◌, ◌↔◌, [], false, IsTrue, IfOk, IfSome, None};
+ghost use Rattle.std.specs.Prelude.{Some, length, map};
+ghost use Rattle.sqlite.specs.Held.{state};
+ghost use Rattle.canary_rows.specs.declared.rows.TallyRow.{TallyRow};
+ghost use Rattle.canary_stored.specs.Finding.{record_of_row};
+ghost use Rattle.canary_reads.specs.Finds.{IsSame, FindsSuch};
+ghost use Rattle.canary_judging.specs.Services.{HasVerdictBy};
+ghost use Rattle.canary_adopting.specs.Judges.{RefusesUnless};
+ghost use Rattle.canary_adopting.specs.OfService.{HasSuch, IsTold, ArePlaced, AreTalliesOf};
+ghost use Rattle.canary_adopting.specs.OfService.{HasAnalysis, IsRunOf, AreRunsOf};
+
+use crate::fault::read_fault;
+use canary_base::error::Memory;
+use canary_base::lists::Listed;
+use canary_base::names::Name;
+use canary_condition::outcome::Phase;
+use canary_metric::metric::Metric;
+use canary_metric::tally::Tally;
+use canary_metric::verdict::{is_completed, verdict};
+use canary_once::record::RunRecord;
+use canary_plan::strategy::Strategy;
+use canary_reads::fault::ReadFault;
+use canary_reads::runs;
+use canary_release::effect::Closing;
+use canary_rows::rows::{RunRow, TallyRow};
+use canary_stored::reading;
+use sqlite::{Alter, Connection};
+use std::alloc::Global;
+
+/// The runs 1 to `count` of the service with that strategy, each judged as by `run`.
+///
+/// # Errors
+/// `Broken` where there are no such runs, or the tables hold what no program can; `Memory` where
+/// there is not enough, `Storage` where the database fails.
+pub(crate) fn runs<S: Alter>(
+    conn: &mut Connection<S>,
+    alloc: Global,
+    name: &Name,
+    strategy: &Strategy,
+    count: u32,
+) -> Result<Listed<RunRecord>, ReadFault>
+    requires autocommit { conn.old.in_transaction ≡ false }
+    ensures mode { conn.new.in_transaction ≡ false }
+    ensures same { IsSame (state S.Store conn.old) (state S.Store conn.new) }
+    ensures found { FindsSuch (AreRunsOf strategy.now name.now count)
+        (state S.Store conn.old) (state S.Store conn.new) result }
+    ensures broken { RefusesUnless (HasSuch (AreRunsOf strategy.now name.now count))
+        (state S.Store conn.old) (state S.Store conn.new) result }
+{
+    let mut found = Listed::of(Vec::new(alloc));
+    for place in 0..count {
+        found.push(run(conn, alloc, name, strategy, place + 1)?)?;
+    }
+    Ok(found)
+}
+
+/// The run of that number of the service with that strategy: there is one row of it, its analysis
+/// is there, each of its tallies has one row, it has no others, and its verdict is that of its
+/// tallies.
+///
+/// # Errors
+/// `Broken` where there is no such run, or the tables hold what no program can; `Memory` where
+/// there is not enough, `Storage` where the database fails.
+pub(crate) fn run<S: Alter>(
+    conn: &mut Connection<S>,
+    alloc: Global,
+    name: &Name,
+    strategy: &Strategy,
+    number: u32,
+) -> Result<RunRecord, ReadFault>
+    requires autocommit { conn.old.in_transaction ≡ false }
+    ensures mode { conn.new.in_transaction ≡ false }
+    ensures same { IsSame (state S.Store conn.old) (state S.Store conn.new) }
+    ensures found { FindsSuch (IsRunOf strategy.now name.now number)
+        (state S.Store conn.old) (state S.Store conn.new) result }
+    ensures broken { RefusesUnless (HasSuch (IsRunOf strategy.now name.now number))
+        (state S.Store conn.old) (state S.Store conn.new) result }
+{
+    let rows = runs::run_rows(conn, alloc, name, number)?;
+    let Some(row) = only(rows.as_slice()) else {
+        return Err(ReadFault::Broken);
+    };
+    let tallies = tallies(conn, alloc, name, number)?;
+    let run = record_of(&row, tallies)?;
+    if has_analysis(strategy, &run) {
+        Ok(run)
+    } else {
+        Err(ReadFault::Broken)
+    }
+}
+
+// The row, where there is one alone.
+fn only(rows: &[RunRow]) -> Option<RunRow>
+    ensures one { IfSome result (λ row. rows.now ≡ row ∷ []) }
+    ensures other { result ≡ None → length rows.now ≢ 1 }
+{
+    if rows.len() == 1 { Some(rows[0]) } else { None }
+}
+
+// The tallies of the run of that number.
+fn tallies<S: Alter>(
+    conn: &mut Connection<S>,
+    alloc: Global,
+    name: &Name,
+    number: u32,
+) -> Result<Listed<Tally>, ReadFault>
+    requires autocommit { conn.old.in_transaction ≡ false }
+    ensures mode { conn.new.in_transaction ≡ false }
+    ensures same { IsSame (state S.Store conn.old) (state S.Store conn.new) }
+    ensures found { FindsSuch (AreTalliesOf name.now number)
+        (state S.Store conn.old) (state S.Store conn.new) result }
+    ensures broken { RefusesUnless (HasSuch (AreTalliesOf name.now number))
+        (state S.Store conn.old) (state S.Store conn.new) result }
+{
+    let rows = runs::tallies(conn, alloc, name, number)?;
+    if !are_placed(rows.as_slice()) {
+        return Err(ReadFault::Broken);
+    }
+    Ok(counts_of(alloc, rows.as_slice())?)
+}
+
+// Whether each row stands at the place of its metric.
+fn are_placed(rows: &[TallyRow]) -> bool
+    ensures { IsTrue result ↔ ArePlaced 0 rows.now }
+{
+    for (place, row) in rows.iter().enumerate() {
+        if row.metric as usize != place {
+            return false;
+        }
+    }
+    true
+}
+
+fn counts_of(alloc: Global, rows: &[TallyRow]) -> Result<Listed<Tally>, Memory>
+    ensures { IfOk result (λ found. found ≡ map (λ (row : TallyRow). row.counts) rows.now) }
+{
+    let mut found = Listed::of(Vec::new(alloc));
+    for row in rows {
+        found.push(row.counts)?;
+    }
+    Ok(found)
+}
+
+fn record_of(row: &RunRow, tallies: Listed<Tally>) -> Result<RunRecord, ReadFault>
+    ensures { IsTold (record_of_row tallies row.now) result }
+{
+    match reading::closing(row.number, &row.ending) {
+        Ok(closed) => Ok(RunRecord {
+            number: row.number,
+            step: row.step,
+            started: row.started,
+            closed,
+            tallies,
+        }),
+        Err(fault) => Err(read_fault(fault)),
+    }
+}
+
+fn has_analysis(strategy: &Strategy, run: &RunRecord) -> bool
+    ensures { IsTrue result ↔ HasAnalysis strategy.now run.now }
+{
+    match strategy.metrics(run.step) {
+        Some(metrics) => has_verdict(metrics, run.tallies.as_slice(), run.closed),
+        None => false,
+    }
+}
+
+// Whether a run with these metrics and tallies is closed, or open, as their verdict tells.
+fn has_verdict(metrics: &[Metric], tallies: &[Tally], closed: Option<Closing>) -> bool
+    ensures { IsTrue result ↔ HasVerdictBy metrics.now tallies.now closed }
+{
+    match closed {
+        None => verdict(metrics, tallies, false) == Phase::Running,
+        Some(closing) => {
+            is_completed(closing.verdict)
+                && closing.verdict == verdict(metrics, tallies, closing.outside)
+        }
+    }
+}

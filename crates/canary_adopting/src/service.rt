@@ -1,0 +1,192 @@
+//! A service, with its runs, its measurements and its history.
+ghost use Rattle.std.specs.Prelude.{◌≡◌, ◌≢◌, false, [], ◌∷◌, Some, None, IfOk, OnOk, Err};
+ghost use Rattle.std.specs.Prelude.{filter};
+ghost use Rattle.sqlite.specs.Held.{state};
+ghost use Rattle.canary_plan.specs.declared.service.ServiceSpec.{ServiceSpec};
+ghost use Rattle.canary_canonical.specs.Readings.{canonical_in};
+ghost use Rattle.canary_release.specs.Parts.{is_broken};
+ghost use Rattle.canary_rows.specs.Tables.{is_service};
+ghost use Rattle.canary_stored.specs.Values.{made_from, stand_of};
+ghost use Rattle.canary_judging.specs.Services.{IsServiceJudged, open_of_record, open_runs_in};
+ghost use Rattle.canary_reads.specs.declared.fault.ReadFault.TheVariants.{Broken};
+ghost use Rattle.canary_reads.specs.Finds.{IsSame, FindsSuch};
+ghost use Rattle.canary_adopting.specs.Judges.{RefusesUnless};
+ghost use Rattle.canary_adopting.specs.OneService.{FindsJudged, RefusesJudged, IsPastJudged};
+ghost use Rattle.canary_adopting.specs.OneService.{totals_of, IsServiceUnder, IsServiceFound};
+
+use crate::fault::read_fault;
+use crate::totals::Totals;
+use crate::{alone, counting, counts, histories, runs, strategies};
+use canary_base::error::Memory;
+use canary_base::lists::Listed;
+use canary_base::names::Name;
+use canary_once::record::RunRecord;
+use canary_plan::service::ServiceSpec;
+use canary_plan::strategy::Strategy;
+use canary_reads::fault::ReadFault;
+use canary_reads::services;
+use canary_release::parts::is_broken;
+use canary_release::runs::{OpenRun, Runs};
+use canary_release::service::ServiceParts;
+use canary_release::stand::Stand;
+use canary_rows::rows::ServiceRow;
+use canary_stored::reading;
+use sqlite::{Alter, Connection};
+use std::alloc::Global;
+
+/// How much the service of that name has, where templates are judged, and it stands once, is made
+/// by an accepted command, and has runs, measurements and lines that come to what it is.
+///
+/// # Errors
+/// `Broken` where that is not so, `Memory` where there is not enough, `Storage` where the database
+/// fails.
+pub(crate) fn judge<S: Alter>(
+    conn: &mut Connection<S>,
+    alloc: Global,
+    name: &Name,
+) -> Result<Totals, ReadFault>
+    requires autocommit { conn.old.in_transaction ≡ false }
+    ensures mode { conn.new.in_transaction ≡ false }
+    ensures same { IsSame (state S.Store conn.old) (state S.Store conn.new) }
+    ensures judged { FindsJudged (IsServiceFound name.now)
+        (state S.Store conn.old) (state S.Store conn.new) result }
+    ensures refused { RefusesJudged (λ t. IsServiceUnder t name.now)
+        (state S.Store conn.old) (state S.Store conn.new) result }
+{
+    let rows = services::service_rows(conn, alloc, name)?;
+    let Some(row) = alone::only(rows) else {
+        return Err(ReadFault::Broken);
+    };
+    judge_row(conn, alloc, &row)
+}
+
+// How much the service of the row has, if the row is the only one of its name.
+fn judge_row<S: Alter>(
+    conn: &mut Connection<S>,
+    alloc: Global,
+    row: &ServiceRow,
+) -> Result<Totals, ReadFault>
+    requires autocommit { conn.old.in_transaction ≡ false }
+    ensures mode { conn.new.in_transaction ≡ false }
+    ensures same { IsSame (state S.Store conn.old) (state S.Store conn.new) }
+    ensures judged { FindsJudged (λ t totals.
+        filter (is_service row.now.name) t.services ≡ row.now ∷ []
+        → IsServiceJudged t row.now × (totals ≡ totals_of t row.now))
+        (state S.Store conn.old) (state S.Store conn.new) result }
+    ensures refused { RefusesJudged (λ t. IsServiceJudged t row.now)
+        (state S.Store conn.old) (state S.Store conn.new) result }
+{
+    let made = made_by(alloc, row)?;
+    let strategy = strategies::strategy(conn, alloc, &made)?;
+    let stand = stand_by(row, &strategy)?;
+    judge_past(conn, alloc, row, stand)
+}
+
+// The service that the row's text makes, which is of the row's name.
+fn made_by(alloc: Global, row: &ServiceRow) -> Result<ServiceSpec, ReadFault>
+    ensures made { IfOk result (λ made.
+        (made_from (canonical_in row.now.spec) ≡ Some made) × (made.name ≡ row.now.name)) }
+    ensures broken { result ≡ Err Broken → (made : ServiceSpec)
+        → made_from (canonical_in row.now.spec) ≡ Some made → made.name ≢ row.now.name }
+{
+    let made = spec_of(alloc, row.spec.as_str())?;
+    if made.name == row.name {
+        Ok(made)
+    } else {
+        Err(ReadFault::Broken)
+    }
+}
+
+fn spec_of(alloc: Global, text: &str) -> Result<ServiceSpec, ReadFault>
+    ensures made { IfOk result (λ made. made_from (canonical_in text.now) ≡ Some made) }
+    ensures broken { result ≡ Err Broken → made_from (canonical_in text.now) ≡ None }
+{
+    reading::made(alloc, text).map_err(read_fault)
+}
+
+// How it stands.
+fn stand_by(row: &ServiceRow, strategy: &Strategy) -> Result<Stand, ReadFault>
+    ensures stand { IfOk result (λ stand.
+        stand_of row.now.name strategy.now row.now.standing ≡ Some stand) }
+    ensures broken { result ≡ Err Broken
+        → stand_of row.now.name strategy.now row.now.standing ≡ None }
+{
+    reading::stand(row.name, strategy, &row.standing).map_err(read_fault)
+}
+
+// How much it has, where its runs, its measurements and its lines come to how it stands.
+fn judge_past<S: Alter>(
+    conn: &mut Connection<S>,
+    alloc: Global,
+    row: &ServiceRow,
+    stand: Stand,
+) -> Result<Totals, ReadFault>
+    requires autocommit { conn.old.in_transaction ≡ false }
+    ensures mode { conn.new.in_transaction ≡ false }
+    ensures same { IsSame (state S.Store conn.old) (state S.Store conn.new) }
+    ensures judged { FindsSuch
+        (λ t totals. IsPastJudged t row.now stand × (totals ≡ totals_of t row.now))
+        (state S.Store conn.old) (state S.Store conn.new) result }
+    ensures refused { RefusesUnless (λ t. IsPastJudged t row.now stand)
+        (state S.Store conn.old) (state S.Store conn.new) result }
+{
+    let count = row.standing.runs;
+    let runs = runs::runs(conn, alloc, &row.name, &stand.strategy, count)?;
+    let measurements = histories::measurements(conn, alloc, &row.name)?;
+    counting::counted(
+        alloc,
+        &stand.strategy,
+        runs.as_slice(),
+        measurements.as_slice(),
+    )?;
+    let history = histories::history(conn, alloc, &row.name)?;
+    judge_parts(alloc, stand, count, runs.as_slice())?;
+    Ok(Totals {
+        runs: u64::from(count),
+        tallies: counts::tally_count(runs.as_slice())?,
+        measurements: measurements.as_slice().len() as u64,
+        lines: history.as_slice().len() as u64,
+    })
+}
+
+// That a service can stand so, with those of these runs that are open.
+fn judge_parts(alloc: Global, stand: Stand, count: u32, runs: &[RunRecord]) -> Result<(), ReadFault>
+    ensures judged { OnOk result (is_broken (record {
+      stand = stand;
+      runs = record { count = count; open_runs = open_runs_in runs.now };
+    }) ≡ false) }
+    ensures refused { result ≡ Err Broken → is_broken (record {
+      stand = stand;
+      runs = record { count = count; open_runs = open_runs_in runs.now };
+    }) ≢ false }
+{
+    let open_runs = open_among(alloc, runs)?;
+    let runs = Runs { count, open_runs };
+    if is_broken(&ServiceParts { stand, runs }) {
+        return Err(ReadFault::Broken);
+    }
+    Ok(())
+}
+
+fn open_among(alloc: Global, runs: &[RunRecord]) -> Result<Listed<OpenRun>, Memory>
+    ensures { IfOk result (λ open_runs. open_runs ≡ open_runs_in runs.now) }
+{
+    let mut found = Listed::of(Vec::new(alloc));
+    for run in runs {
+        if run.closed.is_none() {
+            found.push(open_run(run, alloc)?)?;
+        }
+    }
+    Ok(found)
+}
+
+fn open_run(run: &RunRecord, alloc: Global) -> Result<OpenRun, Memory>
+    ensures { IfOk result (λ open_run. open_run ≡ open_of_record run.now) }
+{
+    Ok(OpenRun {
+        number: run.number,
+        step: run.step,
+        started: run.started,
+        tallies: run.tallies.copy(alloc)?,
+    })
+}

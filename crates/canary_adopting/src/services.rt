@@ -1,0 +1,77 @@
+//! All services, with all that is theirs.
+ghost use Rattle.std.specs.Prelude.{◌≡◌, false};
+ghost use Rattle.std.specs.List.{AllByRecursion};
+ghost use Rattle.sqlite.specs.Held.{state};
+ghost use Rattle.canary_judging.specs.Services.{AreServicesJudged};
+ghost use Rattle.canary_reads.specs.Finds.{IsSame};
+ghost use Rattle.canary_adopting.specs.Judges.{FindsThat, RefusesUnless};
+ghost use Rattle.canary_adopting.specs.OneService.{FindsJudged, RefusesJudged};
+ghost use Rattle.canary_adopting.specs.OneService.{IsServiceUnder, AreServicesFound, HaveTotals};
+
+use crate::service;
+use crate::totals::{self, Totals};
+use canary_base::names::Name;
+use canary_judging::laws;
+use canary_reads::fault::ReadFault;
+use canary_reads::lists;
+use sqlite::{Alter, Connection};
+use std::alloc::Global;
+
+/// That each service is as it is to be, where templates are judged, and that no table has other
+/// rows.
+///
+/// # Errors
+/// `Broken` where that is not so, `Memory` where there is not enough, `Storage` where the database
+/// fails or has more rows than are counted.
+pub(crate) fn judge<S: Alter>(conn: &mut Connection<S>, alloc: Global) -> Result<(), ReadFault>
+    requires autocommit { conn.old.in_transaction ≡ false }
+    ensures mode { conn.new.in_transaction ≡ false }
+    ensures same { IsSame (state S.Store conn.old) (state S.Store conn.new) }
+    ensures judged { FindsJudged (λ t judged. AreServicesJudged t)
+        (state S.Store conn.old) (state S.Store conn.new) result }
+    ensures refused { RefusesJudged AreServicesJudged
+        (state S.Store conn.old) (state S.Store conn.new) result }
+{
+    laws::totals();
+    let names = lists::service_names(conn, alloc)?;
+    let totals = judge_each(conn, alloc, names.as_slice())?;
+    are_all(conn, &totals)
+}
+
+// How much the services of these names have.
+fn judge_each<S: Alter>(
+    conn: &mut Connection<S>,
+    alloc: Global,
+    names: &[Name],
+) -> Result<Totals, ReadFault>
+    requires autocommit { conn.old.in_transaction ≡ false }
+    ensures mode { conn.new.in_transaction ≡ false }
+    ensures same { IsSame (state S.Store conn.old) (state S.Store conn.new) }
+    ensures judged { FindsJudged (AreServicesFound names.now)
+        (state S.Store conn.old) (state S.Store conn.new) result }
+    ensures refused { RefusesJudged (λ t. AllByRecursion (IsServiceUnder t) names.now)
+        (state S.Store conn.old) (state S.Store conn.new) result }
+{
+    let mut totals = Totals::none();
+    for name in names {
+        let more = service::judge(conn, alloc, name)?;
+        totals = totals.with(more)?;
+    }
+    Ok(totals)
+}
+
+// That the tables have no more than that.
+fn are_all<S: Alter>(conn: &mut Connection<S>, totals: &Totals) -> Result<(), ReadFault>
+    requires autocommit { conn.old.in_transaction ≡ false }
+    ensures mode { conn.new.in_transaction ≡ false }
+    ensures same { IsSame (state S.Store conn.old) (state S.Store conn.new) }
+    ensures judged { FindsThat (λ t. HaveTotals t totals.now)
+        (state S.Store conn.old) (state S.Store conn.new) result }
+    ensures refused { RefusesUnless (λ t. HaveTotals t totals.now)
+        (state S.Store conn.old) (state S.Store conn.new) result }
+{
+    totals::are_all(totals.runs, lists::run_count(conn)?)?;
+    totals::are_all(totals.tallies, lists::tally_count(conn)?)?;
+    totals::are_all(totals.measurements, lists::measurement_count(conn)?)?;
+    totals::are_all(totals.lines, lists::history_count(conn)?)
+}

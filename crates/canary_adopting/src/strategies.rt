@@ -1,0 +1,126 @@
+//! The strategy of a service, by templates that are judged.
+ghost use Rattle.std.specs.Prelude.{◌≡◌, false, None, IfOk, Err};
+ghost use Rattle.std.specs.FinMap.{get};
+ghost use Rattle.sqlite.specs.Held.{state};
+ghost use Rattle.canary_plan.specs.Plans.{strategy_of};
+ghost use Rattle.canary_plan.specs.PlanRefusals.{analyses, strategy_refusal};
+ghost use Rattle.canary_plan.specs.Commands.{all_names};
+ghost use Rattle.canary_rows.specs.Tables.{Tables};
+ghost use Rattle.canary_rows.specs.Limits.{AreWithin};
+ghost use Rattle.canary_schema.specs.Stores.{IsUsable, Stores};
+ghost use Rattle.canary_stored.specs.Reading.{contents_of};
+ghost use Rattle.canary_once.specs.Contents.{templates_named};
+ghost use Rattle.canary_judging.specs.Judged.{AreTemplatesJudged};
+ghost use Rattle.canary_reads.specs.declared.fault.ReadFault.TheVariants.{Broken};
+ghost use Rattle.canary_reads.specs.Finds.{IsSame};
+ghost use Rattle.canary_adopting.specs.Strategies.{IsStrategyAccepted, IsStrategyOf};
+
+use crate::templates;
+use canary_base::error::Memory;
+use canary_base::lists::Listed;
+use canary_base::names::Name;
+use canary_judging::laws;
+use canary_plan::command::Command;
+use canary_plan::fault::CheckFault;
+use canary_plan::service::ServiceSpec;
+use canary_plan::strategy::Strategy;
+use canary_plan::template::Template;
+use canary_plan::templates::Templates;
+use canary_reads::fault::ReadFault;
+use canary_reads::services;
+use sqlite::{Alter, Connection};
+use std::alloc::Global;
+
+/// The strategy of a service that was asked for so, by the templates of the tables, where these are
+/// judged.
+///
+/// # Errors
+/// `Broken` where something refuses the strategy, `Memory` where there is not enough, `Storage`
+/// where the database fails.
+pub(crate) fn strategy<S: Alter>(
+    conn: &mut Connection<S>,
+    alloc: Global,
+    spec: &ServiceSpec,
+) -> Result<Strategy, ReadFault>
+    requires autocommit { conn.old.in_transaction ≡ false }
+    ensures mode { conn.new.in_transaction ≡ false }
+    ensures same { IsSame (state S.Store conn.old) (state S.Store conn.new) }
+    ensures found { IsUsable (state S.Store conn.new) → (t : Tables)
+        → Stores (state S.Store conn.old) t → AreTemplatesJudged t
+        → IfOk result (IsStrategyOf t spec.now) }
+    ensures broken { IsUsable (state S.Store conn.new) → (t : Tables)
+        → Stores (state S.Store conn.old) t → AreTemplatesJudged t → result ≡ Err Broken
+        → AreWithin t → ¬ IsStrategyAccepted t spec.now }
+{
+    let names = names_of(alloc, spec)?;
+    let known = templates_of(conn, alloc, names.as_slice())?;
+    checked(alloc, spec, &known)
+}
+
+// The templates that it names.
+fn names_of(alloc: Global, spec: &ServiceSpec) -> Result<Listed<Name>, Memory>
+    ensures { IfOk result (λ names. names ≡ all_names (analyses spec.now)) }
+{
+    Command::Service(spec.copy(alloc)?).names_looked_up(alloc)
+}
+
+// Its strategy by these templates.
+fn checked(alloc: Global, spec: &ServiceSpec, known: &Templates) -> Result<Strategy, ReadFault>
+    ensures strategy { IfOk result (λ strategy. (strategy_refusal (get known.now) spec.now ≡ None)
+        × (strategy ≡ strategy_of (get known.now) spec.now)) }
+    ensures broken { result ≡ Err Broken → ¬ (strategy_refusal (get known.now) spec.now ≡ None) }
+{
+    match Strategy::check(alloc, spec, known) {
+        Ok(strategy) => Ok(strategy),
+        Err(CheckFault::Refused(_)) => Err(ReadFault::Broken),
+        Err(CheckFault::Memory) => Err(ReadFault::Memory),
+    }
+}
+
+// The templates that have one of these names.
+fn templates_of<S: Alter>(
+    conn: &mut Connection<S>,
+    alloc: Global,
+    names: &[Name],
+) -> Result<Templates, ReadFault>
+    requires autocommit { conn.old.in_transaction ≡ false }
+    ensures mode { conn.new.in_transaction ≡ false }
+    ensures same { IsSame (state S.Store conn.old) (state S.Store conn.new) }
+    ensures found { IsUsable (state S.Store conn.new) → (t : Tables)
+        → Stores (state S.Store conn.old) t → AreTemplatesJudged t
+        → IfOk result (λ found. found ≡ templates_named (contents_of t) names.now) }
+    ensures broken { IsUsable (state S.Store conn.new) → (t : Tables)
+        → Stores (state S.Store conn.old) t → AreTemplatesJudged t → result ≡ Err Broken
+        → ¬ AreWithin t }
+{
+    let mut found = Templates::new(alloc);
+    for name in names {
+        if let Some(template) = template(conn, alloc, name)? {
+            found.insert(*name, template)?;
+        }
+    }
+    Ok(found)
+}
+
+// The template of that name, if there is one.
+fn template<S: Alter>(
+    conn: &mut Connection<S>,
+    alloc: Global,
+    name: &Name,
+) -> Result<Option<Template>, ReadFault>
+    requires autocommit { conn.old.in_transaction ≡ false }
+    ensures mode { conn.new.in_transaction ≡ false }
+    ensures same { IsSame (state S.Store conn.old) (state S.Store conn.new) }
+    ensures found { IsUsable (state S.Store conn.new) → (t : Tables)
+        → Stores (state S.Store conn.old) t → AreTemplatesJudged t
+        → IfOk result (λ found. found ≡ get (contents_of t).desk.templates name.now) }
+    ensures broken { IsUsable (state S.Store conn.new) → (t : Tables)
+        → Stores (state S.Store conn.old) t → AreTemplatesJudged t → result ≡ Err Broken
+        → ¬ AreWithin t }
+{
+    laws::templates_found();
+    let Some(spec) = services::template(conn, name)? else {
+        return Ok(None);
+    };
+    Ok(Some(templates::read(alloc, spec.as_str())?))
+}

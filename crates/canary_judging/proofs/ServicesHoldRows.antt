@@ -1,0 +1,226 @@
+-- A service that is judged is read as a service of the model.
+use Rattle.std.proofs.Common.{◌≡◌, ℕ, zero, suc, ◌≤◌, List, [], ◌∷◌, ◌++◌, length, take, Bool, true, false, Some, None, refl, sym, ap, ◌∙◌, subst, arith}
+use Rattle.std.specs.Prelude.{Option, map, filter, slice_get, option_map, option_and_then}
+use Rattle.std.specs.List.{AllByRecursion, filter_map, cons_option}
+use Rattle.std.specs.FinMap.{get}
+use Rattle.std.proofs.Math.Seq.{take-length}
+use Rattle.std.proofs.lemmas.List.{length-map}
+use Rattle.std.proofs.lemmas.Option.{slice_get-map}
+use Rattle.canary_plan.specs.declared.strategy.CheckedStrategy.{CheckedStrategy}
+use Rattle.canary_plan.specs.declared.service.ServiceSpec.{ServiceSpec}
+use Rattle.canary_plan.specs.declared.command.Command.{Command}
+use Rattle.canary_plan.specs.declared.command.Command.TheVariants as command
+use Rattle.canary_plan.specs.declared.line.Line.{Line}
+use Rattle.canary_plan.specs.Lines.{line_at}
+use Rattle.canary_plan.specs.Plans.{Templates, strategy_of}
+use Rattle.canary_canonical.specs.Readings.{canonical_in}
+use Rattle.canary_release.specs.declared.effect.Recorded.{Recorded}
+use Rattle.canary_release.specs.declared.effect.Closing.{Closing}
+use Rattle.canary_release.specs.declared.stand.State.{State}
+use Rattle.canary_release.specs.declared.stand.Stand.{Stand}
+use Rattle.canary_release.specs.Pasts.{Run, Past}
+use Rattle.canary_release.specs.Desks.{ModelService}
+use Rattle.canary_once.specs.declared.record.RunRecord.{RunRecord}
+use Rattle.canary_rows.specs.declared.rows.Standing.{Standing}
+use Rattle.canary_rows.specs.declared.rows.ServiceRow.{ServiceRow}
+use Rattle.canary_rows.specs.declared.rows.RunRow.{RunRow}
+use Rattle.canary_rows.specs.Tables.{Tables, is_run}
+use Rattle.canary_stored.specs.Numbers.{bit, truth_of}
+use Rattle.canary_stored.specs.Values.{service_row, made_from, standing_of, stand_from, stand_of, ending_of, closing_from, closing_of, lists_in, metric_count, run_from, run_of_row, history_row, line_of_row}
+use Rattle.canary_stored.specs.Numbers.{state_number, state_of, hold_number, hold_of}
+use Rattle.canary_stored.specs.Tables.{IsReadableCommand, IsReadableClosing, IsReadableLine}
+use Rattle.canary_stored.specs.Reading.{measurements_in, history_in, runs_to, past_in, service_from, service_made, service_of_row, contents_of}
+use Rattle.canary_judging.specs.Services.{row_of_record, IsServiceJudged}
+use Rattle.canary_judging.proofs.Templates.{canonical_text, still_canonical}
+use Rattle.canary_judging.proofs.CallersJudged.{HasPlace, has_place}
+use Rattle.canary_judging.proofs.RowTexts.{state_again, hold_again, truth_again}
+
+-- How a service stands.
+
+record IsStandFrom (name : List ℕ) (plan : CheckedStrategy) (s : Standing) (a : Option State) (h : Option (Bool × Bool)) (b : Option Bool) (x : Stand) : Type 0 where
+  named : x.name ≡ name
+  strategy : x.strategy ≡ plan
+  stable : x.stable ≡ s.stable
+  version : x.version ≡ s.version
+  state : a ≡ Some x.state
+  step : x.step ≡ s.step
+  entered : x.entered ≡ s.entered
+  hold : h ≡ Some (x.step_hold, x.background_hold)
+  background : b ≡ Some x.background
+  last : x.last ≡ s.last
+
+of_stand : (name : List ℕ) (plan : CheckedStrategy) (s : Standing) (a : Option State) (h : Option (Bool × Bool)) (b : Option Bool) (x : Stand) → stand_from name plan s a h b ≡ Some x → IsStandFrom name plan s a h b x
+of_stand name plan s None h b x e = absurd (cc)
+of_stand name plan s (Some state) None b x e = absurd (cc)
+of_stand name plan s (Some state) (Some hold) None x e = absurd (cc)
+of_stand name plan s (Some state) (Some hold) (Some background) x e =
+    let made : Stand = record {
+      name = name;
+      strategy = plan;
+      stable = s.stable;
+      version = s.version;
+      state = state;
+      step = s.step;
+      entered = s.entered;
+      step_hold = hold.0;
+      background_hold = hold.1;
+      background = background;
+      last = s.last;
+    } in
+    let same : made ≡ x = cc e in
+    subst (IsStandFrom name plan s (Some state) (Some hold) (Some background)) same (record {
+      named = refl;
+      strategy = refl;
+      stable = refl;
+      version = refl;
+      state = refl;
+      step = refl;
+      entered = refl;
+      hold = refl;
+      background = refl;
+      last = refl;
+    })
+
+-- what is read of a standing is written as it is
+pub record IsStanding (name : List ℕ) (plan : CheckedStrategy) (s : Standing) (x : Stand) : Type 0 where
+  pub named : x.name ≡ name
+  pub strategy : x.strategy ≡ plan
+  pub again : standing_of x s.runs ≡ s
+
+pub stand_again : (name : List ℕ) (plan : CheckedStrategy) (s : Standing) (x : Stand) → stand_of name plan s ≡ Some x → IsStanding name plan s x
+stand_again name plan s x e =
+    let of : IsStandFrom name plan s (state_of s.state) (hold_of s.hold) (truth_of s.background) x = of_stand name plan s (state_of s.state) (hold_of s.hold) (truth_of s.background) x e in
+    let state : state_number x.state ≡ s.state = state_again s.state x.state of.state in
+    let hold : hold_number x.step_hold x.background_hold ≡ s.hold = hold_again s.hold (x.step_hold, x.background_hold) of.hold in
+    let background : bit x.background ≡ s.background = truth_again s.background x.background of.background in
+    record {
+      named = of.named;
+      strategy = of.strategy;
+      again = λ i. record {
+        stable = of.stable i;
+        version = of.version i;
+        state = state i;
+        step = of.step i;
+        entered = of.entered i;
+        hold = hold i;
+        background = background i;
+        runs = s.runs;
+        last = of.last i;
+      };
+    }
+
+-- The command that made it.
+
+record IsMadeBy (o : Option Command) (spec : ServiceSpec) : Type 0 where
+  command : o ≡ Some (command.Service spec)
+
+of_made : (o : Option Command) (spec : ServiceSpec) → made_from o ≡ Some spec → IsMadeBy o spec
+of_made None spec e = absurd (cc)
+of_made (Some (command.Template template)) spec e = absurd (cc)
+of_made (Some (command.Service made)) spec e = let same : made ≡ spec = cc e in subst (IsMadeBy (Some (command.Service made))) same (record { command = refl })
+of_made (Some (command.Start service version)) spec e = absurd (cc)
+of_made (Some (command.Promote service)) spec e = absurd (cc)
+of_made (Some (command.PromoteFull service)) spec e = absurd (cc)
+of_made (Some (command.Abort service)) spec e = absurd (cc)
+of_made (Some (command.Retry service)) spec e = absurd (cc)
+of_made (Some (command.Tick service)) spec e = absurd (cc)
+of_made (Some (command.Report report)) spec e = absurd (cc)
+
+-- Runs.
+
+truth_back : (b : Bool) → truth_of (bit b) ≡ Some b
+truth_back true = refl
+truth_back false = refl
+
+closing_back : (number : ℕ) (o : Option Closing) → IsReadableClosing number o → closing_of number (ending_of o) ≡ Some o
+closing_back number None readable = refl
+closing_back number (Some x) readable = (λ i. closing_from number x.at (truth_back x.outside i) (readable.1 i)) ∙ (λ i. Some (Some (record x { run = sym readable.0 i })))
+
+-- the run of a record, among these measurements
+abbrev pub run_made : CheckedStrategy → List Recorded → RunRecord → Run
+run_made plan measurements r = record { number = r.number; step = r.step; started = r.started; closed = r.closed; lists = lists_in measurements r.number 0 (metric_count plan r.step) }
+
+run_again : (name : List ℕ) (plan : CheckedStrategy) (xs : List Recorded) (r : RunRecord) → IsReadableClosing r.number r.closed → run_of_row plan xs (row_of_record name r) ≡ Some (run_made plan xs r)
+run_again name plan xs r readable = λ i. run_from xs (metric_count plan r.step) (row_of_record name r) (closing_back r.number r.closed readable i)
+
+take-one : {A : Type 0} (n : ℕ) (xs : List A) (x : A) → slice_get xs n ≡ Some x → take n xs ++ x ∷ [] ≡ take (suc n) xs
+take-one n [] x e = absurd (cc)
+take-one zero (y ∷ ys) x e = let same : y ≡ x = cc e in λ i. sym same i ∷ []
+take-one (suc n) (y ∷ ys) x e = ap (λ (zs : List _). y ∷ zs) (take-one n ys x e)
+
+-- each place has the row of its run
+abbrev pub HaveRunRows : List RunRow → List ℕ → List RunRecord → Type 0
+HaveRunRows rows name runs = (place : ℕ) (r : RunRecord) → slice_get runs place ≡ Some r → (filter (is_run name (suc place)) rows ≡ row_of_record name r ∷ []) × IsReadableClosing r.number r.closed
+
+runs_taken : (plan : CheckedStrategy) (xs : List Recorded) (rows : List RunRow) (name : List ℕ) (runs : List RunRecord) → HaveRunRows rows name runs → (n : ℕ) → n ≤ length runs
+    → runs_to plan xs rows name n ≡ take n (map (run_made plan xs) runs)
+runs_taken plan xs rows name runs have zero few = refl
+runs_taken plan xs rows name runs have (suc n) few =
+    let h : HasPlace runs n = has_place runs n (omega arith) in
+    let made : Run = run_made plan xs h.value in
+    let is : (filter (is_run name (suc n)) rows ≡ row_of_record name h.value ∷ []) × IsReadableClosing h.value.number h.value.closed = have n h.value h.there in
+    let one : filter_map (run_of_row plan xs) (filter (is_run name (suc n)) rows) ≡ made ∷ [] = ap (filter_map (run_of_row plan xs)) is.0 ∙ ap (λ (o : Option Run). cons_option o []) (run_again name plan xs h.value is.1) in
+    (λ i. runs_taken plan xs rows name runs have n (omega arith) i ++ one i)
+    ∙ take-one n (map (run_made plan xs) runs) made (slice_get-map (run_made plan xs) runs n ∙ ap (option_map (run_made plan xs)) h.there)
+
+pub runs_again : (plan : CheckedStrategy) (xs : List Recorded) (rows : List RunRow) (name : List ℕ) (runs : List RunRecord) → HaveRunRows rows name runs → runs_to plan xs rows name (length runs) ≡ map (run_made plan xs) runs
+runs_again plan xs rows name runs have =
+    runs_taken plan xs rows name runs have (length runs) (omega arith)
+    ∙ ap (λ n. take n (map (run_made plan xs) runs)) (sym (length-map runs (run_made plan xs)))
+    ∙ take-length (map (run_made plan xs) runs)
+
+-- Lines.
+
+lines_again : (name : List ℕ) (lines : List Line) → AllByRecursion IsReadableLine lines → filter_map line_of_row (map (history_row name) lines) ≡ lines
+lines_again name [] all = refl
+lines_again name (line ∷ lines) all =
+    let first : line_of_row (history_row name line) ≡ Some line = ap (option_map (line_at line.moment)) all.0 in
+    λ i. cons_option (first i) (lines_again name lines all.1 i)
+
+-- The whole.
+
+abbrev pub past_judged : {t : Tables} {row : ServiceRow} → IsServiceJudged t row → Past
+past_judged j = record { runs = map (run_made j.stand.strategy j.measurements) j.runs; measurements = j.measurements; history = j.history }
+
+abbrev pub service_judged : {t : Tables} {row : ServiceRow} → IsServiceJudged t row → ModelService
+service_judged j = record { made = j.made; stand = j.stand; past = past_judged j }
+
+abbrev pub known_of : Tables → Templates
+known_of t = get (contents_of t).desk.templates
+
+pub standing_judged : (t : Tables) (row : ServiceRow) (j : IsServiceJudged t row) → IsStanding row.name (strategy_of (known_of t) j.made) row.standing j.stand
+standing_judged t row j = stand_again row.name (strategy_of (known_of t) j.made) row.standing j.stand j.stands
+
+pub have_run_rows : (t : Tables) (row : ServiceRow) (j : IsServiceJudged t row) → HaveRunRows t.runs row.name j.runs
+have_run_rows t row j place r there =
+    let is = j.each place r there in
+    (subst (λ n. filter (is_run row.name n) t.runs ≡ row_of_record row.name r ∷ []) is.0 is.1.one, is.1.closed)
+
+past_again : (t : Tables) (row : ServiceRow) (j : IsServiceJudged t row) → past_in t row.name j.stand.strategy row.standing.runs ≡ past_judged j
+past_again t row j =
+    let plan : CheckedStrategy = j.stand.strategy in
+    let measurements : measurements_in t.measurements row.name ≡ j.measurements = j.read.values in
+    let history : history_in t.history row.name ≡ j.history = ap (filter_map line_of_row) j.told ∙ lines_again row.name j.history j.lines in
+    let many : row.standing.runs ≡ length j.runs = sym j.as_many in
+    let runs : runs_to plan j.measurements t.runs row.name (length j.runs) ≡ map (run_made plan j.measurements) j.runs = runs_again plan j.measurements t.runs row.name j.runs (have_run_rows t row j) in
+    (λ i. record { runs = runs_to plan (measurements i) t.runs row.name (many i); measurements = measurements i; history = history i })
+    ∙ (λ i. record { runs = runs i; measurements = j.measurements; history = j.history })
+
+pub service_read : (t : Tables) (row : ServiceRow) (j : IsServiceJudged t row) → service_of_row (known_of t) t row ≡ Some (service_judged j)
+service_read t row j =
+    let plan : CheckedStrategy = strategy_of (known_of t) j.made in
+    let s : IsStanding row.name plan row.standing j.stand = standing_judged t row j in
+    ap (option_and_then (service_made (known_of t) t row)) j.is
+    ∙ ap (service_from t row j.made plan) j.stands
+    ∙ (λ i. Some (record { made = j.made; stand = j.stand; past = past_in t row.name (sym s.strategy i) row.standing.runs }))
+    ∙ (λ i. Some (record { made = j.made; stand = j.stand; past = past_again t row j i }))
+
+pub made_readable : (t : Tables) (row : ServiceRow) (j : IsServiceJudged t row) → IsReadableCommand (command.Service j.made)
+made_readable t row j = still_canonical row.spec (command.Service j.made) (of_made (canonical_in row.spec) j.made j.is).command
+
+pub row_again : (t : Tables) (row : ServiceRow) (j : IsServiceJudged t row) → service_row row.name (service_judged j) ≡ row
+row_again t row j =
+    let s : IsStanding row.name (strategy_of (known_of t) j.made) row.standing j.stand = standing_judged t row j in
+    let many : length (map (run_made j.stand.strategy j.measurements) j.runs) ≡ row.standing.runs = length-map j.runs (run_made j.stand.strategy j.measurements) ∙ j.as_many in
+    let text = canonical_text row.spec (command.Service j.made) (of_made (canonical_in row.spec) j.made j.is).command in
+    (λ i. record { name = row.name; spec = text i; standing = standing_of j.stand (many i) }) ∙ (λ i. record { name = row.name; spec = row.spec; standing = s.again i })

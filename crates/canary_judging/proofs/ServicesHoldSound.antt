@@ -1,0 +1,211 @@
+-- A service that is judged is in order, and its runs are sound.
+use Rattle.std.proofs.Common.{◌≡◌, ℕ, zero, suc, ◌+◌, ◌≤◌, ◌<◌, ◌==◌, List, [], ◌∷◌, length, Bool, true, false, Some, None, refl, sym, ap, ◌∙◌, subst, arith}
+use Rattle.std.specs.Prelude.{Option, ◌&&◌, ◌||◌, cond, filter, map, nat_lt, option_map, slice_get}
+use Rattle.std.specs.List.{AllByRecursion, list_all, list_any, zip}
+use Rattle.std.proofs.lemmas.Bool.{lt-ltb}
+use Rattle.std.proofs.lemmas.Bool.Decides.{Decides-eqb}
+use Rattle.std.proofs.lemmas.List.{length-map}
+use Rattle.std.proofs.lemmas.Option.{slice_get-map}
+use Rattle.canary_metric.specs.Metrics.{MetricValue}
+use Rattle.canary_metric.specs.Counts.{Counts, counts}
+use Rattle.canary_metric.specs.Verdicts.{verdict_of_counts}
+use Rattle.canary_plan.specs.declared.strategy.CheckedStrategy.{CheckedStrategy}
+use Rattle.canary_plan.specs.Plans.{strategy_of, metrics_at}
+use Rattle.canary_release.specs.declared.effect.Recorded.{Recorded}
+use Rattle.canary_release.specs.declared.effect.Closing.{Closing}
+use Rattle.canary_release.specs.declared.runs.Runs.{Runs}
+use Rattle.canary_release.specs.Courses.{run_metrics}
+use Rattle.canary_release.specs.Order.{AreNumbered, AreOrdered, AreLists, is_of, IsRun, is_measured_by, is_of_some, IsInOrder}
+use Rattle.canary_release.specs.Parts.{is_broken}
+use Rattle.canary_release.specs.Pasts.{Run, measurement_of, counts_of, is_open, tallied, watched}
+use Rattle.canary_release.specs.Desks.{ModelService}
+use Rattle.canary_release.specs.Sound.{IsJudgedBy, AreJudged, HasVerdict, IsSoundRun}
+use Rattle.canary_once.specs.declared.record.RunRecord.{RunRecord}
+use Rattle.canary_rows.specs.declared.rows.ServiceRow.{ServiceRow}
+use Rattle.canary_rows.specs.Tables.{Tables}
+use Rattle.canary_stored.specs.Values.{lists_in}
+use Rattle.canary_stored.specs.Tables.{IsReadableClosing, IsReadableRun, IsReadablePast}
+use Rattle.canary_judging.specs.Counting.{at_metric, of_metric, IsOfMetric, IsList, CountingIsExact, RunsAreTallied}
+use Rattle.canary_judging.specs.Services.{HasVerdictBy, is_open_record, open_of_record, open_runs_in, metrics_of_runs, IsServiceJudged}
+use Rattle.canary_judging.proofs.CallersJudged.{HasPlace, has_place, below_length}
+use Rattle.canary_judging.proofs.Named.{weaker}
+use Rattle.canary_judging.proofs.ServicesHoldRows.{run_made, service_judged, known_of, IsStanding, standing_judged}
+use Rattle.canary_judging.proofs.ServicesHoldFacts.{IsRunOf, are_listed, run_of_judged}
+use Rattle.canary_judging.proofs.ServicesHoldLists.{measurements_under}
+
+-- Runs one after another, the first of these having this number.
+
+abbrev AreRunsOf : CheckedStrategy → List Recorded → ℕ → List RunRecord → Type 0
+AreRunsOf plan xs number [] = Unit {0}
+AreRunsOf plan xs number (r ∷ rs) = IsRunOf plan xs number r × AreRunsOf plan xs (suc number) rs
+
+in_turn : (plan : CheckedStrategy) (xs : List Recorded) (first : ℕ) (runs : List RunRecord) → ((place : ℕ) (r : RunRecord) → slice_get runs place ≡ Some r → IsRunOf plan xs (first + place) r) → AreRunsOf plan xs first runs
+in_turn plan xs first [] each = tt
+in_turn plan xs first (r ∷ rs) each = (
+  subst (λ n. IsRunOf plan xs n r) (let e : first + 0 ≡ first = omega arith in e) (each 0 r refl),
+  in_turn plan xs (suc first) rs (λ place x there. subst (λ n. IsRunOf plan xs n x) (let e : first + suc place ≡ suc first + place = omega arith in e) (each (suc place) x there)),
+)
+
+runs_of_judged : CountingIsExact → RunsAreTallied → (t : Tables) (row : ServiceRow) (j : IsServiceJudged t row) → AreRunsOf j.stand.strategy j.measurements 1 j.runs
+runs_of_judged exact tallied t row j =
+    in_turn j.stand.strategy j.measurements 1 j.runs (λ place r there. subst (λ n. IsRunOf j.stand.strategy j.measurements n r) (let e : suc place ≡ 1 + place = omega arith in e) (run_of_judged exact tallied t row j place r there))
+
+-- what holds of each run holds of all that are made of them
+each_made : (plan : CheckedStrategy) (xs : List Recorded) (P : Run → Type 0) → ((number : ℕ) (r : RunRecord) → IsRunOf plan xs number r → P (run_made plan xs r)) → (first : ℕ) (runs : List RunRecord) → AreRunsOf plan xs first runs
+    → AllByRecursion P (map (run_made plan xs) runs)
+each_made plan xs P so first [] all = tt
+each_made plan xs P so first (r ∷ rs) all = (so first r all.0, each_made plan xs P so (suc first) rs all.1)
+
+numbered_from : (plan : CheckedStrategy) (xs : List Recorded) (first : ℕ) (runs : List RunRecord) → AreRunsOf plan xs first runs → AreNumbered first (map (run_made plan xs) runs)
+numbered_from plan xs first [] all = tt
+numbered_from plan xs first (r ∷ rs) all = (all.0.numbered, numbered_from plan xs (suc first) rs all.1)
+
+-- Lists of a run.
+
+are_lists : (xs : List Recorded) (run k n : ℕ) → ((place : ℕ) → place < n → AreOrdered run (k + place) 1 (filter (is_of run (k + place)) xs) × (length (filter (is_of run (k + place)) xs) ≤ 1000000))
+    → AreLists xs run k (lists_in xs run k n)
+are_lists xs run k zero each = tt
+are_lists xs run k (suc n) each =
+    let here : k + 0 ≡ k = omega arith in
+    let first : AreOrdered run k 1 (filter (is_of run k) xs) × (length (filter (is_of run k) xs) ≤ 1000000) =
+    subst (λ m. AreOrdered run m 1 (filter (is_of run m) xs) × (length (filter (is_of run m) xs) ≤ 1000000)) here (each 0 (omega arith)) in
+    let rest : AreLists xs run (suc k) (lists_in xs run (suc k) n) = are_lists xs run (suc k) n (λ place below.
+    subst (λ m. AreOrdered run m 1 (filter (is_of run m) xs) × (length (filter (is_of run m) xs) ≤ 1000000)) (let e : k + suc place ≡ suc k + place = omega arith in e) (each (suc place) (omega arith))) in
+    (first.0, first.1, refl, rest)
+
+so_many : (xs : List Recorded) (run k n : ℕ) → length (lists_in xs run k n) ≡ n
+so_many xs run k zero = refl
+so_many xs run k (suc n) = ap suc (so_many xs run (suc k) n)
+
+is_run : (s : ModelService) (plan : CheckedStrategy) (xs : List Recorded) → s.stand.strategy ≡ plan → s.past.measurements ≡ xs → (number : ℕ) (r : RunRecord) → IsRunOf plan xs number r → IsRun s (run_made plan xs r)
+is_run s plan xs strategy measured number r of =
+    let metrics : List MetricValue = run_metrics plan r.step in
+    let lists : AreLists xs r.number 0 (lists_in xs r.number 0 (length metrics)) = are_lists xs r.number 0 (length metrics) (λ place below.
+    let h : HasPlace metrics place = has_place metrics place below in
+    let l : IsList r.number place h.value (filter (is_of r.number place) xs) = of.lists place h.value h.there in
+    subst (λ m. AreOrdered r.number m 1 (filter (is_of r.number m) xs) × (length (filter (is_of r.number m) xs) ≤ 1000000)) (let e : place ≡ 0 + place = omega arith in e) (l.ordered, l.few)) in
+    record {
+      metrics = metrics;
+      analysis = subst (λ p. metrics_at p r.step ≡ Some metrics) (sym strategy) of.analysis;
+      one_each = so_many xs r.number 0 (length metrics);
+      lists = subst (λ ys. AreLists ys r.number 0 (lists_in xs r.number 0 (length metrics))) (sym measured) lists;
+    }
+
+-- Verdicts.
+
+are_judged : (xs : List Recorded) (run k : ℕ) (metrics : List MetricValue) → ((place : ℕ) (metric : MetricValue) → slice_get metrics place ≡ Some metric → AllByRecursion (IsJudgedBy metric) (filter (is_of run (k + place)) xs))
+    → AreJudged metrics (lists_in xs run k (length metrics))
+are_judged xs run k [] each = tt
+are_judged xs run k (metric ∷ metrics) each = (
+  subst (λ m. AllByRecursion (IsJudgedBy metric) (filter (is_of run m) xs)) (let e : k + 0 ≡ k = omega arith in e) (each 0 metric refl),
+  are_judged xs run (suc k) metrics (λ place v there. subst (λ m. AllByRecursion (IsJudgedBy v) (filter (is_of run m) xs)) (let e : k + suc place ≡ suc k + place = omega arith in e) (each (suc place) v there)),
+)
+
+counted_twice : (lists : List (List Recorded)) → map counts (map (map measurement_of) lists) ≡ map counts_of lists
+counted_twice [] = refl
+counted_twice (list ∷ lists) = ap (λ (cs : List Counts). counts_of list ∷ cs) (counted_twice lists)
+
+has_verdict : (s : ModelService) (run : Run) (tallies : List Counts) (o : Option Closing) → map counts_of run.lists ≡ tallies → IsReadableClosing run.number o → HasVerdictBy (run_metrics s.stand.strategy run.step) tallies o → HasVerdict s run o
+has_verdict s run tallies None same closed v = ap (λ (ts : List Counts). verdict_of_counts false (zip (run_metrics s.stand.strategy run.step) ts)) (counted_twice run.lists ∙ same) ∙ v
+has_verdict s run tallies (Some x) same closed v = (
+  closed.0,
+  v.0 ∙ ap (λ (ts : List Counts). verdict_of_counts x.outside (zip (run_metrics s.stand.strategy run.step) ts)) (sym (counted_twice run.lists ∙ same)),
+  v.1,
+)
+
+is_sound_run : (s : ModelService) (xs : List Recorded) (number : ℕ) (r : RunRecord) → IsRunOf s.stand.strategy xs number r → IsSoundRun s (run_made s.stand.strategy xs r)
+is_sound_run s xs number r of = (
+  are_judged xs r.number 0 (run_metrics s.stand.strategy r.step) (λ place metric there.
+      subst (λ m. AllByRecursion (IsJudgedBy metric) (filter (is_of r.number m) xs)) (let e : place ≡ 0 + place = omega arith in e) (of.lists place metric there).judged),
+  has_verdict s (run_made s.stand.strategy xs r) r.tallies r.closed of.tallied of.closed of.verdict,
+)
+
+pub runs_sound : CountingIsExact → RunsAreTallied → (t : Tables) (row : ServiceRow) (j : IsServiceJudged t row) → AllByRecursion (IsSoundRun (service_judged j)) (service_judged j).past.runs
+runs_sound exact tallied t row j =
+    each_made j.stand.strategy j.measurements (IsSoundRun (service_judged j)) (λ number r of. is_sound_run (service_judged j) j.measurements number r of) 1 j.runs (runs_of_judged exact tallied t row j)
+
+-- What is read back.
+
+pub past_readable : CountingIsExact → RunsAreTallied → (t : Tables) (row : ServiceRow) (j : IsServiceJudged t row) → IsReadablePast (service_judged j).past
+past_readable exact tallied t row j = record {
+  runs = each_made j.stand.strategy j.measurements IsReadableRun (λ number r of. of.closed) 1 j.runs (runs_of_judged exact tallied t row j);
+  measurements = (measurements_under t row j).1;
+  history = j.lines;
+}
+
+-- Measurements are of runs.
+
+either : (a b : Bool) → b ≡ true → a || b ≡ true
+either true b e = refl
+either false b e = e
+
+some_passes : {X : Type 0} (p : X → Bool) (xs : List X) (place : ℕ) (x : X) → slice_get xs place ≡ Some x → p x ≡ true → list_any p xs ≡ true
+some_passes p [] place x there e = absurd (cc)
+some_passes p (y ∷ ys) zero x there e =
+    let same : y ≡ x = cc there in
+    ap (λ b. b || list_any p ys) (ap p same ∙ e)
+some_passes p (y ∷ ys) (suc place) x there e = either (p y) (list_any p ys) (some_passes p ys place x there e)
+
+all_pass : {X : Type 0} (p : X → Bool) (xs : List X) → AllByRecursion (λ x. p x ≡ true) xs → list_all p xs ≡ true
+all_pass p [] all = refl
+all_pass p (x ∷ xs) all = λ i. all.0 i && all_pass p xs all.1 i
+
+measured_at : (plan : CheckedStrategy) (xs : List Recorded) (runs : List RunRecord) (place : ℕ) (x : Recorded) (metric : MetricValue) (o : Option RunRecord) → slice_get runs place ≡ o → x.run ≡ suc place
+    → ((r : RunRecord) → slice_get runs place ≡ Some r → r.number ≡ suc place) → at_metric x.metric (option_map (λ (r : RunRecord). run_metrics plan r.step) o) ≡ Some metric
+    → is_of_some (map (run_made plan xs) runs) x ≡ true
+measured_at plan xs runs place x metric None there run numbered planned = absurd (cc)
+measured_at plan xs runs place x metric (Some r) there run numbered planned =
+    let made : Run = run_made plan xs r in
+    let many : length made.lists ≡ length (run_metrics plan r.step) = so_many xs r.number 0 (length (run_metrics plan r.step)) in
+    let below : x.metric < length (run_metrics plan r.step) = below_length (run_metrics plan r.step) x.metric metric planned in
+    let own : (x.run == r.number) ≡ true = (Decides-eqb x.run r.number).1 (run ∙ sym (numbered r there)) in
+    let within : nat_lt x.metric (length made.lists) ≡ true = lt-ltb x.metric (length made.lists) (omega arith) in
+    some_passes (is_measured_by x) (map (run_made plan xs) runs) place made (slice_get-map (run_made plan xs) runs place ∙ ap (option_map (run_made plan xs)) there) (λ i. own i && within i)
+
+measured_by : (plan : CheckedStrategy) (xs : List Recorded) (runs : List RunRecord) (run : ℕ) (x : Recorded) (metric : MetricValue) → x.run ≡ run → ((place : ℕ) (r : RunRecord) → slice_get runs place ≡ Some r → r.number ≡ suc place)
+    → of_metric run x.metric (metrics_of_runs plan runs) ≡ Some metric → is_of_some (map (run_made plan xs) runs) x ≡ true
+measured_by plan xs runs zero x metric run numbered planned = absurd (cc)
+measured_by plan xs runs (suc place) x metric run numbered planned =
+    measured_at plan xs runs place x metric (slice_get runs place) refl run (numbered place) (ap (at_metric x.metric) (sym (slice_get-map (λ (r : RunRecord). run_metrics plan r.step) runs place)) ∙ planned)
+
+all_measured : CountingIsExact → (t : Tables) (row : ServiceRow) (j : IsServiceJudged t row) → list_all (is_of_some (service_judged j).past.runs) j.measurements ≡ true
+all_measured exact t row j =
+    let plan : CheckedStrategy = j.stand.strategy in
+    all_pass (is_of_some (service_judged j).past.runs) j.measurements
+    (weaker (IsOfMetric (metrics_of_runs plan j.runs)) (λ x. is_of_some (service_judged j).past.runs x ≡ true) (λ x h. measured_by plan j.measurements j.runs x.run x h.metric refl (λ place r there. (j.each place r there).0) h.planned) j.measurements (are_listed exact t row j).placed)
+
+-- What is watched.
+
+open_same : (plan : CheckedStrategy) (xs : List Recorded) (first : ℕ) (runs : List RunRecord) → AreRunsOf plan xs first runs → map tallied (filter is_open (map (run_made plan xs) runs)) ≡ open_runs_in runs
+open_same plan xs first [] all = refl
+open_same plan xs first (r ∷ rs) all =
+    let rest : map tallied (filter is_open (map (run_made plan xs) rs)) ≡ open_runs_in rs = open_same plan xs (suc first) rs all.1 in
+    let one : tallied (run_made plan xs r) ≡ open_of_record r = λ i. record { number = r.number; step = r.step; started = r.started; tallies = all.0.tallied i } in
+    elim (is_open_record r) as (λ b. map tallied (cond b (run_made plan xs r ∷ filter is_open (map (run_made plan xs) rs)) (filter is_open (map (run_made plan xs) rs))) ≡ map open_of_record (cond b (r ∷ filter is_open_record rs) (filter is_open_record rs))) [
+      | true ↦ λ i. one i ∷ rest i
+      | false ↦ rest
+    ]
+
+watched_same : CountingIsExact → RunsAreTallied → (t : Tables) (row : ServiceRow) (j : IsServiceJudged t row) → watched (service_judged j).past ≡ record { count = length j.runs; open_runs = open_runs_in j.runs }
+watched_same exact tallied t row j =
+    let count = length-map j.runs (run_made j.stand.strategy j.measurements) in
+    let open_runs = open_same j.stand.strategy j.measurements 1 j.runs (runs_of_judged exact tallied t row j) in
+    λ i. record { count = count i; open_runs = open_runs i }
+
+-- In order.
+
+pub in_order : CountingIsExact → RunsAreTallied → (t : Tables) (row : ServiceRow) (j : IsServiceJudged t row) → IsInOrder (known_of t) row.name (service_judged j)
+in_order exact tallied t row j =
+    let plan : CheckedStrategy = j.stand.strategy in
+    let s : IsStanding row.name (strategy_of (known_of t) j.made) row.standing j.stand = standing_judged t row j in
+    let runs : AreRunsOf plan j.measurements 1 j.runs = runs_of_judged exact tallied t row j in
+    record {
+      named = j.named;
+      shown = s.named;
+      strategy = s.strategy;
+      accepted = j.accepted;
+      numbered = numbered_from plan j.measurements 1 j.runs runs;
+      runs = each_made plan j.measurements (IsRun (service_judged j)) (λ number r of. is_run (service_judged j) plan j.measurements refl refl number r of) 1 j.runs runs;
+      measured = all_measured exact t row j;
+      parts = subst (λ (w : Runs). is_broken (record { stand = j.stand; runs = w }) ≡ false) (sym (watched_same exact tallied t row j)) j.parts;
+    }

@@ -1,0 +1,149 @@
+-- The runs of a service of contents, with their tallies, pass each test.
+use Rattle.std.proofs.Common.{◌≡◌, inl, inr, ℕ, zero, suc, ◌+◌, ◌≤◌, List, [], ◌∷◌, length, Bool, true, false, Some, None, refl, sym, ap, ◌∙◌, subst, arith}
+use Rattle.std.specs.Prelude.{Option, ◌==◌, ◌&&◌, cond, filter, map, slice_get, unwrap_or, is_none}
+use Rattle.std.specs.Str.{bytes_eq}
+use Rattle.std.specs.List.{AllByRecursion, zip}
+use Rattle.std.proofs.lemmas.List.Elements.{filter_agree}
+use Rattle.canary_metric.specs.Metrics.{MetricValue}
+use Rattle.canary_metric.specs.Counts.{counts}
+use Rattle.canary_metric.specs.Verdicts.{verdict_of_counts}
+use Rattle.canary_plan.specs.declared.command.Command.TheVariants as command
+use Rattle.canary_plan.specs.Plans.{Templates, metrics_at}
+use Rattle.canary_release.specs.declared.effect.Recorded.{Recorded}
+use Rattle.canary_release.specs.declared.effect.Closing.{Closing}
+use Rattle.canary_release.specs.Desks.{ModelService}
+use Rattle.canary_release.specs.Order.{AreNumbered, IsRun, IsInOrder}
+use Rattle.canary_release.specs.Pasts.{Run, measurement_of, counts_of, is_open, tallied}
+use Rattle.canary_release.specs.Sound.{HasVerdict, IsSoundRun, verdict_on}
+use Rattle.canary_once.specs.declared.record.RunRecord.{RunRecord}
+use Rattle.canary_once.specs.Records.{record_of}
+use Rattle.canary_rows.specs.declared.rows.TallyRow.{TallyRow}
+use Rattle.canary_rows.specs.Tables.{Tables, is_run, is_tally, is_tally_of, is_measurement_of, is_line_of}
+use Rattle.canary_stored.specs.Values.{run_row, tally_row, measurement_row, history_row}
+use Rattle.canary_stored.specs.Tables.{row_if, run_at, run_rows, tally_rows_of, tally_rows, IsReadableCommand, IsReadableRun, IsReadablePast}
+use Rattle.canary_judging.specs.Services.{HasVerdictBy, IsRunJudged, is_open_record, open_of_record, open_runs_in}
+use Rattle.canary_judging.proofs.Numbers.{is_numbered}
+use Rattle.canary_judging.proofs.Named.{filter_twice}
+use Rattle.canary_judging.proofs.Callers.{none_behind}
+use Rattle.canary_judging.proofs.CallersJudged.{HasPlace, has_place}
+use Rattle.canary_judging.proofs.ServicesJudgedLists.{all_at, ComesOf, comes_of, just_numbers}
+
+-- the rows of a service of contents, and what is known of it
+pub record HasRows (t : Tables) (known : Templates) (q : List ℕ) (m : ModelService) : Type 0 where
+  pub runs : (number : ℕ) → filter (is_run q number) t.runs ≡ run_rows q number m.past.runs
+  pub tallies : (number metric : ℕ) → filter (is_tally q number metric) t.tallies ≡ tally_rows q number metric m.past.runs
+  pub measurements : filter (is_measurement_of q) t.measurements ≡ map (measurement_row q) m.past.measurements
+  pub history : filter (is_line_of q) t.history ≡ map (history_row q) m.past.history
+  pub readable : IsReadablePast m.past
+  pub made : IsReadableCommand (command.Service m.made)
+  pub in_order : IsInOrder known q m
+  pub sound : AllByRecursion (IsSoundRun m) m.past.runs
+
+pub number_at : (n : ℕ) (runs : List Run) (place : ℕ) (r : Run) → AreNumbered n runs → slice_get runs place ≡ Some r → r.number ≡ place + n
+number_at n [] place r h at = absurd (cc)
+number_at n (q ∷ runs) zero r h at =
+    let same : q ≡ r = cc at in
+    let is : q.number ≡ n = h.0 in
+    sym (ap (λ (x : Run). x.number) same) ∙ is ∙ (let e : n ≡ zero + n = omega arith in e)
+number_at n (q ∷ runs) (suc place) r h at =
+    let is : r.number ≡ place + suc n = number_at (suc n) runs place r h.1 at in
+    omega (arith, is)
+
+pub its_number : (runs : List Run) (place : ℕ) (r : Run) → AreNumbered 1 runs → slice_get runs place ≡ Some r → r.number ≡ suc place
+its_number runs place r h at =
+    let is : r.number ≡ place + 1 = number_at 1 runs place r h at in
+    omega (arith, is)
+
+-- How many tallies a run has.
+
+abbrev pub tally_metric : TallyRow → ℕ
+tally_metric row = row.metric
+
+in_turn : (a b c : Bool) → (a && b) && c ≡ a && (b && c)
+in_turn true b c = refl
+in_turn false b c = refl
+
+pub tallies_numbered : (q : List ℕ) (n k : ℕ) (rows : List TallyRow) → filter (is_numbered tally_metric k) (filter (is_tally_of q n) rows) ≡ filter (is_tally q n k) rows
+tallies_numbered q n k rows = filter_twice (is_numbered tally_metric k) (is_tally_of q n) rows ∙ filter_agree (λ row. is_tally_of q n row && is_numbered tally_metric k row) (is_tally q n k) (λ row. in_turn (bytes_eq q row.service) (n == row.run) (k == row.metric)) rows
+
+-- a run of a service, under its number
+pub record StandsAt (m : ModelService) (r : Run) : Type 0 where
+  pub there : run_at r.number m.past.runs ≡ Some r
+  pub run : IsRun m r
+  pub sound : IsSoundRun m r
+  pub readable : IsReadableRun r
+
+pub stands_at : (t : Tables) (known : Templates) (q : List ℕ) (m : ModelService) → HasRows t known q m → (place : ℕ) (r : Run) → slice_get m.past.runs place ≡ Some r → StandsAt m r
+stands_at t known q m has place r e = record {
+  there = ap (λ n. run_at n m.past.runs) (its_number m.past.runs place r has.in_order.numbered e) ∙ e;
+  run = all_at (IsRun m) m.past.runs has.in_order.runs place r e;
+  sound = all_at (IsSoundRun m) m.past.runs has.sound place r e;
+  readable = all_at IsReadableRun m.past.runs has.readable.runs place r e;
+}
+
+abbrev list_row : List ℕ → ℕ → ℕ → List Recorded → TallyRow
+list_row q number metric list = tally_row q number metric (counts_of list)
+
+tally_at : (t : Tables) (known : Templates) (q : List ℕ) (m : ModelService) → HasRows t known q m → (r : Run) → StandsAt m r → (metric : ℕ)
+    → filter (is_tally q r.number metric) t.tallies ≡ row_if (list_row q r.number metric) (slice_get r.lists metric)
+tally_at t known q m has r at metric = has.tallies r.number metric ∙ ap (tally_rows_of q r.number metric) at.there
+
+as_mapped : {A B : Type 0} (f : A → B) (xs : List A) → length (map f xs) ≡ length xs
+as_mapped f [] = refl
+as_mapped f (x ∷ xs) = ap suc (as_mapped f xs)
+
+pub so_many_tallies : (t : Tables) (known : Templates) (q : List ℕ) (m : ModelService) → HasRows t known q m → (r : Run) → StandsAt m r → length (filter (is_tally_of q r.number) t.tallies) ≡ length r.lists
+so_many_tallies t known q m has r at =
+    just_numbers tally_metric (filter (is_tally_of q r.number) t.tallies) 0 (length r.lists)
+    (λ k a b. (let h : HasPlace r.lists k = has_place r.lists k (omega arith) in ap length (tallies_numbered q r.number k t.tallies ∙ tally_at t known q m has r at k ∙ ap (row_if (list_row q r.number k)) h.there)))
+    (λ k out. (let above : length r.lists ≤ k = elim out as (λ x. length r.lists ≤ k) [ inl low ↦ omega arith | inr high ↦ omega arith ] in
+    tallies_numbered q r.number k t.tallies ∙ tally_at t known q m has r at k ∙ ap (row_if (list_row q r.number k)) (none_behind r.lists k above)))
+
+-- Verdicts.
+
+counted_lists : (lists : List (List Recorded)) → map counts (map (map measurement_of) lists) ≡ map counts_of lists
+counted_lists [] = refl
+counted_lists (list ∷ lists) = λ i. counts_of list ∷ counted_lists lists i
+
+same_verdict : (m : ModelService) (r : Run) (metrics : List MetricValue) → metrics_at m.stand.strategy r.step ≡ Some metrics → (outside : Bool) → verdict_on m r outside ≡ verdict_of_counts outside (zip metrics (map counts_of r.lists))
+same_verdict m r metrics e outside = λ i. verdict_of_counts outside (zip (unwrap_or (e i) []) (counted_lists r.lists i))
+
+verdict_by : (m : ModelService) (r : Run) (metrics : List MetricValue) → metrics_at m.stand.strategy r.step ≡ Some metrics → (o : Option Closing) → HasVerdict m r o → HasVerdictBy metrics (map counts_of r.lists) o
+verdict_by m r metrics e None h = sym (same_verdict m r metrics e false) ∙ h
+verdict_by m r metrics e (Some x) h = (h.1 ∙ same_verdict m r metrics e x.outside, h.2)
+
+-- A run.
+
+pub run_is_judged : (t : Tables) (known : Templates) (q : List ℕ) (m : ModelService) → HasRows t known q m → (r : Run) → StandsAt m r → IsRunJudged t m.stand.strategy q (record_of r)
+run_is_judged t known q m has r at = record {
+  one = has.runs r.number ∙ ap (row_if (run_row q)) at.there;
+  closed = at.readable;
+  metrics = at.run.metrics;
+  analysis = at.run.analysis;
+  tallies = λ place c e.
+      let h : ComesOf counts_of r.lists place c = comes_of counts_of r.lists place c e in
+      tally_at t known q m has r at place ∙ ap (row_if (list_row q r.number place)) h.there ∙ ap (λ x. tally_row q r.number place x ∷ []) h.is;
+  no_more = so_many_tallies t known q m has r at ∙ sym (as_mapped counts_of r.lists);
+  verdict = verdict_by m r at.run.metrics at.run.analysis r.closed at.sound.1;
+}
+
+pub runs_are_judged : (t : Tables) (known : Templates) (q : List ℕ) (m : ModelService) → HasRows t known q m → (place : ℕ) (r : RunRecord) → slice_get (map record_of m.past.runs) place ≡ Some r
+    → (r.number ≡ suc place) × IsRunJudged t m.stand.strategy q r
+runs_are_judged t known q m has place r e =
+    let h : ComesOf record_of m.past.runs place r = comes_of record_of m.past.runs place r e in
+    subst (λ (x : RunRecord). (x.number ≡ suc place) × IsRunJudged t m.stand.strategy q x) h.is
+    (its_number m.past.runs place h.value has.in_order.numbered h.there, run_is_judged t known q m has h.value (stands_at t known q m has place h.value h.there))
+
+-- The open ones.
+
+pub same_open : (runs : List Run) → open_runs_in (map record_of runs) ≡ map tallied (filter is_open runs)
+same_open [] = refl
+same_open (r ∷ runs) =
+    elim (is_none r.closed)
+    as (λ b. map open_of_record (cond b (record_of r ∷ filter is_open_record (map record_of runs)) (filter is_open_record (map record_of runs))) ≡ map tallied (cond b (r ∷ filter is_open runs) (filter is_open runs))) [
+      | true ↦ λ i. tallied r ∷ same_open runs i
+      | false ↦ same_open runs
+    ]
+
+pub as_many_records : (runs : List Run) → length (map record_of runs) ≡ length runs
+as_many_records runs = as_mapped record_of runs

@@ -1,0 +1,59 @@
+-- What adopting a database comes to.
+use Rattle.std.specs.Prelude.{◌≡◌, ◌↔◌}
+use Rattle.sqlite.specs.Effect.{Database}
+use Rattle.sqlite.specs.Held.{state}
+use Rattle.sqlite.specs.State.{State}
+use Rattle.sqlite_trees.specs.declared.store.Store.{Ghosts}
+use Rattle.canary_rows.specs.Limits.{AreWithin}
+use Rattle.canary_rows.specs.Tables.{Tables}
+use Rattle.canary_schema.specs.Cells.{meta_rows}
+use Rattle.canary_schema.specs.Formed.{IsDeskSchema, IsFormed}
+use Rattle.canary_schema.specs.Numbered.{IsLeft}
+use Rattle.canary_schema.specs.Stores.{IsUsable, Holds, Stores}
+use Rattle.canary_judging.specs.Soundness.{AreSoundTables}
+use Rattle.canary_tables.specs.declared.fault.Left.{Left}
+use Rattle.canary_tables.specs.declared.fault.Left.TheVariants as left
+use Rattle.canary_tables.specs.Desk.{contents_in}
+
+-- a desk's tables are there, with the row of meta
+abbrev pub HasDeskTables : Database → Type 0
+HasDeskTables db = IsDeskSchema db.schema × (db.trees 0 ≡ meta_rows)
+
+-- the rows of tables of sound contents stand in it
+abbrev pub HasSoundRows : Database → Type 0
+HasSoundRows db = (t : Tables) × (Holds db.schema db t × AreSoundTables t)
+
+-- and a program can hold each of them
+abbrev pub HasSoundRowsWithin : Database → Type 0
+HasSoundRowsWithin db = (t : Tables) × (Holds db.schema db t × (AreWithin t × AreSoundTables t))
+
+-- the same rows stand in both, and only the indexes may differ
+abbrev pub HaveSameRows : Database → Database → Type 0
+HaveSameRows old new = (t : Tables) → Holds old.schema old t ↔ Holds new.schema new t
+
+-- a desk's database, whose rows are those of sound contents, has been given the indexes that it lacked
+pub record IsBelieved (old : Database) (new : State) : Type 0 where
+  pub formed : IsFormed old
+  pub rows : Tables
+  pub held : Holds old.schema old rows
+  pub sound : AreSoundTables rows
+  pub stores : Stores new rows
+
+-- the database is a desk's with sound contents, which the book contains
+pub record IsAdopted (old new : State) : Type 0 where
+  pub was : IsUsable old
+  pub formed : IsFormed old.now
+  pub sound : HasSoundRows old.now
+  pub contents : contents_in new ≡ contents_in old
+
+-- What is left where there is no book.
+
+-- a connection tells what its tables are; a store alone is not asked
+abbrev pub TellsTables : {S : Type 0} → Ghosts S → Left S → Type 0
+TellsTables g (left.Connection conn) = IsUsable (state g conn)
+TellsTables g (left.Store store) = Unit {0}
+
+-- the rows are as they were; so are all trees of a store alone, which is clean and open
+abbrev pub LeavesRows : {S : Type 0} → Ghosts S → State → Left S → Type 0
+LeavesRows g old (left.Connection conn) = IsUsable (state g conn) → IsUsable old × HaveSameRows old.now (state g conn).now
+LeavesRows g old (left.Store store) = IsLeft old (g.view store)

@@ -1,0 +1,16 @@
+-- What the faults of a statement and of a read come to.
+use Rattle.canary_schema.specs.declared.fault.StoreFault.{StoreFault}
+use Rattle.canary_schema.specs.declared.fault.StoreFault.TheVariants as store
+use Rattle.canary_reads.specs.declared.fault.ReadFault.{ReadFault}
+use Rattle.canary_reads.specs.declared.fault.ReadFault.TheVariants as read
+use Rattle.canary_tables.specs.declared.fault.TableFault.{TableFault}
+use Rattle.canary_tables.specs.declared.fault.TableFault.TheVariants.{Memory, Storage, BrokenRow}
+
+abbrev pub fault_of_store : StoreFault → TableFault
+fault_of_store store.Memory = Memory
+fault_of_store store.Storage = Storage
+
+abbrev pub fault_of_read : ReadFault → TableFault
+fault_of_read read.Memory = Memory
+fault_of_read read.Storage = Storage
+fault_of_read read.Broken = BrokenRow

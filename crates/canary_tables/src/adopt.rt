@@ -1,0 +1,145 @@
+//! A book over a database that has a desk's tables.
+ghost use Rattle.std.specs.Prelude.{◌≡◌, ◌↔◌, false, IsTrue, IfOk, IfErr, OnOk, OnErr, Err};
+ghost use Rattle.sqlite.specs.Held.{state};
+ghost use Rattle.canary_rows.specs.Tables.{Tables};
+ghost use Rattle.canary_schema.specs.Formed.{IsDeskSchema, IsFormed, HasRows, HasWholeTallies};
+ghost use Rattle.canary_schema.specs.Stores.{IsUsable, AreNumbered, Stores, Holds};
+ghost use Rattle.canary_reads.specs.Finds.{IsSame};
+ghost use Rattle.canary_tables.specs.Adopts.{HasDeskTables, HasSoundRowsWithin, HaveSameRows};
+ghost use Rattle.canary_tables.specs.Adopts.{IsBelieved, IsAdopted, TellsTables, LeavesRows};
+ghost use Rattle.canary_tables.specs.declared.fault.TableFault.TheVariants as fault;
+
+use crate::book::TableBook;
+use crate::fault::{Left, TableFault};
+use canary_adopting::judge::judge;
+use canary_judging::laws as judging_laws;
+use canary_reads::typed::{has_meta, typed};
+use canary_schema::anew::open_anew;
+use canary_schema::create::add_indexes;
+use canary_schema::fault::StoreFault;
+use canary_schema::known::{is_bare, is_known};
+use canary_schema::laws as schema_laws;
+use sqlite::{Alter, Connection};
+use std::alloc::Global;
+
+// Reads whether the rows are those of tables, whichever they are.
+fn has_rows<S: Alter>(conn: &mut Connection<S>, is_whole: bool) -> Result<(), TableFault>
+    requires autocommit { conn.old.in_transaction ≡ false }
+    requires known { IsDeskSchema (state S.Store conn.old).now.schema }
+    requires numbered { IsUsable (state S.Store conn.old)
+        → AreNumbered (state S.Store conn.old).now.trees }
+    requires whole { IsUsable (state S.Store conn.old)
+        → (IsTrue is_whole ↔ HasWholeTallies (state S.Store conn.old).now.trees) }
+    ensures mode { conn.new.in_transaction ≡ false }
+    ensures same { IsSame (state S.Store conn.old) (state S.Store conn.new) }
+    ensures formed { IsUsable (state S.Store conn.new)
+        → OnOk result (IsFormed (state S.Store conn.old).now) }
+    ensures rows { IsUsable (state S.Store conn.new)
+        → OnOk result (HasRows (state S.Store conn.old).now) }
+    ensures other { IsUsable (state S.Store conn.new) → result ≡ Err fault.OtherSchema
+        → ¬ HasDeskTables (state S.Store conn.old).now }
+    ensures broken { IsUsable (state S.Store conn.new) → result ≡ Err fault.BrokenRow
+        → IsFormed (state S.Store conn.old).now × ¬ HasRows (state S.Store conn.old).now }
+{
+    if !has_meta(conn)? {
+        return Err(TableFault::OtherSchema);
+    }
+    if !is_whole {
+        return Err(TableFault::BrokenRow);
+    }
+    typed(conn)?;
+    Ok(())
+}
+
+// Adds the three indexes where they are missing.
+fn index<S: Alter>(conn: &mut Connection<S>) -> Result<(), StoreFault>
+    requires autocommit { conn.old.in_transaction ≡ false }
+    requires known { IsUsable (state S.Store conn.old)
+        → IsDeskSchema (state S.Store conn.old).now.schema }
+    ensures mode { conn.new.in_transaction ≡ false }
+    ensures held { IsUsable (state S.Store conn.new) → IsUsable (state S.Store conn.old) }
+    ensures stores { IsUsable (state S.Store conn.new) → (t : Tables)
+        → Holds (state S.Store conn.old).now.schema (state S.Store conn.old).now t
+        → OnOk result (Stores (state S.Store conn.new) t) }
+    ensures failed { IsUsable (state S.Store conn.new)
+        → OnErr result ((state S.Store conn.new).now ≡ (state S.Store conn.old).now) }
+{
+    if is_bare(conn.schema()) {
+        add_indexes(conn)?;
+    }
+    Ok(())
+}
+
+// Believes rows that are those of tables of sound contents, and adds the indexes that are missing.
+fn believe<S: Alter>(
+    conn: &mut Connection<S>,
+    alloc: Global,
+    is_whole: bool,
+) -> Result<(), TableFault>
+    requires autocommit { conn.old.in_transaction ≡ false }
+    requires known { IsDeskSchema (state S.Store conn.old).now.schema }
+    requires numbered { IsUsable (state S.Store conn.old)
+        → AreNumbered (state S.Store conn.old).now.trees }
+    requires whole { IsUsable (state S.Store conn.old)
+        → (IsTrue is_whole ↔ HasWholeTallies (state S.Store conn.old).now.trees) }
+    ensures mode { conn.new.in_transaction ≡ false }
+    ensures held { IsUsable (state S.Store conn.new) → IsUsable (state S.Store conn.old) }
+    ensures rows { IsUsable (state S.Store conn.new)
+        → HaveSameRows (state S.Store conn.old).now (state S.Store conn.new).now }
+    ensures believed { IsUsable (state S.Store conn.new)
+        → OnOk result (IsBelieved (state S.Store conn.old).now (state S.Store conn.new)) }
+    ensures other { IsUsable (state S.Store conn.new) → result ≡ Err fault.OtherSchema
+        → ¬ HasDeskTables (state S.Store conn.old).now }
+    ensures broken { IsUsable (state S.Store conn.new) → result ≡ Err fault.BrokenRow
+        → IsFormed (state S.Store conn.old).now
+        × ¬ HasSoundRowsWithin (state S.Store conn.old).now }
+{
+    judging_laws::judging();
+    schema_laws::one_reading();
+    has_rows(conn, is_whole)?;
+    index(conn)?;
+    judge(conn, alloc)?;
+    Ok(())
+}
+
+impl<S: Alter + Drop> TableBook<S> {
+    /// Makes a book of a database that has a desk's tables, which contains what their rows stand
+    /// for. The store is opened anew, and each row is read and judged before it is believed. Where
+    /// the desk's three indexes are missing, they are added; no row is changed.
+    ///
+    /// # Errors
+    ///
+    /// `OtherSchema` where the database has other tables, indexes or views than a desk's, or its
+    /// table meta has other rows; `BrokenRow` where the rows are not those that a desk leaves;
+    /// `Memory` where an allocation was refused; `Storage` where the store failed, or the
+    /// connection stands inside a transaction. What is left of the connection is handed back, with
+    /// the same rows.
+    pub fn adopt(alloc: Global, conn: Connection<S>) -> Result<TableBook<S>, (TableFault, Left<S>)>
+        ensures adopted { IfOk result (λ book. IsUsable (state S.Store book)
+            → IsAdopted (state S.Store conn) (state S.Store book)) }
+        ensures other { IfErr result (λ e. e.0 ≡ fault.OtherSchema → TellsTables S.Store e.1
+            → ¬ HasDeskTables (state S.Store conn).now) }
+        ensures broken { IfErr result (λ e. e.0 ≡ fault.BrokenRow → TellsTables S.Store e.1
+            → IsFormed (state S.Store conn).now × ¬ HasSoundRowsWithin (state S.Store conn).now) }
+        ensures left { IfErr result (λ e. LeavesRows S.Store (state S.Store conn) e.1) }
+    {
+        schema_laws::one_reading();
+        if !conn.is_autocommit() {
+            return Err((TableFault::Storage, Left::Connection(conn)));
+        }
+        if !is_known(conn.schema()) {
+            return Err((TableFault::OtherSchema, Left::Connection(conn)));
+        }
+        let (mut conn, is_whole) = match open_anew(alloc, conn) {
+            Ok(opened) => opened,
+            Err((fault, store)) => return Err((fault.into(), Left::Store(store))),
+        };
+        if !is_known(conn.schema()) {
+            return Err((TableFault::Storage, Left::Connection(conn)));
+        }
+        match believe(&mut conn, alloc, is_whole) {
+            Ok(()) => Ok(TableBook { alloc, conn }),
+            Err(fault) => Err((fault, Left::Connection(conn))),
+        }
+    }
+}

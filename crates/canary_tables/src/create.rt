@@ -1,0 +1,57 @@
+//! A book over an empty database.
+ghost use Rattle.std.specs.Prelude.{◌≡◌, ◌≢◌, IfOk, IfErr};
+ghost use Rattle.sqlite.specs.Held.{state};
+ghost use Rattle.canary_once.specs.Contents.{no_contents};
+ghost use Rattle.canary_schema.specs.Schema.{no_schema};
+ghost use Rattle.canary_schema.specs.Stores.{IsUsable};
+ghost use Rattle.canary_tables.specs.Desk.{contents_in};
+ghost use Rattle.canary_tables.specs.declared.fault.TableFault.TheVariants as fault;
+
+use crate::book::TableBook;
+use crate::fault::TableFault;
+use canary_schema::known::is_empty;
+use canary_schema::{create, laws as schema_laws};
+use canary_stored::laws;
+use sqlite::{Alter, Connection};
+use std::alloc::Global;
+
+impl<S: Alter> TableBook<S> {
+    /// Makes an empty database a desk's, in one transaction, and a book of it, which contains
+    /// nothing yet. Where it fails, the connection is handed back, and the database stays as it
+    /// was.
+    ///
+    /// # Errors
+    ///
+    /// `OtherSchema` where the database has a table, an index or a view, `Memory` where an
+    /// allocation was refused, `Storage` where a statement failed otherwise, as where the disk did,
+    /// or the connection stands inside a transaction.
+    pub fn create(
+        alloc: Global,
+        mut conn: Connection<S>,
+    ) -> Result<TableBook<S>, (TableFault, Connection<S>)>
+        ensures schema { IfOk result (λ _. (state S.Store conn).now.schema ≡ no_schema) }
+        ensures held { IfOk result
+            (λ book. IsUsable (state S.Store book) → IsUsable (state S.Store conn)) }
+        ensures nothing { IfOk result (λ book. IsUsable (state S.Store book)
+            → contents_in (state S.Store book) ≡ no_contents) }
+        ensures other { IfErr result
+            (λ e. e.0 ≡ fault.OtherSchema → (state S.Store conn).now.schema ≢ no_schema) }
+        ensures unread { IfErr result (λ e. e.0 ≢ fault.BrokenRow) }
+        ensures same { IfErr result (λ e. IsUsable (state S.Store e.1)
+            → IsUsable (state S.Store conn)
+            × ((state S.Store e.1).now ≡ (state S.Store conn).now)) }
+    {
+        laws::nothing();
+        schema_laws::one_reading();
+        if !conn.is_autocommit() {
+            return Err((TableFault::Storage, conn));
+        }
+        if !is_empty(conn.schema()) {
+            return Err((TableFault::OtherSchema, conn));
+        }
+        match create::create(&mut conn) {
+            Ok(()) => Ok(TableBook { alloc, conn }),
+            Err(fault) => Err((fault.into(), conn)),
+        }
+    }
+}
