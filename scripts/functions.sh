@@ -40,19 +40,20 @@ program=$root/crates/canary_desk/out/canary_desk
 # The same, built without proofs.
 unproved_program=$root/crates/canary_desk/out/canary_unproved
 
-# The crates that the program is built of; crates.txt has the lowest first.
+# The crates that the program $1 is built of; crates.txt has the lowest first.
 crates_of_program() {
-    tac "$root/crates.txt" | awk -F '[: ]+' '
-        BEGIN { needed["canary_desk"] = 1 }
+    tac "$root/crates.txt" | awk -F '[: ]+' -v program="$1" '
+        BEGIN { needed[program] = 1 }
         $1 in needed { print $1; for (i = 2; i <= NF; i++) needed[$i] = 1 }'
 }
 
-# The program, or the file $1 of it, is there, and nothing that it is built of is newer.
+# The program, or the file $1 of it, is there, and nothing that it is built of is newer. $2 is the
+# program's crate, if not that of the desk.
 is_current() {
-    local built=${1:-$program}
+    local built=${1:-$program} of=${2:-canary_desk}
     [ -x "$built" ] || return 1
     local sources=("$root/crates.txt") crate folder
-    for crate in $(crates_of_program); do
+    for crate in $(crates_of_program "$of"); do
         for folder in "$root/crates/$crate"/{src,specs,proofs}; do
             if [ -d "$folder" ]; then
                 sources+=("$folder")
