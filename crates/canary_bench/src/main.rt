@@ -1,8 +1,7 @@
 //! Prints figures of this machine. `canary_bench SUBJECT ROUNDS` measures one subject, so many
 //! times over: `condition`, `metric`, `machine` or `message`. `canary_bench register MOST STREAM`
 //! measures the book in memory, up to so many settled requests of a stream, and without a stream
-//! it prints the table's head; `canary_bench tables MOST STREAM PATH` measures a book over tables in
-//! a new file, or in memory where PATH is `:memory:`. With no words it prints nothing.
+//! it prints the table's head. With no words it prints nothing.
 #![tactic(auto)]
 
 mod condition;
@@ -13,7 +12,6 @@ mod plans;
 mod reads;
 mod register;
 mod streams;
-mod tables;
 
 use anyhow::{Context, Result, bail};
 use std::env;
@@ -35,11 +33,6 @@ fn main(rt: HostRuntime) -> Result<()> {
         "machine" => machine::measure(&rt, rounds),
         "register" => register::measure(&rt, rounds, words.next()),
         "message" => message::measure(&rt, rounds),
-        "tables" => {
-            let stream = words.next().context("STREAM is missing")?;
-            let path = words.next().context("PATH is missing")?;
-            tables::measure(&rt, rounds, stream.as_str(), path.as_str())
-        }
         other => bail!("no such subject: {other}"),
     }
 }

@@ -6,6 +6,7 @@ use canary_base::names::Name;
 use canary_base::numbers::Number;
 use canary_once::book::Book;
 use canary_once::event::{Answer, Request};
+use canary_once::memory::MemoryBook;
 use canary_once::post::post;
 use canary_plan::command::Command;
 use canary_release::reply::ReplyStatus;
@@ -87,7 +88,7 @@ fn aim_at(stream: Stream, first: Request, request: &Request, middle: u64) -> Opt
 }
 
 /// Asks once, and says how much was found; 0 is nothing, or another answer than the one wanted.
-pub fn ask<B: Book>(alloc: Global, book: &mut B, probe: Probe, aim: &Aim) -> u64 {
+pub fn ask(alloc: Global, book: &mut MemoryBook, probe: Probe, aim: &Aim) -> u64 {
     match probe {
         Probe::Repeat => repeat(alloc, book, aim),
         Probe::Ahead => refuse_ahead(alloc, book, aim),
@@ -101,7 +102,7 @@ pub fn ask<B: Book>(alloc: Global, book: &mut B, probe: Probe, aim: &Aim) -> u64
     }
 }
 
-fn repeat<B: Book>(alloc: Global, book: &mut B, aim: &Aim) -> u64 {
+fn repeat(alloc: Global, book: &mut MemoryBook, aim: &Aim) -> u64 {
     let first = &aim.first;
     let answer = post(
         alloc,
@@ -114,7 +115,7 @@ fn repeat<B: Book>(alloc: Global, book: &mut B, aim: &Aim) -> u64 {
     length_if(&answer, aim.first_status)
 }
 
-fn refuse_ahead<B: Book>(alloc: Global, book: &mut B, aim: &Aim) -> u64 {
+fn refuse_ahead(alloc: Global, book: &mut MemoryBook, aim: &Aim) -> u64 {
     let service = aim.subject;
     let command = Command::Promote { service };
     let answer = post(alloc, book, aim.now, aim.stranger, aim.ahead, &command);
@@ -138,32 +139,32 @@ pub fn has_status(answer: &Answer, status: ReplyStatus) -> bool {
     }
 }
 
-fn settled<B: Book>(book: &mut B, aim: &Aim) -> u64 {
+fn settled(book: &mut MemoryBook, aim: &Aim) -> u64 {
     book.settled(&aim.caller).map_or(0, u64::from)
 }
 
-fn receipt<B: Book>(book: &mut B, aim: &Aim) -> u64 {
+fn receipt(book: &mut MemoryBook, aim: &Aim) -> u64 {
     match book.receipt(&aim.caller, aim.number) {
         Ok(Some(receipt)) => receipt.reply.body.as_str().len() as u64,
         _ => 0,
     }
 }
 
-fn templates<B: Book>(book: &mut B, aim: &Aim) -> u64 {
+fn templates(book: &mut MemoryBook, aim: &Aim) -> u64 {
     match book.templates(&[aim.template]) {
         Ok(templates) => u64::from(templates.get(aim.template).is_some()),
         Err(_) => 0,
     }
 }
 
-fn service<B: Book>(book: &mut B, aim: &Aim) -> u64 {
+fn service(book: &mut MemoryBook, aim: &Aim) -> u64 {
     match book.service(&aim.subject) {
         Ok(Some(service)) => u64::from(service.step()).saturating_add(1),
         _ => 0,
     }
 }
 
-fn run<B: Book>(book: &mut B, aim: &Aim) -> u64 {
+fn run(book: &mut MemoryBook, aim: &Aim) -> u64 {
     let Some(number) = Number::new(FIRST_RUN) else {
         return 0;
     };
@@ -173,14 +174,14 @@ fn run<B: Book>(book: &mut B, aim: &Aim) -> u64 {
     }
 }
 
-fn page<B: Book>(book: &mut B, aim: &Aim) -> u64 {
+fn page(book: &mut MemoryBook, aim: &Aim) -> u64 {
     match book.measurements(&aim.subject, aim.middle, PAGE_LENGTH) {
         Ok(measurements) => measurements.as_slice().len() as u64,
         Err(_) => 0,
     }
 }
 
-fn history<B: Book>(book: &mut B, aim: &Aim) -> u64 {
+fn history(book: &mut MemoryBook, aim: &Aim) -> u64 {
     match book.history(&aim.subject) {
         Ok(lines) => lines.as_slice().len() as u64,
         Err(_) => 0,

@@ -5,7 +5,6 @@ use crate::machine::nanos_of;
 use crate::reads::{self, Aim, Probe};
 use crate::streams::Stream;
 use anyhow::{Context, Result, ensure};
-use canary_once::book::Book;
 use canary_once::event::Request;
 use canary_once::memory::MemoryBook;
 use canary_once::post::post;
@@ -15,7 +14,7 @@ use std::fs;
 use std::time::Instant;
 
 // The numbers of settled requests at which a book is measured.
-const SIZES: [u32; 4] = [1_000, 10_000, 100_000, 1_000_000];
+const SIZES: [u32; 3] = [1_000, 10_000, 100_000];
 
 // How many requests are made ready before they are timed.
 const CHUNK: u32 = 100;
@@ -32,7 +31,7 @@ const BATCH_NANOS: u64 = 1_000_000;
 const MOST_READS: u64 = 1_000;
 
 // A book that takes longer to grow to a size is not measured there.
-const LONGEST_NANOS: u64 = 240_000_000_000;
+const LONGEST_NANOS: u64 = 60_000_000_000;
 
 // The bytes of a page of memory.
 const PAGE: u64 = 4_096;
@@ -60,8 +59,7 @@ pub fn measure(rt: &HostRuntime, most: u32, name: Option<String>) -> Result<()> 
     }
 }
 
-/// Prints the head of the table.
-pub fn print_head(rt: &HostRuntime) -> Result<()> {
+fn print_head(rt: &HostRuntime) -> Result<()> {
     println!(rt; "nanoseconds each, and bytes a settled request; * is nothing found")?;
     print!(rt; "stream    settled     whole      next   bytes")?;
     print!(rt; "    repeat     ahead   settled   receipt templates   service")?;
@@ -70,18 +68,8 @@ pub fn print_head(rt: &HostRuntime) -> Result<()> {
 }
 
 fn measure_named(rt: &HostRuntime, most: u32, name: &str) -> Result<()> {
-    measure_book(rt, &mut MemoryBook::new(rt.alloc()), most, name)
-}
-
-/// Settles up to so many requests of the stream of that name in an empty book, and prints a row at
-/// each size.
-pub fn measure_book<B: Book>(
-    rt: &HostRuntime,
-    book: &mut B,
-    most: u32,
-    name: &str,
-) -> Result<()> {
     let stream = Stream::named(name).context("no such stream")?;
+    let mut book = MemoryBook::new(rt.alloc());
     // What making a chunk of requests takes is no part of what the book takes.
     make_ready(rt, stream)?;
     let before = resident(rt)?;
@@ -90,15 +78,15 @@ pub fn measure_book<B: Book>(
         if size > most {
             break;
         }
-        let Some(nanos) = grow(rt, book, stream, settled, size)? else {
-            println!(rt; "{name:8} {size:>8}   more than four minutes")?;
+        let Some(nanos) = grow(rt, &mut book, stream, settled, size)? else {
+            println!(rt; "{name:8} {size:>8}   more than a minute")?;
             break;
         };
         let bytes = resident(rt)?.saturating_sub(before) / u64::from(size.max(1));
         let whole = nanos / u64::from(size.saturating_sub(settled).max(1));
-        let next = time_next(rt, book, stream, size)?;
+        let next = time_next(rt, &mut book, stream, size)?;
         print!(rt; "{name:8} {size:>8} {whole:>9} {next:>9} {bytes:>7}")?;
-        print_reads(rt, book, stream, size)?;
+        print_reads(rt, &mut book, stream, size)?;
         settled = size.saturating_add(BATCHES * NEXT);
     }
     Ok(())
@@ -125,10 +113,10 @@ fn pages_in(text: &str) -> Option<u64> {
 }
 
 // The nanoseconds in which the book grows from a number of settled requests to another, or none
-// where that is more than four minutes.
-fn grow<B: Book>(
+// where that is more than a minute.
+fn grow(
     rt: &HostRuntime,
-    book: &mut B,
+    book: &mut MemoryBook,
     stream: Stream,
     from: u32,
     to: u32,
@@ -147,7 +135,7 @@ fn grow<B: Book>(
 }
 
 // The nanoseconds each of the next requests, in the quickest batch.
-fn time_next<B: Book>(rt: &HostRuntime, book: &mut B, stream: Stream, from: u32) -> Result<u64> {
+fn time_next(rt: &HostRuntime, book: &mut MemoryBook, stream: Stream, from: u32) -> Result<u64> {
     let mut least = u64::MAX;
     for batch in 0..BATCHES {
         let place = from.saturating_add(batch * NEXT);
@@ -157,9 +145,9 @@ fn time_next<B: Book>(rt: &HostRuntime, book: &mut B, stream: Stream, from: u32)
 }
 
 // The nanoseconds in which so many requests are settled; making them is not timed.
-fn settle<B: Book>(
+fn settle(
     rt: &HostRuntime,
-    book: &mut B,
+    book: &mut MemoryBook,
     stream: Stream,
     from: u32,
     count: u32,
@@ -174,9 +162,9 @@ fn settle<B: Book>(
 }
 
 // The nanoseconds that the requests take, and how many replies say that.
-fn time_posts<B: Book>(
+fn time_posts(
     rt: &HostRuntime,
-    book: &mut B,
+    book: &mut MemoryBook,
     requests: &[Request],
     status: ReplyStatus,
 ) -> Result<(u64, u32)> {
@@ -185,9 +173,9 @@ fn time_posts<B: Book>(
     Ok((nanos_of(start.elapsed(rt)?), as_wanted))
 }
 
-fn post_all<B: Book>(
+fn post_all(
     alloc: Global,
-    book: &mut B,
+    book: &mut MemoryBook,
     requests: &[Request],
     status: ReplyStatus,
 ) -> u32 {
@@ -200,9 +188,9 @@ fn post_all<B: Book>(
     as_wanted
 }
 
-fn is_answered<B: Book>(
+fn is_answered(
     alloc: Global,
-    book: &mut B,
+    book: &mut MemoryBook,
     request: &Request,
     status: ReplyStatus,
 ) -> bool {
@@ -218,7 +206,7 @@ fn is_answered<B: Book>(
     reads::has_status(&answer, status)
 }
 
-fn print_reads<B: Book>(rt: &HostRuntime, book: &mut B, stream: Stream, size: u32) -> Result<()> {
+fn print_reads(rt: &HostRuntime, book: &mut MemoryBook, stream: Stream, size: u32) -> Result<()> {
     let aim = reads::take_aim(rt.alloc(), stream, size).context(REFUSED)?;
     for probe in PROBES {
         print_read(rt, book, probe, &aim)?;
@@ -228,7 +216,7 @@ fn print_reads<B: Book>(rt: &HostRuntime, book: &mut B, stream: Stream, size: u3
 }
 
 // The nanoseconds of one call in the quickest batch.
-fn print_read<B: Book>(rt: &HostRuntime, book: &mut B, probe: Probe, aim: &Aim) -> Result<()> {
+fn print_read(rt: &HostRuntime, book: &mut MemoryBook, probe: Probe, aim: &Aim) -> Result<()> {
     let (once, _found) = time_reads(rt, book, probe, aim, 1)?;
     let rounds = (BATCH_NANOS / once.max(1)).max(1).min(MOST_READS);
     let mut least = u64::MAX;
@@ -244,9 +232,9 @@ fn print_read<B: Book>(rt: &HostRuntime, book: &mut B, probe: Probe, aim: &Aim) 
     Ok(())
 }
 
-fn time_reads<B: Book>(
+fn time_reads(
     rt: &HostRuntime,
-    book: &mut B,
+    book: &mut MemoryBook,
     probe: Probe,
     aim: &Aim,
     rounds: u64,
@@ -256,7 +244,7 @@ fn time_reads<B: Book>(
     Ok((nanos_of(start.elapsed(rt)?), found))
 }
 
-fn read_often<B: Book>(alloc: Global, book: &mut B, probe: Probe, aim: &Aim, rounds: u64) -> u64 {
+fn read_often(alloc: Global, book: &mut MemoryBook, probe: Probe, aim: &Aim, rounds: u64) -> u64 {
     let mut found = 0u64;
     for _ in 0..rounds {
         found = found.saturating_add(reads::ask(alloc, book, probe, aim));
