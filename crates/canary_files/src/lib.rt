@@ -1,0 +1,8 @@
+//! Histories as text, and measurement files.
+//!
+//! Callers may rest on this: over any book `export` writes the file of a service's measurements,
+//! and `import` makes one request of each row of such a file, in order.
+#![tactic(auto)]
+
+pub mod history;
+mod writing;
