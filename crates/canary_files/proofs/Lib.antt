@@ -1,2 +1,3 @@
 pub mod WriteLemmas
 pub mod HistoryLemmas
+pub mod ExportLemmas

@@ -4,5 +4,7 @@
 //! and `import` makes one request of each row of such a file, in order.
 #![tactic(auto)]
 
+pub mod export;
 pub mod history;
+mod records;
 mod writing;

@@ -7,7 +7,7 @@ use Rattle.canary_condition.specs.declared.outcome.Outcome.TheVariants.{Result a
 use Rattle.canary_release.specs.declared.effect.Recorded.{Recorded}
 
 -- the fields of the header
-abbrev pub header : List (List ℕ)
+unfoldable pub header : List (List ℕ)
 header = codes "caller" ∷ codes "number" ∷ codes "service" ∷ codes "run" ∷ codes "metric" ∷ codes "ordinal" ∷ codes "taken" ∷ codes "result" ∷ codes "failure" ∷ []
 
 -- the text of a result, or no byte
