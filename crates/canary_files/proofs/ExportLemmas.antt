@@ -1,6 +1,7 @@
 -- What is read of a book and written, one thing after another.
 use Rattle.std.proofs.Common.{◌≡◌, ℕ, suc, ◌+◌, ◌<◌, ◌≤◌, List, [], ◌∷◌, ◌++◌, ◌-◌, length, take, drop, get_or, refl, sym, ap, ◌∙◌, subst, drop-cons, arith}
-use Rattle.std.specs.Prelude.{Option, Some, None, Result, Ok, Err, IfOk, IfErr, OnOk, IsErr}
+use Rattle.std.specs.FinMap.{get}
+use Rattle.std.specs.Prelude.{Option, Some, None, option_map, Result, Ok, Err, IfOk, IfErr, OnOk, IsErr}
 use Rattle.std.specs.Io.KnownBytes.{Appends}
 use Rattle.std.proofs.lemmas.List.{append-nil, append_assoc, take-append-drop, drop-drop, length-append, length-drop}
 use Rattle.std.proofs.lemmas.Result.{IfErr-weaker}
@@ -8,14 +9,17 @@ use Rattle.std.proofs.Math.Seq.{drop-append_seam}
 use Rattle.canary_plan.specs.declared.strategy.CheckedStrategy.{CheckedStrategy}
 use Rattle.canary_release.specs.declared.effect.Recorded.{Recorded}
 use Rattle.canary_once.specs.declared.book.BookFault.{BookFault}
+use Rattle.canary_release.specs.Desks.{ModelService}
+use Rattle.canary_release.specs.Shapes.{shape}
 use Rattle.canary_once.specs.Contents.{Contents}
 use Rattle.canary_once.specs.Books.{BookState, Finds}
-use Rattle.canary_once.specs.Records.{past_of, measurements_of}
+use Rattle.canary_once.specs.Records.{past_in, past_of, measurements_of}
 use Rattle.canary_files.specs.declared.export.ExportFault.{ExportFault}
 use Rattle.canary_files.specs.declared.export.ExportFault.TheVariants.{Memory, Storage, Write, TooMany, UnknownService}
+use Rattle.canary_files.specs.declared.export.Source.{Source}
 use Rattle.canary_files.specs.Writes.{Known, Writes}
-use Rattle.canary_files.specs.Written.{record_text, row_fields, rows_text}
-use Rattle.canary_files.specs.Exporting.{Stays, Puts, Reads, TellsPage, name_of, recorded_of}
+use Rattle.canary_files.specs.Written.{header, record_text, row_fields, rows_text}
+use Rattle.canary_files.specs.Exporting.{Stays, Puts, Reads, IsSource, TellsPage, name_of, name_by, recorded_of, file_in, kept_strategy}
 use Rattle.canary_files.proofs.WriteLemmas.{appends_more, appends_none, writes_all}
 
 -- Books.
@@ -235,3 +239,40 @@ why_on {A = A} a b d strategy caller service w now rows r s p q so_far why same 
     let all : List Recorded = recorded_of a.contents service in
     let R : Result A ExportFault → Type 0 = λ x. IfErr x (TellsPage (length all)) in
     subst R (sym same) (IfErr-weaker r (TellsPage (rows + length (measurements_of a.contents service rows 256))) (TellsPage (length all)) (λ e t. tells_more (rows + length (measurements_of a.contents service rows 256)) (length all) (page_fits rows 256 all (so_far (q.intact h)).some) e t) (subst P (p.same (q.intact h)) (why h)))
+
+-- The whole file.
+
+-- more that would have followed
+pub puts_front : {A B E F : Type 0} (old new : Known) (x y : List ℕ) (r : Result A E) (s : Result B F) → IsErr s → Puts old new x r → Puts old new (x ++ y) s
+puts_front old new x y r (Ok u) failed p = cc failed
+puts_front old new x y r (Err e) failed p = record {
+  front = p.front;
+  back = p.back ++ y;
+  parts = ap (λ t. t ++ y) p.parts ∙ append_assoc p.front p.back y;
+  written = p.written;
+  all = tt;
+}
+
+-- the rows of a service by its strategy
+rows_by : (caller service : List ℕ) (strategy : CheckedStrategy) (found : Option ModelService) → option_map kept_strategy (option_map shape found) ≡ Some strategy
+    → rows_text caller service (name_of strategy (past_in found)) 0 (past_in found).measurements ≡ rows_text caller service (name_by found) 0 (past_in found).measurements
+rows_by caller service strategy None is = cc is
+rows_by caller service strategy (Some m) is =
+    let e : strategy ≡ m.stand.strategy = cc is in
+    ap (λ k. rows_text caller service (name_of k m.past) 0 m.past.measurements) e
+
+-- the header went out whole, and then some of the rows
+pub file_on : {F : Type 0} (a b d : BookState) (service caller : List ℕ) (s : Source) (w now new : Known) (r : Result ℕ F)
+    → Stays a b → Stays b d
+    → (b.is_intact → IsSource a.contents service caller s)
+    → Appends w now (record_text header)
+    → (d.is_intact → Puts now new (rows_text s.caller s.service (name_of s.strategy (past_of b.contents s.service)) 0 (recorded_of b.contents s.service)) r)
+    → d.is_intact
+    → Puts w new (file_in a.contents service caller) r
+file_on a b d service caller s w now new r p q source head puts h =
+    let is : IsSource a.contents service caller s = source (q.intact h) in
+    let text : List ℕ → List ℕ → Contents → List ℕ = λ sender name c. rows_text sender name (name_of s.strategy (past_of c name)) 0 (recorded_of c name) in
+    let same : text s.caller s.service b.contents ≡ text caller service a.contents = λ i. text (is.caller i) (is.service i) (p.same (q.intact h) i) in
+    let P : List ℕ → Type 0 = λ t. Puts now new t r in
+    puts_then w now new (record_text header) (rows_text caller service (name_by (get a.contents.desk.services service)) 0 (recorded_of a.contents service)) r head
+      (subst P (same ∙ rows_by caller service s.strategy (get a.contents.desk.services service) is.strategy) (puts h))
