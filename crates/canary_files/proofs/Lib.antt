@@ -1,1 +1,6 @@
 pub mod WriteLemmas
+pub mod Kept
+pub mod FieldLemmas
+pub mod ExchangeLemmas
+pub mod AnswerLemmas
+pub mod ReadLemmas

@@ -1,1 +1,6 @@
 pub mod Writes
+pub mod Rows
+pub mod RowReads
+pub mod Lines
+pub mod RowExchanges
+pub mod Importing

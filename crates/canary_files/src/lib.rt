@@ -4,5 +4,7 @@
 //! and `import` makes one request of each row of such a file, in order.
 #![tactic(auto)]
 
+mod answer;
 pub mod history;
+mod row;
 mod writing;
