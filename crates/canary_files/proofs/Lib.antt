@@ -4,3 +4,5 @@ pub mod FieldLemmas
 pub mod ExchangeLemmas
 pub mod AnswerLemmas
 pub mod ReadLemmas
+pub mod HistoryLemmas
+pub mod ExportLemmas

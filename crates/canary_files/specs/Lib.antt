@@ -4,3 +4,5 @@ pub mod RowReads
 pub mod Lines
 pub mod RowExchanges
 pub mod Importing
+pub mod Written
+pub mod Exporting

@@ -5,6 +5,8 @@
 #![tactic(auto)]
 
 mod answer;
+pub mod export;
 pub mod history;
+mod records;
 mod row;
 mod writing;
