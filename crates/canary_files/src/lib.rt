@@ -4,7 +4,9 @@
 //! and `import` makes one request of each row of such a file, in order.
 #![tactic(auto)]
 
+mod answer;
 pub mod export;
 pub mod history;
 mod records;
+mod row;
 mod writing;
