@@ -6,3 +6,4 @@ pub mod AnswerLemmas
 pub mod ReadLemmas
 pub mod HistoryLemmas
 pub mod ExportLemmas
+pub mod ReadBack
