@@ -1,7 +1,7 @@
 -- What is read of a book and written, one thing after another.
 use Rattle.std.proofs.Common.{◌≡◌, ℕ, suc, ◌+◌, ◌<◌, ◌≤◌, List, [], ◌∷◌, ◌++◌, ◌-◌, length, take, drop, get_or, refl, sym, ap, ◌∙◌, subst, drop-cons, arith}
 use Rattle.std.specs.FinMap.{get}
-use Rattle.std.specs.Prelude.{Option, Some, None, option_map, Result, Ok, Err, IfOk, IfErr, OnOk, IsErr}
+use Rattle.std.specs.Prelude.{Option, Some, None, option_map, Result, Ok, Err, IfOk, IfErr, IsErr}
 use Rattle.std.specs.Io.KnownBytes.{Appends}
 use Rattle.std.proofs.lemmas.List.{append-nil, append_assoc, take-append-drop, drop-drop, length-append, length-drop}
 use Rattle.std.proofs.lemmas.Result.{IfErr-weaker}
@@ -20,7 +20,7 @@ use Rattle.canary_files.specs.declared.export.Source.{Source}
 use Rattle.canary_files.specs.Writes.{Known, Writes}
 use Rattle.canary_files.specs.Written.{header, record_text, row_fields, rows_text}
 use Rattle.canary_files.specs.Exporting.{Stays, Puts, Reads, IsSource, TellsPage, name_of, name_by, recorded_of, file_in, kept_strategy}
-use Rattle.canary_files.proofs.WriteLemmas.{appends_more, appends_none, writes_all}
+use Rattle.canary_files.proofs.WriteLemmas.{appends_more, appends_none}
 
 -- Books.
 
@@ -169,7 +169,7 @@ so_far_more w now new caller service name all rows next p q is =
     record {
       front = p.front ++ page;
       parts = page_parts caller service name all rows p.front page p.parts refl
-        ∙ (λ i. (p.front ++ page) ++ rows_text caller service name (sym is i) (behind i));
+          ∙ (λ i. (p.front ++ page) ++ rows_text caller service name (sym is i) (behind i));
       written = appends_more w now new p.front page p.written q;
       some = rw is (page_fits rows 256 all p.some);
     }
@@ -187,8 +187,8 @@ so_far_short w now new caller service name all rows r (Err e) p q failed =
       front = p.front ++ q.front;
       back = q.back ++ rest;
       parts = page_parts caller service name all rows p.front (q.front ++ q.back) p.parts (sym q.parts)
-        ∙ ap (λ t. t ++ rest) (sym (append_assoc p.front q.front q.back))
-        ∙ append_assoc (p.front ++ q.front) q.back rest;
+          ∙ ap (λ t. t ++ rest) (sym (append_assoc p.front q.front q.back))
+          ∙ append_assoc (p.front ++ q.front) q.back rest;
       written = appends_more w now new p.front q.front p.written q.written;
       all = tt;
     }
@@ -217,8 +217,8 @@ more_on {F = F} a b d strategy caller service w now new rows next p q so_far put
     let P : Contents → Type 0 = λ c. Appends now new (text c) in
     let Q : Contents → Type 0 = λ c. next ≡ rows + length (measurements_of c service rows 256) in
     so_far_more w now new caller service (name_of strategy (past_of a.contents service)) (recorded_of a.contents service) rows next (so_far (q.intact h))
-      (subst P (p.same (q.intact h)) (puts_all {F = F} now new (text b.contents) next (puts h)))
-      (subst Q (p.same (q.intact h)) (counted h))
+    (subst P (p.same (q.intact h)) (puts_all {F = F} now new (text b.contents) next (puts h)))
+    (subst Q (p.same (q.intact h)) (counted h))
 
 -- why a page was not written tells why all rows were not
 tells_more : (n m : ℕ) → n ≤ m → (e : ExportFault) → TellsPage n e → TellsPage m e
@@ -275,4 +275,4 @@ file_on a b d service caller s w now new r p q source head puts h =
     let same : text s.caller s.service b.contents ≡ text caller service a.contents = λ i. text (is.caller i) (is.service i) (p.same (q.intact h) i) in
     let P : List ℕ → Type 0 = λ t. Puts now new t r in
     puts_then w now new (record_text header) (rows_text caller service (name_by (get a.contents.desk.services service)) 0 (recorded_of a.contents service)) r head
-      (subst P (same ∙ rows_by caller service s.strategy (get a.contents.desk.services service) is.strategy) (puts h))
+    (subst P (same ∙ rows_by caller service s.strategy (get a.contents.desk.services service) is.strategy) (puts h))
