@@ -1,5 +1,5 @@
 -- A row that was written is read back, field by field.
-use Rattle.std.proofs.Common.{◌≡◌, ℕ, ◌-◌, ◌^◌, ◌<◌, ◌≤◌, ℤ, pos, neg_ℤ, Bool, true, false, cond, ◌&&◌, List, [], ◌∷◌, length, drop, get_or, refl, sym, ap, ◌∙◌, arith, rules, zero, suc, IsTrue, Option, Some, None, Ok, Err, not, option_map, nat_le, nat_lt, IsAscii}
+use Rattle.std.proofs.Common.{◌≡◌, ℕ, ◌^◌, ◌<◌, ◌≤◌, ℤ, pos, neg_ℤ, Bool, true, false, cond, ◌&&◌, List, [], ◌∷◌, length, drop, get_or, refl, sym, ap, ◌∙◌, arith, rules, zero, suc, IsTrue, Some, None, Err, not, option_map, nat_le, nat_lt}
 use Rattle.std.specs.Prelude.{◌==◌, if◌then◌else◌, option_and_then}
 use Rattle.std.specs.Option.{option_flatten}
 use Rattle.std.specs.Char.{is_ascii_digit}
@@ -22,13 +22,11 @@ use Rattle.canary_condition.specs.declared.outcome.Value.{Value}
 use Rattle.canary_condition.specs.declared.outcome.Value.TheVariants.{Whole, List as ListResult}
 use Rattle.canary_condition.specs.declared.outcome.Outcome.{Outcome}
 use Rattle.canary_condition.specs.declared.outcome.Outcome.TheVariants.{Result as Brought, Failure}
-use Rattle.canary_plan.specs.declared.report.Entry.{Entry}
-use Rattle.canary_plan.specs.declared.report.Report.{Report}
 use Rattle.canary_plan.specs.Limits.{is_ordinal, are_report_limits}
 use Rattle.canary_release.specs.declared.effect.Recorded.{Recorded}
 use Rattle.canary_canonical.specs.Forms.{◌⊛◌, some_if, up_to}
 use Rattle.canary_canonical.specs.Readings.{entry_of, report_with}
-use Rattle.canary_files.specs.Rows.{whole_of, whole_in, word_in, moment_in, if_number, number_in, outcome_in, entry_in, entries_in, only, report_of, row_of, row_with, field}
+use Rattle.canary_files.specs.Rows.{whole_of, whole_in, word_in, moment_in, if_number, number_in, outcome_in, entry_in, only, report_of, row_with}
 use Rattle.canary_files.specs.declared.row.Refusal.TheVariants.{BadName}
 use Rattle.canary_files.specs.Written.{row_fields, result_field, failure_field}
 use Rattle.canary_files.specs.ReadingBack.{IsKept, IsReportable, entry_for, report_for, AreReadBack}
