@@ -1,7 +1,5 @@
 //! A service's measurements as a file.
-ghost use Rattle.std.specs.Prelude.{◌≡◌, ◌<◌, ◌≤◌, ◌+◌, ◌++◌, length, Some, IfOk, IfErr};
-ghost use Rattle.std.specs.FinMap.{get};
-ghost use Rattle.canary_release.specs.Shapes.{seen};
+ghost use Rattle.std.specs.Prelude.{◌≡◌, ◌≤◌, ◌+◌, ◌++◌, length, Some, Err, IfOk, IfErr};
 ghost use Rattle.canary_once.specs.Records.{past_of, measurements_of};
 ghost use Rattle.canary_files.specs.Rows.{header};
 ghost use Rattle.canary_files.specs.Written.{record_text, row_fields, rows_text};
@@ -104,6 +102,8 @@ pub fn export<W: Write, B: Book>(
         × (rows ≤ MOST_ROWS)) }
     ensures why { (B.state book.new).is_intact
         → IfErr result (Tells (B.state book.old).contents service) }
+    ensures unknown { (B.state book.new).is_intact → result ≡ Err ExportFault.UnknownService
+        → out.new ≡ out.old }
 {
     let source = source_of(book, service, caller)?;
     write_header(alloc, out)?;
