@@ -6,3 +6,5 @@ pub mod AnswerLemmas
 pub mod ReadLemmas
 pub mod HistoryLemmas
 pub mod ExportLemmas
+pub mod ImportLemmas
+pub mod HeaderLemmas

@@ -7,6 +7,7 @@
 mod answer;
 pub mod export;
 pub mod history;
+pub mod import;
 mod records;
 mod row;
 mod writing;
