@@ -9,8 +9,7 @@ returns g c = record {
   config = c.from_reader.ensures.config ∙ ap builder_config c.flexible.ensures ∙ ap builder_config c.has_headers.ensures ∙ c.new.ensures.config;
   trim = c.from_reader.ensures.trim ∙ ap builder_trim c.flexible.ensures ∙ ap builder_trim c.has_headers.ensures ∙ c.new.ensures.trim;
   ready = inr
-      (inr
-      (
+      (inr (
         c.from_reader.ensures.has_headers ∙ ap builder_names_headers c.flexible.ensures ∙ ap builder_names_headers c.has_headers.ensures,
         c.from_reader.ensures.headers,
       ));
