@@ -1,27 +1,27 @@
 -- What is read of a book and written, one thing after another.
-use Rattle.std.proofs.Common.{◌≡◌, ℕ, suc, ◌+◌, ◌<◌, ◌≤◌, List, [], ◌∷◌, ◌++◌, ◌-◌, length, take, drop, get_or, refl, sym, ap, ◌∙◌, subst, drop-cons, arith}
-use Rattle.std.specs.Prelude.{Option, Some, None, Result, Ok, Err, IfOk, IfErr, OnOk, IsErr}
+use Rattle.std.proofs.Common.{◌≡◌, ℕ, suc, ◌+◌, ◌≤◌, List, [], ◌∷◌, ◌++◌, ◌-◌, length, take, drop, refl, sym, ap, ◌∙◌, subst, arith}
+use Rattle.std.specs.FinMap.{get}
+use Rattle.std.specs.Prelude.{Option, Some, None, option_map, Result, Ok, Err, IfErr, IsErr}
 use Rattle.std.specs.Io.KnownBytes.{Appends}
 use Rattle.std.proofs.lemmas.List.{append-nil, append_assoc, take-append-drop, drop-drop, length-append, length-drop}
 use Rattle.std.proofs.lemmas.Result.{IfErr-weaker}
 use Rattle.std.proofs.Math.Seq.{drop-append_seam}
 use Rattle.canary_plan.specs.declared.strategy.CheckedStrategy.{CheckedStrategy}
 use Rattle.canary_release.specs.declared.effect.Recorded.{Recorded}
-use Rattle.canary_once.specs.declared.book.BookFault.{BookFault}
+use Rattle.canary_release.specs.Desks.{ModelService}
+use Rattle.canary_release.specs.Shapes.{shape}
 use Rattle.canary_once.specs.Contents.{Contents}
-use Rattle.canary_once.specs.Books.{BookState, Finds}
-use Rattle.canary_once.specs.Records.{past_of, measurements_of}
+use Rattle.canary_once.specs.Books.{BookState}
+use Rattle.canary_once.specs.Records.{past_in, past_of, measurements_of}
 use Rattle.canary_files.specs.declared.export.ExportFault.{ExportFault}
 use Rattle.canary_files.specs.declared.export.ExportFault.TheVariants.{Memory, Storage, Write, TooMany, UnknownService}
-use Rattle.canary_files.specs.Writes.{Known, Writes}
-use Rattle.canary_files.specs.Written.{record_text, row_fields, rows_text}
-use Rattle.canary_files.specs.Exporting.{Stays, Puts, Reads, TellsPage, name_of, recorded_of}
-use Rattle.canary_files.proofs.WriteLemmas.{appends_more, appends_none, writes_all}
+use Rattle.canary_files.specs.declared.export.Source.{Source}
+use Rattle.canary_files.specs.Writes.{Known}
+use Rattle.canary_files.specs.Written.{header, record_text, row_fields, rows_text}
+use Rattle.canary_files.specs.Exporting.{Stays, Puts, IsSource, TellsPage, name_of, name_by, recorded_of, file_in, kept_strategy}
+use Rattle.canary_files.proofs.WriteLemmas.{appends_more, appends_none}
 
 -- Books.
-
-pub stays_as : (a : BookState) → Stays a a
-stays_as a = record { intact = λ h. h; in_memory = λ h. h; same = λ h. refl; sure = refl }
 
 pub stays_then : (a b c : BookState) → Stays a b → Stays b c → Stays a c
 stays_then a b c p q = record {
@@ -31,29 +31,7 @@ stays_then a b c p q = record {
   sure = q.sure ∙ p.sure;
 }
 
--- a book that told something
-pub stays_found : {A : Type 0} (value : Contents → A) (a b : BookState) (r : Result A BookFault) → Finds value a b r → Stays a b
-stays_found value a b r f = record { intact = f.intact; in_memory = f.in_memory; same = f.same; sure = f.sure }
-
--- what a book tells now, it told before
-pub reads_behind : {A : Type 0} (told : Contents → A) (a b c : BookState) (r : Result A ExportFault) → Stays a b → Reads told b c r → Reads told a c r
-reads_behind {A = A} told a b c r p q =
-    record {
-      stays = stays_then a b c p q.stays;
-      value = λ h. subst (λ x. IfOk r (λ y. y ≡ told x)) (p.same (q.stays.intact h)) (q.value h);
-    }
-
 -- Writes.
-
--- a text of which less went out
-pub puts_failed : {A E F : Type 0} (old new : Known) (text : List ℕ) (r : Result (Unit {0}) E) (s : Result A F) → IsErr s → Writes old new text r → Puts old new text s
-puts_failed old new text r (Err e) failed w = record { front = w.front; back = w.back; parts = w.parts; written = w.written; all = tt }
-puts_failed old new text r (Ok x) failed w = cc failed
-
--- a text that went out whole
-pub puts_whole : {A F : Type 0} (old new : Known) (text : List ℕ) (s : Result A F) → Appends old new text → Puts old new text s
-puts_whole old new text (Ok x) p = record { front = text; back = []; parts = sym (append-nil text); written = p; all = refl }
-puts_whole old new text (Err e) p = record { front = text; back = []; parts = sym (append-nil text); written = p; all = tt }
 
 -- a text of which nothing went out
 pub puts_none : {A F : Type 0} (old : Known) (text : List ℕ) (s : Result A F) → IsErr s → Puts old old text s
@@ -77,30 +55,6 @@ puts_all old new text x p =
     let P : List ℕ → Type 0 = λ t. Appends old new t in subst P e p.written
 
 -- Rows.
-
--- what is left of a list, with its first element apart
-left_more : (xs : List Recorded) (i : ℕ) (x : Recorded) → i < length xs → x ≡ get_or xs i x → drop i xs ≡ x ∷ drop (i + 1) xs
-left_more xs i x lt is =
-    let next : suc i ≡ i + 1 = omega arith in
-    drop-cons xs i x lt ∙ (λ k. sym is k ∷ drop (next k) xs)
-
--- the rows so far with one more, and the rows that are left
-pub rows_more : (caller service : List ℕ) (name : Recorded → List ℕ) (from i : ℕ) (xs : List Recorded) (x : Recorded) (old new whole : List ℕ)
-    → i < length xs → x ≡ get_or xs i x
-    → old ++ rows_text caller service name (from + i) (drop i xs) ≡ whole
-    → new ≡ old ++ record_text (row_fields caller (from + i + 1) service x (name x))
-    → new ++ rows_text caller service name (from + (i + 1)) (drop (i + 1) xs) ≡ whole
-rows_more caller service name from i xs x old new whole lt is so_far one =
-    let row : List ℕ = record_text (row_fields caller (from + i + 1) service x (name x)) in
-    let at : from + i + 1 ≡ suc (from + i) = omega arith in
-    let next : suc (from + i) ≡ from + (i + 1) = omega arith in
-    let rest : List ℕ = rows_text caller service name (from + (i + 1)) (drop (i + 1) xs) in
-    ap (λ t. t ++ rest) one
-    ∙ append_assoc old row rest
-    ∙ ap (λ n. old ++ (record_text (row_fields caller n service x (name x)) ++ rest)) at
-    ∙ ap (λ n. old ++ (record_text (row_fields caller (suc (from + i)) service x (name x)) ++ rows_text caller service name n (drop (i + 1) xs))) (sym next)
-    ∙ sym (ap (λ ls. old ++ rows_text caller service name (from + i) ls) (left_more xs i x lt is))
-    ∙ so_far
 
 -- rows, and then those behind them
 pub rows_joined : (caller service : List ℕ) (name : Recorded → List ℕ) (n : ℕ) (xs ys : List Recorded)
@@ -135,10 +89,6 @@ page_fits n k xs fits =
     let left : length (drop n xs) ≡ length xs - n = length-drop n xs in
     omega (arith, whole, left, fits)
 
--- no row is written yet
-pub so_far_none : (w : Known) (caller service : List ℕ) (name : Recorded → List ℕ) (all : List Recorded) → SoFar w w caller service name all 0
-so_far_none w caller service name all = record { front = []; parts = refl; written = appends_none w; some = omega arith }
-
 -- the text of all rows, with the page behind those that went out
 page_parts : (caller service : List ℕ) (name : Recorded → List ℕ) (all : List Recorded) (rows : ℕ) (front page : List ℕ)
     → rows_text caller service name 0 all ≡ front ++ rows_text caller service name rows (drop rows all)
@@ -165,7 +115,7 @@ so_far_more w now new caller service name all rows next p q is =
     record {
       front = p.front ++ page;
       parts = page_parts caller service name all rows p.front page p.parts refl
-        ∙ (λ i. (p.front ++ page) ++ rows_text caller service name (sym is i) (behind i));
+          ∙ (λ i. (p.front ++ page) ++ rows_text caller service name (sym is i) (behind i));
       written = appends_more w now new p.front page p.written q;
       some = rw is (page_fits rows 256 all p.some);
     }
@@ -183,8 +133,8 @@ so_far_short w now new caller service name all rows r (Err e) p q failed =
       front = p.front ++ q.front;
       back = q.back ++ rest;
       parts = page_parts caller service name all rows p.front (q.front ++ q.back) p.parts (sym q.parts)
-        ∙ ap (λ t. t ++ rest) (sym (append_assoc p.front q.front q.back))
-        ∙ append_assoc (p.front ++ q.front) q.back rest;
+          ∙ ap (λ t. t ++ rest) (sym (append_assoc p.front q.front q.back))
+          ∙ append_assoc (p.front ++ q.front) q.back rest;
       written = appends_more w now new p.front q.front p.written q.written;
       all = tt;
     }
@@ -213,8 +163,8 @@ more_on {F = F} a b d strategy caller service w now new rows next p q so_far put
     let P : Contents → Type 0 = λ c. Appends now new (text c) in
     let Q : Contents → Type 0 = λ c. next ≡ rows + length (measurements_of c service rows 256) in
     so_far_more w now new caller service (name_of strategy (past_of a.contents service)) (recorded_of a.contents service) rows next (so_far (q.intact h))
-      (subst P (p.same (q.intact h)) (puts_all {F = F} now new (text b.contents) next (puts h)))
-      (subst Q (p.same (q.intact h)) (counted h))
+    (subst P (p.same (q.intact h)) (puts_all {F = F} now new (text b.contents) next (puts h)))
+    (subst Q (p.same (q.intact h)) (counted h))
 
 -- why a page was not written tells why all rows were not
 tells_more : (n m : ℕ) → n ≤ m → (e : ExportFault) → TellsPage n e → TellsPage m e
@@ -235,3 +185,40 @@ why_on {A = A} a b d strategy caller service w now rows r s p q so_far why same 
     let all : List Recorded = recorded_of a.contents service in
     let R : Result A ExportFault → Type 0 = λ x. IfErr x (TellsPage (length all)) in
     subst R (sym same) (IfErr-weaker r (TellsPage (rows + length (measurements_of a.contents service rows 256))) (TellsPage (length all)) (λ e t. tells_more (rows + length (measurements_of a.contents service rows 256)) (length all) (page_fits rows 256 all (so_far (q.intact h)).some) e t) (subst P (p.same (q.intact h)) (why h)))
+
+-- The whole file.
+
+-- more that would have followed
+pub puts_front : {A B E F : Type 0} (old new : Known) (x y : List ℕ) (r : Result A E) (s : Result B F) → IsErr s → Puts old new x r → Puts old new (x ++ y) s
+puts_front old new x y r (Ok u) failed p = cc failed
+puts_front old new x y r (Err e) failed p = record {
+  front = p.front;
+  back = p.back ++ y;
+  parts = ap (λ t. t ++ y) p.parts ∙ append_assoc p.front p.back y;
+  written = p.written;
+  all = tt;
+}
+
+-- the rows of a service by its strategy
+rows_by : (caller service : List ℕ) (strategy : CheckedStrategy) (found : Option ModelService) → option_map kept_strategy (option_map shape found) ≡ Some strategy
+    → rows_text caller service (name_of strategy (past_in found)) 0 (past_in found).measurements ≡ rows_text caller service (name_by found) 0 (past_in found).measurements
+rows_by caller service strategy None is = cc is
+rows_by caller service strategy (Some m) is =
+    let e : strategy ≡ m.stand.strategy = cc is in
+    ap (λ k. rows_text caller service (name_of k m.past) 0 m.past.measurements) e
+
+-- the header went out whole, and then some of the rows
+pub file_on : {F : Type 0} (a b d : BookState) (service caller : List ℕ) (s : Source) (w now new : Known) (r : Result ℕ F)
+    → Stays a b → Stays b d
+    → (b.is_intact → IsSource a.contents service caller s)
+    → Appends w now (record_text header)
+    → (d.is_intact → Puts now new (rows_text s.caller s.service (name_of s.strategy (past_of b.contents s.service)) 0 (recorded_of b.contents s.service)) r)
+    → d.is_intact
+    → Puts w new (file_in a.contents service caller) r
+file_on a b d service caller s w now new r p q source head puts h =
+    let is : IsSource a.contents service caller s = source (q.intact h) in
+    let text : List ℕ → List ℕ → Contents → List ℕ = λ sender name c. rows_text sender name (name_of s.strategy (past_of c name)) 0 (recorded_of c name) in
+    let same : text s.caller s.service b.contents ≡ text caller service a.contents = λ i. text (is.caller i) (is.service i) (p.same (q.intact h) i) in
+    let P : List ℕ → Type 0 = λ t. Puts now new t r in
+    puts_then w now new (record_text header) (rows_text caller service (name_by (get a.contents.desk.services service)) 0 (recorded_of a.contents service)) r head
+    (subst P (same ∙ rows_by caller service s.strategy (get a.contents.desk.services service) is.strategy) (puts h))

@@ -1,5 +1,5 @@
 -- Writes, one after another.
-use Rattle.std.proofs.Common.{◌≡◌, ℕ, List, [], ◌++◌, take, drop, refl, sym, ap, ◌∙◌, subst, arith}
+use Rattle.std.proofs.Common.{◌≡◌, ℕ, List, [], ◌++◌, take, drop, sym, ap, ◌∙◌, subst, arith}
 use Rattle.std.specs.Prelude.{Option, Some, None, Result, Ok, Err}
 use Rattle.std.specs.Io.KnownBytes.{Appends}
 use Rattle.std.proofs.lemmas.List.{append-nil, append_assoc, take-append-drop, length-append}
@@ -51,4 +51,3 @@ writes_front a b x y e w = record {
   all = tt;
   short = rw (length-append w.back y) (omega (arith, w.short));
 }
-

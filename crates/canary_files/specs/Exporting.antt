@@ -1,5 +1,5 @@
 -- The file of a service's measurements, and what a call writes of it.
-use Rattle.std.specs.Prelude.{◌≡◌, ℕ, ◌<◌, ◌+◌, List, [], ◌++◌, length, slice_get, Option, Some, None, option_map, option_and_then, unwrap_or, Result, IfOk, OnOk, IfErr}
+use Rattle.std.specs.Prelude.{◌≡◌, ℕ, ◌<◌, List, [], ◌++◌, length, slice_get, Option, Some, None, option_map, option_and_then, unwrap_or, Result, IfOk, OnOk}
 use Rattle.std.specs.FinMap.{get}
 use Rattle.std.specs.Io.KnownBytes.{Appends}
 use Rattle.canary_metric.specs.Metrics.{MetricValue}
@@ -20,7 +20,7 @@ use Rattle.canary_files.specs.declared.export.ExportFault.{ExportFault}
 use Rattle.canary_files.specs.declared.export.ExportFault.TheVariants.{Memory, Storage, Write, TooMany, UnknownService}
 use Rattle.canary_files.specs.declared.export.Source.{Source}
 use Rattle.canary_files.specs.Writes.{Known}
-use Rattle.canary_files.specs.Written.{rows_text, file_of}
+use Rattle.canary_files.specs.Written.{file_of}
 
 -- Names of metrics.
 

@@ -97,7 +97,7 @@ pub fn export<W: Write, B: Book>(
     ensures kept { Stays (B.state book.old) (B.state book.new) }
     ensures file { (B.state book.new).is_intact
         → Puts (W.contents out.old) (W.contents out.new)
-            (file_in (B.state book.old).contents service caller) result }
+        (file_in (B.state book.old).contents service caller) result }
     ensures rows { (B.state book.new).is_intact → IfOk result (λ rows.
         (rows ≡ length (recorded_of (B.state book.old).contents service))
         × (rows ≤ MOST_ROWS)) }
@@ -145,16 +145,16 @@ fn write_rows<W: Write, B: Book>(
     ensures stays { Stays (B.state book.old) (B.state book.new) }
     ensures writes { (B.state book.new).is_intact
         → Puts (W.contents out.old) (W.contents out.new)
-            (rows_text source.now.caller source.now.service
-                (name_of source.now.strategy
-                    (past_of (B.state book.old).contents source.now.service))
-                0 (recorded_of (B.state book.old).contents source.now.service)) result }
+        (rows_text source.now.caller source.now.service
+        (name_of source.now.strategy
+        (past_of (B.state book.old).contents source.now.service))
+        0 (recorded_of (B.state book.old).contents source.now.service)) result }
     ensures rows { (B.state book.new).is_intact → IfOk result (λ rows.
         (rows ≡ length (recorded_of (B.state book.old).contents source.now.service))
         × (rows ≤ MOST_ROWS)) }
     ensures why { (B.state book.new).is_intact
         → IfErr result (TellsPage
-            (length (recorded_of (B.state book.old).contents source.now.service))) }
+        (length (recorded_of (B.state book.old).contents source.now.service))) }
 {
     let mut rows = 0;
     loop {
@@ -178,18 +178,18 @@ fn write_page<W: Write, B: Book>(
     ensures stays { Stays (B.state book.old) (B.state book.new) }
     ensures writes { (B.state book.new).is_intact
         → Puts (W.contents out.old) (W.contents out.new)
-            (rows_text source.now.caller source.now.service
-                (name_of source.now.strategy
-                    (past_of (B.state book.old).contents source.now.service))
-                from (measurements_of (B.state book.old).contents source.now.service from 256))
-            result }
+        (rows_text source.now.caller source.now.service
+        (name_of source.now.strategy
+        (past_of (B.state book.old).contents source.now.service))
+        from (measurements_of (B.state book.old).contents source.now.service from 256))
+        result }
     ensures rows { (B.state book.new).is_intact → IfOk result (λ rows.
         rows ≡ from + length
-            (measurements_of (B.state book.old).contents source.now.service from 256)) }
+        (measurements_of (B.state book.old).contents source.now.service from 256)) }
     ensures grows { IfOk result (λ rows. (from ≤ rows) × (rows ≤ MOST_ROWS)) }
     ensures why { (B.state book.new).is_intact → IfErr result (TellsPage
         (from + length
-            (measurements_of (B.state book.old).contents source.now.service from 256))) }
+        (measurements_of (B.state book.old).contents source.now.service from 256))) }
 {
     let page = book.measurements(&source.service, from, PAGE)?;
     write_measurements(alloc, book, source, from, page.as_slice(), out)
@@ -207,10 +207,10 @@ fn write_measurements<W: Write, B: Book>(
     ensures stays { Stays (B.state book.old) (B.state book.new) }
     ensures writes { (B.state book.new).is_intact
         → Puts (W.contents out.old) (W.contents out.new)
-            (rows_text source.now.caller source.now.service
-                (name_of source.now.strategy
-                    (past_of (B.state book.old).contents source.now.service))
-                from page.now) result }
+        (rows_text source.now.caller source.now.service
+        (name_of source.now.strategy
+        (past_of (B.state book.old).contents source.now.service))
+        from page.now) result }
     ensures rows { IfOk result (λ rows. (rows ≡ from + length page.now) × (rows ≤ MOST_ROWS)) }
     ensures why { IfErr result (TellsPage (from + length page.now)) }
 {
@@ -232,7 +232,7 @@ fn rows_text<B: Book>(
 ) -> Result<Listed<u8>, ExportFault>
     requires { from + length page.now ≤ MOST_ROWS }
     ensures reads { Reads (λ c. rows_text source.now.caller source.now.service
-            (name_of source.now.strategy (past_of c source.now.service)) from page.now)
+        (name_of source.now.strategy (past_of c source.now.service)) from page.now)
         (B.state book.old) (B.state book.new) result }
     ensures why { IfErr result (TellsPage 0) }
 {
@@ -252,8 +252,8 @@ fn with_row<B: Book>(
     recorded: &Recorded,
 ) -> Result<Records, ExportFault>
     ensures reads { Reads (λ c. records ++ record_text
-            (row_fields source.now.caller number source.now.service recorded.now
-                (name_of source.now.strategy (past_of c source.now.service) recorded.now)))
+        (row_fields source.now.caller number source.now.service recorded.now
+        (name_of source.now.strategy (past_of c source.now.service) recorded.now)))
         (B.state book.old) (B.state book.new) result }
     ensures why { IfErr result (TellsPage 0) }
 {

@@ -72,7 +72,7 @@ impl Records {
     ) -> Result<Records, Memory>
         ensures { IfOk result (λ more. more
             ≡ self ++ record_text
-                (row_fields caller.now number service.now recorded.now metric.now)) }
+            (row_fields caller.now number service.now recorded.now metric.now)) }
     {
         self.with(&row(alloc, caller, number, service, recorded, metric)?)
     }
@@ -141,11 +141,7 @@ fn push_number(fields: &mut ByteRecord, number: u64) -> Result<(), Memory>
 }
 
 // A result, or a failure: of the two fields one has no bytes.
-fn push_outcome(
-    alloc: Global,
-    fields: &mut ByteRecord,
-    outcome: &Outcome,
-) -> Result<(), Memory>
+fn push_outcome(alloc: Global, fields: &mut ByteRecord, outcome: &Outcome) -> Result<(), Memory>
     requires { partial_of fields.old ≡ [] }
     ensures fields { OnOk result (fields_of fields.new
         ≡ fields_of fields.old ++ result_field outcome.now ∷ failure_field outcome.now ∷ []) }

@@ -12,5 +12,5 @@ invariant-loop-i g l =
     let name = name_of l.source.strategy (past_of old.contents l.source.service) in
     Stays old now
     × (now.is_intact
-        → l.records ++ rows_text l.source.caller l.source.service name (l.from + l.i) (drop l.i l.page)
-        ≡ rows_text l.source.caller l.source.service name l.from l.page)
+    → l.records ++ rows_text l.source.caller l.source.service name (l.from + l.i) (drop l.i l.page)
+    ≡ rows_text l.source.caller l.source.service name l.from l.page)

@@ -1,7 +1,4 @@
-use Rattle.std.proofs.Common.{◌≡◌, ℕ, sym, ◌∙◌, rules, subst}
-use Rattle.std.specs.Prelude.{Result, Ok}
-use Rattle.canary_once.specs.Records.{past_of, measurements_of}
-use Rattle.canary_files.specs.Exporting.{name_of}
+use Rattle.std.proofs.Common.{ℕ, rules}
 use Rattle.canary_files.proofs.ExportLemmas.{short_on, more_on, why_on, stays_then}
 use Rattle.canary_files.proofs.export.write_rows.Goals as goal
 
@@ -21,8 +18,7 @@ loop-next-preserved g c =
     let old = g.B.Book.state c.args.book.now in
     let before = g.B.Book.state c.loop-next.book in
     let after = g.B.Book.state c.write_page.new.book in
-    let next : ℕ = c.in_ok-next.next in
-    (
+    let next : ℕ = c.in_ok-next.next in (
       stays_then old before after c.loop-next.invariant.0 c.write_page.ensures.stays,
       c.in_ok-next.ensures.grows.1,
       more_on old before after source.strategy source.caller source.service (g.W.Write.contents c.args.out.now) (g.W.Write.contents c.loop-next.out) (g.W.Write.contents c.write_page.new.out) c.loop-next.rows next c.loop-next.invariant.0 c.write_page.ensures.stays c.loop-next.invariant.2 c.in_ok-next.ensures.writes c.in_ok-next.ensures.rows,

@@ -1,4 +1,4 @@
-use Rattle.std.proofs.Common.{ℕ, ◌≤◌, ◌-◌}
+use Rattle.std.proofs.Common.{◌≤◌, ◌-◌}
 use Rattle.canary_once.specs.Records.{past_of}
 use Rattle.canary_files.specs.Exporting.{Stays, name_of}
 use Rattle.canary_files.proofs.ExportLemmas.{SoFar}
