@@ -7,3 +7,5 @@ pub mod ReadLemmas
 pub mod HistoryLemmas
 pub mod ExportLemmas
 pub mod ReadBack
+pub mod ImportLemmas
+pub mod HeaderLemmas

@@ -109,16 +109,10 @@ TakesNext left file new records fields (Err fault.Read) = Unit {0}
 TakesNext left file new records fields (Err fault.Memory) = Unit {0}
 TakesNext left file new records fields (Err _) = ⊥
 
--- rows were answered so far
-pub record IsSoFar (w now_w : Known) (old now : Point) (rows : List Fields) : Type 0 where
+-- since a reader was elsewhere these rows were answered, and it stands behind them
+pub record IsSoFar {S : Type 0} (left : S → Known) (first now : Reader S) (w now_w : Known) (old new : Point) (count : ℕ) : Type 0 where
   pub exchanges : List Exchange
-  pub are : rows ≡ rows_of exchanges
-  pub went : Went old now exchanges
+  pub many : length exchanges ≡ count
+  pub stands : (file : Known) → StandsBehind left file first (header ∷ []) → StandsBehind left file now (header ∷ rows_of exchanges)
+  pub went : Went old new exchanges
   pub written : Appends w now_w (lines exchanges)
-
--- and a reader stands behind them
-pub record IsAt {S : Type 0} (left : S → Known) (file : Known) (reader : Reader S) (w now_w : Known) (old now : Point) (count : ℕ) : Type 0 where
-  pub rows : List Fields
-  pub many : length rows ≡ count
-  pub stands : StandsBehind left file reader (header ∷ rows)
-  pub so_far : IsSoFar w now_w old now rows

@@ -1,7 +1,7 @@
 -- The rows of a measurement file: how they are written, and the request that each is.
 use Rattle.std.specs.Prelude.{ℕ, pos, ◌==◌, ◌&&◌, nat_le, not, Bool, if◌then◌else◌, List, [], ◌∷◌, length, codes, Option, Some, None, Result, Ok, Err, option_map, option_and_then, unwrap_or}
 use Rattle.std.specs.Option.{option_flatten}
-use Rattle.std.specs.Str.{is_utf8}
+use Rattle.std.specs.Str.{is_utf8, bytes_eq}
 use Rattle.csv.specs.Records.{field_at}
 use Rattle.canary_base.specs.Names.{is_name, is_label}
 use Rattle.canary_condition.specs.declared.outcome.Value.{Value}
@@ -26,6 +26,23 @@ header =
 -- the field at a place, from 0
 abbrev pub field : List (List ℕ) → ℕ → List ℕ
 field fields place = unwrap_or (field_at fields place) []
+
+-- a field is this text
+abbrev pub is_at : List (List ℕ) → ℕ → List ℕ → Bool
+is_at fields place text = bytes_eq (field fields place) text
+
+-- a record is the first one of a file, field by field
+unfoldable pub says_who : List (List ℕ) → Bool
+says_who fields = is_at fields 0 (codes "caller") && (is_at fields 1 (codes "number") && is_at fields 2 (codes "service"))
+
+unfoldable pub says_where : List (List ℕ) → Bool
+says_where fields = is_at fields 3 (codes "run") && (is_at fields 4 (codes "metric") && is_at fields 5 (codes "ordinal"))
+
+unfoldable pub says_what : List (List ℕ) → Bool
+says_what fields = is_at fields 6 (codes "taken") && (is_at fields 7 (codes "result") && is_at fields 8 (codes "failure"))
+
+unfoldable pub is_header : List (List ℕ) → Bool
+is_header fields = (length fields == 9) && (says_who fields && (says_where fields && says_what fields))
 
 -- ---- fields
 

@@ -1,11 +1,11 @@
 //! Rows of a measurement file.
-ghost use Rattle.std.specs.Prelude.{◌≡◌, ◌↔◌, IsTrue, MatchOption, true, false};
+ghost use Rattle.std.specs.Prelude.{◌≡◌, MatchOption, true, false};
 ghost use Rattle.std.specs.Str.{is_utf8};
 ghost use Rattle.csv.specs.Records.{fields_of};
 ghost use Rattle.canary_canonical.specs.Reads.{IsRead};
 ghost use Rattle.canary_canonical.specs.Readings.{entry_of, report_with};
 ghost use Rattle.canary_files.specs.RowReads.{IsRowRead};
-ghost use Rattle.canary_files.specs.Rows.{header, field, result_in, whole_in, word_in, moment_in};
+ghost use Rattle.canary_files.specs.Rows.{is_header, says_who, says_where, says_what, is_at, field, result_in, whole_in, word_in, moment_in};
 ghost use Rattle.canary_files.specs.Rows.{number_in, failure_in, outcome_in, entry_in, entries_in, report_of};
 ghost use Rattle.canary_files.specs.Rows.{row_of};
 
@@ -214,17 +214,36 @@ fn text_of(bytes: &[u8]) -> Option<&str>
 }
 
 // Whether a record is the first one of a file.
+#[tactic(auto, unfolding(crate::specs::Rows::is_header))]
 pub(crate) fn is_header(fields: &ByteRecord) -> bool
-    ensures { IsTrue result ↔ (fields_of fields.now ≡ header) }
+    ensures { result ≡ is_header (fields_of fields.now) }
 {
-    fields.len() == FIELDS
-        && field(fields, 0) == "caller".as_bytes()
-        && field(fields, 1) == "number".as_bytes()
-        && field(fields, 2) == "service".as_bytes()
-        && field(fields, 3) == "run".as_bytes()
-        && field(fields, 4) == "metric".as_bytes()
-        && field(fields, 5) == "ordinal".as_bytes()
-        && field(fields, 6) == "taken".as_bytes()
-        && field(fields, 7) == "result".as_bytes()
-        && field(fields, 8) == "failure".as_bytes()
+    fields.len() == FIELDS && says_who(fields) && says_where(fields) && says_what(fields)
+}
+
+#[tactic(auto, unfolding(crate::specs::Rows::says_who))]
+fn says_who(fields: &ByteRecord) -> bool
+    ensures { result ≡ says_who (fields_of fields.now) }
+{
+    is_at(fields, 0, "caller") && is_at(fields, 1, "number") && is_at(fields, 2, "service")
+}
+
+#[tactic(auto, unfolding(crate::specs::Rows::says_where))]
+fn says_where(fields: &ByteRecord) -> bool
+    ensures { result ≡ says_where (fields_of fields.now) }
+{
+    is_at(fields, 3, "run") && is_at(fields, 4, "metric") && is_at(fields, 5, "ordinal")
+}
+
+#[tactic(auto, unfolding(crate::specs::Rows::says_what))]
+fn says_what(fields: &ByteRecord) -> bool
+    ensures { result ≡ says_what (fields_of fields.now) }
+{
+    is_at(fields, 6, "taken") && is_at(fields, 7, "result") && is_at(fields, 8, "failure")
+}
+
+fn is_at(fields: &ByteRecord, place: usize, text: &str) -> bool
+    ensures { result ≡ is_at (fields_of fields.now) place text.now }
+{
+    field(fields, place) == text.as_bytes()
 }
