@@ -1,0 +1,158 @@
+-- Rows answered one after another, and what they are as a whole.
+use Rattle.std.proofs.Common.{◌≡◌, ℕ, zero, suc, ◌+◌, ◌-◌, ◌<◌, ◌≤◌, ◌⊎◌, inl, inr, Bool, List, [], ◌∷◌, ◌++◌, length, refl, sym, ap, ◌∙◌, subst, arith, add-zero}
+use Rattle.std.specs.Prelude.{slice_index}
+use Rattle.std.specs.List.{AllByRecursion}
+use Rattle.std.proofs.lemmas.List.{length-append, length-map, map-append, get_or_append_left, get_or-append_right}
+use Rattle.canary_release.specs.declared.reply.Reply.{Reply}
+use Rattle.canary_once.specs.declared.event.Event.{Event}
+use Rattle.canary_once.specs.declared.event.Answer.{Answer}
+use Rattle.canary_once.specs.declared.event.Answer.TheVariants.{Replied, Unavailable}
+use Rattle.canary_once.specs.Contents.{Contents}
+use Rattle.canary_once.specs.Answers.{heard, replies_in, answers_of, after}
+use Rattle.canary_once.specs.Laws.{RunsOn}
+use Rattle.canary_files.specs.RowExchanges.{Handling, refused, no_memory, posted, IsSureHandling, Exchange, IsExchange, moments_of, event_in, answer_in, events_of, answers_in, Point, AreFirst, Holds, IsHandled, AreHandled, Exchanges, Went}
+
+-- ---- lists
+
+pub all-append : {X : Type 0} (P : X → Type 0) (xs ys : List X) → AllByRecursion P xs → AllByRecursion P ys → AllByRecursion P (xs ++ ys)
+all-append P [] ys a b = b
+all-append P (x ∷ xs) ys a b = (a.0, all-append P xs ys a.1 b)
+
+-- ---- moments
+
+-- says from some moment on, and then from that on
+pub later_is : (says : ℕ → ℕ) (m n k : ℕ) → n + m ≡ k → ◌≡◌ {A = ℕ → ℕ} (λ i. says (i + n + m)) (λ i. says (i + k))
+later_is says m n k e = λ i j. says ((let h : j + n + m ≡ j + k = omega arith in h) i)
+
+pub first_is : (says : ℕ → ℕ) → ◌≡◌ {A = ℕ → ℕ} says (λ i. says (i + 0))
+first_is says = λ i j. says (sym (add-zero j) i)
+
+-- one place is in one of two lists
+first_at : (says : ℕ → ℕ) (xs ys : List ℕ) → AreFirst says xs → AreFirst (λ k. says (k + length xs)) ys → (k : ℕ) → k < length (xs ++ ys) → (k < length xs) ⊎ (length xs ≤ k) → slice_index (xs ++ ys) k ≡ says k
+first_at says xs ys a b k inside (inl h) = get_or_append_left xs ys 0 k h ∙ a k h
+first_at says xs ys a b k inside (inr h) =
+    let within : k - length xs < length ys = omega (arith, length-append xs ys) in
+    let back : k - length xs + length xs ≡ k = omega arith in
+    get_or-append_right xs ys (length xs) k 0 refl h ∙ b (k - length xs) within ∙ ap says back
+
+below_or_not : (k n : ℕ) → (k < n) ⊎ (n ≤ k)
+below_or_not k zero = inr (omega arith)
+below_or_not zero (suc n) = inl (omega arith)
+below_or_not (suc k) (suc n) = elim (below_or_not k n) [ inl h ↦ inl (omega arith) | inr h ↦ inr (omega arith) ]
+
+pub first-append : (says : ℕ → ℕ) (xs ys : List ℕ) → AreFirst says xs → AreFirst (λ k. says (k + length xs)) ys → AreFirst says (xs ++ ys)
+first-append says xs ys a b k inside = first_at says xs ys a b k inside (below_or_not k (length xs))
+
+-- one moment that is says
+first_one : (says : ℕ → ℕ) (m : ℕ) → m ≡ says 0 → (k : ℕ) → k < 1 → slice_index (m ∷ []) k ≡ says k
+first_one says m e zero inside = e
+first_one says m e (suc k) inside = absurd (omega arith)
+
+shift_as : (says : ℕ → ℕ) (m n : ℕ) → m ≡ n → ◌≡◌ {A = ℕ → ℕ} (λ i. says (i + m)) (λ i. says (i + n))
+shift_as says m n e = λ i j. says (j + e i)
+
+moments_len : (xs : List Exchange) → length (moments_of xs) ≡ length xs
+moments_len xs = length-map xs (λ (x : Exchange). x.moment)
+
+len_is : (xs ys : List Exchange) → length ys + length xs ≡ length (xs ++ ys)
+len_is xs ys = omega (arith, length-append xs ys)
+
+-- ---- what is handled
+
+handled-append : (c d e : Contents) (xs ys : List Exchange) → AreHandled c xs d → AreHandled d ys e → AreHandled c (xs ++ ys) e
+handled-append c d e [] ys p q = let P : Contents → Type 0 = λ t. AreHandled t ys e in subst P p q
+handled-append c d e (x ∷ xs) ys p q = (p.0, p.1, handled-append p.0 d e xs ys p.2 q)
+
+sure_as : (s t : Bool) (xs : List Exchange) → s ≡ t → AllByRecursion (λ x. IsSureHandling s x.handling) xs → AllByRecursion (λ x. IsSureHandling t x.handling) xs
+sure_as s t xs e h = let P : Bool → Type 0 = λ b. AllByRecursion (λ x. IsSureHandling b x.handling) xs in subst P e h
+
+-- nothing was answered
+pub went_none : (p : Point) → Went p p []
+went_none p = record {
+  each = tt;
+  moments = λ says h. (λ k inside. absurd (omega arith), subst p.clock (first_is says) h);
+  intact = λ h. h;
+  sure = (refl, tt);
+  sound = λ h sound. sound;
+  handled = λ h. refl;
+  receipts = λ h caller number receipt e. e;
+}
+
+-- one row was answered
+pub went_one : (p q : Point) (x : Exchange) → Exchanges p q x → Went p q (x ∷ [])
+went_one p q x e = record {
+  each = (e.is, tt);
+  moments = λ says h. (let m = e.moment says h in (λ k inside. first_one says x.moment m.0 k inside, m.1));
+  intact = e.books.intact;
+  sure = (e.books.sure.0, (e.books.sure.1, tt));
+  sound = e.books.sound;
+  handled = λ h. (q.book.contents, e.books.handled h, refl);
+  receipts = e.books.receipts;
+}
+
+pub went_then : (p q r : Point) (xs ys : List Exchange) → Went p q xs → Went q r ys → Went p r (xs ++ ys)
+went_then p q r xs ys a b = record {
+  each = all-append IsExchange xs ys a.each b.each;
+  moments = λ says h.
+      let m = a.moments says h in
+      let n = b.moments (λ k. says (k + length xs)) m.1 in
+      let lx : length (moments_of xs) ≡ length xs = moments_len xs in (
+        subst (AreFirst says) (sym (map-append (λ (x : Exchange). x.moment) xs ys))
+            (first-append says (moments_of xs) (moments_of ys) m.0 (subst (λ (f : ℕ → ℕ). AreFirst f (moments_of ys)) (shift_as says (length xs) (length (moments_of xs)) (sym lx)) n.0)),
+        subst r.clock (later_is says (length xs) (length ys) (length (xs ++ ys)) (len_is xs ys)) n.1,
+      );
+  intact = λ h. a.intact (b.intact h);
+  sure = (b.sure.0 ∙ a.sure.0, all-append (λ x. IsSureHandling p.book.is_sure x.handling) xs ys a.sure.1 (sure_as q.book.is_sure p.book.is_sure ys a.sure.0 b.sure.1));
+  sound = λ h sound. b.sound h (a.sound (b.intact h) sound);
+  handled = λ h. handled-append p.book.contents q.book.contents r.book.contents xs ys (a.handled (b.intact h)) (b.handled h);
+  receipts = λ h caller number receipt e. b.receipts h caller number receipt (a.receipts (b.intact h) caller number receipt e);
+}
+
+-- ---- the whole list
+
+-- what one row is told and leaves is that of its event, if it is one
+one_is : (d mid : Contents) (o : Handling) → IsHandled d o mid → (replies_in (answer_in o) ≡ answers_of d (heard (event_in o) (answer_in o))) × (mid ≡ after d (heard (event_in o) (answer_in o)))
+one_is d mid (refused r) h = (refl, h)
+one_is d mid no_memory h = (refl, h)
+one_is d mid (posted r (Replied reply)) h = (ap (λ (x : Reply). x ∷ []) h.0, h.1)
+one_is d mid (posted r (Unavailable fault)) h = (refl, h)
+
+replies_first : (o : Handling) (gs : List Answer) → replies_in (answer_in o ++ gs) ≡ replies_in (answer_in o) ++ replies_in gs
+replies_first (refused r) gs = refl
+replies_first no_memory gs = refl
+replies_first (posted r (Replied reply)) gs = refl
+replies_first (posted r (Unavailable fault)) gs = refl
+
+heard_first : (o : Handling) (es : List Event) (gs : List Answer) → heard (event_in o ++ es) (answer_in o ++ gs) ≡ heard (event_in o) (answer_in o) ++ heard es gs
+heard_first (refused r) es gs = refl
+heard_first no_memory es gs = refl
+heard_first (posted r (Replied reply)) es gs = refl
+heard_first (posted r (Unavailable fault)) es gs = refl
+
+handled_are : RunsOn → (d new : Contents) (xs : List Exchange) → AreHandled d xs new
+    → (replies_in (answers_in xs) ≡ answers_of d (heard (events_of xs) (answers_in xs))) × (new ≡ after d (heard (events_of xs) (answers_in xs)))
+handled_are goes d new [] h = (refl, h)
+handled_are goes d new (x ∷ xs) h =
+    let o = x.handling in
+    let first = heard (event_in o) (answer_in o) in
+    let rest = heard (events_of xs) (answers_in xs) in
+    let one = one_is d h.0 o h.1 in
+    let others = handled_are goes h.0 new xs h.2 in
+    let both = goes d first rest in
+    let whole = sym (heard_first o (events_of xs) (answers_in xs)) in (
+      replies_first o (answers_in xs) ∙ (λ i. one.0 i ++ others.0 i) ∙ ap (λ (k : Contents). answers_of d first ++ answers_of k rest) one.1 ∙ sym both.0 ∙ ap (answers_of d) whole,
+      others.1 ∙ ap (λ (k : Contents). after k rest) one.1 ∙ sym both.1 ∙ ap (after d) whole,
+    )
+
+-- what was answered step by step is what the small machine answers as a whole
+pub holds_of : RunsOn → (p q : Point) (xs : List Exchange) → Went p q xs → Holds p q xs
+holds_of goes p q xs went = record {
+  each = went.each;
+  moments = went.moments;
+  intact = went.intact;
+  sure = went.sure;
+  sound = went.sound;
+  answers = λ h. (handled_are goes p.book.contents q.book.contents xs (went.handled h)).0;
+  contents = λ h. (handled_are goes p.book.contents q.book.contents xs (went.handled h)).1;
+  receipts = went.receipts;
+}

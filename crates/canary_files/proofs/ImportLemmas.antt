@@ -1,0 +1,152 @@
+-- Rows imported so far, and how an import ends.
+use Rattle.std.proofs.Common.{◌≡◌, ◌∙◌, ℕ, ◌+◌, ◌<◌, List, [], ◌∷◌, ◌++◌, Bool, true, false, length, refl, sym, ap, subst, arith}
+use Rattle.std.specs.Prelude.{Option, Some, None, Result, Ok, Err}
+use Rattle.std.specs.Io.KnownBytes.{Appends}
+use Rattle.std.proofs.lemmas.List.{append-nil, append_assoc, length-append, length-map, map-append}
+use Rattle.csv.specs.declared.reader.Reader.{Reader}
+use Rattle.canary_once.specs.Laws.{RunsOn}
+use Rattle.canary_files.specs.declared.writing.WriteFault.{WriteFault}
+use Rattle.canary_files.specs.declared.import.ImportFault.{ImportFault}
+use Rattle.canary_files.specs.declared.import.ImportFault.TheVariants as fault
+use Rattle.canary_files.specs.Writes.{Known, Writes}
+use Rattle.canary_files.specs.Rows.{header, is_header}
+use Rattle.canary_files.specs.RowExchanges.{Exchange, rows_of, lines_from, lines, told_line, Point, Exchanges, Went}
+use Rattle.canary_files.specs.Importing.{Fields, StandsBehind, TakesNext, Answers, ImportsUntil, ImportsTo, Keeps, IsSoFar}
+use Rattle.canary_files.proofs.WriteLemmas.{appends_none, appends_more, writes_all}
+use Rattle.canary_files.proofs.ExchangeLemmas.{went_none, went_one, went_then, holds_of}
+use Rattle.canary_files.proofs.ReadLemmas.{begins}
+use Rattle.canary_files.proofs.HeaderLemmas.{header_is, header_not}
+
+-- ---- lines
+
+lines_more : (k n : ℕ) (xs : List Exchange) (x : Exchange) → k + length xs ≡ n → lines_from k (xs ++ x ∷ []) ≡ lines_from k xs ++ told_line n x.handling
+lines_more k n [] x e = let same : k ≡ n = omega arith in append-nil (told_line k x.handling) ∙ ap (λ m. told_line m x.handling) same
+lines_more k n (y ∷ ys) x e =
+    let next : k + 1 + length ys ≡ n = omega arith in
+    ap (λ t. told_line k y.handling ++ t) (lines_more (k + 1) n ys x next) ∙ sym (append_assoc (told_line k y.handling) (lines_from (k + 1) ys) (told_line n x.handling))
+
+-- ---- the book
+
+pub keeps_of : (p q : Point) (xs : List Exchange) → Went p q xs → Keeps p.book q.book
+keeps_of p q xs went = record { intact = went.intact; sure = went.sure.0; sound = went.sound; receipts = went.receipts }
+
+pub answers_of_went : RunsOn → (w w1 : Known) (p q : Point) (xs : List Exchange) → Went p q xs → Appends w w1 (lines xs) → Answers w w1 p q (rows_of xs)
+answers_of_went goes w w1 p q xs went written = record { exchanges = xs; are = refl; holds = holds_of goes p q xs went; written = written }
+
+pub answers_none : RunsOn → (w : Known) (p : Point) → Answers w w p p []
+answers_none goes w p = answers_of_went goes w w p p [] (went_none p) (appends_none w)
+
+-- ---- so far
+
+module _ {S : Type 0} (left : S → Known) where
+  pub so_far_none : (r : Reader S) (w : Known) (p : Point) → IsSoFar left r r w w p p 0
+  so_far_none r w p = record { exchanges = []; many = refl; stands = λ file s. s; went = went_none p; written = appends_none w }
+
+  module _ (r0 r1 r2 : Reader S) (w w1 : Known) (p p1 : Point) (n : ℕ) (so : IsSoFar left r0 r1 w w1 p p1 n) (fields : Fields) where
+    rows_more : (x : Exchange) → x.fields ≡ fields → rows_of so.exchanges ++ fields ∷ [] ≡ rows_of (so.exchanges ++ x ∷ [])
+    rows_more x same = ap (λ (f : Fields). rows_of so.exchanges ++ f ∷ []) (sym same) ∙ sym (map-append (λ (y : Exchange). y.fields) so.exchanges (x ∷ []))
+
+    module _ (takes : (file : Known) (records : List Fields) → StandsBehind left file r1 records → TakesNext left file r2 records fields (Ok true)) where
+      stands_more : (x : Exchange) → x.fields ≡ fields → (file : Known) → StandsBehind left file r0 (header ∷ []) → StandsBehind left file r2 (header ∷ rows_of (so.exchanges ++ x ∷ []))
+      stands_more x same file s =
+          let P : List Fields → Type 0 = λ t. StandsBehind left file r2 (header ∷ t) in
+          subst P (rows_more x same) (takes file (header ∷ rows_of so.exchanges) (so.stands file s))
+
+      module _ (w2 : Known) (p2 : Point) (x : Exchange) (same : x.fields ≡ fields) (e : Exchanges p1 p2 x) where
+        went_more : Went p p2 (so.exchanges ++ x ∷ [])
+        went_more = went_then p p1 p2 so.exchanges (x ∷ []) so.went (went_one p1 p2 x e)
+
+        pub so_far_more : Writes {E = WriteFault} w1 w2 (told_line (n + 1) x.handling) (Ok tt) → IsSoFar left r0 r2 w w2 p p2 (n + 1)
+        so_far_more wrote =
+            let m : length so.exchanges ≡ n = so.many in
+            let number : 1 + length so.exchanges ≡ n + 1 = omega (arith, m) in
+            let P : List ℕ → Type 0 = λ t. Appends w w2 t in
+            record {
+              exchanges = so.exchanges ++ x ∷ [];
+              many = omega (arith, m, length-append so.exchanges (x ∷ []));
+              stands = stands_more x same;
+              went = went_more;
+              written = subst P (sym (lines_more 1 (n + 1) so.exchanges x number))
+                  (appends_more w w1 w2 (lines so.exchanges) (told_line (n + 1) x.handling) so.written (writes_all w1 w2 (told_line (n + 1) x.handling) wrote));
+            }
+
+        pub so_far_until : RunsOn → (f : WriteFault) → Writes w1 w2 (told_line (n + 1) x.handling) (Err f) → (file : Known) → StandsBehind left file r0 (header ∷ []) → ImportsUntil file w w2 p p2
+        so_far_until goes f wrote file s =
+            let m : length so.exchanges ≡ n = so.many in
+            let number : length so.exchanges + 1 ≡ n + 1 = omega (arith, m) in
+            record {
+              exchanges = so.exchanges;
+              last = x;
+              front = wrote.front;
+              back = wrote.back;
+              begins = begins left file r2 (header ∷ rows_of (so.exchanges ++ x ∷ [])) (stands_more x same file s);
+              holds = holds_of goes p p2 (so.exchanges ++ x ∷ []) went_more;
+              line = ap (λ k. told_line k x.handling) number ∙ wrote.parts;
+              short = wrote.short;
+              written = appends_more w w1 w2 (lines so.exchanges) wrote.front so.written wrote.written;
+            }
+
+        pub keeps_more : Keeps p.book p2.book
+        keeps_more = keeps_of p p2 (so.exchanges ++ x ∷ []) went_more
+
+      pub so_far_too_many : RunsOn → n ≡ 1000000 → (file : Known) → StandsBehind left file r0 (header ∷ []) → ImportsTo file w w1 p p1 (Err fault.RowsSpent)
+      so_far_too_many goes full file s = (
+        rows_of so.exchanges,
+        fields,
+        begins left file r2 (header ∷ (rows_of so.exchanges ++ fields ∷ [])) (takes file (header ∷ rows_of so.exchanges) (so.stands file s)),
+        length-map so.exchanges (λ (y : Exchange). y.fields) ∙ so.many ∙ full,
+        answers_of_went goes w w1 p p1 so.exchanges so.went so.written,
+      )
+
+    pub so_far_all : RunsOn → ((file : Known) (records : List Fields) → StandsBehind left file r1 records → TakesNext left file r2 records fields (Ok false))
+        → (file : Known) → StandsBehind left file r0 (header ∷ []) → ImportsTo file w w1 p p1 (Ok n)
+    so_far_all goes takes file s = (
+      header ∷ rows_of so.exchanges,
+      rows_of so.exchanges,
+      takes file (header ∷ rows_of so.exchanges) (so.stands file s),
+      (refl, refl),
+      sym (length-map so.exchanges (λ (y : Exchange). y.fields) ∙ so.many),
+      answers_of_went goes w w1 p p1 so.exchanges so.went so.written,
+    )
+
+    pub so_far_failed : RunsOn → (f : ImportFault) → ((file : Known) (records : List Fields) → StandsBehind left file r1 records → TakesNext left file r2 records fields (Err f))
+        → (file : Known) → StandsBehind left file r0 (header ∷ []) → ImportsTo file w w1 p p1 (Err f)
+    so_far_failed goes fault.Read takes file s = (
+      header ∷ rows_of so.exchanges,
+      rows_of so.exchanges,
+      begins left file r1 (header ∷ rows_of so.exchanges) (so.stands file s),
+      (refl, refl),
+      answers_of_went goes w w1 p p1 so.exchanges so.went so.written,
+    )
+    so_far_failed goes fault.Memory takes file s = (
+      header ∷ rows_of so.exchanges,
+      rows_of so.exchanges,
+      begins left file r1 (header ∷ rows_of so.exchanges) (so.stands file s),
+      (refl, refl),
+      answers_of_went goes w w1 p p1 so.exchanges so.went so.written,
+    )
+    so_far_failed goes fault.Write takes file s = absurd (takes file (header ∷ rows_of so.exchanges) (so.stands file s))
+    so_far_failed goes fault.Header takes file s = absurd (takes file (header ∷ rows_of so.exchanges) (so.stands file s))
+    so_far_failed goes fault.RowsSpent takes file s = absurd (takes file (header ∷ rows_of so.exchanges) (so.stands file s))
+
+    pub keeps_so : Keeps p.book p1.book
+    keeps_so = keeps_of p p1 so.exchanges so.went
+
+-- ---- the header
+
+module _ {S : Type 0} (left : S → Known) (file : Known) (r0 r1 : Reader S) (w : Known) (p : Point) (s : StandsBehind left file r0 []) (fields : Fields) where
+  pub import_none : RunsOn → TakesNext left file r1 [] fields (Ok false) → ImportsTo file w w p p (Ok 0)
+  import_none goes takes = ([], [], takes, refl, refl, answers_none goes w p)
+
+  pub import_failed : RunsOn → (f : ImportFault) → TakesNext left file r1 [] fields (Err f) → ImportsTo file w w p p (Err f)
+  import_failed goes fault.Read takes = ([], [], begins left file r0 [] s, refl, answers_none goes w p)
+  import_failed goes fault.Memory takes = ([], [], begins left file r0 [] s, refl, answers_none goes w p)
+  import_failed goes fault.Write takes = absurd takes
+  import_failed goes fault.Header takes = absurd takes
+  import_failed goes fault.RowsSpent takes = absurd takes
+
+  pub import_other : RunsOn → is_header fields ≡ false → TakesNext left file r1 [] fields (Ok true) → ImportsTo file w w p p (Err fault.Header)
+  import_other goes off takes = (fields, begins left file r1 (fields ∷ []) takes, header_not fields off, answers_none goes w p)
+
+  pub stands_headed : is_header fields ≡ true → TakesNext left file r1 [] fields (Ok true) → StandsBehind left file r1 (header ∷ [])
+  stands_headed on takes = let P : Fields → Type 0 = λ t. StandsBehind left file r1 (t ∷ []) in subst P (header_is fields on) takes

@@ -1,0 +1,11 @@
+use Rattle.canary_once.specs.Records.{past_of, measurements_of}
+use Rattle.canary_files.specs.Written.{rows_text}
+use Rattle.canary_files.specs.Exporting.{name_of}
+use Rattle.canary_files.proofs.ExportLemmas.{puts_none}
+use Rattle.canary_files.proofs.export.write_page.Goals as goal
+
+pub returns-in_err-page-clause-writes : goal.returns-in_err-page-clause-writes
+returns-in_err-page-clause-writes g c h =
+    let before = (g.B.Book.state c.args.book.now).contents in
+    let source = c.args.source.now in
+    puts_none (g.W.Write.contents c.args.out.now) (rows_text source.caller source.service (name_of source.strategy (past_of before source.service)) c.args.from (measurements_of before source.service c.args.from 256)) c.from_residual.result c.from_residual.ensures.0

@@ -1,0 +1,18 @@
+use Rattle.std.proofs.Common.{◌≤◌, ◌-◌}
+use Rattle.canary_once.specs.Records.{past_of}
+use Rattle.canary_files.specs.Exporting.{Stays, name_of}
+use Rattle.canary_files.proofs.ExportLemmas.{SoFar}
+use Rattle.canary_files.proofs.export.write_rows.Given as goal
+
+-- the rows so far went out
+abbrev pub invariant-loop-next : goal.invariant-loop-next
+invariant-loop-next g l =
+    let old = g.B.Book.state l.fn.book in
+    let now = g.B.Book.state l.book in
+    let past = past_of old.contents l.source.service in
+    Stays old now
+    × (l.rows ≤ 1000000000)
+    × (now.is_intact → SoFar (g.W.Write.contents l.fn.out) (g.W.Write.contents l.out) l.source.caller l.source.service (name_of l.source.strategy past) past.measurements l.rows)
+
+abbrev pub decreases-loop-next : goal.decreases-loop-next
+decreases-loop-next g l = 1000000000 - l.rows

@@ -1,0 +1,100 @@
+-- The file of a service's measurements, and what a call writes of it.
+use Rattle.std.specs.Prelude.{◌≡◌, ℕ, ◌<◌, List, [], ◌++◌, length, slice_get, Option, Some, None, option_map, option_and_then, unwrap_or, Result, IfOk, OnOk}
+use Rattle.std.specs.FinMap.{get}
+use Rattle.std.specs.Io.KnownBytes.{Appends}
+use Rattle.canary_metric.specs.Metrics.{MetricValue}
+use Rattle.canary_plan.specs.declared.strategy.CheckedStrategy.{CheckedStrategy}
+use Rattle.canary_plan.specs.Plans.{metrics_at}
+use Rattle.canary_release.specs.declared.effect.Recorded.{Recorded}
+use Rattle.canary_release.specs.Pasts.{Past}
+use Rattle.canary_release.specs.Desks.{ModelService}
+use Rattle.canary_release.specs.declared.service.ServiceParts.{ServiceParts}
+use Rattle.canary_release.specs.Shapes.{seen}
+use Rattle.canary_once.specs.declared.book.BookFault.{BookFault}
+use Rattle.canary_once.specs.declared.book.BookFault.TheVariants.{Memory as Out, Storage as Failed}
+use Rattle.canary_once.specs.declared.record.RunRecord.{RunRecord}
+use Rattle.canary_once.specs.Records.{past_of, record_numbered}
+use Rattle.canary_once.specs.Contents.{Contents}
+use Rattle.canary_once.specs.Books.{BookState, StaysInMemory}
+use Rattle.canary_files.specs.declared.export.ExportFault.{ExportFault}
+use Rattle.canary_files.specs.declared.export.ExportFault.TheVariants.{Memory, Storage, Write, TooMany, UnknownService}
+use Rattle.canary_files.specs.declared.export.Source.{Source}
+use Rattle.canary_files.specs.Writes.{Known}
+use Rattle.canary_files.specs.Written.{file_of}
+
+-- Names of metrics.
+
+-- the name of the metric at a place of a run
+abbrev pub name_at : Option (List MetricValue) → ℕ → Option (List ℕ)
+name_at metrics place = option_map (λ (m : MetricValue). m.name) (option_and_then (λ (ms : List MetricValue). slice_get ms place) metrics)
+
+abbrev pub name_in : CheckedStrategy → Option RunRecord → ℕ → Option (List ℕ)
+name_in strategy run place = option_and_then (λ (r : RunRecord). name_at (metrics_at strategy r.step) place) run
+
+-- the name of the metric of a measurement
+abbrev pub name_of : CheckedStrategy → Past → Recorded → List ℕ
+name_of strategy p x = unwrap_or (name_in strategy (record_numbered p x.run) x.metric) []
+
+abbrev pub name_by : Option ModelService → Recorded → List ℕ
+name_by None x = []
+name_by (Some m) x = name_of m.stand.strategy m.past x
+
+-- the measurements of a service, in the order in which they were recorded
+abbrev pub recorded_of : Contents → List ℕ → List Recorded
+recorded_of c service = (past_of c service).measurements
+
+-- the file of a service's measurements, under that caller
+abbrev pub file_in : Contents → List ℕ → List ℕ → List ℕ
+file_in c service caller = file_of caller service (name_by (get c.desk.services service)) (recorded_of c service)
+
+-- What a call does.
+
+-- the book contains what it did
+pub record Stays (old new : BookState) : Type 0 where
+  pub intact : new.is_intact → old.is_intact
+  pub in_memory : StaysInMemory old new
+  pub same : new.is_intact → new.contents ≡ old.contents
+  pub sure : new.is_sure ≡ old.is_sure
+
+-- the first bytes of a text went out, and all of them if the call succeeded
+pub record Puts {A E : Type 0} (old new : Known) (text : List ℕ) (result : Result A E) : Type 0 where
+  pub front : List ℕ
+  pub back : List ℕ
+  pub parts : text ≡ front ++ back
+  pub written : Appends old new front
+  pub all : OnOk result (back ≡ [])
+
+-- a call finds this in the contents of the book, or fails; it changes nothing
+pub record Reads {A : Type 0} (told : Contents → A) (old new : BookState) (found : Result A ExportFault) : Type 0 where
+  pub stays : Stays old new
+  pub value : new.is_intact → IfOk found (λ x. x ≡ told old.contents)
+
+-- why no more was written of so many rows
+abbrev pub TellsPage : ℕ → ExportFault → Type 0
+TellsPage rows Memory = Unit {0}
+TellsPage rows Storage = Unit {0}
+TellsPage rows Write = Unit {0}
+TellsPage rows TooMany = 1000000000 < rows
+TellsPage rows UnknownService = ⊥
+
+-- why no more was written of a service's file
+abbrev pub Tells : Contents → List ℕ → ExportFault → Type 0
+Tells c service UnknownService = get c.desk.services service ≡ None
+Tells c service Memory = Unit {0}
+Tells c service Storage = Unit {0}
+Tells c service Write = Unit {0}
+Tells c service TooMany = 1000000000 < length (recorded_of c service)
+
+abbrev pub fault_of : BookFault → ExportFault
+fault_of Out = Memory
+fault_of Failed = Storage
+
+-- the strategy of a service that is kept
+abbrev pub kept_strategy : ServiceParts → CheckedStrategy
+kept_strategy s = s.stand.strategy
+
+-- this service's, under this caller
+pub record IsSource (c : Contents) (name sender : List ℕ) (s : Source) : Type 0 where
+  pub caller : s.caller ≡ sender
+  pub service : s.service ≡ name
+  pub strategy : option_map kept_strategy (seen c.desk name) ≡ Some s.strategy

@@ -1,0 +1,152 @@
+//! Answering one row.
+ghost use Rattle.std.specs.Prelude.{◌≡◌, ◌++◌, ℕ, List, codes, Ok};
+ghost use Rattle.csv.specs.Records.{fields_of};
+ghost use Rattle.canary_files.specs.Lines.{refusal_code, told_status, told_body, line_front};
+ghost use Rattle.canary_files.specs.Lines.{line_of};
+ghost use Rattle.canary_files.specs.RowExchanges.{Handling, Exchange, Exchanges, Books};
+ghost use Rattle.canary_files.specs.RowExchanges.{told_of, told_line, IsHandling, point};
+ghost use Rattle.canary_files.specs.Rows.{row_of};
+ghost use Rattle.canary_files.specs.Writes.{Writes};
+ghost use Rattle.canary_release.specs.Replies.{code_alone};
+
+use crate::row::{Refusal, Row, RowFault, row_of};
+use crate::writing::{WriteFault, write_all};
+use arrayvec::ArrayString;
+use canary_base::moments::Moment;
+use canary_once::book::Book;
+use canary_once::clock::Clock;
+use canary_once::event::Answer;
+use canary_once::post::post;
+use canary_plan::command::Command;
+use csv::ByteRecord;
+use std::alloc::Global;
+use std::io::Write;
+
+// Room for a row's number, a status and a space behind each.
+const ROOM: usize = 32;
+
+// What the line of a row tells.
+#[derive(Drop)]
+pub(crate) enum Told {
+    Refused(Refusal),
+    NoMemory,
+    Answered(Answer),
+}
+
+impl Told {
+    fn status(&self) -> u16
+        ensures { result ≡ told_status self.now }
+    {
+        match self {
+            Told::Refused(_) => 400,
+            Told::NoMemory => 503,
+            Told::Answered(answer) => answer.status(),
+        }
+    }
+
+    fn body(&self) -> &str
+        ensures { result.now ≡ told_body self.now }
+    {
+        match self {
+            Told::Refused(refusal) => refusal_body(*refusal),
+            Told::NoMemory => "{\"code\":\"no-memory\"}",
+            Told::Answered(answer) => answer.body(),
+        }
+    }
+}
+
+fn refusal_body(refusal: Refusal) -> &'static str
+    ensures { result.now ≡ code_alone (refusal_code refusal) }
+{
+    match refusal {
+        Refusal::Unreadable => "{\"code\":\"unreadable\"}",
+        Refusal::BadName => "{\"code\":\"bad-name\"}",
+        Refusal::BadNumber => "{\"code\":\"bad-number\"}",
+    }
+}
+
+// Answers the row with this number and these fields: the clock is asked once, the register is asked
+// where the row is a request, and then its line is written.
+pub(crate) fn answer_row<W: Write, C: Clock, B: Book>(
+    alloc: Global,
+    number: u64,
+    fields: &ByteRecord,
+    writer: &mut W,
+    clock: &mut C,
+    book: &mut B,
+) -> Result<(), WriteFault>
+    ensures { (x : Exchange) × (x.fields ≡ fields_of fields.now)
+        × Exchanges
+        (point (C.tells clock.old) (B.state book.old))
+        (point (C.tells clock.new) (B.state book.new)) x
+        × Writes (W.contents writer.old) (W.contents writer.new)
+        (told_line number x.handling) result }
+{
+    let moment = clock.now();
+    let told = handle(alloc, fields, moment, book);
+    write_line(writer, number, &told)
+}
+
+// Handles a row at a moment, and answers what its line is to tell.
+fn handle<B: Book>(alloc: Global, fields: &ByteRecord, moment: Moment, book: &mut B) -> Told
+    ensures { (h : Handling) × (result ≡ told_of h)
+        × IsHandling (fields_of fields.now) moment h
+        × Books (B.state book.old) (B.state book.new) h }
+{
+    match row_of(alloc, fields) {
+        Ok(row) => post_row(alloc, row, moment, book),
+        Err(RowFault::Refused(refusal)) => Told::Refused(refusal),
+        Err(RowFault::Memory) => Told::NoMemory,
+    }
+}
+
+// The same where the row is a request.
+fn post_row<B: Book>(alloc: Global, row: Row, moment: Moment, book: &mut B) -> Told
+    ensures { (fields : List (List ℕ)) → row_of fields ≡ Ok row → (h : Handling)
+        × (result ≡ told_of h) × IsHandling fields moment h
+        × Books (B.state book.old) (B.state book.new) h }
+{
+    let Row {
+        caller,
+        number,
+        report,
+    } = row;
+    let command = Command::Report(report);
+    Told::Answered(post(alloc, book, moment, caller, number, &command))
+}
+
+// Writes the line of a row. It takes no memory. What went out before a fault are the first bytes of
+// the line.
+fn write_line<W: Write>(writer: &mut W, number: u64, told: &Told) -> Result<(), WriteFault>
+    ensures { Writes (W.contents writer.old) (W.contents writer.new)
+        (line_of number (told_status told.now) (told_body told.now)) result }
+{
+    let front = line_front(number, told.status());
+    if let Err(fault) = write_all(writer, front.as_str().as_bytes()) {
+        return Err(fault);
+    }
+    write_ended(writer, told.body())
+}
+
+// The number and the status, and a space behind each.
+fn line_front(number: u64, status: u16) -> ArrayString<ROOM>
+    ensures { result.bytes ≡ line_front number status }
+{
+    let mut front = ArrayString::new();
+    front.push_str(itoa::Buffer::new().format(number));
+    front.push_str(" ");
+    front.push_str(itoa::Buffer::new().format(status));
+    front.push_str(" ");
+    front
+}
+
+// Writes a text, ended with LF.
+fn write_ended<W: Write>(writer: &mut W, text: &str) -> Result<(), WriteFault>
+    ensures { Writes (W.contents writer.old) (W.contents writer.new)
+        (text.now ++ codes "\n") result }
+{
+    if let Err(fault) = write_all(writer, text.as_bytes()) {
+        return Err(fault);
+    }
+    write_all(writer, "\n".as_bytes())
+}

@@ -1,0 +1,306 @@
+//! A service's measurements as a file.
+ghost use Rattle.std.specs.Prelude.{◌≡◌, ◌≤◌, ◌+◌, ◌++◌, length, Some, Err, IfOk, IfErr};
+ghost use Rattle.canary_once.specs.Records.{past_of, measurements_of};
+ghost use Rattle.canary_files.specs.Rows.{header};
+ghost use Rattle.canary_files.specs.Written.{record_text, row_fields, rows_text};
+ghost use Rattle.canary_files.specs.Exporting.{name_in, name_of, recorded_of, file_in};
+ghost use Rattle.canary_files.specs.Exporting.{Stays, Puts, Reads, IsSource, Tells, TellsPage};
+
+use crate::records::Records;
+use crate::writing::{WriteFault, write_all};
+use canary_base::error::Memory;
+use canary_base::lists::Listed;
+use canary_base::names::{Label, Name};
+use canary_base::numbers::Number;
+use canary_once::book::{Book, BookFault};
+use canary_once::record::RunRecord;
+use canary_plan::strategy::Strategy;
+use canary_release::effect::Recorded;
+use std::alloc::Global;
+use std::io::Write;
+use thiserror::Error;
+
+/// The most measurements that are exported.
+pub const MOST_ROWS: u64 = 1_000_000_000;
+
+// How many measurements are read and written at once.
+const PAGE: u32 = 256;
+
+/// Why a service's measurements were not all exported.
+#[derive(Clone, Copy, Debug, PartialEq, Eq, Error)]
+pub enum ExportFault {
+    /// An allocation was refused.
+    #[error("out of memory")]
+    Memory,
+    /// The store failed, or gave a measurement of no metric.
+    #[error("the store failed")]
+    Storage,
+    /// The writer failed, or took no byte.
+    #[error("the output could not be written")]
+    Write,
+    /// The service has more than 1,000,000,000 measurements.
+    #[error("too many measurements")]
+    TooMany,
+    /// There is no such service.
+    #[error("unknown service")]
+    UnknownService,
+}
+
+impl From<Memory> for ExportFault {
+    ghost use Rattle.canary_files.specs.declared.export.ExportFault.TheVariants as fault;
+
+    ghost from_gives = { λ _ made. made ≡ fault.Memory };
+
+    fn from(_: Memory) -> ExportFault {
+        ExportFault::Memory
+    }
+}
+
+impl From<BookFault> for ExportFault {
+    ghost use Rattle.canary_files.specs.Exporting.{fault_of};
+
+    ghost from_gives = { λ fault made. made ≡ fault_of fault };
+
+    fn from(fault: BookFault) -> ExportFault {
+        match fault {
+            BookFault::Memory => ExportFault::Memory,
+            BookFault::Storage => ExportFault::Storage,
+        }
+    }
+}
+
+// Whose measurements are written, under which caller. The strategy has the names of the metrics.
+#[derive(Drop)]
+struct Source {
+    caller: Name,
+    service: Name,
+    strategy: Strategy,
+}
+
+/// Writes the file of a service's measurements: the header, and a row for each, in the order in
+/// which they were recorded, with this caller and the numbers 1, 2, 3 and so on. How many rows. The
+/// book is unchanged.
+///
+/// # Errors
+/// What was written before are the first bytes of the file. `UnknownService` where there is no such
+/// service, and nothing is written. `TooMany` where it has more than 1,000,000,000 measurements.
+/// `Write` where the writer failed or took no byte. `Memory` where an allocation was refused, and
+/// `Storage` where the store failed.
+pub fn export<W: Write, B: Book>(
+    alloc: Global,
+    book: &mut B,
+    service: Name,
+    caller: Name,
+    out: &mut W,
+) -> Result<u64, ExportFault>
+    ensures kept { Stays (B.state book.old) (B.state book.new) }
+    ensures file { (B.state book.new).is_intact
+        → Puts (W.contents out.old) (W.contents out.new)
+        (file_in (B.state book.old).contents service caller) result }
+    ensures rows { (B.state book.new).is_intact → IfOk result (λ rows.
+        (rows ≡ length (recorded_of (B.state book.old).contents service))
+        × (rows ≤ MOST_ROWS)) }
+    ensures why { (B.state book.new).is_intact
+        → IfErr result (Tells (B.state book.old).contents service) }
+    ensures unknown { (B.state book.new).is_intact → result ≡ Err ExportFault.UnknownService
+        → out.new ≡ out.old }
+{
+    let source = source_of(book, service, caller)?;
+    write_header(alloc, out)?;
+    write_rows(alloc, book, &source, out)
+}
+
+fn source_of<B: Book>(book: &mut B, service: Name, caller: Name) -> Result<Source, ExportFault>
+    ensures stays { Stays (B.state book.old) (B.state book.new) }
+    ensures source { (B.state book.new).is_intact
+        → IfOk result (IsSource (B.state book.old).contents service caller) }
+    ensures why { (B.state book.new).is_intact
+        → IfErr result (Tells (B.state book.old).contents service) }
+{
+    match book.service(&service)? {
+        None => Err(ExportFault::UnknownService),
+        Some(found) => Ok(Source {
+            caller,
+            service,
+            strategy: found.strategy().copy()?,
+        }),
+    }
+}
+
+fn write_header<W: Write>(alloc: Global, out: &mut W) -> Result<(), ExportFault>
+    ensures writes { Puts (W.contents out.old) (W.contents out.new) (record_text header) result }
+    ensures why { IfErr result (TellsPage 0) }
+{
+    let records = Records::new(alloc).with_header(alloc)?;
+    let text = records.into_text()?;
+    put(out, &text)
+}
+
+// The rows of all measurements, page by page.
+fn write_rows<W: Write, B: Book>(
+    alloc: Global,
+    book: &mut B,
+    source: &Source,
+    out: &mut W,
+) -> Result<u64, ExportFault>
+    ensures stays { Stays (B.state book.old) (B.state book.new) }
+    ensures writes { (B.state book.new).is_intact
+        → Puts (W.contents out.old) (W.contents out.new)
+        (rows_text source.now.caller source.now.service
+        (name_of source.now.strategy
+        (past_of (B.state book.old).contents source.now.service))
+        0 (recorded_of (B.state book.old).contents source.now.service)) result }
+    ensures rows { (B.state book.new).is_intact → IfOk result (λ rows.
+        (rows ≡ length (recorded_of (B.state book.old).contents source.now.service))
+        × (rows ≤ MOST_ROWS)) }
+    ensures why { (B.state book.new).is_intact
+        → IfErr result (TellsPage
+        (length (recorded_of (B.state book.old).contents source.now.service))) }
+{
+    let mut rows = 0;
+    loop {
+        let next = write_page(alloc, book, source, rows, out)?;
+        if next == rows {
+            return Ok(rows);
+        }
+        rows = next;
+    }
+}
+
+// The rows of the next page, behind so many others. How many there are then.
+fn write_page<W: Write, B: Book>(
+    alloc: Global,
+    book: &mut B,
+    source: &Source,
+    from: u64,
+    out: &mut W,
+) -> Result<u64, ExportFault>
+    requires { from ≤ MOST_ROWS }
+    ensures stays { Stays (B.state book.old) (B.state book.new) }
+    ensures writes { (B.state book.new).is_intact
+        → Puts (W.contents out.old) (W.contents out.new)
+        (rows_text source.now.caller source.now.service
+        (name_of source.now.strategy
+        (past_of (B.state book.old).contents source.now.service))
+        from (measurements_of (B.state book.old).contents source.now.service from 256))
+        result }
+    ensures rows { (B.state book.new).is_intact → IfOk result (λ rows.
+        rows ≡ from + length
+        (measurements_of (B.state book.old).contents source.now.service from 256)) }
+    ensures grows { IfOk result (λ rows. (from ≤ rows) × (rows ≤ MOST_ROWS)) }
+    ensures why { (B.state book.new).is_intact → IfErr result (TellsPage
+        (from + length
+        (measurements_of (B.state book.old).contents source.now.service from 256))) }
+{
+    let page = book.measurements(&source.service, from, PAGE)?;
+    write_measurements(alloc, book, source, from, page.as_slice(), out)
+}
+
+fn write_measurements<W: Write, B: Book>(
+    alloc: Global,
+    book: &mut B,
+    source: &Source,
+    from: u64,
+    page: &[Recorded],
+    out: &mut W,
+) -> Result<u64, ExportFault>
+    requires { from ≤ MOST_ROWS }
+    ensures stays { Stays (B.state book.old) (B.state book.new) }
+    ensures writes { (B.state book.new).is_intact
+        → Puts (W.contents out.old) (W.contents out.new)
+        (rows_text source.now.caller source.now.service
+        (name_of source.now.strategy
+        (past_of (B.state book.old).contents source.now.service))
+        from page.now) result }
+    ensures rows { IfOk result (λ rows. (rows ≡ from + length page.now) × (rows ≤ MOST_ROWS)) }
+    ensures why { IfErr result (TellsPage (from + length page.now)) }
+{
+    if page.len() as u64 > MOST_ROWS - from {
+        return Err(ExportFault::TooMany);
+    }
+    let text = rows_text(alloc, book, source, from, page)?;
+    put(out, &text)?;
+    Ok(from + page.len() as u64)
+}
+
+// The rows of these measurements, behind so many others.
+fn rows_text<B: Book>(
+    alloc: Global,
+    book: &mut B,
+    source: &Source,
+    from: u64,
+    page: &[Recorded],
+) -> Result<Listed<u8>, ExportFault>
+    requires { from + length page.now ≤ MOST_ROWS }
+    ensures reads { Reads (λ c. rows_text source.now.caller source.now.service
+        (name_of source.now.strategy (past_of c source.now.service)) from page.now)
+        (B.state book.old) (B.state book.new) result }
+    ensures why { IfErr result (TellsPage 0) }
+{
+    let mut records = Records::new(alloc);
+    for (i, recorded) in page.iter().enumerate() {
+        records = with_row(alloc, book, source, records, from + i as u64 + 1, recorded)?;
+    }
+    Ok(records.into_text()?)
+}
+
+fn with_row<B: Book>(
+    alloc: Global,
+    book: &mut B,
+    source: &Source,
+    records: Records,
+    number: u64,
+    recorded: &Recorded,
+) -> Result<Records, ExportFault>
+    ensures reads { Reads (λ c. records ++ record_text
+        (row_fields source.now.caller number source.now.service recorded.now
+        (name_of source.now.strategy (past_of c source.now.service) recorded.now)))
+        (B.state book.old) (B.state book.new) result }
+    ensures why { IfErr result (TellsPage 0) }
+{
+    let metric = metric_name(book, source, recorded)?;
+    let (caller, service) = (&source.caller, &source.service);
+    Ok(records.with_row(alloc, caller, number, service, recorded, &metric)?)
+}
+
+// The name of the metric of a measurement.
+fn metric_name<B: Book>(
+    book: &mut B,
+    source: &Source,
+    recorded: &Recorded,
+) -> Result<Label, ExportFault>
+    ensures reads { Reads
+        (λ c. name_of source.now.strategy (past_of c source.now.service) recorded.now)
+        (B.state book.old) (B.state book.new) result }
+    ensures why { IfErr result (TellsPage 0) }
+{
+    let Some(number) = Number::new(recorded.run) else {
+        return Err(ExportFault::Storage);
+    };
+    let Some(run) = book.run(&source.service, number)? else {
+        return Err(ExportFault::Storage);
+    };
+    match name_in(&source.strategy, &run, recorded.metric) {
+        Some(name) => Ok(name),
+        None => Err(ExportFault::Storage),
+    }
+}
+
+// The name of the metric at a place of that run.
+fn name_in(strategy: &Strategy, run: &RunRecord, place: u32) -> Option<Label>
+    ensures { result ≡ name_in strategy.now (Some run.now) place }
+{
+    let metrics = strategy.metrics(run.step)?;
+    Some(metrics.get(place as usize)?.name())
+}
+
+// Writes a text whole.
+fn put<W: Write>(out: &mut W, text: &Listed<u8>) -> Result<(), ExportFault>
+    ensures puts { Puts (W.contents out.old) (W.contents out.new) text.now result }
+    ensures why { IfErr result (TellsPage 0) }
+{
+    match write_all(out, text.as_slice()) {
+        Ok(()) => Ok(()),
+        Err(WriteFault) => Err(ExportFault::Write),
+    }
+}

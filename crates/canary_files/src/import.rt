@@ -1,0 +1,151 @@
+//! Importing measurement files.
+ghost use Rattle.std.specs.Prelude.{◌≡◌, ◌≢◌, ◌∷◌, [], List, ℕ, Ok, Err, true, false};
+ghost use Rattle.csv.specs.Records.{fields_of};
+ghost use Rattle.canary_files.specs.Writes.{Known};
+ghost use Rattle.canary_files.specs.Rows.{header};
+ghost use Rattle.canary_files.specs.RowExchanges.{point};
+ghost use Rattle.canary_files.specs.Importing.{StandsBehind, TakesNext, ImportsTo, Keeps};
+
+use crate::answer::answer_row;
+use crate::row::is_header;
+use canary_once::book::Book;
+use canary_once::clock::Clock;
+use canary_once::laws::running_on;
+use csv::{ByteRecord, ErrorKind, Reader, ReaderBuilder};
+use std::alloc::Global;
+use std::io::{Read, Write};
+use thiserror::Error;
+
+// The most rows of one file.
+const MOST_ROWS: u64 = 1_000_000;
+
+/// Why a file was not imported to its end.
+#[derive(Clone, Copy, Debug, PartialEq, Eq, Error)]
+pub enum ImportFault {
+    /// The reader failed.
+    #[error("the input could not be read")]
+    Read,
+    /// The writer failed, or took no byte.
+    #[error("the output could not be written")]
+    Write,
+    /// An allocation was refused.
+    #[error("out of memory")]
+    Memory,
+    /// The first record is not the header.
+    #[error("the first record is not the header")]
+    Header,
+    /// The file has more than 1,000,000 rows.
+    #[error("the file has too many rows")]
+    RowsSpent,
+}
+
+/// Imports a measurement file, and answers how many rows it has.
+///
+/// The file is CSV (RFC 4180) as `csv` reads it. Its first record is `caller`, `number`, `service`,
+/// `run`, `metric`, `ordinal`, `taken`, `result` and `failure`; each other one is a row: the
+/// request of this caller, under this number, to record one measurement. One of `result` and
+/// `failure` is empty. A result is a number or a list as `[1;2;3]`. Numbers are decimal, without
+/// leading zeros. Row after row is read, the clock is asked once, the register is asked where the
+/// row is such a request, and its line is written before more is looked at: the number of the row
+/// from 1 on, the status, and the body, with a space between them and LF behind. A row is refused
+/// with status 400 as `unreadable` where it has not nine fields, then as `bad-name` for its caller,
+/// as `bad-number` for its number, and as `unreadable` for anything else; where memory runs out as
+/// it is read, its status is 503. A file without any record has no rows.
+///
+/// # Errors
+/// `Header` where the first record is another: nothing was asked and written. `Read` where the
+/// reader failed, `Memory` where there was none for the next record, and `RowsSpent` where a row
+/// follows the 1,000,000th: all rows before are answered, and their lines written. `Write` where
+/// the writer failed or took no byte: what was written are the lines of the rows that were
+/// answered, up to the midst of the last one; if that row was a new request, it is settled.
+pub fn import<R: Read, W: Write, C: Clock, B: Book>(
+    alloc: Global,
+    input: &mut R,
+    output: &mut W,
+    clock: &mut C,
+    book: &mut B,
+) -> Result<u64, ImportFault>
+    ensures rows { ImportsTo (R.remaining input.old)
+        (W.contents output.old) (W.contents output.new)
+        (point (C.tells clock.old) (B.state book.old))
+        (point (C.tells clock.new) (B.state book.new)) result }
+    ensures header { result ≡ Err ImportFault.Header → (output.new ≡ output.old)
+        × (clock.new ≡ clock.old) × (book.new ≡ book.old) }
+    ensures kept { Keeps (B.state book.old) (B.state book.new) }
+{
+    running_on();
+    let mut reader = reader_of(alloc, input);
+    let mut fields = ByteRecord::new(alloc);
+    match next_record(&mut reader, &mut fields) {
+        Ok(true) => {}
+        Ok(false) => return Ok(0),
+        Err(fault) => return Err(fault),
+    }
+    if !is_header(&fields) {
+        return Err(ImportFault::Header);
+    }
+    import_rows(alloc, &mut reader, &mut fields, output, clock, book)
+}
+
+// A reader of the records of a file, at its first one.
+fn reader_of<S: Read>(alloc: Global, source: S) -> Reader<S>
+    ensures { StandsBehind S.remaining (S.remaining source) result [] }
+{
+    ReaderBuilder::new()
+        .has_headers(false)
+        .flexible(true)
+        .from_reader(alloc, source)
+}
+
+// Answers the rows of a file behind its header.
+fn import_rows<S: Read, W: Write, C: Clock, B: Book>(
+    alloc: Global,
+    reader: &mut Reader<S>,
+    fields: &mut ByteRecord,
+    output: &mut W,
+    clock: &mut C,
+    book: &mut B,
+) -> Result<u64, ImportFault>
+    ensures rows { (file : Known) → StandsBehind S.remaining file reader.old (header ∷ [])
+        → ImportsTo file (W.contents output.old) (W.contents output.new)
+        (point (C.tells clock.old) (B.state book.old))
+        (point (C.tells clock.new) (B.state book.new)) result }
+    ensures headed { result ≢ Err ImportFault.Header }
+    ensures kept { Keeps (B.state book.old) (B.state book.new) }
+{
+    running_on();
+    'rows: for done in 0..MOST_ROWS {
+        match next_record(reader, fields) {
+            Ok(true) => {}
+            Ok(false) => return Ok(done),
+            Err(fault) => return Err(fault),
+        }
+        if let Err(_) = answer_row(alloc, done + 1, fields, output, clock, book) {
+            return Err(ImportFault::Write);
+        }
+    }
+    match next_record(reader, fields) {
+        Ok(true) => Err(ImportFault::RowsSpent),
+        Ok(false) => Ok(MOST_ROWS),
+        Err(fault) => Err(fault),
+    }
+}
+
+// The next record of a file, and whether there was one.
+fn next_record<S: Read>(
+    reader: &mut Reader<S>,
+    fields: &mut ByteRecord,
+) -> Result<bool, ImportFault>
+    ensures next { (file : Known) (records : List (List (List ℕ)))
+        → StandsBehind S.remaining file reader.old records
+        → TakesNext S.remaining file reader.new records (fields_of fields.new) result }
+    ensures headed { result ≢ Err ImportFault.Header }
+{
+    match reader.read_byte_record(fields) {
+        Ok(found) => Ok(found),
+        Err(error) => match error.kind() {
+            ErrorKind::Io(_) => Err(ImportFault::Read),
+            _ => Err(ImportFault::Memory),
+        },
+    }
+}
