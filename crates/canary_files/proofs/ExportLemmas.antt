@@ -17,7 +17,8 @@ use Rattle.canary_files.specs.declared.export.ExportFault.{ExportFault}
 use Rattle.canary_files.specs.declared.export.ExportFault.TheVariants.{Memory, Storage, Write, TooMany, UnknownService}
 use Rattle.canary_files.specs.declared.export.Source.{Source}
 use Rattle.canary_files.specs.Writes.{Known}
-use Rattle.canary_files.specs.Written.{header, record_text, row_fields, rows_text}
+use Rattle.canary_files.specs.Rows.{header}
+use Rattle.canary_files.specs.Written.{record_text, row_fields, rows_text}
 use Rattle.canary_files.specs.Exporting.{Stays, Puts, IsSource, TellsPage, name_of, name_by, recorded_of, file_in, kept_strategy}
 use Rattle.canary_files.proofs.WriteLemmas.{appends_more, appends_none}
 

@@ -8,3 +8,4 @@ pub mod HistoryLemmas
 pub mod ExportLemmas
 pub mod ImportLemmas
 pub mod HeaderLemmas
+pub mod ReadBack

@@ -6,3 +6,4 @@ pub mod RowExchanges
 pub mod Importing
 pub mod Written
 pub mod Exporting
+pub mod ReadingBack

@@ -1,14 +1,11 @@
 -- Measurement files: their header, and the row of a measurement.
-use Rattle.std.specs.Prelude.{ℕ, suc, List, [], ◌∷◌, ◌++◌, codes, decimal}
+use Rattle.std.specs.Prelude.{ℕ, suc, List, [], ◌∷◌, ◌++◌, decimal}
 use Rattle.csv.specs.Writing.{default_writer, row_text}
 use Rattle.canary_condition.specs.Results.{words_of}
 use Rattle.canary_condition.specs.declared.outcome.Outcome.{Outcome}
 use Rattle.canary_condition.specs.declared.outcome.Outcome.TheVariants.{Result as Brought, Failure}
 use Rattle.canary_release.specs.declared.effect.Recorded.{Recorded}
-
--- the fields of the header
-unfoldable pub header : List (List ℕ)
-header = codes "caller" ∷ codes "number" ∷ codes "service" ∷ codes "run" ∷ codes "metric" ∷ codes "ordinal" ∷ codes "taken" ∷ codes "result" ∷ codes "failure" ∷ []
+use Rattle.canary_files.specs.Rows.{header}
 
 -- the text of a result, or no byte
 abbrev pub result_field : Outcome → List ℕ

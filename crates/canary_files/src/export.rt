@@ -3,7 +3,8 @@ ghost use Rattle.std.specs.Prelude.{◌≡◌, ◌<◌, ◌≤◌, ◌+◌, ◌+
 ghost use Rattle.std.specs.FinMap.{get};
 ghost use Rattle.canary_release.specs.Shapes.{seen};
 ghost use Rattle.canary_once.specs.Records.{past_of, measurements_of};
-ghost use Rattle.canary_files.specs.Written.{header, record_text, row_fields, rows_text};
+ghost use Rattle.canary_files.specs.Rows.{header};
+ghost use Rattle.canary_files.specs.Written.{record_text, row_fields, rows_text};
 ghost use Rattle.canary_files.specs.Exporting.{name_in, name_of, recorded_of, file_in};
 ghost use Rattle.canary_files.specs.Exporting.{Stays, Puts, Reads, IsSource, Tells, TellsPage};
 

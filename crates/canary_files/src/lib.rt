@@ -8,6 +8,7 @@ mod answer;
 pub mod export;
 pub mod history;
 pub mod import;
+pub mod laws;
 mod records;
 mod row;
 mod writing;

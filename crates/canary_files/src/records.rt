@@ -1,7 +1,8 @@
 //! The text of a measurement file.
 ghost use Rattle.std.specs.Prelude.{◌≡◌, [], ◌∷◌, ◌++◌, decimal, string_bytes, IfOk, OnOk};
 ghost use Rattle.csv.specs.Records.{fields_of, partial_of};
-ghost use Rattle.canary_files.specs.Written.{header, record_text, row_fields, result_field, failure_field};
+ghost use Rattle.canary_files.specs.Rows.{header};
+ghost use Rattle.canary_files.specs.Written.{record_text, row_fields, result_field, failure_field};
 
 use canary_base::error::Memory;
 use canary_base::lists::Listed;
@@ -89,7 +90,7 @@ impl Records {
     }
 }
 
-#[tactic(auto, unfolding(crate::specs::Written::header))]
+#[tactic(auto, unfolding(crate::specs::Rows::header))]
 fn header(alloc: Global) -> Result<ByteRecord, Memory>
     ensures fields { IfOk result (λ fields. fields_of fields ≡ header) }
 {

@@ -1,5 +1,6 @@
 use Rattle.std.specs.FinMap.{get}
-use Rattle.canary_files.specs.Written.{header, record_text, rows_text}
+use Rattle.canary_files.specs.Rows.{header}
+use Rattle.canary_files.specs.Written.{record_text, rows_text}
 use Rattle.canary_files.specs.Exporting.{name_by, recorded_of, file_in}
 use Rattle.canary_files.proofs.ExportLemmas.{puts_none, puts_front, puts_all, file_on}
 use Rattle.canary_files.proofs.export.export.Goals as goal
