@@ -1,9 +1,9 @@
 -- How a reader goes on from record to record.
-use Rattle.std.proofs.Common.{◌≡◌, ◌∙◌, ℕ, List, [], ◌∷◌, ◌++◌, Bool, true, false, inl, refl}
-use Rattle.std.specs.Prelude.{Option, Some, None, Ok}
+use Rattle.std.proofs.Common.{◌≡◌, ◌∙◌, List, Bool, true, false, inl, refl}
+use Rattle.std.specs.Prelude.{Some, None, Ok}
 use Rattle.csv.specs.declared.reader.Reader.{Reader}
 use Rattle.csv.specs.declared.parser.State.TheVariants as st
-use Rattle.csv.specs.Reading.{default_config, strip_bom, source_of, reader_state, took_first, ReadRecord}
+use Rattle.csv.specs.Reading.{default_config, strip_bom, reader_state, took_first, ReadRecord}
 use Rattle.csv.proofs.ReadFacts.{rows-more, rows-end}
 use Rattle.canary_files.specs.Writes.{Known}
 use Rattle.canary_files.specs.Importing.{Fields, BeginsWith, HasRecords, StandsBehind, TakesNext}

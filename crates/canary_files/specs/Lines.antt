@@ -1,5 +1,5 @@
 -- The line that answers a row.
-use Rattle.std.specs.Prelude.{ℕ, ◌+◌, List, [], ◌∷◌, ◌++◌, codes, decimal}
+use Rattle.std.specs.Prelude.{ℕ, List, ◌++◌, codes, decimal}
 use Rattle.canary_release.specs.Replies.{code_alone}
 use Rattle.canary_once.specs.AnswerTexts.{answer_status, answer_body}
 use Rattle.canary_files.specs.declared.row.Refusal.{Refusal}

@@ -5,7 +5,7 @@ use Rattle.std.specs.Str.{is_utf8, bytes_eq}
 use Rattle.csv.specs.Records.{field_at}
 use Rattle.canary_base.specs.Names.{is_name, is_label}
 use Rattle.canary_condition.specs.declared.outcome.Value.{Value}
-use Rattle.canary_condition.specs.declared.outcome.Value.TheVariants.{Whole, List as ListResult}
+use Rattle.canary_condition.specs.declared.outcome.Value.TheVariants.{Whole}
 use Rattle.canary_condition.specs.declared.outcome.Outcome.{Outcome}
 use Rattle.canary_condition.specs.declared.outcome.Outcome.TheVariants.{Result as Brought, Failure}
 use Rattle.canary_condition.specs.OutcomeTexts.{value_in}

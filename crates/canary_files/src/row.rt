@@ -5,9 +5,10 @@ ghost use Rattle.csv.specs.Records.{fields_of};
 ghost use Rattle.canary_canonical.specs.Reads.{IsRead};
 ghost use Rattle.canary_canonical.specs.Readings.{entry_of, report_with};
 ghost use Rattle.canary_files.specs.RowReads.{IsRowRead};
-ghost use Rattle.canary_files.specs.Rows.{is_header, says_who, says_where, says_what, is_at, field, result_in, whole_in, word_in, moment_in};
-ghost use Rattle.canary_files.specs.Rows.{number_in, failure_in, outcome_in, entry_in, entries_in, report_of};
-ghost use Rattle.canary_files.specs.Rows.{row_of};
+ghost use Rattle.canary_files.specs.Rows.{is_header, says_who, says_where, says_what, is_at};
+ghost use Rattle.canary_files.specs.Rows.{field, result_in, whole_in, word_in, moment_in};
+ghost use Rattle.canary_files.specs.Rows.{number_in, failure_in, outcome_in, entry_in};
+ghost use Rattle.canary_files.specs.Rows.{entries_in, report_of, row_of};
 
 use canary_base::lists::{Listed, Text};
 use canary_base::moments::Moment;

@@ -1,5 +1,5 @@
 use Rattle.std.proofs.Common.{◌≡◌, ℕ, ◌+◌, ◌∷◌, [], arith, subst}
-use Rattle.std.specs.Prelude.{Result, Ok, Err}
+use Rattle.std.specs.Prelude.{Result, Ok}
 use Rattle.csv.specs.Records.{fields_of}
 use Rattle.canary_files.specs.declared.writing.WriteFault.{WriteFault}
 use Rattle.canary_files.specs.Writes.{Known, Writes}
