@@ -1,6 +1,4 @@
 mod Sought
-mod Happening
-mod Committing
 mod Settling
 mod Booked
 mod Standing

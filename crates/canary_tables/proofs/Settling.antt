@@ -15,7 +15,7 @@ use Rattle.canary_stored.specs.Settling.{request_settled, IsReadableSettlement}
 use Rattle.canary_stored.specs.Laws.{RequestsFind, RequestsSettle}
 use Rattle.canary_reads.specs.Finds.{IsSame}
 use Rattle.canary_tables.specs.Desk.{contents_in, IsDesk}
-use Rattle.canary_tables.specs.Commits.{IsSaid, CommitAsks}
+use Rattle.canary_commits.specs.Commits.{IsSaid, CommitAsks}
 
 on_both : {A E P Q R : Type 0} (r : Result A E) → OnOk r P → OnOk r Q → (P → Q → R) → OnOk r R
 on_both (Ok a) p q f = f p q

@@ -4,9 +4,7 @@
 
 pub mod adopt;
 pub mod book;
-mod commit;
 pub mod create;
-mod effects;
 pub mod fault;
 mod found;
 mod found_runs;

@@ -6,9 +6,9 @@ ghost use Rattle.canary_rows.specs.Tables.{Tables};
 ghost use Rattle.canary_reads.specs.Finds.{IsSame, FindsSuch};
 ghost use Rattle.canary_schema.specs.Stores.{IsUsable};
 ghost use Rattle.canary_tables.specs.Desk.{IsDesk, contents_in};
-ghost use Rattle.canary_tables.specs.Commits.{IsSaid};
+ghost use Rattle.canary_commits.specs.Commits.{IsSaid};
 
-use crate::commit::commit;
+use canary_commits::commit::commit;
 use canary_once::book::Settlement;
 use canary_reads::services::has_service;
 use canary_release::decide::DeskChange;

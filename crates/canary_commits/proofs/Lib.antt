@@ -1,0 +1,2 @@
+mod Happening
+mod Committing
