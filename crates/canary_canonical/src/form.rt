@@ -89,14 +89,20 @@ pub fn only_member(value: &Value) -> Option<(&str, &Value)>
 pub fn name_in(value: &Value) -> Option<Name>
     ensures { result ≡ name_in (view value.now) }
 {
-    Name::read(value.as_str()?.as_bytes())
+    match value.as_str() {
+        Some(text) => Name::read(text.as_bytes()),
+        None => None,
+    }
 }
 
 /// The label that it is.
 pub fn label_in(value: &Value) -> Option<Label>
     ensures { result ≡ label_in (view value.now) }
 {
-    Label::read(value.as_str()?.as_bytes())
+    match value.as_str() {
+        Some(text) => Label::read(text.as_bytes()),
+        None => None,
+    }
 }
 
 /// The whole number that it is, up to that.

@@ -39,9 +39,16 @@ pub fn text_or_null(alloc: Global, text: &Option<Text>) -> Result<Value, AllocEr
     ensures { IfOk result (λ value. view value ≡ data_or_null string text.now) }
 {
     match text {
-        Some(text) => Value::try_from_str(alloc, text.as_str()),
+        Some(text) => text_value(alloc, text),
         None => Ok(Value::Null),
     }
+}
+
+// The text in JSON.
+fn text_value(alloc: Global, text: &Text) -> Result<Value, AllocError>
+    ensures { IfOk result (λ value. view value ≡ string text.now) }
+{
+    Value::try_from_str(alloc, text.as_str())
 }
 
 /// An object of this member alone.
@@ -57,7 +64,7 @@ pub fn texts(alloc: Global, texts: &[Text]) -> Result<Value, AllocError>
 {
     let mut values = Vec::new(alloc);
     for text in texts {
-        values.push(Value::try_from_str(alloc, text.as_str())?)?;
+        values.push(text_value(alloc, text)?)?;
     }
     Ok(Value::Array(values))
 }
@@ -69,7 +76,15 @@ pub fn names(alloc: Global, names: &[Name]) -> Result<Value, AllocError>
 {
     let mut values = Vec::new(alloc);
     for name in names {
-        values.push(Value::try_from_str(alloc, name.as_str())?)?;
+        values.push(name_value(alloc, name)?)?;
     }
     Ok(Value::Array(values))
+}
+
+// The name in JSON.
+fn name_value(alloc: Global, name: &Name) -> Result<Value, AllocError>
+    ensures value { IfOk result (λ value. view value ≡ string name.now) }
+    ensures kept { IfOk result (λ _. IsTrue (is_name name.now)) }
+{
+    Value::try_from_str(alloc, name.as_str())
 }

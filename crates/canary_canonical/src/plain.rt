@@ -197,10 +197,16 @@ fn values_in(alloc: Global, list: &Vec<Value>) -> Result<Listed<i64>, FormFault>
 {
     let mut values = Vec::new(alloc);
     for item in list {
-        let value = item.as_i64().ok_or(FormFault::Unreadable)?;
+        let value = signed_in(item)?;
         values.push(value)?;
     }
     Ok(Listed::of(values))
+}
+
+fn signed_in(value: &Value) -> Result<i64, FormFault>
+    ensures { IsRead (signed_in (view value.now)) result }
+{
+    value.as_i64().ok_or(FormFault::Unreadable)
 }
 
 fn failure_in(alloc: Global, value: &Value) -> Result<FailureText, FormFault>

@@ -96,7 +96,14 @@ fn number_values(alloc: Global, numbers: &[i64]) -> Result<Value, AllocError>
 {
     let mut values = Vec::new(alloc);
     for number in numbers {
-        values.push(Value::from(*number))?;
+        values.push(number_value(*number))?;
     }
     Ok(Value::Array(values))
+}
+
+fn number_value(number: i64) -> Value
+    ensures value { view result ≡ signed_data number }
+    ensures kept { IsTrue (is_signed_word number) }
+{
+    Value::from(number)
 }

@@ -122,8 +122,14 @@ fn names_in(alloc: Global, list: &Vec<Value>) -> Result<Listed<Name>, FormFault>
 {
     let mut names = Vec::new(alloc);
     for item in list {
-        let name = name_in(item).ok_or(FormFault::Unreadable)?;
+        let name = name_of(item)?;
         names.push(name)?;
     }
     Ok(Listed::of(names))
+}
+
+fn name_of(value: &Value) -> Result<Name, FormFault>
+    ensures { IsRead (name_in (view value.now)) result }
+{
+    name_in(value).ok_or(FormFault::Unreadable)
 }
