@@ -7,7 +7,8 @@ use Rattle.canary_once.specs.declared.record.RunRecord.{RunRecord}
 use Rattle.canary_rows.specs.declared.rows.ServiceRow.{ServiceRow}
 use Rattle.canary_rows.specs.Tables.{Tables}
 use Rattle.canary_judging.specs.Services.{open_runs_in}
-use Rattle.canary_adopting.specs.OfService.{AreRunsOf, AreMeasurementsOf, AreTallied}
+use Rattle.canary_adopting.specs.OfService.{AreRunsOf, AreMeasurementsOf}
+use Rattle.canary_recounting.specs.Recounted.{AreTallied}
 use Rattle.canary_adopting.specs.OneService.{IsPastJudged}
 use Rattle.canary_adopting.proofs.RunsSame.{same_runs}
 

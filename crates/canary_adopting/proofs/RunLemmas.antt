@@ -21,7 +21,8 @@ use Rattle.canary_stored.specs.Values.{ending_of, closing_of, closing_from}
 use Rattle.canary_stored.specs.Tables.{IsReadableClosing}
 use Rattle.canary_stored.specs.Finding.{record_closed, record_of_row}
 use Rattle.canary_judging.specs.Services.{row_of_record}
-use Rattle.canary_adopting.specs.OfService.{AreTalliesOf, HasAnalysis, IsRunOf, AreRunsOf}
+use Rattle.canary_adopting.specs.OfService.{AreTalliesOf, IsRunOf, AreRunsOf}
+use Rattle.canary_recounting.specs.Recounted.{HasAnalysis}
 use Rattle.canary_adopting.proofs.PlacedLemmas.{both, head_passes, same_tallies, some_at}
 use Rattle.canary_adopting.proofs.StateLemmas.{stay, same_then}
 

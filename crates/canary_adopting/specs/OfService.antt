@@ -1,11 +1,9 @@
 -- What is judged of one service's runs, measurements and lines.
 use Rattle.std.specs.Prelude.{◌≡◌, ◌≢◌, ℕ, suc, List, [], ◌∷◌, length, map, filter, Option, Some, None, slice_get, Result, Ok, Err}
 use Rattle.std.specs.List.{AllByRecursion}
-use Rattle.canary_metric.specs.Metrics.{MetricValue}
 use Rattle.canary_metric.specs.Counts.{Counts}
 use Rattle.canary_plan.specs.declared.line.Line.{Line}
 use Rattle.canary_plan.specs.declared.strategy.CheckedStrategy.{CheckedStrategy}
-use Rattle.canary_plan.specs.Plans.{metrics_at}
 use Rattle.canary_plan.specs.Lines.{words}
 use Rattle.canary_release.specs.declared.effect.Recorded.{Recorded}
 use Rattle.canary_once.specs.declared.record.RunRecord.{RunRecord}
@@ -18,8 +16,7 @@ use Rattle.canary_stored.specs.declared.fault.RowFault.{RowFault}
 use Rattle.canary_stored.specs.declared.fault.RowFault.TheVariants as row_fault
 use Rattle.canary_reads.specs.declared.fault.ReadFault.{ReadFault}
 use Rattle.canary_reads.specs.declared.fault.ReadFault.TheVariants.{Broken, Memory}
-use Rattle.canary_judging.specs.Counting.{none_counted, counted_all, AreCounted}
-use Rattle.canary_judging.specs.Services.{metrics_of_runs, HasVerdictBy, IsRunJudged}
+use Rattle.canary_judging.specs.Services.{IsRunJudged}
 
 -- there is such a value in the tables
 abbrev pub HasSuch : {A : Type 0} → (Tables → A → Type 0) → Tables → Type 0
@@ -54,12 +51,6 @@ pub record AreTalliesOf (name : List ℕ) (number : ℕ) (t : Tables) (tallies :
   pub each : (place : ℕ) (c : Counts) → slice_get tallies place ≡ Some c → filter (is_tally name number place) t.tallies ≡ tally_row name number place c ∷ []
   pub no_more : length (filter (is_tally_of name number) t.tallies) ≡ length tallies
 
--- the run has an analysis, and the verdict of its metrics
-pub record HasAnalysis (strategy : CheckedStrategy) (r : RunRecord) : Type 0 where
-  pub metrics : List MetricValue
-  pub analysis : metrics_at strategy r.step ≡ Some metrics
-  pub verdict : HasVerdictBy metrics r.tallies r.closed
-
 -- the run of that number
 abbrev pub IsRunOf : CheckedStrategy → List ℕ → ℕ → Tables → RunRecord → Type 0
 IsRunOf strategy name number t r = (r.number ≡ number) × IsRunJudged t strategy name r
@@ -70,11 +61,6 @@ pub record AreRunsOf (strategy : CheckedStrategy) (name : List ℕ) (count : ℕ
   pub each : (place : ℕ) (r : RunRecord) → slice_get runs place ≡ Some r → IsRunOf strategy name (suc place) t r
 
 -- Measurements and lines.
-
--- the measurements come one after another, and to the tallies of the runs
-pub record AreTallied (strategy : CheckedStrategy) (runs : List RunRecord) (measurements : List Recorded) : Type 0 where
-  pub counted : AreCounted (metrics_of_runs strategy runs) (none_counted (metrics_of_runs strategy runs)) measurements
-  pub tallied : map (λ (r : RunRecord). r.tallies) runs ≡ counted_all (none_counted (metrics_of_runs strategy runs)) measurements
 
 -- each row of its measurements is read
 abbrev pub AreMeasurementsOf : List ℕ → Tables → List Recorded → Type 0

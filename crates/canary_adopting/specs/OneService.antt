@@ -18,7 +18,8 @@ use Rattle.canary_reads.specs.declared.fault.ReadFault.{ReadFault}
 use Rattle.canary_reads.specs.declared.fault.ReadFault.TheVariants.{Broken}
 use Rattle.canary_adopting.specs.declared.totals.Totals.{Totals}
 use Rattle.canary_adopting.specs.Alone.{IsNamed}
-use Rattle.canary_adopting.specs.OfService.{AreRunsOf, AreMeasurementsOf, AreTallied, IsHistoryOf}
+use Rattle.canary_adopting.specs.OfService.{AreRunsOf, AreMeasurementsOf, IsHistoryOf}
+use Rattle.canary_recounting.specs.Recounted.{AreTallied}
 
 -- Where templates are judged.
 

@@ -3,7 +3,6 @@
 
 mod alone;
 mod callers;
-mod counting;
 mod counts;
 mod fault;
 mod histories;

@@ -1,28 +1,24 @@
 //! The runs of a service, judged with their tallies.
 ghost use Rattle.std.specs.Prelude.{◌≡◌, ◌≢◌, ◌∷◌, ◌↔◌, [], false, IsTrue, IfOk, IfSome, None};
-ghost use Rattle.std.specs.Prelude.{Some, length, map};
+ghost use Rattle.std.specs.Prelude.{length, map};
 ghost use Rattle.sqlite.specs.Held.{state};
 ghost use Rattle.canary_rows.specs.declared.rows.TallyRow.{TallyRow};
 ghost use Rattle.canary_stored.specs.Finding.{record_of_row};
 ghost use Rattle.canary_reads.specs.Finds.{IsSame, FindsSuch};
-ghost use Rattle.canary_judging.specs.Services.{HasVerdictBy};
 ghost use Rattle.canary_adopting.specs.Judges.{RefusesUnless};
 ghost use Rattle.canary_adopting.specs.OfService.{HasSuch, IsTold, ArePlaced, AreTalliesOf};
-ghost use Rattle.canary_adopting.specs.OfService.{HasAnalysis, IsRunOf, AreRunsOf};
+ghost use Rattle.canary_adopting.specs.OfService.{IsRunOf, AreRunsOf};
 
 use crate::fault::read_fault;
 use canary_base::error::Memory;
 use canary_base::lists::Listed;
 use canary_base::names::Name;
-use canary_condition::outcome::Phase;
-use canary_metric::metric::Metric;
 use canary_metric::tally::Tally;
-use canary_metric::verdict::{is_completed, verdict};
 use canary_once::record::RunRecord;
 use canary_plan::strategy::Strategy;
 use canary_reads::fault::ReadFault;
 use canary_reads::runs;
-use canary_release::effect::Closing;
+use canary_recounting::verdicts::has_analysis;
 use canary_rows::rows::{RunRow, TallyRow};
 use canary_stored::reading;
 use sqlite::{Alter, Connection};
@@ -154,27 +150,5 @@ fn record_of(row: &RunRow, tallies: Listed<Tally>) -> Result<RunRecord, ReadFaul
             tallies,
         }),
         Err(fault) => Err(read_fault(fault)),
-    }
-}
-
-fn has_analysis(strategy: &Strategy, run: &RunRecord) -> bool
-    ensures { IsTrue result ↔ HasAnalysis strategy.now run.now }
-{
-    match strategy.metrics(run.step) {
-        Some(metrics) => has_verdict(metrics, run.tallies.as_slice(), run.closed),
-        None => false,
-    }
-}
-
-// Whether a run with these metrics and tallies is closed, or open, as their verdict tells.
-fn has_verdict(metrics: &[Metric], tallies: &[Tally], closed: Option<Closing>) -> bool
-    ensures { IsTrue result ↔ HasVerdictBy metrics.now tallies.now closed }
-{
-    match closed {
-        None => verdict(metrics, tallies, false) == Phase::Running,
-        Some(closing) => {
-            is_completed(closing.verdict)
-                && closing.verdict == verdict(metrics, tallies, closing.outside)
-        }
     }
 }

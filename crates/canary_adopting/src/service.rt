@@ -16,7 +16,7 @@ ghost use Rattle.canary_adopting.specs.OneService.{totals_of, IsServiceUnder, Is
 
 use crate::fault::read_fault;
 use crate::totals::Totals;
-use crate::{alone, counting, counts, histories, runs, strategies};
+use crate::{alone, counts, histories, runs, strategies};
 use canary_base::error::Memory;
 use canary_base::lists::Listed;
 use canary_base::names::Name;
@@ -133,7 +133,7 @@ fn judge_past<S: Alter>(
     let count = row.standing.runs;
     let runs = runs::runs(conn, alloc, &row.name, &stand.strategy, count)?;
     let measurements = histories::measurements(conn, alloc, &row.name)?;
-    counting::counted(
+    counts::counted(
         alloc,
         &stand.strategy,
         runs.as_slice(),

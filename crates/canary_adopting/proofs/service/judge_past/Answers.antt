@@ -4,7 +4,7 @@ use Rattle.canary_release.specs.Parts.{is_broken}
 use Rattle.canary_once.specs.declared.record.RunRecord.{RunRecord}
 use Rattle.canary_judging.specs.Services.{open_runs_in}
 use Rattle.canary_reads.specs.declared.fault.ReadFault.TheVariants.{Broken}
-use Rattle.canary_adopting.specs.OfService.{AreTallied}
+use Rattle.canary_recounting.specs.Recounted.{AreTallied}
 use Rattle.canary_adopting.proofs.JudgedPasts.{tallied_there, parts_there}
 use Rattle.canary_adopting.proofs.JudgedServices.{past_totals}
 use Rattle.canary_adopting.proofs.Standing.{stores_then, same_then}

@@ -2,10 +2,10 @@ use Rattle.std.proofs.Common.{ℕ, ◌<◌, length, arith, refl, sym, ap, ◌∙
 use Rattle.std.specs.Prelude.{slice_set}
 use Rattle.canary_release.specs.Pasts.{change_at}
 use Rattle.canary_release.specs.Watching.{counted}
-use Rattle.canary_adopting.specs.contracts.counts.RunCounts.{the_view}
-use Rattle.canary_adopting.proofs.CountLemmas.{set_here, change_past_end}
-use Rattle.canary_adopting.proofs.counts.RunCounts.count.Goals.{in-Some, in_default}
-use Rattle.canary_adopting.proofs.counts.RunCounts.count.Goals as goal
+use Rattle.canary_recounting.specs.contracts.counts.RunCounts.{the_view}
+use Rattle.canary_recounting.proofs.CountLemmas.{set_here, change_past_end}
+use Rattle.canary_recounting.proofs.counts.RunCounts.count.Goals.{in-Some, in_default}
+use Rattle.canary_recounting.proofs.counts.RunCounts.count.Goals as goal
 
 pub returns : goal.returns
 returns c =

@@ -1,5 +1,5 @@
 use Rattle.std.proofs.Common.{◌≡◌, ◌↔◌, length}
-use Rattle.canary_adopting.proofs.counts.are_same.Given as goal
+use Rattle.canary_recounting.proofs.counts.are_same.Given as goal
 
 -- what is left says what the whole says
 abbrev pub invariant-loop-ours : goal.invariant-loop-ours

@@ -1,7 +1,7 @@
 use Rattle.std.proofs.Common.{◌≡◌, take}
 use Rattle.canary_judging.specs.Counting.{none_counted}
 use Rattle.canary_judging.specs.Services.{metrics_of_runs}
-use Rattle.canary_adopting.proofs.counting.none_counted.Given as goal
+use Rattle.canary_recounting.proofs.counting.none_counted.Given as goal
 
 -- those of the runs so far
 abbrev pub invariant-loop-run : goal.invariant-loop-run

@@ -1,6 +1,6 @@
 use Rattle.std.proofs.Common.{◌≡◌, ◌↔◌, length, map}
 use Rattle.canary_once.specs.declared.record.RunRecord.{RunRecord}
-use Rattle.canary_adopting.proofs.counts.are_of.Given as goal
+use Rattle.canary_recounting.proofs.counts.are_of.Given as goal
 
 -- what is left says what the whole says
 abbrev pub invariant-loop-counts : goal.invariant-loop-counts

@@ -1,13 +1,12 @@
 //! Measurements, counted one after another.
-ghost use Rattle.std.specs.Prelude.{◌≡◌, ◌↔◌, ◌+◌, ◌≤◌, IsTrue, IfOk, OnOk, Err, length, slice_get};
+ghost use Rattle.std.specs.Prelude.{◌≡◌, ◌↔◌, ◌+◌, ◌≤◌, IsTrue, IfOk, length, slice_get};
 ghost use Rattle.std.specs.Option.{option_copied};
 ghost use Rattle.canary_metric.specs.Counts.{size};
 ghost use Rattle.canary_release.specs.Courses.{run_metrics};
 ghost use Rattle.canary_release.specs.Sound.{IsJudgedBy};
-ghost use Rattle.canary_reads.specs.declared.fault.ReadFault.TheVariants as fault;
 ghost use Rattle.canary_judging.specs.Counting.{at_run, of_metric, none_counted, IsNext};
 ghost use Rattle.canary_judging.specs.Services.{metrics_of_runs};
-ghost use Rattle.canary_adopting.specs.OfService.{AreTallied};
+ghost use Rattle.canary_recounting.specs.Recounted.{AreTallied};
 
 use crate::counts::{Counts, RunCounts};
 use canary_base::error::Memory;
@@ -16,39 +15,33 @@ use canary_metric::metric::Metric;
 use canary_metric::tally::Tally;
 use canary_once::record::RunRecord;
 use canary_plan::strategy::Strategy;
-use canary_reads::fault::ReadFault;
 use canary_release::effect::Recorded;
 use canary_release::runs::new_tallies;
 use std::alloc::Global;
 
-/// That these measurements come one after another, each the next of a metric of its run and of the
-/// phase that the metric's conditions give its outcome, and that the tallies of the runs are their
+/// Whether these measurements come one after another, each the next of a metric of its run and of
+/// the phase that the metric's conditions give its outcome, and the tallies of the runs are their
 /// counts. The runs are numbered from 1 on, and of a service with that strategy.
 ///
 /// # Errors
-/// `Broken` where it is not so; `Memory`.
-pub(crate) fn counted(
+/// `Memory` where an allocation was refused.
+pub fn are_counted(
     alloc: Global,
     strategy: &Strategy,
     runs: &[RunRecord],
     measurements: &[Recorded],
-) -> Result<(), ReadFault>
-    ensures found { OnOk result (AreTallied strategy.now runs.now measurements.now) }
-    ensures broken { result ≡ Err fault.Broken
-        → ¬ AreTallied strategy.now runs.now measurements.now }
+) -> Result<bool, Memory>
+    ensures { IfOk result (λ are. IsTrue are
+        ↔ AreTallied strategy.now runs.now measurements.now) }
 {
     let mut counts = none_counted(alloc, strategy, runs)?;
     for measurement in measurements {
         if !is_next(strategy, runs, &counts, measurement) {
-            return Err(ReadFault::Broken);
+            return Ok(false);
         }
         counts.count(measurement);
     }
-    if counts.are_of(runs) {
-        Ok(())
-    } else {
-        Err(ReadFault::Broken)
-    }
+    Ok(counts.are_of(runs))
 }
 
 // No measurements of any metric of the runs.

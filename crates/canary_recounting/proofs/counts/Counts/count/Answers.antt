@@ -2,10 +2,10 @@ use Rattle.std.proofs.Common.{◌≡◌, ℕ, suc, ◌-◌, ◌<◌, length, ari
 use Rattle.std.specs.Prelude.{slice_set}
 use Rattle.canary_release.specs.Pasts.{change_at}
 use Rattle.canary_release.specs.Watching.{counted}
-use Rattle.canary_adopting.specs.contracts.counts.Counts.{the_view}
-use Rattle.canary_adopting.proofs.CountLemmas.{set_here, change_past_end, run_changed}
-use Rattle.canary_adopting.proofs.counts.Counts.count.Goals.{in-Some, in_default}
-use Rattle.canary_adopting.proofs.counts.Counts.count.Goals as goal
+use Rattle.canary_recounting.specs.contracts.counts.Counts.{the_view}
+use Rattle.canary_recounting.proofs.CountLemmas.{set_here, change_past_end, run_changed}
+use Rattle.canary_recounting.proofs.counts.Counts.count.Goals.{in-Some, in_default}
+use Rattle.canary_recounting.proofs.counts.Counts.count.Goals as goal
 
 pub returns : goal.returns
 returns c =
