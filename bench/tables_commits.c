@@ -1,12 +1,15 @@
 /* The statements that settle a request of the stream `one`, by libsqlite3: prepared once, one
- * transaction a request, WAL, synchronous FULL. Prints microseconds a commit at 1,000, 10,000 and so
- * on settled requests, up to MOST: tables_commits MOST PATH */
+ * transaction a request, WAL, synchronous FULL. Prints microseconds a request at 1,000, 10,000 and so
+ * on settled requests, up to MOST, with the queries that come before the transaction (`all`), or
+ * without them (`commit`): tables_commits MOST PATH all|commit */
 #include <sqlite3.h>
 #include <stdio.h>
 #include <stdlib.h>
+#include <string.h>
 #include <time.h>
 
 enum { CALLER, KEPT, SERVICE, LINE, STATEMENTS };
+enum { SETTLED, STANDING, OPEN_RUNS, IS_THERE, QUERIES };
 
 static const char *SCHEMA =
     "CREATE TABLE caller (name TEXT NOT NULL PRIMARY KEY, settled INTEGER NOT NULL) STRICT;"
@@ -20,6 +23,10 @@ static const char *SCHEMA =
     "CREATE TABLE history (place INTEGER PRIMARY KEY AUTOINCREMENT, service TEXT NOT NULL,"
     " moment INTEGER NOT NULL, line TEXT NOT NULL) STRICT;"
     "CREATE INDEX history_service ON history (service);"
+    "CREATE TABLE run (service TEXT NOT NULL REFERENCES service (name), number INTEGER NOT NULL,"
+    " step INTEGER, started INTEGER NOT NULL, closed INTEGER, outside INTEGER NOT NULL,"
+    " verdict INTEGER NOT NULL, PRIMARY KEY (service, number)) STRICT;"
+    "CREATE INDEX run_open ON run (service, closed);"
     "INSERT INTO caller (name, settled) VALUES ('ops', 0);"
     "INSERT INTO service (name, spec, stable, version, state, step, entered, hold, background, runs,"
     " last) VALUES ('checkout', '{}', 'v1', 'v1', 2, 0, 1, 0, 0, 0, 1);";
@@ -33,6 +40,16 @@ static const char *TEXTS[STATEMENTS] = {
     " hold = 0, background = 0, runs = 0, last = ?1 WHERE name = 'checkout'",
     "INSERT INTO history (service, moment, line) VALUES ('checkout', ?1, 'step 1 setWeight 20')",
 };
+
+static const char *QUERY_TEXTS[QUERIES] = {
+    "SELECT settled FROM caller WHERE name = ?1 ORDER BY rowid",
+    "SELECT spec, stable, version, state, step, entered, hold, background, runs, last"
+    " FROM service WHERE name = ?1 ORDER BY rowid",
+    "SELECT number, step, started, closed, outside, verdict FROM run"
+    " WHERE service = ?1 ORDER BY closed LIMIT 3",
+    "SELECT name FROM service WHERE name = ?1 ORDER BY rowid",
+};
+static const char *ASKED[QUERIES] = {"ops", "checkout", "checkout", "checkout"};
 
 static sqlite3 *db;
 
@@ -49,6 +66,20 @@ static void step(sqlite3_stmt *statement, int number) {
     check(sqlite3_reset(statement));
 }
 
+/* Each column of each row is looked at, as a program has to. */
+static void ask(sqlite3_stmt *query, const char *name) {
+    check(sqlite3_bind_text(query, 1, name, -1, SQLITE_STATIC));
+    while (sqlite3_step(query) == SQLITE_ROW) {
+        for (int i = 0; i < sqlite3_column_count(query); i++) {
+            if (!sqlite3_column_text(query, i)) {
+                fprintf(stderr, "tables_commits: out of memory\n");
+                exit(1);
+            }
+        }
+    }
+    check(sqlite3_reset(query));
+}
+
 static double micros(void) {
     struct timespec now;
     clock_gettime(CLOCK_MONOTONIC, &now);
@@ -56,23 +87,30 @@ static double micros(void) {
 }
 
 int main(int count, char **words) {
-    if (count != 3) {
-        fprintf(stderr, "tables_commits: MOST and PATH are missing\n");
+    if (count != 4) {
+        fprintf(stderr, "tables_commits: MOST, PATH, and all or commit are missing\n");
         return 2;
     }
+    int with_queries = !strcmp(words[3], "all");
     int most = atoi(words[1]);
     check(sqlite3_open(words[2], &db));
     check(sqlite3_exec(db, "PRAGMA journal_mode = WAL; PRAGMA synchronous = FULL;"
                            "PRAGMA foreign_keys = ON", 0, 0, 0));
     check(sqlite3_exec(db, SCHEMA, 0, 0, 0));
-    sqlite3_stmt *begin, *commit, *statements[STATEMENTS];
+    sqlite3_stmt *begin, *commit, *statements[STATEMENTS], *queries[QUERIES];
     check(sqlite3_prepare_v2(db, "BEGIN", -1, &begin, 0));
     check(sqlite3_prepare_v2(db, "COMMIT", -1, &commit, 0));
     for (int i = 0; i < STATEMENTS; i++) {
         check(sqlite3_prepare_v2(db, TEXTS[i], -1, &statements[i], 0));
     }
+    for (int i = 0; i < QUERIES; i++) {
+        check(sqlite3_prepare_v2(db, QUERY_TEXTS[i], -1, &queries[i], 0));
+    }
     double start = micros();
     for (int number = 1, from = 0, size = 1000; number <= most; number++) {
+        for (int i = 0; with_queries && i < QUERIES; i++) {
+            ask(queries[i], ASKED[i]);
+        }
         check(sqlite3_step(begin));
         check(sqlite3_reset(begin));
         for (int i = 0; i < STATEMENTS; i++) {
@@ -81,7 +119,7 @@ int main(int count, char **words) {
         check(sqlite3_step(commit));
         check(sqlite3_reset(commit));
         if (number == size || number == most) {
-            printf("%8d %9.2f us a commit\n", number, (micros() - start) / (number - from));
+            printf("%8d %9.2f us a request\n", number, (micros() - start) / (number - from));
             start = micros();
             from = number;
             size *= 10;
