@@ -15,6 +15,7 @@ use Rattle.csv.specs.Machine.{Read, next_record}
 use Rattle.csv.specs.declared.parser.Config.{Config}
 use Rattle.csv.specs.declared.parser.State.{State}
 use Rattle.csv.specs.Reading.{Reached, AreRecords}
+use Rattle.canary_base.specs.Names.{is_name}
 use Rattle.canary_plan.specs.Commands.{same_command, SameWhereEqual}
 use Rattle.canary_plan.specs.declared.command.Command.TheVariants.{Report}
 use Rattle.canary_plan.specs.declared.report.Report.{Report as ReportRecord}
@@ -53,15 +54,15 @@ there (x ∷ xs) zero h = (x, refl)
 there (x ∷ xs) (suc i) h = there xs i (omega arith)
 
 before : {X : Type 0} (xs : List X) (x y : X) (i : ℕ) → slice_get xs i ≡ Some y → slice_get (xs ++ x ∷ []) i ≡ Some y
-before [] x y i e = absurd (none-some e)
+before [] x y i e = absurd (none-some _ e)
 before (z ∷ xs) x y zero e = e
 before (z ∷ xs) x y (suc i) e = before xs x y i e
 
-head_or : {X : Type 0} → X → List X → X
+abbrev head_or : {X : Type 0} → X → List X → X
 head_or x [] = x
 head_or x (y ∷ ys) = y
 
-tail_of : {X : Type 0} → List X → List X
+abbrev tail_of : {X : Type 0} → List X → List X
 tail_of [] = []
 tail_of (y ∷ ys) = ys
 
@@ -139,11 +140,11 @@ is_repeat c r le =
 -- ---- rows that read
 
 numbered_if : (k n : ℕ) (b : Bool) → (nat_le 1 k && nat_le k 1000000000) ≡ b → (if b then Some k else None) ≡ Some n → 1 ≤ n
-numbered_if k n true e f = let same : k ≡ n = same_Some f in grind (arith, nat_tests, e, same)
-numbered_if k n false e f = absurd (none-some f)
+numbered_if k n true e f = let same : k ≡ n = same_Some _ _ f in grind (arith, nat_tests, e, same)
+numbered_if k n false e f = absurd (none-some _ f)
 
 numbered_by : (o : Option ℕ) (n : ℕ) → option_and_then if_number o ≡ Some n → 1 ≤ n
-numbered_by None n e = absurd (none-some e)
+numbered_by None n e = absurd (none-some _ e)
 numbered_by (Some k) n e = numbered_if k n (nat_le 1 k && nat_le k 1000000000) refl e
 
 abbrev number_at : Result Row Refusal → ℕ
@@ -162,7 +163,7 @@ numbered_where true true o h = h
 
 -- the number of a row is at least 1
 numbered : (fields : Fields) → 1 ≤ number_at (row_of fields)
-numbered fields = numbered_where _ _ _ (numbered_with (field fields 0) (number_in (field fields 1)) (report_of fields) (numbered_by (word_in (field fields 1))))
+numbered fields = numbered_where (length fields == 9) (is_name (field fields 0)) (row_with (field fields 0) (number_in (field fields 1)) (report_of fields)) (numbered_with (field fields 0) (number_in (field fields 1)) (report_of fields) (numbered_by (word_in (field fields 1))))
 
 -- ---- what the register tells of a row, in contents that keep receipts
 
@@ -300,10 +301,10 @@ one_reach : (cfg : Config) (s : State) (xs : List ℕ) (ps qs : List Fields) (s1
     → Reached cfg s xs ps s1 ys → next_record cfg s1 [] [] ys ≡ None → Reached cfg s xs qs s2 zs → next_record cfg s2 [] [] zs ≡ None → ps ≡ qs
 unfolding Reached
 one_reach cfg s xs [] [] s1 s2 ys zs a ends b stops = refl
-one_reach cfg s xs [] (q ∷ qs) s1 s2 ys zs a ends b stops = absurd (none-some (sym ends ∙ sym (λ i. next_record cfg (a.0 i) [] [] (a.1 i)) ∙ b.1))
-one_reach cfg s xs (p ∷ ps) [] s1 s2 ys zs a ends b stops = absurd (none-some (sym stops ∙ sym (λ i. next_record cfg (b.0 i) [] [] (b.1 i)) ∙ a.1))
+one_reach cfg s xs [] (q ∷ qs) s1 s2 ys zs a ends b stops = absurd (none-some _ (sym ends ∙ sym (λ i. next_record cfg (a.0 i) [] [] (a.1 i)) ∙ b.1))
+one_reach cfg s xs (p ∷ ps) [] s1 s2 ys zs a ends b stops = absurd (none-some _ (sym stops ∙ sym (λ i. next_record cfg (b.0 i) [] [] (b.1 i)) ∙ a.1))
 one_reach cfg s xs (p ∷ ps) (q ∷ qs) s1 s2 ys zs a ends b stops =
-    let same : b.0 ≡ a.0 = same_Some (sym b.1 ∙ a.1) in
+    let same : b.0 ≡ a.0 = same_Some _ _ (sym b.1 ∙ a.1) in
     let rest = one_reach cfg a.0.1 a.0.2 ps qs s1 s2 ys zs a.3 ends (subst (λ (t : Read). Reached cfg t.1 t.2 qs s2 zs) same b.3) stops in
     let first : p ≡ q = a.2 ∙ ap (λ (t : Read). t.0) (sym same) ∙ sym b.2 in
     λ i. first i ∷ rest i

@@ -86,13 +86,9 @@ pub record IsAgain (c new : Contents) (first second : List Exchange) : Type 0 wh
   pub unchanged : AllLasting first → new ≡ c
   pub lines : AllLasting first → AllHeard second → lines second ≡ lines first
 
--- the rows of an import with what came of them
-abbrev pub exchanges_of : {file w new_w : Known} {old new : Point} {count : ℕ} → ImportsAll file w new_w old new count → List Exchange
-exchanges_of i = i.5.exchanges
-
--- a file that was imported to its end from p to q is imported to its end again, from r to s, the receipts of q being kept in r
+-- a file that was imported to its end from p to q is imported to its end again, from r to s, the receipts of q being kept in r (part 5 of an import is what came of its rows)
 abbrev pub ImportsAgain : Point → Point → Point → Point → Type 0
 ImportsAgain p q r s =
     (bytes : List ℕ) (u v w x : Known) (m n : ℕ) (first : ImportsAll (Some bytes) u v p q m) (second : ImportsAll (Some bytes) w x r s n)
     → q.book.is_intact → s.book.is_intact → KeepsReceipts q.book.contents r.book.contents
-    → IsAgain r.book.contents s.book.contents (exchanges_of first) (exchanges_of second)
+    → IsAgain r.book.contents s.book.contents first.5.exchanges second.5.exchanges
