@@ -1,12 +1,11 @@
 -- Rows that have their lines for good, and rows that are answered once more.
-use Rattle.std.proofs.Common.{◌≡◌, ◌∙◌, ℕ, zero, suc, ◌+◌, ◌-◌, ◌<◌, ◌≤◌, Bool, true, false, cond, List, [], ◌∷◌, ◌++◌, length, Some, None, refl, sym, ap, subst, arith, length-append}
+use Rattle.std.proofs.Common.{◌≡◌, ◌∙◌, ℕ, zero, suc, ◌+◌, ◌-◌, ◌<◌, ◌≤◌, Bool, true, false, cond, List, [], ◌∷◌, ◌++◌, length, Some, None, refl, sym, ap, subst, arith}
 use Rattle.std.specs.Prelude.{◌==◌, ◌&&◌, nat_le, nat_lt, not, if◌then◌else◌, Option, unwrap_or, option_and_then, slice_get, Result, Ok, Err}
 use Rattle.std.specs.List.{AllByRecursion}
 use Rattle.std.specs.Ordering.{nat_cmp}
 use Rattle.std.specs.Cmp.Lexicographic.{slice_cmp, nat_list_cmp_total}
 use Rattle.std.specs.FinMap.{FinMap, get, get-insert}
 use Rattle.std.specs.Str.{bytes_eq}
-use Rattle.std.proofs.lemmas.Bool.{false≢true}
 use Rattle.std.proofs.lemmas.Bool.Decides.{nat_tests}
 use Rattle.std.proofs.lemmas.Map.Text.{is_eq-slice_cmp}
 use Rattle.std.proofs.lemmas.Option.{none-some, same_Some, slice_get_within}
@@ -16,11 +15,10 @@ use Rattle.csv.specs.declared.parser.Config.{Config}
 use Rattle.csv.specs.declared.parser.State.{State}
 use Rattle.csv.specs.Reading.{Reached, AreRecords}
 use Rattle.canary_base.specs.Names.{is_name}
-use Rattle.canary_plan.specs.Commands.{same_command, SameWhereEqual}
+use Rattle.canary_plan.specs.Commands.{SameWhereEqual}
 use Rattle.canary_plan.specs.declared.command.Command.TheVariants.{Report}
 use Rattle.canary_plan.specs.declared.report.Report.{Report as ReportRecord}
 use Rattle.canary_release.specs.declared.reply.Reply.{Reply}
-use Rattle.canary_release.specs.Desks.{apply}
 use Rattle.canary_once.specs.declared.book.Receipt.{Receipt}
 use Rattle.canary_once.specs.declared.event.Request.{Request}
 use Rattle.canary_once.specs.declared.event.Event.{Event}
@@ -37,7 +35,7 @@ use Rattle.canary_files.specs.declared.row.Row.{Row}
 use Rattle.canary_files.specs.declared.answer.Told.{Told}
 use Rattle.canary_files.specs.declared.answer.Told.TheVariants.{Answered}
 use Rattle.canary_files.specs.Lines.{line_of, told_status, told_body}
-use Rattle.canary_files.specs.Rows.{if_number, number_in, word_in, row_with, row_of, report_of, field, header}
+use Rattle.canary_files.specs.Rows.{if_number, number_in, word_in, row_with, row_of, report_of, field}
 use Rattle.canary_files.specs.RowExchanges.{Handling, refused, no_memory, posted, told_of, IsHandling, Exchange, IsExchange, rows_of, lines_from, event_in, answer_in, events_of, answers_in, Point, Holds, IsHandled, AreHandled}
 use Rattle.canary_files.specs.Importing.{Fields, AreRows}
 use Rattle.canary_files.specs.Again.{IsAhead, IsLasting, IsHeard, AllLasting, AllHeard, told_by, told_in, IsSettledBy, IsSettledRow, AreTold, TellsAfterwards, TellsSettled, SameLines, ImportsAgain}

@@ -97,12 +97,12 @@ pub(crate) fn imported<R: Read>(
     Ok((output, ended))
 }
 
-/// The lines for what they are to tell, with `|` between two: of each its status and what its body
+/// The lines for what they are to tell, with `;` between two: of each its status and what its body
 /// stands for.
 pub(crate) fn lines(alloc: Global, told: &str) -> Option<String> {
     let mut lines = String::new(alloc);
     let mut number = 0u32;
-    for line in told.split('|') {
+    for line in told.split(';') {
         number = number.saturating_add(1);
         let (status, told) = line.split_once(' ')?;
         let body = body(alloc, told)?;

@@ -76,7 +76,9 @@ agent,2,web,1,m,2,1767225660,6,
 agent,3,web,1,m,3,1767225720,,timeout
 ";
 
-const ANSWERS: &str = "200 [web Paused 1 20 / 1 Successful / Running]";
+const ANSWERS: &str = "200 [web Paused 1 20 | 1 Successful | Running];\
+    200 [web Paused 1 20 | 1 Successful | Running];\
+    200 [web Paused 1 20 | 1 Error | Running]";
 
 /// Whether the rows of a file are answered so, where lines end so.
 fn is_answered(alloc: Global, row: &str, end: &str) -> Result<bool, Fail> {
@@ -96,5 +98,57 @@ fn answers_rows(rt: HostRuntime) -> Result<(), Fail> {
         assert!(rt; is_answered(rt.alloc(), row, "\n")?, "{row}");
         assert!(rt; is_answered(rt.alloc(), row, "\r\n")?, "{row}");
     }
+    Ok(())
+}
+
+/// Whether a file has no rows, where lines end so.
+fn is_empty(alloc: Global, file: &str, end: &str) -> Result<bool, Fail> {
+    let file = lined(alloc, file, end)?;
+    let mut book = released(alloc)?;
+    let (output, ended) = imported(alloc, &mut file.as_bytes(), 200, &mut book)?;
+    Ok(ended == Ok(0) && output.is_empty())
+}
+
+#[test]
+fn takes_a_file_without_rows(rt: HostRuntime) -> Result<(), Fail> {
+    for file in NO_ROWS.lines() {
+        assert!(rt; is_empty(rt.alloc(), file, "\n")?, "{file}");
+        assert!(rt; is_empty(rt.alloc(), file, "\r\n")?, "{file}");
+    }
+    Ok(())
+}
+
+/// Whether a file is refused for its header.
+fn is_headless(alloc: Global, file: &str) -> Result<bool, Fail> {
+    let file = lined(alloc, file, "\n")?;
+    let mut book = released(alloc)?;
+    let (output, ended) = imported(alloc, &mut file.as_bytes(), 200, &mut book)?;
+    Ok(ended == Err(ImportFault::Header) && output.is_empty())
+}
+
+#[test]
+fn refuses_another_header(rt: HostRuntime) -> Result<(), Fail> {
+    for file in OTHER_HEADERS.lines() {
+        assert!(rt; is_headless(rt.alloc(), file)?, "{file}");
+    }
+    Ok(())
+}
+
+/// Whether the three rows are answered as they are to be, each time that they are imported.
+fn is_answered_again(alloc: Global) -> Result<bool, Fail> {
+    let mut book = released(alloc)?;
+    settle(alloc, &mut book, "agent", 1, "report 1 m:1:0:5").ok_or(Memory)?;
+    let told = lines(alloc, ANSWERS).ok_or(Memory)?;
+    let mut is_so = true;
+    for after in [200, 200, 100_000] {
+        let (output, ended) = imported(alloc, &mut THREE.as_bytes(), after, &mut book)?;
+        is_so = is_so && ended == Ok(3) && output.as_slice() == told.as_bytes();
+    }
+    Ok(is_so)
+}
+
+#[test]
+fn answers_a_file_again(rt: HostRuntime) -> Result<(), Fail> {
+    assert!(rt; is_answered_again(rt.alloc())?);
     Ok(())
 }
