@@ -49,22 +49,80 @@ fn exports_are_read_again(rt: HostRuntime) -> Result<(), Fail> {
     Ok(())
 }
 
-/// A service with two runs at a time and one more after an abort, each with metrics of its own.
-const RUNS: &str = "template errs m,interval=60
-template t a b
-service v1 analysis:t background:errs
-start v2";
+/// A service with two runs at a time, and two more behind an abort, each with metrics of its own.
+const RUNS: &str = "ops 1 0 template errs m,interval=60
+ops 2 0 template t a,interval=60,count=9 b
+ops 3 0 service v1 analysis:t background:errs
+ops 4 0 start v2
+agent 1 0 report 1 m:1:0:5
+agent 2 0 report 2 b:1:0:[1;-2]
+agent 3 60 report 1 m:2:60:!timed out, \"down\"
+ops 5 60 abort
+ops 6 60 retry
+agent 4 120 report 4 a:1:120:-7";
 
-/// Its measurements, in order.
-const MEASURED: &str = "report 1 m:1:0:5
-report 2 b:1:0:[1;-2]
-report 1 m:2:60:!timed, \"out\"
-abort
-retry
-report 4 a:1:120:-7";
-
-const EXPORTED: &str = "copy,1,web,1,m,1,1767225600,5,
+/// Its measurements.
+const MEASURED: &str = "copy,1,web,1,m,1,1767225600,5,
 copy,2,web,2,b,1,1767225600,[1;-2],
-copy,3,web,1,m,2,1767225660,,\"timed, \"\"out\"\"\"
+copy,3,web,1,m,2,1767225660,,\"timed out, \"\"down\"\"\"
 copy,4,web,4,a,1,1767225720,-7,
 ";
+
+/// Whether these are exported.
+fn is_exported(alloc: Global) -> Result<bool, Fail> {
+    let mut book = book_of(alloc, RUNS)?;
+    let mut export = Vec::new(alloc);
+    let written = exported(alloc, &mut book, "web", &mut export)?;
+    let file = format!(in alloc; "{HEADER}\n{MEASURED}")?;
+    Ok(written == Ok(4) && export.as_slice() == file.as_bytes())
+}
+
+#[test]
+fn exports_runs(rt: HostRuntime) -> Result<(), Fail> {
+    assert!(rt; is_exported(rt.alloc())?);
+    Ok(())
+}
+
+/// Whether nothing is exported of a service that is not there.
+fn is_unknown(alloc: Global) -> Result<bool, Fail> {
+    let mut book = released(alloc)?;
+    let mut export = Vec::new(alloc);
+    let written = exported(alloc, &mut book, "api", &mut export)?;
+    Ok(written == Err(ExportFault::UnknownService) && export.is_empty())
+}
+
+#[test]
+fn exports_no_service(rt: HostRuntime) -> Result<(), Fail> {
+    assert!(rt; is_unknown(rt.alloc())?);
+    Ok(())
+}
+
+/// A release that is promoted once, and its history.
+const PROMOTED: &str = "ops 1 0 service v1 setWeight:20 pause setWeight:50 pause
+ops 2 1 start v2
+ops 3 2 promote";
+
+const HISTORY: &str = "2026-01-01T00:00:00Z created v1
+2026-01-01T00:00:01Z start v2
+2026-01-01T00:00:01Z step 0 setWeight 20
+2026-01-01T00:00:01Z step 1 pause
+2026-01-01T00:00:02Z promote
+2026-01-01T00:00:02Z step 2 setWeight 50
+2026-01-01T00:00:02Z step 3 pause
+";
+
+/// Whether it is told so.
+fn is_told(alloc: Global) -> Result<bool, Fail> {
+    let mut book = book_of(alloc, PROMOTED)?;
+    let web = name("web").ok_or(Memory)?;
+    let history = book.history(&web).ok().ok_or(Memory)?;
+    let mut text = String::new(alloc);
+    history_text(history.as_slice(), &mut text)?;
+    Ok(text.as_str() == HISTORY)
+}
+
+#[test]
+fn tells_a_history(rt: HostRuntime) -> Result<(), Fail> {
+    assert!(rt; is_told(rt.alloc())?);
+    Ok(())
+}

@@ -9,46 +9,41 @@ use canary_files::import::{ImportFault, import};
 use canary_once::clock::StepClock;
 use canary_once::memory::MemoryBook;
 use canary_once::post::post;
-use canary_testing::asked::{B, body, command};
+use canary_testing::asked::{B, body, command, moment};
 use std::alloc::Global;
 use std::io::{Read, Write};
 
 pub(crate) const HEADER: &str = "caller,number,service,run,metric,ordinal,taken,result,failure";
 
-/// The requests of ops, at B, behind which run 1 of web is open: that of its background, with the
-/// metric m, which is due every minute.
-const RELEASE: &str = "template errs m,interval=60
-service v1 setWeight:20 pause background:errs
-start v2";
+/// Requests behind which run 1 of web is open: that of its background, with the metric m, which is
+/// due every minute. A request is the caller, its number, the seconds after B, and the command.
+const RELEASE: &str = "ops 1 0 template errs m,interval=60
+ops 2 0 service v1 setWeight:20 pause background:errs
+ops 3 0 start v2";
 
 pub(crate) fn name(text: &str) -> Option<Name> {
     Name::read(text.as_bytes())
 }
 
-/// Settles a request at B, which is to be accepted; none where it is not, or memory was refused.
-pub(crate) fn settle(
-    alloc: Global,
-    book: &mut MemoryBook,
-    caller: &str,
-    number: u32,
-    asked: &str,
-) -> Option<()> {
+/// Settles a request, which is to be accepted; none where it is not, or memory was refused.
+pub(crate) fn settle(alloc: Global, book: &mut MemoryBook, row: &str) -> Option<()> {
+    let (caller, row) = row.split_once(' ')?;
+    let (number, row) = row.split_once(' ')?;
+    let (after, asked) = row.split_once(' ')?;
+    let (caller, number) = (name(caller)?, Number::read(number.as_bytes())?);
     let command = command(alloc, asked)?;
-    let (moment, number) = (Moment::new(B)?, Number::new(number)?);
-    let answer = post(alloc, book, moment, name(caller)?, number, &command);
+    let answer = post(alloc, book, moment(after)?, caller, number, &command);
     if answer.status() != 200 {
         return None;
     }
     Some(())
 }
 
-/// A book in which these requests of ops are settled.
+/// A book in which these requests are settled.
 pub(crate) fn book_of(alloc: Global, requests: &str) -> Result<MemoryBook, Memory> {
     let mut book = MemoryBook::new(alloc);
-    let mut number = 0u32;
-    for asked in requests.lines() {
-        number = number.saturating_add(1);
-        settle(alloc, &mut book, "ops", number, asked).ok_or(Memory)?;
+    for row in requests.lines() {
+        settle(alloc, &mut book, row).ok_or(Memory)?;
     }
     Ok(book)
 }

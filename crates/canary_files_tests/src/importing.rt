@@ -137,7 +137,7 @@ fn refuses_another_header(rt: HostRuntime) -> Result<(), Fail> {
 /// Whether the three rows are answered as they are to be, each time that they are imported.
 fn is_answered_again(alloc: Global) -> Result<bool, Fail> {
     let mut book = released(alloc)?;
-    settle(alloc, &mut book, "agent", 1, "report 1 m:1:0:5").ok_or(Memory)?;
+    settle(alloc, &mut book, "agent 1 0 report 1 m:1:0:5").ok_or(Memory)?;
     let told = lines(alloc, ANSWERS).ok_or(Memory)?;
     let mut is_so = true;
     for after in [200, 200, 100_000] {
