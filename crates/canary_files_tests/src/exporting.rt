@@ -31,7 +31,10 @@ pub(crate) fn exported<W: Write>(
 /// Whether so many measurements are exported as they were imported but for the caller, and the
 /// export is imported with the same lines.
 fn is_read_again(alloc: Global, count: u64) -> Result<bool, Fail> {
-    let (file, copied) = (minutes(alloc, "agent", count)?, minutes(alloc, "copy", count)?);
+    let (file, copied) = (
+        minutes(alloc, "agent", count)?,
+        minutes(alloc, "copy", count)?,
+    );
     let (mut book, mut other) = (released(alloc)?, released(alloc)?);
     let (told, ended) = imported(alloc, &mut file.as_bytes(), 20_000, &mut book)?;
     let mut export = Vec::new(alloc);
@@ -56,7 +59,7 @@ ops 3 0 service v1 analysis:t background:errs
 ops 4 0 start v2
 agent 1 0 report 1 m:1:0:5
 agent 2 0 report 2 b:1:0:[1;-2]
-agent 3 60 report 1 m:2:60:!timed out, \"down\"
+agent 3 60 report 1 m:2:60:!timed,\"out\"
 ops 5 60 abort
 ops 6 60 retry
 agent 4 120 report 4 a:1:120:-7";
@@ -64,7 +67,7 @@ agent 4 120 report 4 a:1:120:-7";
 /// Its measurements.
 const MEASURED: &str = "copy,1,web,1,m,1,1767225600,5,
 copy,2,web,2,b,1,1767225600,[1;-2],
-copy,3,web,1,m,2,1767225660,,\"timed out, \"\"down\"\"\"
+copy,3,web,1,m,2,1767225660,,\"timed,\"\"out\"\"\"
 copy,4,web,4,a,1,1767225720,-7,
 ";
 

@@ -12,19 +12,17 @@ use std::io;
 use std::io::{ErrorKind, Read, Write};
 use std::test::Fail;
 
-/// Gives at most 20 bytes a read, until its reads are spent; then it fails.
+/// Gives at most 20 bytes a read, until they are spent; then it fails.
 #[derive(Drop)]
 struct Source<'a> {
     rest: &'a [u8],
-    reads: usize,
 }
 
 impl Read for Source<'_> {
     fn read(&mut self, buf: &mut [u8]) -> io::Result<usize> {
-        if self.reads == 0 {
+        if self.rest.is_empty() {
             return Err(ErrorKind::BrokenPipe.into());
         }
-        self.reads -= 1;
         let count = buf.len().min(self.rest.len()).min(20);
         let (piece, rest) = self.rest.split_at(count);
         buf[..count].copy_from_slice(piece);
@@ -56,13 +54,9 @@ impl Write for Sink {
     }
 }
 
-/// How many lines of a text lie whole within so many bytes of it.
-fn whole_lines(text: &str, bytes: usize) -> usize {
-    text.as_bytes()
-        .iter()
-        .take(bytes)
-        .filter(|byte| **byte == 10)
-        .count()
+/// How many lines a text has.
+fn count_lines(text: &[u8]) -> usize {
+    text.iter().filter(|byte| **byte == 10).count()
 }
 
 /// The first lines of a text.
@@ -80,29 +74,30 @@ fn first_lines(alloc: Global, text: &[u8], count: usize) -> Result<Vec<u8>, Memo
     Ok(first)
 }
 
-/// Whether the rows that came whole in so many reads are answered, the next read is told to have
-/// failed, and the whole file is then answered as if it came once.
-fn is_answered_until(alloc: Global, file: &str, reads: usize) -> Result<bool, Fail> {
-    let (mut book, mut other) = (released(alloc)?, released(alloc)?);
-    let (all, _) = imported(alloc, &mut file.as_bytes(), 1000, &mut other)?;
-    let mut source = Source {
-        rest: file.as_bytes(),
-        reads,
-    };
+/// Whether the rows that came whole in these bytes of a file are answered, the next read is told to
+/// have failed, and the whole file is then answered as if it came once.
+fn is_answered_until(alloc: Global, file: &[u8], all: &[u8], bytes: &[u8]) -> Result<bool, Fail> {
+    let mut book = released(alloc)?;
+    let mut source = Source { rest: bytes };
     let (told, ended) = imported(alloc, &mut source, 1000, &mut book)?;
-    let rows = whole_lines(file, reads.saturating_mul(20)).saturating_sub(1);
-    let first = first_lines(alloc, &all, rows)?;
-    let (again, _) = imported(alloc, &mut file.as_bytes(), 2000, &mut book)?;
+    let first = first_lines(alloc, all, count_lines(bytes).saturating_sub(1))?;
+    let (again, _) = imported(alloc, &mut &file[..], 2000, &mut book)?;
     let is_first = ended == Err(ImportFault::Read) && told.as_slice() == first.as_slice();
-    Ok(is_first && again.as_slice() == all.as_slice())
+    Ok(is_first && again.as_slice() == all)
 }
 
 #[test]
 fn tells_of_a_reader_that_fails(rt: HostRuntime) -> Result<(), Fail> {
-    let file = minutes(rt.alloc(), "agent", 3)?;
-    assert!(rt; file.len() > 100);
-    for reads in 0..file.len() / 20 {
-        assert!(rt; is_answered_until(rt.alloc(), file.as_str(), reads)?, "{reads}");
+    let file = minutes(rt.alloc(), "agent", 2)?;
+    let file = file.as_bytes();
+    let mut book = released(rt.alloc())?;
+    let (all, _) = imported(rt.alloc(), &mut &file[..], 1000, &mut book)?;
+    assert!(rt; count_lines(&all) == 2);
+    for bytes in 0..file.len() {
+        assert!(rt;
+            is_answered_until(rt.alloc(), file, &all, &file[..bytes])?,
+            "{bytes}"
+        );
     }
     Ok(())
 }
@@ -138,7 +133,10 @@ fn tells_of_a_writer_that_fails(rt: HostRuntime) -> Result<(), Fail> {
     let mut book = released(rt.alloc())?;
     let (all, _) = imported(rt.alloc(), &mut file.as_bytes(), 1000, &mut book)?;
     for writes in 0..all.len() / 20 {
-        assert!(rt; is_begun(rt.alloc(), file.as_str(), &all, writes)?, "{writes}");
+        assert!(rt;
+            is_begun(rt.alloc(), file.as_str(), &all, writes)?,
+            "{writes}"
+        );
     }
     Ok(())
 }
@@ -148,7 +146,7 @@ fn tells_of_a_writer_that_fails(rt: HostRuntime) -> Result<(), Fail> {
 fn is_exported_until(alloc: Global, writes: usize) -> Result<bool, Fail> {
     let (file, copied) = (minutes(alloc, "agent", 3)?, minutes(alloc, "copy", 3)?);
     let mut book = released(alloc)?;
-    imported(alloc, &mut file.as_bytes(), 1000, &mut book)?;
+    let _ = imported(alloc, &mut file.as_bytes(), 1000, &mut book)?;
     let mut sink = Sink {
         bytes: Vec::new(alloc),
         writes,
@@ -170,13 +168,31 @@ fn tells_of_an_export_that_fails(rt: HostRuntime) -> Result<(), Fail> {
 fn words_of_faults(rt: HostRuntime) -> Result<(), Fail> {
     let alloc = rt.alloc();
     assert!(rt; says(alloc, &ImportFault::Read, "the input could not be read")?);
-    assert!(rt; says(alloc, &ImportFault::Write, "the output could not be written")?);
+    assert!(rt;
+        says(
+            alloc,
+            &ImportFault::Write,
+            "the output could not be written"
+        )?
+    );
     assert!(rt; says(alloc, &ImportFault::Memory, "out of memory")?);
-    assert!(rt; says(alloc, &ImportFault::Header, "the first record is not the header")?);
+    assert!(rt;
+        says(
+            alloc,
+            &ImportFault::Header,
+            "the first record is not the header"
+        )?
+    );
     assert!(rt; says(alloc, &ImportFault::RowsSpent, "the file has too many rows")?);
     assert!(rt; says(alloc, &ExportFault::Memory, "out of memory")?);
     assert!(rt; says(alloc, &ExportFault::Storage, "the store failed")?);
-    assert!(rt; says(alloc, &ExportFault::Write, "the output could not be written")?);
+    assert!(rt;
+        says(
+            alloc,
+            &ExportFault::Write,
+            "the output could not be written"
+        )?
+    );
     assert!(rt; says(alloc, &ExportFault::TooMany, "too many measurements")?);
     assert!(rt; says(alloc, &ExportFault::UnknownService, "unknown service")?);
     Ok(())
