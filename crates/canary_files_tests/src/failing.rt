@@ -1,7 +1,7 @@
 //! Readers and writers that fail in midstream, at each place, and the words of faults.
 
-use crate::exporting::exported;
-use crate::files::{ending, imported, minutes, released};
+use crate::exporting::{exported, filled};
+use crate::files::{ending, lines, minutes, released, writes};
 use canary_base::error::Memory;
 use canary_files::export::ExportFault;
 use canary_files::import::ImportFault;
@@ -11,6 +11,9 @@ use std::alloc::Global;
 use std::io;
 use std::io::{ErrorKind, Read, Write};
 use std::test::Fail;
+
+/// How two rows of `minutes` are answered.
+const TWO: &str = "Successful;Successful";
 
 /// Gives at most 20 bytes a read, until they are spent; then it fails.
 #[derive(Drop)]
@@ -60,106 +63,111 @@ fn count_lines(text: &[u8]) -> usize {
 }
 
 /// The first lines of a text.
-fn first_lines(alloc: Global, text: &[u8], count: usize) -> Result<Vec<u8>, Memory> {
-    let mut first = Vec::new(alloc);
+fn first_lines(text: &[u8], count: usize) -> &[u8] {
     let mut lines = 0usize;
-    for byte in text {
-        if lines < count {
-            first.push(*byte)?;
+    for (at, byte) in text.iter().enumerate() {
+        if lines >= count {
+            return &text[..at];
         }
         if *byte == 10 {
             lines = lines.saturating_add(1);
         }
     }
-    Ok(first)
+    text
 }
 
 /// Whether the rows that came whole in these bytes of a file are answered, the next read is told to
-/// have failed, and the whole file is then answered as if it came once.
-fn is_answered_until(alloc: Global, file: &[u8], all: &[u8], bytes: &[u8]) -> Result<bool, Fail> {
+/// have failed, and the whole file, of two rows, is then answered as if it came once.
+fn is_answered_until(alloc: Global, file: &[u8], all: &[u8], bytes: &[u8]) -> Result<bool, Memory> {
     let mut book = released(alloc)?;
     let mut source = Source { rest: bytes };
-    let (told, ended) = imported(alloc, &mut source, 1000, &mut book)?;
-    let first = first_lines(alloc, all, count_lines(bytes).saturating_sub(1))?;
-    let (again, _) = imported(alloc, &mut &file[..], 2000, &mut book)?;
-    let is_first = ended == Err(ImportFault::Read) && told.as_slice() == first.as_slice();
-    Ok(is_first && again.as_slice() == all)
+    let first = first_lines(all, count_lines(bytes).saturating_sub(1));
+    let fault = Err(ImportFault::Read);
+    if !writes(alloc, &mut source, 1000, &mut book, first, fault)? {
+        return Ok(false);
+    }
+    writes(alloc, &mut &file[..], 2000, &mut book, all, Ok(2))
 }
 
 #[test]
 fn tells_of_a_reader_that_fails(rt: HostRuntime) -> Result<(), Fail> {
-    let file = minutes(rt.alloc(), "agent", 2)?;
-    let file = file.as_bytes();
-    let mut book = released(rt.alloc())?;
-    let (all, _) = imported(rt.alloc(), &mut &file[..], 1000, &mut book)?;
-    assert!(rt; count_lines(&all) == 2);
+    let alloc = rt.alloc();
+    let file = minutes(alloc, "agent", 2)?;
+    let told = lines(alloc, TWO).ok_or(Memory)?;
+    let (file, all) = (file.as_bytes(), told.as_bytes());
     for bytes in 0..file.len() {
         assert!(rt;
-            is_answered_until(rt.alloc(), file, &all, &file[..bytes])?,
+            is_answered_until(alloc, file, all, &file[..bytes])?,
             "{bytes}"
         );
     }
     Ok(())
 }
 
-/// What goes out of an import of this file over a book in so many writes, and how it ends.
-fn lines_in_writes(
+/// Whether only the first lines of an import go out in so many writes, and the next is told to have
+/// failed.
+fn is_cut(
     alloc: Global,
-    file: &str,
+    file: &[u8],
+    all: &[u8],
     writes: usize,
     book: &mut MemoryBook,
-) -> Result<(Vec<u8>, Result<u64, ImportFault>), Memory> {
+) -> Result<bool, Memory> {
     let mut sink = Sink {
         bytes: Vec::new(alloc),
         writes,
     };
-    let ended = ending(alloc, &mut file.as_bytes(), &mut sink, 1000, book)?;
-    Ok((sink.bytes, ended))
+    let ended = ending(alloc, &mut &file[..], &mut sink, 1000, book)?;
+    let is_front = all.starts_with(&sink.bytes) && sink.bytes.len() < all.len();
+    Ok(ended == Err(ImportFault::Write) && is_front)
 }
 
-/// Whether the first lines of an import go out in so many writes, the next write is told to have
-/// failed, and the file is then answered as if it came once.
-fn is_begun(alloc: Global, file: &str, all: &[u8], writes: usize) -> Result<bool, Fail> {
+/// Whether it is so, and the file is then answered as if it came once.
+fn is_begun(alloc: Global, file: &[u8], all: &[u8], count: usize) -> Result<bool, Memory> {
     let mut book = released(alloc)?;
-    let (told, ended) = lines_in_writes(alloc, file, writes, &mut book)?;
-    let (again, _) = imported(alloc, &mut file.as_bytes(), 2000, &mut book)?;
-    let is_front = ended == Err(ImportFault::Write) && all.starts_with(&told);
-    Ok(is_front && told.len() < all.len() && again.as_slice() == all)
+    if !is_cut(alloc, file, all, count, &mut book)? {
+        return Ok(false);
+    }
+    writes(alloc, &mut &file[..], 2000, &mut book, all, Ok(2))
 }
 
 #[test]
 fn tells_of_a_writer_that_fails(rt: HostRuntime) -> Result<(), Fail> {
-    let file = minutes(rt.alloc(), "agent", 2)?;
-    let mut book = released(rt.alloc())?;
-    let (all, _) = imported(rt.alloc(), &mut file.as_bytes(), 1000, &mut book)?;
-    for writes in 0..all.len() / 20 {
-        assert!(rt;
-            is_begun(rt.alloc(), file.as_str(), &all, writes)?,
-            "{writes}"
-        );
+    let alloc = rt.alloc();
+    let file = minutes(alloc, "agent", 2)?;
+    let told = lines(alloc, TWO).ok_or(Memory)?;
+    let (file, all) = (file.as_bytes(), told.as_bytes());
+    for count in 0..all.len() / 20 {
+        assert!(rt; is_begun(alloc, file, all, count)?, "{count}");
     }
     Ok(())
 }
 
-/// Whether the first bytes of an export go out in so many writes, and the next is told to have
+/// Whether only the first bytes of an export go out in so many writes, and the next is told to have
 /// failed.
-fn is_exported_until(alloc: Global, writes: usize) -> Result<bool, Fail> {
-    let (file, copied) = (minutes(alloc, "agent", 3)?, minutes(alloc, "copy", 3)?);
-    let mut book = released(alloc)?;
-    let _ = imported(alloc, &mut file.as_bytes(), 1000, &mut book)?;
+fn is_exported_until(
+    alloc: Global,
+    file: &[u8],
+    writes: usize,
+    book: &mut MemoryBook,
+) -> Result<bool, Memory> {
     let mut sink = Sink {
         bytes: Vec::new(alloc),
         writes,
     };
-    let ended = exported(alloc, &mut book, "web", &mut sink)?;
-    let is_front = copied.as_bytes().starts_with(&sink.bytes);
+    let ended = exported(alloc, book, "web", &mut sink)?;
+    let is_front = file.starts_with(&sink.bytes) && sink.bytes.len() < file.len();
     Ok(ended == Err(ExportFault::Write) && is_front)
 }
 
 #[test]
 fn tells_of_an_export_that_fails(rt: HostRuntime) -> Result<(), Fail> {
-    for writes in 0..8 {
-        assert!(rt; is_exported_until(rt.alloc(), writes)?, "{writes}");
+    let alloc = rt.alloc();
+    let file = minutes(alloc, "copy", 3)?;
+    let mut book = filled(alloc, "agent", 3)?.ok_or("a book")?;
+    for count in 0..file.len() / 20 {
+        let is_so = is_exported_until(alloc, file.as_bytes(), count, &mut book)?;
+        assert!(rt; is_so, "{count}");
     }
     Ok(())
 }

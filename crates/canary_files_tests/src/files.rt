@@ -9,7 +9,8 @@ use canary_files::import::{ImportFault, import};
 use canary_once::clock::StepClock;
 use canary_once::memory::MemoryBook;
 use canary_once::post::post;
-use canary_testing::asked::{B, body, command, moment};
+use canary_testing::asked;
+use canary_testing::asked::{B, command, moment};
 use std::alloc::Global;
 use std::io::{Read, Write};
 
@@ -92,16 +93,57 @@ pub(crate) fn imported<R: Read>(
     Ok((output, ended))
 }
 
-/// The lines for what they are to tell, with `;` between two: of each its status and what its body
-/// stands for.
-pub(crate) fn lines(alloc: Global, told: &str) -> Option<String> {
+/// Whether an import writes these lines, so many seconds after B, and ends so.
+pub(crate) fn writes<R: Read>(
+    alloc: Global,
+    input: &mut R,
+    after: u64,
+    book: &mut MemoryBook,
+    lines: &[u8],
+    ended: Ended,
+) -> Result<bool, Memory> {
+    let (output, found) = imported(alloc, input, after, book)?;
+    Ok(found == ended && output.as_slice() == lines)
+}
+
+/// The same over a book in which run 1 of web is open, 200 seconds after B.
+pub(crate) fn comes_to(
+    alloc: Global,
+    file: &str,
+    lines: &str,
+    ended: Ended,
+) -> Result<bool, Memory> {
+    let mut book = released(alloc)?;
+    writes(
+        alloc,
+        &mut file.as_bytes(),
+        200,
+        &mut book,
+        lines.as_bytes(),
+        ended,
+    )
+}
+
+/// What a line tells, behind its number: a phase stands for that of an accepted report, anything
+/// else is its status and what its body stands for.
+fn told(alloc: Global, told: &str) -> Option<String> {
+    let Some((status, told)) = told.split_once(' ') else {
+        let body = format!(in alloc; "[web Paused 1 20 | 1 {told} | Running]").ok()?;
+        let body = asked::body(alloc, body.as_str())?;
+        return format!(in alloc; "200 {body}").ok();
+    };
+    let body = asked::body(alloc, told)?;
+    format!(in alloc; "{status} {body}").ok()
+}
+
+/// The lines for what they are to tell, with `;` between two.
+pub(crate) fn lines(alloc: Global, all: &str) -> Option<String> {
     let mut lines = String::new(alloc);
     let mut number = 0u32;
-    for line in told.split(';') {
+    for line in all.split(';') {
         number = number.saturating_add(1);
-        let (status, told) = line.split_once(' ')?;
-        let body = body(alloc, told)?;
-        write!(lines, "{number} {status} {body}\n").ok()?;
+        let told = told(alloc, line)?;
+        write!(lines, "{number} {told}\n").ok()?;
     }
     Some(lines)
 }

@@ -1,7 +1,7 @@
 //! Rows and files with the lines that answer them, each over a book of its own, 200 seconds after
 //! B; and a file that is imported again.
 
-use crate::files::{HEADER, imported, lines, released, settle};
+use crate::files::{Ended, HEADER, comes_to, lines, released, settle, writes};
 use canary_base::error::Memory;
 use canary_files::import::ImportFault;
 use canary_testing::rows::{lined, split};
@@ -34,16 +34,16 @@ agent,1,web,1,m,1,1767225600,[], => 400 unreadable
 agent,1,web,1,m,1,1767225600,[1; 2], => 400 unreadable
 agent,1,web,1,m,1,1767225600,9223372036854775808, => 400 unreadable
 agent, 1,web,1,m,1,1767225600,5, => 400 bad-number
-agent,1,web,1,m,1,1767225600,[1;-2], => 200 [web Paused 1 20 | 1 Successful | Running]
-agent,1,web,1,m,1,1767225600,-9223372036854775808, => 200 [web Paused 1 20 | 1 Successful | Running]
-"agent","1","web","1","m","1","1767225600","5","" => 200 [web Paused 1 20 | 1 Successful | Running]
-agent,1,web,1,m,1,1767225600,,"down, ""again""" => 200 [web Paused 1 20 | 1 Error | Running]
-agent,1,web,1,m,1,1767225600,,"down|again"|agent,2,web,1,m,2,1767225660,5, => 200 [web Paused 1 20 | 1 Error | Running];200 [web Paused 1 20 | 1 Successful | Running]
-agent,1,web,1,m,1,1767225600,,"down => 200 [web Paused 1 20 | 1 Error | Running]
-agent,1,web,1,m,1,1767225600,5,||agent,2,web,1,m,2,1767225660,5,| => 200 [web Paused 1 20 | 1 Successful | Running];200 [web Paused 1 20 | 1 Successful | Running]
+agent,1,web,1,m,1,1767225600,[1;-2], => Successful
+agent,1,web,1,m,1,1767225600,-9223372036854775808, => Successful
+"agent","1","web","1","m","1","1767225600","5","" => Successful
+agent,1,web,1,m,1,1767225600,,"down, ""again""" => Error
+agent,1,web,1,m,1,1767225600,,"down|again"|agent,2,web,1,m,2,1767225660,5, => Error;Successful
+agent,1,web,1,m,1,1767225600,,"down => Error
+agent,1,web,1,m,1,1767225600,5,||agent,2,web,1,m,2,1767225660,5,| => Successful;Successful
 caller,number,service,run,metric,ordinal,taken,result,failure => 400 bad-number
-agent,2,web,1,m,1,1767225600,5,|agent,1,web,1,m,1,1767225600,5, => 409 {"code":"ahead","expected":1};200 [web Paused 1 20 | 1 Successful | Running]
-agent,1,web,1,m,1,1767225600,5,|agent,1,web,1,m,1,1767225600,6, => 200 [web Paused 1 20 | 1 Successful | Running];409 reused
+agent,2,web,1,m,1,0,5,|agent,1,web,1,m,1,1767225600,5, => 409 {"code":"ahead","expected":1};Successful
+agent,1,web,1,m,1,1767225600,5,|agent,1,web,1,m,1,1767225600,6, => Successful;409 reused
 agent,1,web,2,m,1,1767225600,5, => 422 unknown-run
 agent,1,api,1,m,1,1767225600,5, => 422 unknown-service
 agent,1,web,1,n,1,1767225600,5, => 422 {"at":0,"code":"unknown-metric"}
@@ -76,20 +76,21 @@ agent,2,web,1,m,2,1767225660,6,
 agent,3,web,1,m,3,1767225720,,timeout
 ";
 
-const ANSWERS: &str = "200 [web Paused 1 20 | 1 Successful | Running];\
-    200 [web Paused 1 20 | 1 Successful | Running];\
-    200 [web Paused 1 20 | 1 Error | Running]";
+const ANSWERS: &str = "Successful;Successful;Error";
+
+/// The file of these rows, where lines end so.
+fn file_of(alloc: Global, rows: &str, end: &str) -> Result<String, Memory> {
+    let rows = lined(alloc, rows, end)?;
+    Ok(format!(in alloc; "{HEADER}{end}{rows}")?)
+}
 
 /// Whether the rows of a file are answered so, where lines end so.
 fn is_answered(alloc: Global, row: &str, end: &str) -> Result<bool, Fail> {
     let (rows, told) = split(row)?;
-    let rows = lined(alloc, rows, end)?;
-    let file = format!(in alloc; "{HEADER}{end}{rows}")?;
-    let mut book = released(alloc)?;
-    let (output, ended) = imported(alloc, &mut file.as_bytes(), 200, &mut book)?;
+    let file = file_of(alloc, rows, end)?;
     let told = lines(alloc, told).ok_or(Memory)?;
-    let count = told.lines().count();
-    Ok(ended == Ok(count as u64) && output.as_slice() == told.as_bytes())
+    let count = told.lines().count() as u64;
+    Ok(comes_to(alloc, file.as_str(), told.as_str(), Ok(count))?)
 }
 
 #[test]
@@ -101,54 +102,41 @@ fn answers_rows(rt: HostRuntime) -> Result<(), Fail> {
     Ok(())
 }
 
-/// Whether a file has no rows, where lines end so.
-fn is_empty(alloc: Global, file: &str, end: &str) -> Result<bool, Fail> {
+/// Whether a file has no answers and ends so, where lines end so.
+fn is_silent(alloc: Global, file: &str, end: &str, ended: Ended) -> Result<bool, Memory> {
     let file = lined(alloc, file, end)?;
-    let mut book = released(alloc)?;
-    let (output, ended) = imported(alloc, &mut file.as_bytes(), 200, &mut book)?;
-    Ok(ended == Ok(0) && output.is_empty())
+    comes_to(alloc, file.as_str(), "", ended)
 }
 
 #[test]
 fn takes_a_file_without_rows(rt: HostRuntime) -> Result<(), Fail> {
     for file in NO_ROWS.lines() {
-        assert!(rt; is_empty(rt.alloc(), file, "\n")?, "{file}");
-        assert!(rt; is_empty(rt.alloc(), file, "\r\n")?, "{file}");
+        assert!(rt; is_silent(rt.alloc(), file, "\n", Ok(0))?, "{file}");
+        assert!(rt; is_silent(rt.alloc(), file, "\r\n", Ok(0))?, "{file}");
     }
     Ok(())
-}
-
-/// Whether a file is refused for its header.
-fn is_headless(alloc: Global, file: &str) -> Result<bool, Fail> {
-    let file = lined(alloc, file, "\n")?;
-    let mut book = released(alloc)?;
-    let (output, ended) = imported(alloc, &mut file.as_bytes(), 200, &mut book)?;
-    Ok(ended == Err(ImportFault::Header) && output.is_empty())
 }
 
 #[test]
 fn refuses_another_header(rt: HostRuntime) -> Result<(), Fail> {
     for file in OTHER_HEADERS.lines() {
-        assert!(rt; is_headless(rt.alloc(), file)?, "{file}");
+        assert!(rt;
+            is_silent(rt.alloc(), file, "\n", Err(ImportFault::Header))?,
+            "{file}"
+        );
     }
     Ok(())
 }
 
-/// Whether the three rows are answered as they are to be, each time that they are imported.
-fn is_answered_again(alloc: Global) -> Result<bool, Fail> {
+#[test]
+fn answers_a_file_again(rt: HostRuntime) -> Result<(), Fail> {
+    let alloc = rt.alloc();
     let mut book = released(alloc)?;
     settle(alloc, &mut book, "agent 1 0 report 1 m:1:0:5").ok_or(Memory)?;
     let told = lines(alloc, ANSWERS).ok_or(Memory)?;
-    let mut is_so = true;
+    let (file, lines) = (THREE.as_bytes(), told.as_bytes());
     for after in [200, 200, 100_000] {
-        let (output, ended) = imported(alloc, &mut THREE.as_bytes(), after, &mut book)?;
-        is_so = is_so && ended == Ok(3) && output.as_slice() == told.as_bytes();
+        assert!(rt; writes(alloc, &mut &file[..], after, &mut book, lines, Ok(3))?);
     }
-    Ok(is_so)
-}
-
-#[test]
-fn answers_a_file_again(rt: HostRuntime) -> Result<(), Fail> {
-    assert!(rt; is_answered_again(rt.alloc())?);
     Ok(())
 }
