@@ -1,25 +1,28 @@
 -- What is read of a book and written, one thing after another.
 use Rattle.std.proofs.Common.{◌≡◌, ℕ, suc, ◌+◌, ◌≤◌, List, [], ◌∷◌, ◌++◌, ◌-◌, length, take, drop, refl, sym, ap, ◌∙◌, subst, arith}
 use Rattle.std.specs.FinMap.{get}
-use Rattle.std.specs.Prelude.{Option, Some, None, option_map, Result, Ok, Err, IfErr, IsErr}
+use Rattle.std.specs.Prelude.{Option, Some, None, option_map, unwrap_or, Result, Ok, Err, IfErr, IsErr}
 use Rattle.std.specs.Io.KnownBytes.{Appends}
 use Rattle.std.proofs.lemmas.List.{append-nil, append_assoc, take-append-drop, drop-drop, length-append, length-drop}
 use Rattle.std.proofs.lemmas.Result.{IfErr-weaker}
+use Rattle.std.proofs.lemmas.Option.{none-some, same_Some}
 use Rattle.std.proofs.Math.Seq.{drop-append_seam}
+use Rattle.canary_plan.specs.Plans.{metrics_at}
 use Rattle.canary_plan.specs.declared.strategy.CheckedStrategy.{CheckedStrategy}
 use Rattle.canary_release.specs.declared.effect.Recorded.{Recorded}
 use Rattle.canary_release.specs.Desks.{ModelService}
 use Rattle.canary_release.specs.Shapes.{shape}
 use Rattle.canary_once.specs.Contents.{Contents}
 use Rattle.canary_once.specs.Books.{BookState}
-use Rattle.canary_once.specs.Records.{past_in, past_of, measurements_of}
+use Rattle.canary_once.specs.declared.record.RunRecord.{RunRecord}
+use Rattle.canary_once.specs.Records.{past_in, past_of, record_numbered, measurements_of}
 use Rattle.canary_files.specs.declared.export.ExportFault.{ExportFault}
 use Rattle.canary_files.specs.declared.export.ExportFault.TheVariants.{Memory, Storage, Write, TooMany, UnknownService}
 use Rattle.canary_files.specs.declared.export.Source.{Source}
 use Rattle.canary_files.specs.Writes.{Known}
 use Rattle.canary_files.specs.Rows.{header}
 use Rattle.canary_files.specs.Written.{record_text, row_fields, rows_text}
-use Rattle.canary_files.specs.Exporting.{Stays, Puts, IsSource, TellsPage, name_of, name_by, recorded_of, file_in, kept_strategy}
+use Rattle.canary_files.specs.Exporting.{Stays, Puts, IsSource, TellsPage, name_at, name_in, step_in, name_of, name_by, recorded_of, file_in, kept_strategy}
 use Rattle.canary_files.proofs.WriteLemmas.{appends_more, appends_none}
 
 -- Books.
@@ -31,6 +34,17 @@ stays_then a b c p q = record {
   same = λ h. q.same h ∙ p.same (q.intact h);
   sure = q.sure ∙ p.sure;
 }
+
+-- the name of a metric of a run, by the step of its analysis
+name_placed : (strategy : CheckedStrategy) (o : Option RunRecord) (step : Option ℕ) (place : ℕ) → option_map (λ (r : RunRecord). r.step) o ≡ Some step
+    → name_in strategy o place ≡ name_at (metrics_at strategy step) place
+name_placed strategy None step place e = absurd (none-some _ e)
+name_placed strategy (Some r) step place e = ap (λ s. name_at (metrics_at strategy s) place) (same_Some _ _ e)
+
+pub name_is : (strategy : CheckedStrategy) (c : Contents) (service : List ℕ) (x : Recorded) (step : Option ℕ) (name : List ℕ) → step_in c service x.run ≡ Some step
+    → Some name ≡ name_at (metrics_at strategy step) x.metric → name ≡ name_of strategy (past_of c service) x
+name_is strategy c service x step name e f =
+    ap (λ o. unwrap_or o []) (f ∙ sym (name_placed strategy (record_numbered (past_of c service) x.run) step x.metric e))
 
 -- Writes.
 

@@ -9,3 +9,4 @@ pub mod ExportLemmas
 pub mod ReadBack
 pub mod ImportLemmas
 pub mod HeaderLemmas
+pub mod AgainLemmas

@@ -19,6 +19,7 @@ use Rattle.canary_once.specs.Books.{BookState, StaysInMemory}
 use Rattle.canary_files.specs.declared.export.ExportFault.{ExportFault}
 use Rattle.canary_files.specs.declared.export.ExportFault.TheVariants.{Memory, Storage, Write, TooMany, UnknownService}
 use Rattle.canary_files.specs.declared.export.Source.{Source}
+use Rattle.canary_files.specs.declared.export.Placed.{Placed}
 use Rattle.canary_files.specs.Writes.{Known}
 use Rattle.canary_files.specs.Written.{file_of}
 
@@ -38,6 +39,10 @@ name_of strategy p x = unwrap_or (name_in strategy (record_numbered p x.run) x.m
 abbrev pub name_by : Option ModelService → Recorded → List ℕ
 name_by None x = []
 name_by (Some m) x = name_of m.stand.strategy m.past x
+
+-- the step of the analysis of a run
+abbrev pub step_in : Contents → List ℕ → ℕ → Option (Option ℕ)
+step_in c service run = option_map (λ (r : RunRecord). r.step) (record_numbered (past_of c service) run)
 
 -- the measurements of a service, in the order in which they were recorded
 abbrev pub recorded_of : Contents → List ℕ → List Recorded
@@ -68,6 +73,11 @@ pub record Puts {A E : Type 0} (old new : Known) (text : List ℕ) (result : Res
 pub record Reads {A : Type 0} (told : Contents → A) (old new : BookState) (found : Result A ExportFault) : Type 0 where
   pub stays : Stays old new
   pub value : new.is_intact → IfOk found (λ x. x ≡ told old.contents)
+
+-- what is kept of a run is what the book says of it
+abbrev pub IsLatest : BookState → List ℕ → Option Placed → Type 0
+IsLatest now service None = Unit {0}
+IsLatest now service (Some p) = now.is_intact → step_in now.contents service p.run ≡ Some p.step
 
 -- why no more was written of so many rows
 abbrev pub TellsPage : ℕ → ExportFault → Type 0

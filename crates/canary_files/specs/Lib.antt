@@ -7,3 +7,4 @@ pub mod Importing
 pub mod Written
 pub mod Exporting
 pub mod ReadingBack
+pub mod Again

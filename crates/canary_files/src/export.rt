@@ -1,9 +1,10 @@
 //! A service's measurements as a file.
-ghost use Rattle.std.specs.Prelude.{◌≡◌, ◌≤◌, ◌+◌, ◌++◌, length, Some, Err, IfOk, IfErr};
+ghost use Rattle.std.specs.Prelude.{◌≡◌, ◌≤◌, ◌+◌, ◌++◌, length, Some, Err, IfOk, IfErr, OnOk};
+ghost use Rattle.canary_plan.specs.Plans.{metrics_at};
 ghost use Rattle.canary_once.specs.Records.{past_of, measurements_of};
 ghost use Rattle.canary_files.specs.Rows.{header};
 ghost use Rattle.canary_files.specs.Written.{record_text, row_fields, rows_text};
-ghost use Rattle.canary_files.specs.Exporting.{name_in, name_of, recorded_of, file_in};
+ghost use Rattle.canary_files.specs.Exporting.{name_at, name_of, recorded_of, file_in, IsLatest};
 ghost use Rattle.canary_files.specs.Exporting.{Stays, Puts, Reads, IsSource, Tells, TellsPage};
 
 use crate::records::Records;
@@ -13,7 +14,6 @@ use canary_base::lists::Listed;
 use canary_base::names::{Label, Name};
 use canary_base::numbers::Number;
 use canary_once::book::{Book, BookFault};
-use canary_once::record::RunRecord;
 use canary_plan::strategy::Strategy;
 use canary_release::effect::Recorded;
 use std::alloc::Global;
@@ -75,6 +75,14 @@ struct Source {
     caller: Name,
     service: Name,
     strategy: Strategy,
+}
+
+// A run, by its number, and the step of its analysis, none for that of the background. That of the
+// last row is kept, so that the book is asked once a run and not once a row.
+#[derive(Clone, Copy)]
+struct Placed {
+    run: u32,
+    step: Option<u32>,
 }
 
 /// Writes the file of a service's measurements: the header, and a row for each, in the order in
@@ -158,8 +166,9 @@ fn write_rows<W: Write, B: Book>(
         (length (recorded_of (B.state book.old).contents source.now.service))) }
 {
     let mut rows = 0;
+    let mut latest = None;
     loop {
-        let next = write_page(alloc, book, source, rows, out)?;
+        let next = write_page(alloc, book, source, &mut latest, rows, out)?;
         if next == rows {
             return Ok(rows);
         }
@@ -172,11 +181,15 @@ fn write_page<W: Write, B: Book>(
     alloc: Global,
     book: &mut B,
     source: &Source,
+    latest: &mut Option<Placed>,
     from: u64,
     out: &mut W,
 ) -> Result<u64, ExportFault>
-    requires { from ≤ MOST_ROWS }
+    requires some { from ≤ MOST_ROWS }
+    requires latest { IsLatest (B.state book.old) source.now.service latest.old }
     ensures stays { Stays (B.state book.old) (B.state book.new) }
+    ensures latest { OnOk result
+        (IsLatest (B.state book.new) source.now.service latest.new) }
     ensures writes { (B.state book.new).is_intact
         → Puts (W.contents out.old) (W.contents out.new)
         (rows_text source.now.caller source.now.service
@@ -193,19 +206,23 @@ fn write_page<W: Write, B: Book>(
         (measurements_of (B.state book.old).contents source.now.service from 256))) }
 {
     let page = book.measurements(&source.service, from, PAGE)?;
-    write_measurements(alloc, book, source, from, page.as_slice(), out)
+    write_measurements(alloc, book, source, latest, from, page.as_slice(), out)
 }
 
 fn write_measurements<W: Write, B: Book>(
     alloc: Global,
     book: &mut B,
     source: &Source,
+    latest: &mut Option<Placed>,
     from: u64,
     page: &[Recorded],
     out: &mut W,
 ) -> Result<u64, ExportFault>
-    requires { from ≤ MOST_ROWS }
+    requires some { from ≤ MOST_ROWS }
+    requires latest { IsLatest (B.state book.old) source.now.service latest.old }
     ensures stays { Stays (B.state book.old) (B.state book.new) }
+    ensures latest { OnOk result
+        (IsLatest (B.state book.new) source.now.service latest.new) }
     ensures writes { (B.state book.new).is_intact
         → Puts (W.contents out.old) (W.contents out.new)
         (rows_text source.now.caller source.now.service
@@ -218,7 +235,7 @@ fn write_measurements<W: Write, B: Book>(
     if page.len() as u64 > MOST_ROWS - from {
         return Err(ExportFault::TooMany);
     }
-    let text = rows_text(alloc, book, source, from, page)?;
+    let text = rows_text(alloc, book, source, latest, from, page)?;
     put(out, &text)?;
     Ok(from + page.len() as u64)
 }
@@ -228,10 +245,14 @@ fn rows_text<B: Book>(
     alloc: Global,
     book: &mut B,
     source: &Source,
+    latest: &mut Option<Placed>,
     from: u64,
     page: &[Recorded],
 ) -> Result<Listed<u8>, ExportFault>
-    requires { from + length page.now ≤ MOST_ROWS }
+    requires some { from + length page.now ≤ MOST_ROWS }
+    requires latest { IsLatest (B.state book.old) source.now.service latest.old }
+    ensures latest { OnOk result
+        (IsLatest (B.state book.new) source.now.service latest.new) }
     ensures reads { Reads (λ c. rows_text source.now.caller source.now.service
         (name_of source.now.strategy (past_of c source.now.service)) from page.now)
         (B.state book.old) (B.state book.new) result }
@@ -239,7 +260,8 @@ fn rows_text<B: Book>(
 {
     let mut records = Records::new(alloc);
     for (i, recorded) in page.iter().enumerate() {
-        records = with_row(alloc, book, source, records, from + i as u64 + 1, recorded)?;
+        let number = from + i as u64 + 1;
+        records = with_row(alloc, book, source, latest, records, number, recorded)?;
     }
     Ok(records.into_text()?)
 }
@@ -248,17 +270,21 @@ fn with_row<B: Book>(
     alloc: Global,
     book: &mut B,
     source: &Source,
+    latest: &mut Option<Placed>,
     records: Records,
     number: u64,
     recorded: &Recorded,
 ) -> Result<Records, ExportFault>
+    requires { IsLatest (B.state book.old) source.now.service latest.old }
+    ensures latest { OnOk result
+        (IsLatest (B.state book.new) source.now.service latest.new) }
     ensures reads { Reads (λ c. records ++ record_text
         (row_fields source.now.caller number source.now.service recorded.now
         (name_of source.now.strategy (past_of c source.now.service) recorded.now)))
         (B.state book.old) (B.state book.new) result }
     ensures why { IfErr result (TellsPage 0) }
 {
-    let metric = metric_name(book, source, recorded)?;
+    let metric = metric_name(book, source, latest, recorded)?;
     let (caller, service) = (&source.caller, &source.service);
     Ok(records.with_row(alloc, caller, number, service, recorded, &metric)?)
 }
@@ -267,31 +293,60 @@ fn with_row<B: Book>(
 fn metric_name<B: Book>(
     book: &mut B,
     source: &Source,
+    latest: &mut Option<Placed>,
     recorded: &Recorded,
 ) -> Result<Label, ExportFault>
+    requires { IsLatest (B.state book.old) source.now.service latest.old }
+    ensures latest { OnOk result
+        (IsLatest (B.state book.new) source.now.service latest.new) }
     ensures reads { Reads
         (λ c. name_of source.now.strategy (past_of c source.now.service) recorded.now)
         (B.state book.old) (B.state book.new) result }
     ensures why { IfErr result (TellsPage 0) }
 {
-    let Some(number) = Number::new(recorded.run) else {
-        return Err(ExportFault::Storage);
-    };
-    let Some(run) = book.run(&source.service, number)? else {
-        return Err(ExportFault::Storage);
-    };
-    match name_in(&source.strategy, &run, recorded.metric) {
+    let placed = place_of(book, source, *latest, recorded.run)?;
+    *latest = Some(placed);
+    match name_at(&source.strategy, placed.step, recorded.metric) {
         Some(name) => Ok(name),
         None => Err(ExportFault::Storage),
     }
 }
 
-// The name of the metric at a place of that run.
-fn name_in(strategy: &Strategy, run: &RunRecord, place: u32) -> Option<Label>
-    ensures { result ≡ name_in strategy.now (Some run.now) place }
+// The analysis of a run, which is asked for where it is not that of the last row.
+fn place_of<B: Book>(
+    book: &mut B,
+    source: &Source,
+    latest: Option<Placed>,
+    run: u32,
+) -> Result<Placed, ExportFault>
+    requires { IsLatest (B.state book.old) source.now.service latest }
+    ensures stays { Stays (B.state book.old) (B.state book.new) }
+    ensures placed { IfOk result (λ placed. (placed.run ≡ run)
+        × IsLatest (B.state book.new) source.now.service (Some placed)) }
+    ensures why { IfErr result (TellsPage 0) }
 {
-    let metrics = strategy.metrics(run.step)?;
-    Some(metrics.get(place as usize)?.name())
+    if let Some(placed) = latest {
+        if placed.run == run {
+            return Ok(placed);
+        }
+    }
+    let Some(number) = Number::new(run) else {
+        return Err(ExportFault::Storage);
+    };
+    match book.run(&source.service, number)? {
+        Some(record) => Ok(Placed {
+            run,
+            step: record.step,
+        }),
+        None => Err(ExportFault::Storage),
+    }
+}
+
+// The name of the metric at a place of an analysis.
+fn name_at(strategy: &Strategy, step: Option<u32>, place: u32) -> Option<Label>
+    ensures { result ≡ name_at (metrics_at strategy.now step) place }
+{
+    Some(strategy.metrics(step)?.get(place as usize)?.name())
 }
 
 // Writes a text whole.

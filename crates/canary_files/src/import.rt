@@ -7,6 +7,7 @@ ghost use Rattle.canary_files.specs.RowExchanges.{point};
 ghost use Rattle.canary_files.specs.Importing.{StandsBehind, TakesNext, ImportsTo, Keeps};
 
 use crate::answer::answer_row;
+use crate::bounded::{Bounded, MOST_BYTES};
 use crate::row::is_header;
 use canary_once::book::Book;
 use canary_once::clock::Clock;
@@ -22,7 +23,7 @@ const MOST_ROWS: u64 = 1_000_000;
 /// Why a file was not imported to its end.
 #[derive(Clone, Copy, Debug, PartialEq, Eq, Error)]
 pub enum ImportFault {
-    /// The reader failed.
+    /// The reader failed, or gave 1,000,000,000 bytes and not the end.
     #[error("the input could not be read")]
     Read,
     /// The writer failed, or took no byte.
@@ -54,10 +55,11 @@ pub enum ImportFault {
 ///
 /// # Errors
 /// `Header` where the first record is another: nothing was asked and written. `Read` where the
-/// reader failed, `Memory` where there was none for the next record, and `RowsSpent` where a row
-/// follows the 1,000,000th: all rows before are answered, and their lines written. `Write` where
-/// the writer failed or took no byte: what was written are the lines of the rows that were
-/// answered, up to the midst of the last one; if that row was a new request, it is settled.
+/// reader failed, or gave 1,000,000,000 bytes and not the end, `Memory` where there was none for
+/// the next record, and `RowsSpent` where a row follows the 1,000,000th: all rows before are
+/// answered, and their lines written. `Write` where the writer failed or took no byte: what was
+/// written are the lines of the rows that were answered, up to the midst of the last one; if that
+/// row was a new request, it is settled.
 pub fn import<R: Read, W: Write, C: Clock, B: Book>(
     alloc: Global,
     input: &mut R,
@@ -74,7 +76,11 @@ pub fn import<R: Read, W: Write, C: Clock, B: Book>(
     ensures kept { Keeps (B.state book.old) (B.state book.new) }
 {
     running_on();
-    let mut reader = reader_of(alloc, input);
+    let bounded = Bounded {
+        source: input,
+        left: MOST_BYTES,
+    };
+    let mut reader = reader_of(alloc, bounded);
     let mut fields = ByteRecord::new(alloc);
     match next_record(&mut reader, &mut fields) {
         Ok(true) => {}

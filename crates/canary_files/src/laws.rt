@@ -1,7 +1,31 @@
 //! Laws over the definitions alone.
 ghost use Rattle.canary_files.specs.ReadingBack.{AreReadBack};
+ghost use Rattle.canary_files.specs.RowExchanges.{point};
+ghost use Rattle.canary_files.specs.Again.{TellsAfterwards, TellsSettled, ImportsAgain};
+
+use canary_once::book::Book;
+use canary_once::clock::Clock;
+use canary_once::laws::{one_request, running_on};
+use canary_plan::laws::same_commands;
 
 /// The row that stands for a measurement is read as the request that reports it.
 pub fn rows_read_back()
     ensures { AreReadBack }
 {}
+
+/// A file that is imported again: a row that was neither ahead of its turn nor answered 503 has
+/// the same line, unless it is answered 503, whatever came between. Where this is so of all rows,
+/// all lines are the same, and nothing changes.
+pub fn again<C: Clock, B: Book>()
+    ensures afterwards { (c d : C) (f g : B)
+        → TellsAfterwards (point (C.tells c) (B.state f)) (point (C.tells d) (B.state g)) }
+    ensures settled { (c d : C) (f g : B)
+        → TellsSettled (point (C.tells c) (B.state f)) (point (C.tells d) (B.state g)) }
+    ensures again { (c d e h : C) (f g i j : B)
+        → ImportsAgain (point (C.tells c) (B.state f)) (point (C.tells d) (B.state g))
+        (point (C.tells e) (B.state i)) (point (C.tells h) (B.state j)) }
+{
+    running_on();
+    one_request();
+    same_commands();
+}

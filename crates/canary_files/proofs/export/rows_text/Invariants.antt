@@ -1,7 +1,7 @@
 use Rattle.std.proofs.Common.{◌≡◌, ◌+◌, ◌++◌, drop}
 use Rattle.canary_once.specs.Records.{past_of}
 use Rattle.canary_files.specs.Written.{rows_text}
-use Rattle.canary_files.specs.Exporting.{Stays, name_of}
+use Rattle.canary_files.specs.Exporting.{Stays, name_of, IsLatest}
 use Rattle.canary_files.proofs.export.rows_text.Given as goal
 
 -- the rows so far, with those of the measurements that are left, are those of all
@@ -11,6 +11,7 @@ invariant-loop-i g l =
     let now = g.B.Book.state l.book in
     let name = name_of l.source.strategy (past_of old.contents l.source.service) in
     Stays old now
+    × IsLatest now l.source.service l.latest
     × (now.is_intact
     → l.records ++ rows_text l.source.caller l.source.service name (l.from + l.i) (drop l.i l.page)
     ≡ rows_text l.source.caller l.source.service name l.from l.page)

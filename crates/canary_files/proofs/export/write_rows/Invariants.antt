@@ -1,6 +1,6 @@
 use Rattle.std.proofs.Common.{◌≤◌, ◌-◌}
 use Rattle.canary_once.specs.Records.{past_of}
-use Rattle.canary_files.specs.Exporting.{Stays, name_of}
+use Rattle.canary_files.specs.Exporting.{Stays, name_of, IsLatest}
 use Rattle.canary_files.proofs.ExportLemmas.{SoFar}
 use Rattle.canary_files.proofs.export.write_rows.Given as goal
 
@@ -12,6 +12,7 @@ invariant-loop-next g l =
     let past = past_of old.contents l.source.service in
     Stays old now
     × (l.rows ≤ 1000000000)
+    × IsLatest now l.source.service l.latest
     × (now.is_intact → SoFar (g.W.Write.contents l.fn.out) (g.W.Write.contents l.out) l.source.caller l.source.service (name_of l.source.strategy past) past.measurements l.rows)
 
 abbrev pub decreases-loop-next : goal.decreases-loop-next
