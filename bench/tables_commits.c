@@ -1,6 +1,6 @@
 /* The statements that settle a request of the stream `one`, by libsqlite3: prepared once, one
- * transaction a request, WAL, synchronous FULL. Prints microseconds a request at 1,000, 10,000 and so
- * on settled requests, up to MOST, with the queries that come before the transaction (`all`), or
+ * transaction a request, WAL, synchronous FULL. Prints microseconds a request at 1,000, 10,000 and
+ * so on settled requests, up to MOST, with the queries that come before the transaction (`all`), or
  * without them (`commit`): tables_commits MOST PATH all|commit */
 #include <sqlite3.h>
 #include <stdio.h>
@@ -28,8 +28,8 @@ static const char *SCHEMA =
     " verdict INTEGER NOT NULL, PRIMARY KEY (service, number)) STRICT;"
     "CREATE INDEX run_open ON run (service, closed);"
     "INSERT INTO caller (name, settled) VALUES ('ops', 0);"
-    "INSERT INTO service (name, spec, stable, version, state, step, entered, hold, background, runs,"
-    " last) VALUES ('checkout', '{}', 'v1', 'v1', 2, 0, 1, 0, 0, 0, 1);";
+    "INSERT INTO service (name, spec, stable, version, state, step, entered, hold, background,"
+    " runs, last) VALUES ('checkout', '{}', 'v1', 'v1', 2, 0, 1, 0, 0, 0, 1);";
 
 static const char *TEXTS[STATEMENTS] = {
     "UPDATE caller SET settled = ?1 WHERE name = 'ops'",

@@ -1,48 +1,19 @@
-# Books in files, for tests/tables: `source` it behind functions.sh and sockets.sh. `work` is to be a
-# folder that the caller removes; `at` and `step` are the moment of the first message and the seconds
-# from one to the next.
-
-# Sets `tables_program` to the program of a book in a file: the proved one where no source is newer,
-# and else one that is built without proofs, and kept for the next time.
-find_tables_program() {
-    local folder=$root/crates/canary_tables_pipe/out
-    tables_program=$folder/canary_tables_pipe
-    is_current "$tables_program" canary_tables_pipe && return 0
-    tables_program=$folder/canary_unproved
-    is_current "$tables_program" canary_tables_pipe && return 0
-    need_rt
-    echo "building canary_tables_pipe without proofs, which takes some minutes" >&2
-    mkdir -p "$folder"
-    queries 8000 > "$work/queries"
-    build_without_proofs "$work/built" canary_tables_pipe book 0 1 < "$work/queries"
-    mv "$work/built" "$tables_program"
-}
-
-# So many queries of a service that is not there.
-queries() {
-    awk -v count="$1" 'BEGIN { while (count-- > 0) printf "GET /services/nobody HTTP/1.1\r\n\r\n" }'
-}
+# Books in files: `source` it behind functions.sh and sockets.sh, and call `find_program`. `work` is
+# to be a folder that the caller removes; `at` and `step` are the moment of the first message and the
+# seconds from one to the next.
 
 # Answers standard input over the file $1, from the moment $2 on.
 serve_file() {
-    "$tables_program" "$1" "$2" "$step"
+    "$desk_program" pipe --at "$2" --step "$step" --db "$1"
 }
 
-# What the program says of the file $1: `ok`, or why there is no book over it.
+# What the program says of the file $1: `ok`, or the word for why there is no book over it.
 opened() {
-    local said
     if serve_file "$1" "$at" < /dev/null > "$work/nothing" 2> "$work/why"; then
         echo ok
-        return 0
+    else
+        sed 's/^canary: //' "$work/why"
     fi
-    said=$(head -n 1 "$work/why")
-    case ${said#Error: } in
-        'out of memory') echo Memory ;;
-        'the store failed') echo Storage ;;
-        'the database has another schema') echo OtherSchema ;;
-        "a row is none of a desk's") echo BrokenRow ;;
-        *) echo "$said" ;;
-    esac
 }
 
 # Copies the file $1 with its log to $2.

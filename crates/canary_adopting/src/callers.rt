@@ -11,6 +11,7 @@ ghost use Rattle.canary_adopting.specs.Alone.{IsAlone, IsRead, only};
 ghost use Rattle.canary_adopting.specs.Judges.{FindsThat, RefusesUnless};
 
 use crate::fault::read_fault;
+use crate::progress::Progress;
 use crate::{alone, totals};
 use canary_base::lists::Listed;
 use canary_base::names::Name;
@@ -28,7 +29,11 @@ use std::alloc::Global;
 /// # Errors
 /// `Broken` where that is not so, `Memory` where there is not enough, `Storage` where the database
 /// fails or has more rows than are counted.
-pub(crate) fn judge<S: Alter>(conn: &mut Connection<S>, alloc: Global) -> Result<(), ReadFault>
+pub(crate) fn judge<S: Alter, G: Progress>(
+    conn: &mut Connection<S>,
+    alloc: Global,
+    progress: &mut G,
+) -> Result<(), ReadFault>
     requires autocommit { conn.old.in_transaction ≡ false }
     ensures mode { conn.new.in_transaction ≡ false }
     ensures same { IsSame (state S.Store conn.old) (state S.Store conn.new) }
@@ -38,16 +43,17 @@ pub(crate) fn judge<S: Alter>(conn: &mut Connection<S>, alloc: Global) -> Result
         (state S.Store conn.old) (state S.Store conn.new) result }
 {
     let callers = lists::callers(conn, alloc)?;
-    let settled = judge_each(conn, alloc, callers.as_slice())?;
+    let settled = judge_each(conn, alloc, callers.as_slice(), progress)?;
     let kept = lists::kept_count(conn)?;
     totals::are_all(settled, kept)
 }
 
 // How many requests of these callers are settled, where each is as it is to be.
-fn judge_each<S: Alter>(
+fn judge_each<S: Alter, G: Progress>(
     conn: &mut Connection<S>,
     alloc: Global,
     callers: &[CallerRow],
+    progress: &mut G,
 ) -> Result<u64, ReadFault>
     requires autocommit { conn.old.in_transaction ≡ false }
     ensures mode { conn.new.in_transaction ≡ false }
@@ -60,16 +66,17 @@ fn judge_each<S: Alter>(
 {
     let mut settled = 0;
     for caller in callers {
-        judge_one(conn, alloc, caller)?;
+        judge_one(conn, alloc, caller, progress)?;
         settled = totals::sum(settled, u64::from(caller.settled))?;
     }
     Ok(settled)
 }
 
-fn judge_one<S: Alter>(
+fn judge_one<S: Alter, G: Progress>(
     conn: &mut Connection<S>,
     alloc: Global,
     caller: &CallerRow,
+    progress: &mut G,
 ) -> Result<(), ReadFault>
     requires autocommit { conn.old.in_transaction ≡ false }
     ensures mode { conn.new.in_transaction ≡ false }
@@ -83,7 +90,7 @@ fn judge_one<S: Alter>(
     if !is_alone(rows, caller) || !is_number(caller.settled) {
         return Err(ReadFault::Broken);
     }
-    judge_receipts(conn, alloc, &caller.name, caller.settled)
+    judge_receipts(conn, alloc, &caller.name, caller.settled, progress)
 }
 
 fn is_alone(rows: Listed<CallerRow>, caller: &CallerRow) -> bool
@@ -109,11 +116,12 @@ fn is_number(number: u32) -> bool
 }
 
 // That each of the caller's numbers from 1 to that one has one receipt.
-fn judge_receipts<S: Alter>(
+fn judge_receipts<S: Alter, G: Progress>(
     conn: &mut Connection<S>,
     alloc: Global,
     caller: &Name,
     settled: u32,
+    progress: &mut G,
 ) -> Result<(), ReadFault>
     requires autocommit { conn.old.in_transaction ≡ false }
     ensures mode { conn.new.in_transaction ≡ false }
@@ -127,6 +135,7 @@ fn judge_receipts<S: Alter>(
 {
     for before in 0..settled {
         judge_receipt(conn, alloc, caller, before + 1)?;
+        progress.judged(1);
     }
     Ok(())
 }

@@ -1,22 +1,29 @@
 //! Judging the tables of a desk.
-ghost use Rattle.std.specs.Prelude.{◌≡◌, false};
+ghost use Rattle.std.specs.Prelude.{◌≡◌, ◌≢◌, false, Err};
 ghost use Rattle.sqlite.specs.Held.{state};
 ghost use Rattle.canary_judging.specs.Services.{IsJudged};
 ghost use Rattle.canary_reads.specs.Finds.{IsSame};
 ghost use Rattle.canary_adopting.specs.Judges.{FindsThat, RefusesUnless};
 
+use crate::progress::Progress;
 use crate::{callers, services, templates};
 use canary_reads::fault::ReadFault;
+use canary_reads::lists;
 use sqlite::{Alter, Connection};
 use std::alloc::Global;
 
 /// That the tables are those of sound contents: their callers, their templates and their services,
-/// row by row. Nothing is changed.
+/// row by row. Nothing is changed. `progress` is told how many rows there are, and how many more of
+/// them were judged.
 ///
 /// # Errors
 /// `Broken` where that is not so, or where a row is none that a program can hold; `Memory` where
 /// there is not enough; `Storage` where the database fails, or has more rows than are counted.
-pub fn judge<S: Alter>(conn: &mut Connection<S>, alloc: Global) -> Result<(), ReadFault>
+pub fn judge<S: Alter, G: Progress>(
+    conn: &mut Connection<S>,
+    alloc: Global,
+    progress: &mut G,
+) -> Result<(), ReadFault>
     requires autocommit { conn.old.in_transaction ≡ false }
     ensures mode { conn.new.in_transaction ≡ false }
     ensures same { IsSame (state S.Store conn.old) (state S.Store conn.new) }
@@ -24,7 +31,48 @@ pub fn judge<S: Alter>(conn: &mut Connection<S>, alloc: Global) -> Result<(), Re
     ensures refused { RefusesUnless IsJudged
         (state S.Store conn.old) (state S.Store conn.new) result }
 {
-    callers::judge(conn, alloc)?;
+    progress.begin(count_rows(conn)?);
+    judge_all(conn, alloc, progress)
+}
+
+// How many rows are judged one by one.
+fn count_rows<S: Alter>(conn: &mut Connection<S>) -> Result<u64, ReadFault>
+    requires autocommit { conn.old.in_transaction ≡ false }
+    ensures mode { conn.new.in_transaction ≡ false }
+    ensures same { IsSame (state S.Store conn.old) (state S.Store conn.new) }
+    ensures whole { result ≢ Err ReadFault.Broken }
+{
+    let kept = lists::kept_count(conn)?;
+    let measured = lists::measurement_count(conn)?;
+    let others = count_others(conn)?;
+    Ok(kept.saturating_add(measured).saturating_add(others))
+}
+
+fn count_others<S: Alter>(conn: &mut Connection<S>) -> Result<u64, ReadFault>
+    requires autocommit { conn.old.in_transaction ≡ false }
+    ensures mode { conn.new.in_transaction ≡ false }
+    ensures same { IsSame (state S.Store conn.old) (state S.Store conn.new) }
+    ensures whole { result ≢ Err ReadFault.Broken }
+{
+    let runs = lists::run_count(conn)?;
+    let tallies = lists::tally_count(conn)?;
+    let lines = lists::history_count(conn)?;
+    Ok(runs.saturating_add(tallies).saturating_add(lines))
+}
+
+fn judge_all<S: Alter, G: Progress>(
+    conn: &mut Connection<S>,
+    alloc: Global,
+    progress: &mut G,
+) -> Result<(), ReadFault>
+    requires autocommit { conn.old.in_transaction ≡ false }
+    ensures mode { conn.new.in_transaction ≡ false }
+    ensures same { IsSame (state S.Store conn.old) (state S.Store conn.new) }
+    ensures judged { FindsThat IsJudged (state S.Store conn.old) (state S.Store conn.new) result }
+    ensures refused { RefusesUnless IsJudged
+        (state S.Store conn.old) (state S.Store conn.new) result }
+{
+    callers::judge(conn, alloc, progress)?;
     templates::judge(conn, alloc)?;
-    services::judge(conn, alloc)
+    services::judge(conn, alloc, progress)
 }

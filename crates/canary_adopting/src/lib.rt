@@ -7,6 +7,7 @@ mod counts;
 mod fault;
 mod histories;
 pub mod judge;
+pub mod progress;
 mod runs;
 mod service;
 mod services;

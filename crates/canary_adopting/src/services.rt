@@ -8,6 +8,7 @@ ghost use Rattle.canary_adopting.specs.Judges.{FindsThat, RefusesUnless};
 ghost use Rattle.canary_adopting.specs.OneService.{FindsJudged, RefusesJudged};
 ghost use Rattle.canary_adopting.specs.OneService.{IsServiceUnder, AreServicesFound, HaveTotals};
 
+use crate::progress::Progress;
 use crate::service;
 use crate::totals::{self, Totals};
 use canary_base::names::Name;
@@ -23,7 +24,11 @@ use std::alloc::Global;
 /// # Errors
 /// `Broken` where that is not so, `Memory` where there is not enough, `Storage` where the database
 /// fails or has more rows than are counted.
-pub(crate) fn judge<S: Alter>(conn: &mut Connection<S>, alloc: Global) -> Result<(), ReadFault>
+pub(crate) fn judge<S: Alter, G: Progress>(
+    conn: &mut Connection<S>,
+    alloc: Global,
+    progress: &mut G,
+) -> Result<(), ReadFault>
     requires autocommit { conn.old.in_transaction ≡ false }
     ensures mode { conn.new.in_transaction ≡ false }
     ensures same { IsSame (state S.Store conn.old) (state S.Store conn.new) }
@@ -34,15 +39,16 @@ pub(crate) fn judge<S: Alter>(conn: &mut Connection<S>, alloc: Global) -> Result
 {
     laws::totals();
     let names = lists::service_names(conn, alloc)?;
-    let totals = judge_each(conn, alloc, names.as_slice())?;
+    let totals = judge_each(conn, alloc, names.as_slice(), progress)?;
     are_all(conn, &totals)
 }
 
 // How much the services of these names have.
-fn judge_each<S: Alter>(
+fn judge_each<S: Alter, G: Progress>(
     conn: &mut Connection<S>,
     alloc: Global,
     names: &[Name],
+    progress: &mut G,
 ) -> Result<Totals, ReadFault>
     requires autocommit { conn.old.in_transaction ≡ false }
     ensures mode { conn.new.in_transaction ≡ false }
@@ -56,6 +62,7 @@ fn judge_each<S: Alter>(
     for name in names {
         let more = service::judge(conn, alloc, name)?;
         totals = totals.with(more)?;
+        progress.judged(more.rows());
     }
     Ok(totals)
 }

@@ -46,6 +46,14 @@ impl Totals {
             lines: sum(self.lines, more.lines)?,
         })
     }
+
+    /// How many rows these are.
+    pub(crate) fn rows(self) -> u64 {
+        self.runs
+            .saturating_add(self.tallies)
+            .saturating_add(self.measurements)
+            .saturating_add(self.lines)
+    }
 }
 
 /// That so many rows are all that the table has, by its count. `Broken` where they are not,

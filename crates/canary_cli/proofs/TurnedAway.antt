@@ -3,9 +3,9 @@ use Rattle.std.proofs.Common.{◌≡◌, ℕ, [], subst, inl, inr}
 use Rattle.clap.specs.Words.{IsAmong, Kinds}
 use Rattle.clap.specs.declared.error.kind.ErrorKind.TheVariants.{DisplayHelp, DisplayVersion}
 use Rattle.canary_wire.specs.Writes.{Known}
-use Rattle.canary_cli.specs.declared.words.WordsFault.{WordsFault}
-use Rattle.canary_cli.specs.declared.words.WordsFault.TheVariants.{Help, Usage, Memory}
-use Rattle.canary_cli.specs.CommandLine.{IsFor}
+use Rattle.canary_words.specs.declared.words.WordsFault.{WordsFault}
+use Rattle.canary_words.specs.declared.words.WordsFault.TheVariants.{Help, Usage, Memory}
+use Rattle.canary_words.specs.CommandLine.{IsFor}
 use Rattle.canary_cli.specs.Performed.{IsTold}
 
 -- only since memory ran out: they neither ask for help or for the version nor have a mistake

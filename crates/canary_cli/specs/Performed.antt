@@ -1,5 +1,5 @@
 -- What a command line comes to: what is read, what is written, and the exit status.
-use Rattle.std.specs.Prelude.{◌≡◌, ◌≢◌, ◌⊎◌, ◌++◌, ℕ, Bool, true, false, List, [], ◌∷◌, Option, Some, None, Result, Ok, Err, codes, string_bytes}
+use Rattle.std.specs.Prelude.{◌≡◌, ◌≢◌, ◌⊎◌, ℕ, Bool, true, false, List, [], Option, Some, None, Result, Ok, Err, codes, string_bytes}
 use Rattle.std.specs.Io.KnownBytes.{Appends}
 use Rattle.clap.specs.Words.{Kinds, Text}
 use Rattle.canary_once.specs.Contents.{Contents, no_contents}
@@ -8,44 +8,25 @@ use Rattle.canary_wire.specs.Exchanges.{Point, point}
 use Rattle.canary_wire.specs.Serving.{ServesTo, ServesSome, ServesUntil}
 use Rattle.canary_wire.specs.Writes.{Known}
 use Rattle.canary_wire.specs.declared.serve.Ended.{Ended}
-use Rattle.canary_wire.specs.declared.serve.Ended.TheVariants.{EndOfInput, Closed, Truncated, TurnsSpent}
 use Rattle.canary_wire.specs.declared.serve.ServeFault.{ServeFault}
 use Rattle.canary_wire.specs.declared.serve.ServeFault.TheVariants.{Read, Write, Memory}
-use Rattle.canary_cli.specs.declared.perform.Fault.{Fault}
-use Rattle.canary_cli.specs.declared.perform.Fault.TheVariants as fault
+use Rattle.canary_database.specs.declared.fault.Fault.{Fault}
+use Rattle.canary_database.specs.declared.fault.Fault.TheVariants as fault
+use Rattle.canary_database.specs.Faults.{done_of}
 use Rattle.canary_cli.specs.declared.perform.Outcome.{Outcome}
 use Rattle.canary_cli.specs.declared.perform.Outcome.TheVariants.{Done, Findings}
-use Rattle.canary_cli.specs.declared.words.Program.{Program}
-use Rattle.canary_cli.specs.declared.words.Program.TheVariants.{Pipe, Serve, Check}
-use Rattle.canary_cli.specs.declared.words.WordsFault.{WordsFault}
-use Rattle.canary_cli.specs.declared.words.WordsFault.TheVariants.{Help, Usage, Memory as NoMemory}
-use Rattle.canary_cli.specs.CommandLine.{IsFor, faults_of, program_of}
+use Rattle.canary_words.specs.declared.words.Program.{Program}
+use Rattle.canary_words.specs.declared.words.Program.TheVariants.{Pipe, Serve, Import, History, Export, Status, Backup, Check}
+use Rattle.canary_words.specs.declared.words.WordsFault.{WordsFault}
+use Rattle.canary_words.specs.declared.words.WordsFault.TheVariants.{Help, Usage, Memory as NoMemory}
+use Rattle.canary_words.specs.CommandLine.{IsFor, faults_of, program_of}
 
 -- ---- faults and statuses
 
-abbrev pub word_of : Fault → List ℕ
-word_of fault.Memory = codes "memory"
-word_of fault.Read = codes "read"
-word_of fault.Write = codes "write"
-word_of fault.Truncated = codes "truncated"
-word_of fault.TurnsSpent = codes "turns-spent"
-word_of fault.Listen = codes "listen"
-word_of fault.Accept = codes "accept"
-word_of fault.File = codes "file"
-
--- `canary: WORD` and a line end
-abbrev pub line_of : Fault → List ℕ
-line_of f = codes "canary: " ++ word_of f ++ 10 ∷ []
-
--- whether a stream that was served so was served to its end, or the fault
-abbrev pub done_of : Result Ended ServeFault → Result Outcome Fault
-done_of (Ok EndOfInput) = Ok Done
-done_of (Ok Closed) = Ok Done
-done_of (Ok Truncated) = Err fault.Truncated
-done_of (Ok TurnsSpent) = Err fault.TurnsSpent
-done_of (Err Read) = Err fault.Read
-done_of (Err Write) = Err fault.Write
-done_of (Err Memory) = Err fault.Memory
+-- what comes of a program that finds nothing
+abbrev pub outcome_of : Result (Unit {0}) Fault → Result Outcome Fault
+outcome_of (Ok _) = Ok Done
+outcome_of (Err f) = Err f
 
 -- 0 where it was done, and 1 for findings or a fault
 abbrev pub status_of : Result Outcome Fault → ℕ
@@ -79,8 +60,8 @@ IsServed r new_r w new_w start (Err Write) =
     (end : Standing) × ServesUntil r new_r w new_w (point_of start) (point_of end)
 IsServed r new_r w new_w start (Err Memory) = (new_r ≡ r) × (new_w ≡ w)
 
--- `pipe` served its input on its output from a fresh desk, and this says whether to its end
-abbrev pub IsPiped : Known → Known → Known → Known → ℕ → ℕ → Result Outcome Fault → Type 0
+-- `pipe` served its input on its output from a fresh desk in memory, and this says whether to its end
+abbrev pub IsPiped : Known → Known → Known → Known → ℕ → ℕ → Result (Unit {0}) Fault → Type 0
 IsPiped r new_r w new_w at step done = (served : Result Ended ServeFault)
     × (done ≡ done_of served) × IsServed r new_r w new_w (fresh at step) served
 
@@ -97,29 +78,38 @@ IsJudged taken w new_w (Err f) = (f ≡ fault.Memory) ⊎ (f ≡ fault.Write)
 abbrev pub IsChecked : Known → Known → Result Outcome Fault → Type 0
 IsChecked w new_w done = done ≡ Ok Done → Appends w new_w (codes "ok\n")
 
--- the program was run so; `pipe` alone reads the input
+-- the program was run so; `pipe` and `import` alone read the input
 abbrev pub IsRun : Known → Known → Known → Known → Program → Result Outcome Fault → Type 0
-IsRun r new_r w new_w (Pipe at step) done = IsPiped r new_r w new_w at step done
-IsRun r new_r w new_w (Serve listen connections limits) done = new_r ≡ r
+IsRun r new_r w new_w (Pipe at step None) done =
+    (piped : Result (Unit {0}) Fault) × (done ≡ outcome_of piped) × IsPiped r new_r w new_w at step piped
+IsRun r new_r w new_w (Pipe at step (Some db)) done = Unit {0}
+IsRun r new_r w new_w (Serve listen db connections limits) done = new_r ≡ r
+IsRun r new_r w new_w (Import db csv) done = Unit {0}
+IsRun r new_r w new_w (History db service) done = new_r ≡ r
+IsRun r new_r w new_w (Export db caller service) done = new_r ≡ r
+IsRun r new_r w new_w (Status db watch) done = new_r ≡ r
+IsRun r new_r w new_w (Backup db copy) done = new_r ≡ r
 IsRun r new_r w new_w (Check file) done = (new_r ≡ r) × IsChecked w new_w done
 
--- `pipe` ended with this exit status
+-- `pipe` in memory ended with this exit status
 abbrev pub IsPipedTo : Known → Known → Known → Known → ℕ → ℕ → ℕ → Type 0
-IsPipedTo r new_r w new_w at step status = (done : Result Outcome Fault)
-    × (status ≡ status_of done) × IsPiped r new_r w new_w at step done
+IsPipedTo r new_r w new_w at step status = (piped : Result (Unit {0}) Fault)
+    × (status ≡ status_of (outcome_of piped)) × IsPiped r new_r w new_w at step piped
 
--- it serves clients on a socket
-abbrev pub IsServer : Program → Type 0
-IsServer (Serve listen connections limits) = Unit {0}
-IsServer _ = ⊥
+-- it may write on the error stream though it is done: how connections ended, or, on a terminal, how far it has come
+abbrev pub MayTell : Program → Type 0
+MayTell (Pipe at step None) = ⊥
+MayTell (Backup db copy) = ⊥
+MayTell (Check file) = ⊥
+MayTell _ = Unit {0}
 
-abbrev pub IsSomeServer : Option Program → Type 0
-IsSomeServer None = ⊥
-IsSomeServer (Some program) = IsServer program
+abbrev pub IsOneThatTells : Option Program → Type 0
+IsOneThatTells None = ⊥
+IsOneThatTells (Some program) = MayTell program
 
--- the words are those of `serve`
-abbrev pub AsksToServe : List Text → Type 0
-AsksToServe words = (faults_of words ≡ []) × IsSomeServer (program_of words)
+-- the words are those of a program that may
+abbrev pub AsksForOneThatTells : List Text → Type 0
+AsksForOneThatTells words = (faults_of words ≡ []) × IsOneThatTells (program_of words)
 
 -- ---- what comes of words that have no program
 

@@ -4,7 +4,8 @@ ghost use Rattle.std.specs.Io.KnownBytes.{Appends};
 ghost use Rattle.canary_check.specs.Taken.{is_taken};
 ghost use Rattle.canary_cli.specs.Performed.{IsJudged};
 
-use crate::perform::{Fault, Outcome, show};
+use crate::perform::{Outcome, show};
+use canary_database::fault::Fault;
 use std::alloc::Global;
 use std::fs::{File, Files};
 use std::io::{self, ErrorKind, Read, Write};

@@ -1,26 +1,29 @@
 //! Running a command line.
-ghost use Rattle.std.specs.Prelude.{◌≡◌, ◌↔◌, ℕ, List, Some, Ok, Err, OnOk, IfErr, [], map, codes};
-ghost use Rattle.std.specs.Prelude.{string_bytes};
+ghost use Rattle.std.specs.Prelude.{◌≡◌, ◌↔◌, ℕ, List, Some, None, Ok, Err, OnOk, IfErr, [], map};
+ghost use Rattle.std.specs.Prelude.{codes, string_bytes};
 ghost use Rattle.std.specs.IoError.{error_kind};
 ghost use Rattle.std.specs.Io.KnownBytes.{Appends};
-ghost use Rattle.canary_cli.specs.CommandLine.{faults_of, program_of};
-ghost use Rattle.canary_cli.specs.Performed.{done_of, line_of, status_of};
+ghost use Rattle.canary_words.specs.CommandLine.{faults_of, program_of};
+ghost use Rattle.canary_cli.specs.Performed.{outcome_of, status_of};
 ghost use Rattle.canary_cli.specs.Performed.{IsPiped, IsPipedTo, IsRun, IsTold, IsTurnedAway};
-ghost use Rattle.canary_cli.specs.Performed.{AsksToServe, IsServer};
+ghost use Rattle.canary_cli.specs.Performed.{MayTell, AsksForOneThatTells};
 
 use crate::check::check;
-use crate::serve::serve;
-use crate::words::{Program, WordsFault, read_words};
+use canary_base::lists::Text;
 use canary_base::moments::Moment;
+use canary_database::backup::backup;
+use canary_database::export::export;
+use canary_database::fault::{Fault, done_of};
+use canary_database::history::history;
+use canary_database::import::import;
+use canary_database::status::{Drawing, status};
+use canary_database::{pipe, serve};
+use canary_listen::limits::Limits;
 use canary_once::clock::StepClock;
 use canary_once::memory::MemoryBook;
-use canary_wire::serve::{Ended, ServeFault};
+use canary_words::words::{Program, WordsFault, read_words};
 use std::alloc::Global;
-use std::error::Error;
-use std::fs::Files;
 use std::io::{self, ErrorKind, Read, Write};
-use std::net::Net;
-use std::{fmt, time};
 
 /// The exit status where what was asked was done.
 pub const DONE: u8 = 0;
@@ -45,79 +48,33 @@ pub enum Outcome {
     Findings,
 }
 
-/// Why what was asked was not done to its end.
+/// Which of the process's streams are terminals.
 #[derive(Clone, Copy, Debug, PartialEq, Eq)]
-pub enum Fault {
-    /// An allocation was refused.
-    Memory,
-    /// The input failed.
-    Read,
-    /// The output failed.
-    Write,
-    /// The input ended in the midst of a message.
-    Truncated,
-    /// The input went on after the most reads.
-    TurnsSpent,
-    /// The address is none, or cannot be listened on.
-    Listen,
-    /// The system gives no more connections.
-    Accept,
-    /// The file cannot be read, or is too long.
-    File,
-}
-
-impl fmt::Display for Fault {
-    fn fmt<W: fmt::Write>(&self, f: &mut fmt::Formatter<W>) -> fmt::Result {
-        f.write_str(match self {
-            Fault::Memory => "out of memory",
-            Fault::Read => "the input failed",
-            Fault::Write => "the output failed or was closed",
-            Fault::Truncated => "the input ended in the midst of a message",
-            Fault::TurnsSpent => "the input went on after 1,000,000,000 reads",
-            Fault::Listen => "the address is none, or cannot be listened on",
-            Fault::Accept => "the system gives no more connections",
-            Fault::File => "the file cannot be read, or is too long",
-        })
-    }
-}
-
-impl Error for Fault {}
-
-impl Fault {
-    // The line that names it on the error stream.
-    fn line(self) -> &'static str
-        ensures { result.now ≡ line_of self }
-    {
-        match self {
-            Fault::Memory => "canary: memory\n",
-            Fault::Read => "canary: read\n",
-            Fault::Write => "canary: write\n",
-            Fault::Truncated => "canary: truncated\n",
-            Fault::TurnsSpent => "canary: turns-spent\n",
-            Fault::Listen => "canary: listen\n",
-            Fault::Accept => "canary: accept\n",
-            Fault::File => "canary: file\n",
-        }
-    }
+pub struct Terminals {
+    /// Standard output.
+    pub output: bool,
+    /// Standard error.
+    pub errors: bool,
 }
 
 /// Runs a command line, the words behind the program's name, on this input, output and error
-/// stream, with the machine's files, sockets and clocks, and answers the exit status.
+/// stream, with the machine's files, sockets and clocks, and answers the exit status. Long work
+/// shows on `errors` how far it has come, where that is a terminal.
 ///
 /// 0: what was asked was done, or help or the version was asked for, whose text is written to
 /// `output`. 1: a check found something, or a fault, which one line `canary: WORD` on `errors`
-/// names (`memory`, `read`, `write`, `truncated`, `turns-spent`, `listen`, `accept`, `file`). 2:
-/// the command line is none that the desk takes, and `errors` has the text that says why. A fault
-/// of `errors` itself is ignored.
-pub fn perform<P: Files + Net + time::Clock + AllocGlobal, R: Read, W: Write, F: Write>(
-    rt: &P,
+/// names (`canary_database::fault::Fault::line`). 2: the command line is none that the desk takes,
+/// and `errors` has the text that says why. A fault of `errors` itself is ignored.
+pub fn perform<R: Read, W: Write, F: Write>(
+    rt: &HostRuntime,
     words: &[String],
     input: &mut R,
     output: &mut W,
     errors: &mut F,
+    terminals: Terminals,
 ) -> u8
     ensures piped { (at step : ℕ) → faults_of (map string_bytes words.now) ≡ []
-        → program_of (map string_bytes words.now) ≡ Some (Program.Pipe at step)
+        → program_of (map string_bytes words.now) ≡ Some (Program.Pipe at step None)
         → IsPipedTo (R.remaining input.old) (R.remaining input.new)
         (W.contents output.old) (W.contents output.new) at step result }
     ensures checked { (file : List ℕ) → faults_of (map string_bytes words.now) ≡ []
@@ -127,11 +84,11 @@ pub fn perform<P: Files + Net + time::Clock + AllocGlobal, R: Read, W: Write, F:
         → IsTurnedAway (faults_of (map string_bytes words.now))
         (W.contents output.old) (W.contents output.new) result }
     ensures unread { (faults_of (map string_bytes words.now) ≡ [] → ⊥) → input.new ≡ input.old }
-    ensures quiet { result ≡ DONE → (AsksToServe (map string_bytes words.now) → ⊥)
-        → errors.new ≡ errors.old }
+    ensures quiet { result ≡ DONE
+        → (AsksForOneThatTells (map string_bytes words.now) → ⊥) → errors.new ≡ errors.old }
 {
     match read_words(rt.alloc(), words) {
-        Ok(program) => finish(run(rt, program, input, output, errors), errors),
+        Ok(program) => finish(run(rt, program, input, output, errors, terminals), errors),
         Err(fault) => turn_away(&fault, output, errors),
     }
 }
@@ -167,57 +124,114 @@ pub fn refuse<F: Write>(error: &io::Error, errors: &mut F) -> u8
     fail(Fault::Memory, errors)
 }
 
-fn run<P: Files + Net + time::Clock + AllocGlobal, R: Read, W: Write, F: Write>(
-    rt: &P,
+fn run<R: Read, W: Write, F: Write>(
+    rt: &HostRuntime,
     program: Program,
     input: &mut R,
     output: &mut W,
     errors: &mut F,
+    terminals: Terminals,
 ) -> Result<Outcome, Fault>
     ensures ran { IsRun (R.remaining input.old) (R.remaining input.new)
         (W.contents output.old) (W.contents output.new) program result }
-    ensures quiet { (IsServer program → ⊥) → errors.new ≡ errors.old }
+    ensures quiet { (MayTell program → ⊥) → errors.new ≡ errors.old }
 {
+    let shows = terminals.errors;
     match program {
-        Program::Pipe { at, step } => pipe(rt.alloc(), at, step, input, output),
+        Program::Pipe { at, step, db } => match db {
+            None => done(pipe(rt.alloc(), at, step, input, output)),
+            Some(db) => {
+                let db = db.as_str();
+                done(pipe::pipe(rt, at, step, db, input, output, errors, shows))
+            }
+        },
         Program::Serve {
             listen,
+            db,
             connections,
             limits,
-        } => serve(rt, listen.as_str(), connections, limits, output, errors),
+        } => {
+            let place = Place { listen, db };
+            done(serve(rt, &place, connections, limits, output, errors, shows))
+        }
+        Program::Import { db, csv } => {
+            let (db, csv) = (db.as_str(), csv.as_str());
+            done(import(rt, db, csv, input, output, errors, shows))
+        }
         Program::Check { file } => check(rt, file.as_str(), output),
+        Program::Backup { db, copy } => done(backup(rt, db.as_str(), copy.as_str())),
+        Program::History { db, service } => {
+            let (db, service) = (db.as_str(), service.as_str());
+            done(history(rt, db, service, output, errors, shows))
+        }
+        Program::Export {
+            db,
+            caller,
+            service,
+        } => {
+            let (db, caller, service) = (db.as_str(), caller.as_str(), service.as_str());
+            done(export(rt, db, caller, service, output, errors, shows))
+        }
+        Program::Status { db, watch } => {
+            let drawing = Drawing {
+                every: watch,
+                is_terminal: terminals.output,
+            };
+            done(status(rt, db.as_str(), drawing, output, errors, shows))
+        }
     }
 }
 
-// Answers HTTP from `input` on `output`. The first message is at `at`, and each later one `step`
-// seconds after the one before it.
+// Where a desk listens, and the file that it works on.
+#[derive(Drop)]
+struct Place {
+    listen: Text,
+    db: Option<Text>,
+}
+
+// Serves clients, over the desk in a file where there is one.
+fn serve<W: Write, F: Write>(
+    rt: &HostRuntime,
+    place: &Place,
+    connections: Option<u64>,
+    limits: Limits,
+    output: &mut W,
+    errors: &mut F,
+    shows: bool,
+) -> Result<(), Fault> {
+    let listen = place.listen.as_str();
+    let file = match &place.db {
+        Some(db) => Some(db.as_str()),
+        None => None,
+    };
+    serve::serve(rt, listen, file, connections, limits, output, errors, shows)
+}
+
+// What comes of a program that finds nothing.
+fn done(ended: Result<(), Fault>) -> Result<Outcome, Fault>
+    ensures { result ≡ outcome_of ended }
+{
+    match ended {
+        Ok(()) => Ok(Outcome::Done),
+        Err(fault) => Err(fault),
+    }
+}
+
+// Answers HTTP from `input` on `output`, with records in memory. The first message is at `at`, and
+// each later one `step` seconds after the one before it.
 fn pipe<R: Read, W: Write>(
     alloc: Global,
     at: Moment,
     step: Moment,
     input: &mut R,
     output: &mut W,
-) -> Result<Outcome, Fault>
+) -> Result<(), Fault>
     ensures { IsPiped (R.remaining input.old) (R.remaining input.new)
         (W.contents output.old) (W.contents output.new) at step result }
 {
     let mut clock = StepClock::new(at, step);
     let mut book = MemoryBook::new(alloc);
     done_of(canary_wire::serve::serve(alloc, input, output, &mut clock, &mut book))
-}
-
-// Whether a stream that was served so was served to its end.
-fn done_of(served: Result<Ended, ServeFault>) -> Result<Outcome, Fault>
-    ensures { result ≡ done_of served }
-{
-    match served {
-        Ok(Ended::EndOfInput | Ended::Closed) => Ok(Outcome::Done),
-        Ok(Ended::Truncated) => Err(Fault::Truncated),
-        Ok(Ended::TurnsSpent) => Err(Fault::TurnsSpent),
-        Err(ServeFault::Read) => Err(Fault::Read),
-        Err(ServeFault::Write) => Err(Fault::Write),
-        Err(ServeFault::Memory) => Err(Fault::Memory),
-    }
 }
 
 // Writes a text out.

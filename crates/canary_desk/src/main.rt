@@ -2,19 +2,25 @@
 //! process's own streams.
 #![tactic(auto)]
 
-use canary_cli::perform::{perform, refuse};
-use canary_cli::process::words_of;
+use canary_cli::perform::{Terminals, perform, refuse};
+use canary_words::process::words_of;
+use std::io::IsTerminal;
 use std::process::ExitCode;
 
 fn main(rt: HostRuntime) -> ExitCode {
-    let mut errors = rt.stderr();
+    let (mut output, mut errors) = (rt.stdout(), rt.stderr());
+    let terminals = Terminals {
+        output: output.is_terminal(),
+        errors: errors.is_terminal(),
+    };
     let status = match words_of(&rt, rt.alloc()) {
         Ok(words) => perform(
             &rt,
             words.as_slice(),
             &mut rt.stdin(),
-            &mut rt.stdout(),
+            &mut output,
             &mut errors,
+            terminals,
         ),
         Err(error) => refuse(&error, &mut errors),
     };

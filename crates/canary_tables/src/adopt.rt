@@ -12,6 +12,7 @@ ghost use Rattle.canary_tables.specs.declared.fault.TableFault.TheVariants as fa
 use crate::book::TableBook;
 use crate::fault::{Left, TableFault};
 use canary_adopting::judge::judge;
+use canary_adopting::progress::Progress;
 use canary_judging::laws as judging_laws;
 use canary_reads::typed::{has_meta, typed};
 use canary_schema::anew::open_anew;
@@ -71,10 +72,11 @@ fn index<S: Alter>(conn: &mut Connection<S>) -> Result<(), StoreFault>
 }
 
 // Believes rows that are those of tables of sound contents, and adds the indexes that are missing.
-fn believe<S: Alter>(
+fn believe<S: Alter, G: Progress>(
     conn: &mut Connection<S>,
     alloc: Global,
     is_whole: bool,
+    progress: &mut G,
 ) -> Result<(), TableFault>
     requires autocommit { conn.old.in_transaction ≡ false }
     requires known { IsDeskSchema (state S.Store conn.old).now.schema }
@@ -98,14 +100,15 @@ fn believe<S: Alter>(
     schema_laws::one_reading();
     has_rows(conn, is_whole)?;
     index(conn)?;
-    judge(conn, alloc)?;
+    judge(conn, alloc, progress)?;
     Ok(())
 }
 
 impl<S: Alter + Drop> TableBook<S> {
     /// Makes a book of a database that has a desk's tables, which contains what their rows stand
     /// for. The store is opened anew, and each row is read and judged before it is believed. Where
-    /// the desk's three indexes are missing, they are added; no row is changed.
+    /// the desk's three indexes are missing, they are added; no row is changed. `progress` is told
+    /// how many rows there are to be judged, and as they are.
     ///
     /// # Errors
     ///
@@ -114,7 +117,11 @@ impl<S: Alter + Drop> TableBook<S> {
     /// `Memory` where an allocation was refused; `Storage` where the store failed, or the
     /// connection stands inside a transaction. What is left of the connection is handed back, with
     /// the same rows.
-    pub fn adopt(alloc: Global, conn: Connection<S>) -> Result<TableBook<S>, (TableFault, Left<S>)>
+    pub fn adopt<G: Progress>(
+        alloc: Global,
+        conn: Connection<S>,
+        progress: &mut G,
+    ) -> Result<TableBook<S>, (TableFault, Left<S>)>
         ensures adopted { IfOk result (λ book. IsUsable (state S.Store book)
             → IsAdopted (state S.Store conn) (state S.Store book)) }
         ensures other { IfErr result (λ e. e.0 ≡ fault.OtherSchema → TellsTables S.Store e.1
@@ -137,7 +144,7 @@ impl<S: Alter + Drop> TableBook<S> {
         if !is_known(conn.schema()) {
             return Err((TableFault::Storage, Left::Connection(conn)));
         }
-        match believe(&mut conn, alloc, is_whole) {
+        match believe(&mut conn, alloc, is_whole, progress) {
             Ok(()) => Ok(TableBook { alloc, conn }),
             Err(fault) => Err((fault, Left::Connection(conn))),
         }

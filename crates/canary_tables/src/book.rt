@@ -40,7 +40,7 @@ impl<S: Alter> Model for TableBook<S> {
     ghost invariant = { λ b. IsBook S.Store b.conn };
 }
 
-fn book_fault(fault: StoreFault) -> BookFault {
+pub(crate) fn book_fault(fault: StoreFault) -> BookFault {
     match fault {
         StoreFault::Memory => BookFault::Memory,
         StoreFault::Storage => BookFault::Storage,

@@ -13,6 +13,9 @@ pub enum TableFault {
     /// The store failed.
     #[error("the store failed")]
     Storage,
+    /// Another program has the file open.
+    #[error("the file is in use")]
+    InUse,
     /// The database has other tables, indexes or views than a desk's.
     #[error("the database has another schema")]
     OtherSchema,

@@ -9,6 +9,7 @@ pub mod fault;
 mod found;
 mod found_runs;
 mod found_services;
+mod names;
 pub mod open;
 mod pages;
 mod settle;

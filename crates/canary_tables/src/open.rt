@@ -1,25 +1,40 @@
 //! A book over a file.
 use crate::book::TableBook;
 use crate::fault::TableFault;
+use canary_adopting::progress::Progress;
 use canary_schema::fault::fault_of;
 use canary_schema::known::is_empty;
-use sqlite::{Connection, File, FileStore};
+use sqlite::{Connection, Error, ErrorCode, File, FileStore};
 
 impl TableBook<FileStore<File>> {
     /// Opens the file of SQLite at a path as a book, or makes it. An empty database, as that of a
-    /// new file, becomes a desk's (`create`); any other is read through and adopted (`adopt`), and
-    /// no row of it is changed. A log stands beside the file, which belongs to it.
+    /// new file, becomes a desk's (`create`); any other is read through and adopted (`adopt`), of
+    /// which `progress` is told, and no row of it is changed. A log stands beside the file, which
+    /// belongs to it. As long as the book is there, nobody else can open the file.
     ///
     /// # Errors
     ///
-    /// `Memory` where an allocation was refused; `Storage` where the file cannot be opened, is no
-    /// database, or fails; `OtherSchema` where it has tables, and not just a desk's; `BrokenRow`
-    /// where the rows of a desk's tables are not those that a desk leaves.
-    pub fn open(rt: &HostRuntime, path: &str) -> Result<TableBook<FileStore<File>>, TableFault> {
-        let conn = Connection::open(rt, path).map_err(fault_of)?;
+    /// `InUse` where another program has the file open; `Memory` where an allocation was refused;
+    /// `Storage` where the file cannot be opened, is no database, or fails; `OtherSchema` where it
+    /// has tables, and not just a desk's; `BrokenRow` where the rows of a desk's tables are not
+    /// those that a desk leaves.
+    pub fn open<G: Progress>(
+        rt: &HostRuntime,
+        path: &str,
+        progress: &mut G,
+    ) -> Result<TableBook<FileStore<File>>, TableFault> {
+        let conn = Connection::open(rt, path).map_err(open_fault)?;
         if is_empty(conn.schema()) {
             return TableBook::create(rt.alloc(), conn).map_err(|(fault, _conn)| fault);
         }
-        TableBook::adopt(rt.alloc(), conn).map_err(|(fault, _left)| fault)
+        TableBook::adopt(rt.alloc(), conn, progress).map_err(|(fault, _left)| fault)
+    }
+}
+
+// Why a file could not be opened.
+fn open_fault(error: Error) -> TableFault {
+    match error {
+        Error::SqliteFailure(ErrorCode::DatabaseBusy) => TableFault::InUse,
+        error => fault_of(error).into(),
     }
 }

@@ -1,0 +1,2 @@
+mod Served
+mod Stays

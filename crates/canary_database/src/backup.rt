@@ -1,0 +1,206 @@
+//! `backup`: a copy of a desk's file, also while a desk serves it.
+//!
+//! A desk writes its file FILE and the log FILE-wal thus. A commit appends frames to the log, and
+//! the last byte that makes them count is written when all others are: who reads a log from its
+//! start finds all frames of a commit or does not count them, also while it is written. The file is
+//! written by a checkpoint alone: it writes pages that the log has to the file, syncs the file, and
+//! only then begins the log anew, with another header, which no earlier log had. So where the log's
+//! header is the same before the file is copied and after the log is, the log was not begun anew
+//! between: its frames were only added to. Each page that a checkpoint wrote meanwhile, whole or in
+//! part, has its frame in the log that was copied behind it, and all other pages are as they were.
+//! Whoever opens the copy reads these frames over the file, and has the commits up to the last one
+//! that the copied log has whole. A log that is missing, or too short for a header, has no frames,
+//! and no checkpoint writes the file before one was written: it has to be as short afterwards.
+use crate::fault::Fault;
+use std::alloc::Global;
+use std::fs::{self, File, OpenFile, OpenOptions};
+use std::io::{self, ErrorKind, Read};
+use std::process;
+
+// The bytes of a log's header.
+const HEADER_BYTES: u64 = 32;
+
+// The most times that a copy is begun.
+const MOST_TRIES: u32 = 100;
+
+/// The two files of a database: the database's own, and the log beside it.
+#[derive(Drop)]
+pub(crate) struct Pair {
+    database: String,
+    log: String,
+}
+
+impl Pair {
+    /// The files of the database of this name.
+    pub(crate) fn of(alloc: Global, name: &str) -> Result<Pair, Fault> {
+        let database = format!(in alloc; "{name}")?;
+        let log = format!(in alloc; "{name}-wal")?;
+        Ok(Pair { database, log })
+    }
+
+    /// The files of the database that is there under this name, where all links lead.
+    ///
+    /// # Errors
+    /// `Storage` where there is no such file, and `Memory` where an allocation was refused.
+    pub(crate) fn found(rt: &HostRuntime, name: &str) -> Result<Pair, Fault> {
+        match fs::canonicalize(rt, name) {
+            Ok(real) => Pair::of(rt.alloc(), real.as_str()),
+            Err(error) if error.kind() == ErrorKind::OutOfMemory => Err(Fault::Memory),
+            Err(_) => Err(Fault::Storage),
+        }
+    }
+
+    /// The files of a copy that stands beside the database of this name while a process reads it.
+    pub(crate) fn beside(rt: &HostRuntime, name: &str) -> Result<Pair, Fault> {
+        let process = process::id(rt.process());
+        let copy = format!(in rt.alloc(); "{name}.status-copy-{process}")?;
+        Pair::of(rt.alloc(), copy.as_str())
+    }
+
+    // The files of a copy of this name before it is whole.
+    fn part(alloc: Global, copy: &str) -> Result<Pair, Fault> {
+        let name = format!(in alloc; "{copy}.part")?;
+        Pair::of(alloc, name.as_str())
+    }
+
+    /// The name of the database's own file.
+    pub(crate) fn database(&self) -> &str {
+        self.database.as_str()
+    }
+
+    /// Removes both, where they are there.
+    pub(crate) fn remove(&self, rt: &HostRuntime) {
+        let _ = fs::remove_file(rt, self.database.as_str());
+        let _ = fs::remove_file(rt, self.log.as_str());
+    }
+
+    // Whether neither is there.
+    fn is_free(&self, rt: &HostRuntime) -> bool {
+        is_missing(rt, self.database.as_str()) && is_missing(rt, self.log.as_str())
+    }
+
+    // Has both on the disk.
+    fn sync(&self, rt: &HostRuntime) -> io::Result<()> {
+        sync(rt, self.database.as_str())?;
+        sync(rt, self.log.as_str())
+    }
+
+    // Gives both the names of another database, that of its own file last.
+    fn rename(&self, rt: &HostRuntime, other: &Pair) -> io::Result<()> {
+        fs::rename(rt, self.log.as_str(), other.log.as_str())?;
+        fs::rename(rt, self.database.as_str(), other.database.as_str())
+    }
+}
+
+fn is_missing(rt: &HostRuntime, name: &str) -> bool {
+    match fs::symlink_metadata(rt, name) {
+        Ok(_) => false,
+        Err(error) => error.kind() == ErrorKind::NotFound,
+    }
+}
+
+fn sync(rt: &HostRuntime, name: &str) -> io::Result<()> {
+    OpenOptions::new().write(true).open(rt, name)?.sync_all()
+}
+
+/// Copies a desk's file of SQLite, with its log, to `copy` and `copy`-wal, also while a desk serves
+/// it: the copy has each request that was settled before, and of those that are settled meanwhile
+/// the first ones. It is made under the names `copy`.part and `copy`.part-wal, and has its own once
+/// it is whole and on the disk.
+///
+/// # Errors
+/// `File` where `copy` or its log is there already, or a file cannot be read or written; `Storage`
+/// where there is no such file of a desk; `InUse` where the log was begun anew each time while the
+/// file was copied; `Memory` where an allocation was refused. There is no copy then.
+pub fn backup(rt: &HostRuntime, file: &str, copy: &str) -> Result<(), Fault> {
+    let from = Pair::found(rt, file)?;
+    backup_found(rt, &from, copy)
+}
+
+fn backup_found(rt: &HostRuntime, from: &Pair, copy: &str) -> Result<(), Fault> {
+    let to = Pair::of(rt.alloc(), copy)?;
+    if to.is_free(rt) {
+        backup_to(rt, from, copy, &to)
+    } else {
+        Err(Fault::File)
+    }
+}
+
+fn backup_to(rt: &HostRuntime, from: &Pair, copy: &str, to: &Pair) -> Result<(), Fault> {
+    let part = Pair::part(rt.alloc(), copy)?;
+    let made = make(rt, from, &part, to);
+    if made.is_err() {
+        part.remove(rt);
+    }
+    made
+}
+
+fn make(rt: &HostRuntime, from: &Pair, part: &Pair, to: &Pair) -> Result<(), Fault> {
+    copy_pair(rt, from, part)?;
+    match part.sync(rt).and_then(|()| part.rename(rt, to)) {
+        Ok(()) => Ok(()),
+        Err(_) => Err(Fault::File),
+    }
+}
+
+/// Copies the files of a database as they were at one moment, also while a desk writes them.
+///
+/// # Errors
+/// As `backup`, but that files of the copy's names are written over.
+pub(crate) fn copy_pair(rt: &HostRuntime, from: &Pair, to: &Pair) -> Result<(), Fault> {
+    for _ in 0..MOST_TRIES {
+        if is_copied_at_once(rt, from, to)? {
+            return Ok(());
+        }
+    }
+    Err(Fault::InUse)
+}
+
+// Copies the files, and tells whether the log was not begun anew meanwhile.
+fn is_copied_at_once(rt: &HostRuntime, from: &Pair, to: &Pair) -> Result<bool, Fault> {
+    let before = header(rt, &from.log)?;
+    copy_once(rt, from, to)?;
+    has_header(rt, &from.log, before.as_slice())
+}
+
+fn has_header(rt: &HostRuntime, log: &String, before: &[u8]) -> Result<bool, Fault> {
+    Ok(header(rt, log)?.as_slice() == before)
+}
+
+// Copies the database's own file, and then the log.
+fn copy_once(rt: &HostRuntime, from: &Pair, to: &Pair) -> Result<(), Fault> {
+    copy_file(rt, from.database.as_str(), to.database.as_str())?;
+    if is_missing(rt, from.log.as_str()) {
+        return make_empty(rt, to.log.as_str());
+    }
+    copy_file(rt, from.log.as_str(), to.log.as_str())
+}
+
+fn copy_file(rt: &HostRuntime, from: &str, to: &str) -> Result<(), Fault> {
+    match fs::copy(rt, from, to) {
+        Ok(_) => Ok(()),
+        Err(_) => Err(Fault::File),
+    }
+}
+
+fn make_empty(rt: &HostRuntime, name: &str) -> Result<(), Fault> {
+    match File::create(rt, name) {
+        Ok(_) => Ok(()),
+        Err(_) => Err(Fault::File),
+    }
+}
+
+// The first bytes of a log, as many as its header has; none where there is no log.
+fn header(rt: &HostRuntime, log: &String) -> Result<Vec<u8>, Fault> {
+    let mut bytes = Vec::new(rt.alloc());
+    let file = match File::open(rt, log.as_str()) {
+        Ok(file) => file,
+        Err(error) if error.kind() == ErrorKind::NotFound => return Ok(bytes),
+        Err(_) => return Err(Fault::File),
+    };
+    match file.take(HEADER_BYTES).read_to_end(&mut bytes) {
+        Ok(_) => Ok(bytes),
+        Err(error) if error.kind() == ErrorKind::OutOfMemory => Err(Fault::Memory),
+        Err(_) => Err(Fault::File),
+    }
+}

@@ -1,0 +1,215 @@
+//! Why a program was not done to its end.
+ghost use Rattle.std.specs.Prelude.{◌≡◌};
+ghost use Rattle.canary_database.specs.Faults.{done_of, line_of};
+
+use canary_base::error::Memory;
+use canary_files::export::ExportFault;
+use canary_files::import::ImportFault;
+use canary_listen::listener::ListenFault;
+use canary_once::book::BookFault;
+use canary_tables::fault::TableFault;
+use canary_wire::serve::{Ended, ServeFault};
+use std::alloc::AllocError;
+use std::error::Error;
+use std::fmt;
+
+/// Why a program was not done to its end.
+#[derive(Clone, Copy, Debug, PartialEq, Eq)]
+pub enum Fault {
+    /// An allocation was refused.
+    Memory,
+    /// The database cannot be opened or made, or fails.
+    Storage,
+    /// The database is none of a desk's.
+    OtherSchema,
+    /// A row of the database is none that a desk leaves.
+    BrokenRow,
+    /// Another program has the database open.
+    InUse,
+    /// The input failed.
+    Read,
+    /// The output failed, or was closed.
+    Write,
+    /// The input ended in the midst of a message.
+    Truncated,
+    /// The input went on after the most reads.
+    TurnsSpent,
+    /// The first record of a measurement file is not its header.
+    Header,
+    /// A measurement file has more than 1,000,000 rows.
+    RowsSpent,
+    /// A service has more than 1,000,000,000 measurements.
+    TooMany,
+    /// There is no such service.
+    UnknownService,
+    /// A word is no name.
+    BadName,
+    /// The address is none, or cannot be listened on.
+    Listen,
+    /// The system gives no more connections.
+    Accept,
+    /// A file cannot be read or written, is too long, or is there already.
+    File,
+}
+
+impl fmt::Display for Fault {
+    fn fmt<W: fmt::Write>(&self, f: &mut fmt::Formatter<W>) -> fmt::Result {
+        f.write_str(match self {
+            Fault::Memory => "out of memory",
+            Fault::Storage => "the database cannot be opened or made, or fails",
+            Fault::OtherSchema => "the database is none of a desk's",
+            Fault::BrokenRow => "a row of the database is none that a desk leaves",
+            Fault::InUse => "another program has the database open",
+            Fault::Read => "the input failed",
+            Fault::Write => "the output failed or was closed",
+            Fault::Truncated => "the input ended in the midst of a message",
+            Fault::TurnsSpent => "the input went on after 1,000,000,000 reads",
+            Fault::Header => "the first record is not the header of a measurement file",
+            Fault::RowsSpent => "the file has more than 1,000,000 rows",
+            Fault::TooMany => "the service has more than 1,000,000,000 measurements",
+            Fault::UnknownService => "there is no such service",
+            Fault::BadName => "a word is no name",
+            Fault::Listen => "the address is none, or cannot be listened on",
+            Fault::Accept => "the system gives no more connections",
+            Fault::File => "a file cannot be read or written, is too long, or is there already",
+        })
+    }
+}
+
+impl Error for Fault {}
+
+impl Fault {
+    /// The line that names it on the error stream: `canary: WORD` and a line end.
+    pub fn line(self) -> &'static str
+        ensures { result.now ≡ line_of self }
+    {
+        match self {
+            Fault::Memory => "canary: memory\n",
+            Fault::Storage => "canary: storage\n",
+            Fault::OtherSchema => "canary: other-schema\n",
+            Fault::BrokenRow => "canary: broken-row\n",
+            Fault::InUse => "canary: in-use\n",
+            Fault::Read => "canary: read\n",
+            Fault::Write => "canary: write\n",
+            Fault::Truncated => "canary: truncated\n",
+            Fault::TurnsSpent => "canary: turns-spent\n",
+            Fault::Header => "canary: header\n",
+            Fault::RowsSpent => "canary: rows-spent\n",
+            Fault::TooMany => "canary: too-many\n",
+            Fault::UnknownService => "canary: unknown-service\n",
+            Fault::BadName => "canary: bad-name\n",
+            Fault::Listen => "canary: listen\n",
+            Fault::Accept => "canary: accept\n",
+            Fault::File => "canary: file\n",
+        }
+    }
+}
+
+impl From<Memory> for Fault {
+    ghost use Rattle.canary_database.specs.declared.fault.Fault.TheVariants as fault;
+
+    ghost from_gives = { λ _ made. made ≡ fault.Memory };
+
+    fn from(_: Memory) -> Fault {
+        Fault::Memory
+    }
+}
+
+impl From<AllocError> for Fault {
+    ghost use Rattle.canary_database.specs.declared.fault.Fault.TheVariants as fault;
+
+    ghost from_gives = { λ _ made. made ≡ fault.Memory };
+
+    fn from(_: AllocError) -> Fault {
+        Fault::Memory
+    }
+}
+
+impl From<BookFault> for Fault {
+    ghost use Rattle.canary_database.specs.Faults.{of_book};
+
+    ghost from_gives = { λ fault made. made ≡ of_book fault };
+
+    fn from(fault: BookFault) -> Fault {
+        match fault {
+            BookFault::Memory => Fault::Memory,
+            BookFault::Storage => Fault::Storage,
+        }
+    }
+}
+
+impl From<TableFault> for Fault {
+    ghost use Rattle.canary_database.specs.Faults.{of_tables};
+
+    ghost from_gives = { λ fault made. made ≡ of_tables fault };
+
+    fn from(fault: TableFault) -> Fault {
+        match fault {
+            TableFault::Memory => Fault::Memory,
+            TableFault::Storage => Fault::Storage,
+            TableFault::InUse => Fault::InUse,
+            TableFault::OtherSchema => Fault::OtherSchema,
+            TableFault::BrokenRow => Fault::BrokenRow,
+        }
+    }
+}
+
+impl From<ImportFault> for Fault {
+    ghost use Rattle.canary_database.specs.Faults.{of_import};
+
+    ghost from_gives = { λ fault made. made ≡ of_import fault };
+
+    fn from(fault: ImportFault) -> Fault {
+        match fault {
+            ImportFault::Read => Fault::Read,
+            ImportFault::Write => Fault::Write,
+            ImportFault::Memory => Fault::Memory,
+            ImportFault::Header => Fault::Header,
+            ImportFault::RowsSpent => Fault::RowsSpent,
+        }
+    }
+}
+
+impl From<ExportFault> for Fault {
+    ghost use Rattle.canary_database.specs.Faults.{of_export};
+
+    ghost from_gives = { λ fault made. made ≡ of_export fault };
+
+    fn from(fault: ExportFault) -> Fault {
+        match fault {
+            ExportFault::Memory => Fault::Memory,
+            ExportFault::Storage => Fault::Storage,
+            ExportFault::Write => Fault::Write,
+            ExportFault::TooMany => Fault::TooMany,
+            ExportFault::UnknownService => Fault::UnknownService,
+        }
+    }
+}
+
+impl From<ListenFault> for Fault {
+    ghost use Rattle.canary_database.specs.Faults.{of_listen};
+
+    ghost from_gives = { λ fault made. made ≡ of_listen fault };
+
+    fn from(fault: ListenFault) -> Fault {
+        match fault {
+            ListenFault::Memory => Fault::Memory,
+            ListenFault::Listen => Fault::Listen,
+            ListenFault::Accept => Fault::Accept,
+        }
+    }
+}
+
+/// Whether a stream that was served so was served to its end, or the fault.
+pub fn done_of(served: Result<Ended, ServeFault>) -> Result<(), Fault>
+    ensures { result ≡ done_of served }
+{
+    match served {
+        Ok(Ended::EndOfInput | Ended::Closed) => Ok(()),
+        Ok(Ended::Truncated) => Err(Fault::Truncated),
+        Ok(Ended::TurnsSpent) => Err(Fault::TurnsSpent),
+        Err(ServeFault::Read) => Err(Fault::Read),
+        Err(ServeFault::Write) => Err(Fault::Write),
+        Err(ServeFault::Memory) => Err(Fault::Memory),
+    }
+}

@@ -1,0 +1,58 @@
+//! Opening the book in a file.
+ghost use Rattle.std.specs.Prelude.{IfErr};
+ghost use Rattle.canary_database.specs.Programs.{IsOfTables};
+
+use crate::fault::Fault;
+use crate::progress::Shown;
+use canary_base::names::Name;
+use canary_tables::book::TableBook;
+use sqlite::{File, FileStore};
+use std::io::Write;
+
+/// A book in a file.
+pub type FileBook = TableBook<FileStore<File>>;
+
+/// Opens the file of SQLite of this name as a desk's book, or makes it. All its rows are judged
+/// before they are believed, which is shown on a terminal.
+///
+/// # Errors
+/// `InUse` where another program has it open; `Memory` where an allocation was refused; `Storage`
+/// where it cannot be opened, is no database, or fails; `OtherSchema` where it has tables, and not
+/// just a desk's; `BrokenRow` where its rows are not those that a desk leaves.
+pub fn open<F: Write>(
+    rt: &HostRuntime,
+    file: &str,
+    errors: &mut F,
+    is_terminal: bool,
+) -> Result<FileBook, Fault>
+    ensures { IfErr result IsOfTables }
+{
+    let mut shown = Shown::rows(rt.alloc(), errors, is_terminal);
+    let opened = TableBook::open(rt, file, &mut shown);
+    shown.end();
+    match opened {
+        Ok(book) => Ok(book),
+        Err(fault) => Err(fault.into()),
+    }
+}
+
+/// The names of the services of a book in a file, in order.
+///
+/// # Errors
+/// `Memory` where an allocation was refused, and `Storage` where the file failed.
+pub(crate) fn names_of(book: &mut FileBook) -> Result<Vec<Name>, Fault> {
+    let mut names = book.service_names()?.into_vec();
+    names.sort()?;
+    Ok(names)
+}
+
+/// Closes the book in a file.
+///
+/// # Errors
+/// `Storage` where the file fails; what was settled is settled.
+pub fn close(book: FileBook) -> Result<(), Fault> {
+    match book.into_connection().close() {
+        Ok(()) => Ok(()),
+        Err(_) => Err(Fault::Storage),
+    }
+}

@@ -1,0 +1,286 @@
+-- The command lines that the desk takes, by clap's definition of a simple command.
+use Rattle.std.specs.Prelude.{◌≡◌, ◌≢◌, ◌⊎◌, ℕ, Bool, true, false, List, Option, Some, None, codes}
+use Rattle.std.specs.Prelude.{option_map, option_and_then, unwrap_or, IfSome, if◌then◌else◌}
+use Rattle.std.specs.Str.{bytes_eq}
+use Rattle.std.specs.Str.Parse.{digits_value, without_leading_plus}
+use Rattle.clap.specs.Words.{App, Kinds, IsAmong, IsUnsignedIn, Row, Rule, Text, fault_of, new_app}
+use Rattle.clap.specs.Words.{first_of, new_rule, one_of, subcommand_of, with_rule}
+use Rattle.clap.specs.Words.{with_subcommand}
+use Rattle.clap.specs.Simple.{on_top}
+use Rattle.clap.specs.declared.builder.action.ArgAction.TheVariants.{Set}
+use Rattle.clap.specs.declared.builder.value_parser.ValueParser.TheVariants.{Unsigned}
+use Rattle.clap.specs.declared.error.kind.ErrorKind.{ErrorKind}
+use Rattle.clap.specs.declared.error.kind.ErrorKind.TheVariants.{DisplayHelp, DisplayVersion}
+use Rattle.canary_listen.specs.declared.limits.Limits.{Limits}
+use Rattle.canary_words.specs.declared.words.Program.{Program}
+use Rattle.canary_words.specs.declared.words.Program.TheVariants.{Pipe, Serve, Import, History}
+use Rattle.canary_words.specs.declared.words.Program.TheVariants.{Export, Status, Backup, Check}
+use Rattle.canary_words.specs.declared.words.WordsFault.{WordsFault}
+use Rattle.canary_words.specs.declared.words.WordsFault.TheVariants.{Help, Usage, Memory}
+
+-- ---- what the desk takes
+
+-- the option `--NAME SECONDS`, which has to be given, with the seconds of a moment
+abbrev pub moment_option : Text → Rule
+moment_option name = record (new_rule name) {
+  long = Some name;
+  action = Some Set;
+  value_names = 1;
+  parser = Some (Unsigned 0 253370764799);
+  required = true;
+}
+
+-- the option `--NAME VALUE` with any text, which has to be given if `is_required`
+abbrev pub text_option : Text → Bool → Rule
+text_option name is_required = record (new_rule name) {
+  long = Some name;
+  action = Some Set;
+  value_names = 1;
+  required = is_required;
+}
+
+-- the option `--NAME VALUE`, which may be given, with a whole number from 1 to `most`
+abbrev pub number_option : Text → ℕ → Rule
+number_option name most = record (new_rule name) {
+  long = Some name;
+  action = Some Set;
+  value_names = 1;
+  parser = Some (Unsigned 1 most);
+}
+
+-- the word `VALUE` with any text, which has to be given
+abbrev pub text_word : Text → Rule
+text_word name = record (new_rule name) {
+  action = Some Set;
+  value_names = 1;
+  required = true;
+}
+
+-- `--db FILE`, which has to be given
+abbrev pub db_option : Rule
+db_option = text_option (codes "db") true
+
+-- `--db FILE`, which may be given
+abbrev pub optional_db : Rule
+optional_db = text_option (codes "db") false
+
+-- `pipe --at SECONDS --step SECONDS --db FILE`
+abbrev pub pipe_command : App
+pipe_command = with_rule (with_rule (with_rule (new_app (codes "pipe"))
+    (moment_option (codes "at"))) (moment_option (codes "step"))) optional_db
+
+-- `--message SECONDS --idle SECONDS --clients N --owed BYTES`
+abbrev pub with_limits : App → App
+with_limits a = with_rule (with_rule (with_rule (with_rule a
+    (number_option (codes "message") 86400)) (number_option (codes "idle") 86400))
+    (number_option (codes "clients") 65536)) (number_option (codes "owed") 1073741824)
+
+-- `serve --listen ADDRESS --db FILE --connections N`, with limits
+abbrev pub serve_command : App
+serve_command = with_limits (with_rule (with_rule (with_rule (new_app (codes "serve"))
+    (text_option (codes "listen") true)) optional_db)
+    (number_option (codes "connections") 1000000))
+
+-- `import --db FILE CSV`
+abbrev pub import_command : App
+import_command =
+    with_rule (with_rule (new_app (codes "import")) db_option) (text_word (codes "csv"))
+
+-- `history --db FILE SERVICE`
+abbrev pub history_command : App
+history_command =
+    with_rule (with_rule (new_app (codes "history")) db_option) (text_word (codes "service"))
+
+-- `export --db FILE --caller NAME SERVICE`
+abbrev pub export_command : App
+export_command = with_rule (with_rule (with_rule (new_app (codes "export")) db_option)
+    (text_option (codes "caller") true)) (text_word (codes "service"))
+
+-- `status --db FILE --watch SECONDS`
+abbrev pub status_command : App
+status_command =
+    with_rule (with_rule (new_app (codes "status")) db_option) (number_option (codes "watch") 86400)
+
+-- `backup --db FILE COPY`
+abbrev pub backup_command : App
+backup_command =
+    with_rule (with_rule (new_app (codes "backup")) db_option) (text_word (codes "copy"))
+
+-- `check FILE`
+abbrev pub check_command : App
+check_command = with_rule (new_app (codes "check")) (text_word (codes "file"))
+
+-- with the commands that work on the file of a desk's records
+abbrev pub with_records_commands : App → App
+with_records_commands a = with_subcommand (with_subcommand (with_subcommand (with_subcommand
+    (with_subcommand a import_command.top) history_command.top) export_command.top)
+    status_command.top) backup_command.top
+
+-- the desk without its commands, behind no name of the program; `--version` is taken too
+abbrev pub bare_desk : App
+bare_desk = on_top (λ s. record s {
+  no_binary_name = true;
+  has_version = true;
+  subcommand_required = true;
+}) (new_app (codes "canary"))
+
+-- one of the commands
+abbrev pub desk_command : App
+desk_command = with_subcommand (with_records_commands (with_subcommand (with_subcommand bare_desk
+    pipe_command.top) serve_command.top)) check_command.top
+
+-- what clap finds in the words behind the program's name: the kind of the first mistake, or of a
+-- request for help or for the version, and nothing where the desk takes them
+abbrev pub faults_of : List Text → Kinds
+faults_of = fault_of desk_command
+
+-- ---- what the words spell
+
+-- the number that the text given for an option spells
+abbrev pub number_given : Text → List Row → Option ℕ
+number_given name rows =
+    option_map (λ text. digits_value 10 (without_leading_plus text)) (one_of name rows)
+
+-- the text that was given
+abbrev pub text_given : Text → List Row → Option Text
+text_given = first_of
+
+abbrev pub piped : Option ℕ → Option ℕ → Option Text → Option Program
+piped (Some at) (Some step) db = Some (Pipe at step db)
+piped _ _ db = None
+
+abbrev pub pipe_of : List Row → Option Program
+pipe_of rows = piped (number_given (codes "at") rows) (number_given (codes "step") rows)
+    (text_given (codes "db") rows)
+
+-- the limits of a listener: those that were given, and the others as by default
+abbrev pub limits_of : List Row → Limits
+limits_of rows = record {
+  message_seconds = unwrap_or (number_given (codes "message") rows) 10;
+  idle_seconds = unwrap_or (number_given (codes "idle") rows) 60;
+  clients = unwrap_or (number_given (codes "clients") rows) 1000;
+  owed_bytes = unwrap_or (number_given (codes "owed") rows) 65536;
+}
+
+abbrev pub serve_of : List Row → Option Program
+serve_of rows = option_map (λ address. Serve address (text_given (codes "db") rows)
+    (number_given (codes "connections") rows) (limits_of rows)) (text_given (codes "listen") rows)
+
+-- what two texts make, where both were given
+abbrev pub of_two : (Text → Text → Program) → Option Text → Option Text → Option Program
+of_two make (Some a) (Some b) = Some (make a b)
+of_two make _ _ = None
+
+-- what is made of the file of the records and of the text under this name
+abbrev pub with_db : (Text → Text → Program) → Text → List Row → Option Program
+with_db make name rows = of_two make (text_given (codes "db") rows) (text_given name rows)
+
+abbrev pub import_of : List Row → Option Program
+import_of = with_db Import (codes "csv")
+
+abbrev pub history_of : List Row → Option Program
+history_of = with_db History (codes "service")
+
+abbrev pub exported : Option Text → Option Text → Option Text → Option Program
+exported (Some db) (Some caller) (Some service) = Some (Export db caller service)
+exported _ _ _ = None
+
+abbrev pub export_of : List Row → Option Program
+export_of rows = exported (text_given (codes "db") rows) (text_given (codes "caller") rows)
+    (text_given (codes "service") rows)
+
+abbrev pub status_of : List Row → Option Program
+status_of rows = option_map (λ db. Status db (number_given (codes "watch") rows))
+    (text_given (codes "db") rows)
+
+abbrev pub backup_of : List Row → Option Program
+backup_of = with_db Backup (codes "copy")
+
+abbrev pub check_of : List Row → Option Program
+check_of rows = option_map (λ file. Check file) (text_given (codes "file") rows)
+
+-- the program of the command of this name with these matches
+abbrev pub program_in : Text × List Row → Option Program
+program_in p = if bytes_eq p.0 (codes "pipe") then pipe_of p.1
+    else if bytes_eq p.0 (codes "serve") then serve_of p.1
+    else if bytes_eq p.0 (codes "import") then import_of p.1
+    else if bytes_eq p.0 (codes "history") then history_of p.1
+    else if bytes_eq p.0 (codes "export") then export_of p.1
+    else if bytes_eq p.0 (codes "status") then status_of p.1
+    else if bytes_eq p.0 (codes "backup") then backup_of p.1
+    else if bytes_eq p.0 (codes "check") then check_of p.1 else None
+
+-- the program of the words that the desk takes
+abbrev pub program_of : List Text → Option Program
+program_of words = option_and_then program_in (subcommand_of desk_command words)
+
+-- ---- faults
+
+-- for help, or for the version
+abbrev pub AsksForHelp : Kinds → Type 0
+AsksForHelp kinds = IsAmong DisplayHelp kinds ⊎ IsAmong DisplayVersion kinds
+
+abbrev pub HasMistake : Kinds → Type 0
+HasMistake kinds =
+    (k : ErrorKind) × IsAmong k kinds × (k ≢ DisplayHelp) × (k ≢ DisplayVersion)
+
+-- help is answered only where it is asked for, and usage only where the words have a mistake
+abbrev pub IsFor : Kinds → WordsFault → Type 0
+IsFor kinds (Help text) = AsksForHelp kinds
+IsFor kinds (Usage text) = HasMistake kinds
+IsFor kinds Memory = Unit {0}
+
+-- ---- what the matches hold
+
+-- the option was given, with the seconds of a moment
+abbrev pub HasMoment : Text → List Row → Type 0
+HasMoment name rows =
+    (text : Text) × (one_of name rows ≡ Some text) × IsUnsignedIn 0 253370764799 text
+
+-- the text was given
+abbrev pub HasText : Text → List Row → Type 0
+HasText name rows = (text : Text) × (text_given name rows ≡ Some text)
+
+-- if the option was given, then with a number from 1 to `most`
+abbrev pub MayHaveNumber : Text → ℕ → List Row → Type 0
+MayHaveNumber name most rows = IfSome (one_of name rows) (IsUnsignedIn 1 most)
+
+abbrev pub HasMoments : List Row → Type 0
+HasMoments rows = HasMoment (codes "at") rows × HasMoment (codes "step") rows
+
+abbrev pub HasLimits : List Row → Type 0
+HasLimits rows = MayHaveNumber (codes "message") 86400 rows
+    × MayHaveNumber (codes "idle") 86400 rows × MayHaveNumber (codes "clients") 65536 rows
+    × MayHaveNumber (codes "owed") 1073741824 rows
+
+abbrev pub HasListener : List Row → Type 0
+HasListener rows = HasText (codes "listen") rows
+    × MayHaveNumber (codes "connections") 1000000 rows × HasLimits rows
+
+-- the file of the records and the text of this name were given
+abbrev pub HasTexts : Text → List Row → Type 0
+HasTexts name rows = HasText (codes "db") rows × HasText name rows
+
+abbrev pub HasExport : List Row → Type 0
+HasExport rows = HasText (codes "db") rows × HasText (codes "caller") rows
+    × HasText (codes "service") rows
+
+abbrev pub HasStatus : List Row → Type 0
+HasStatus rows = HasText (codes "db") rows × MayHaveNumber (codes "watch") 86400 rows
+
+-- the command of this name was met, with rows of which this holds
+abbrev pub Meets : Text → (List Row → Type 0) → Option (Text × List Row) → Type 0
+Meets name Holds met = (rows : List Row) × (met ≡ Some (name, rows)) × Holds rows
+
+-- one of the commands on the file of a desk's records was met, with all that it has to be given
+abbrev pub HasRecordsProgram : Option (Text × List Row) → Type 0
+HasRecordsProgram met = Meets (codes "import") (HasTexts (codes "csv")) met
+    ⊎ (Meets (codes "history") (HasTexts (codes "service")) met
+    ⊎ (Meets (codes "export") HasExport met ⊎ (Meets (codes "status") HasStatus met
+    ⊎ Meets (codes "backup") (HasTexts (codes "copy")) met)))
+
+-- one of the commands was met, with all that it has to be given
+abbrev pub HasProgram : Option (Text × List Row) → Type 0
+HasProgram met = Meets (codes "pipe") HasMoments met
+    ⊎ (Meets (codes "serve") HasListener met ⊎ (HasRecordsProgram met
+    ⊎ Meets (codes "check") (HasText (codes "file")) met))

@@ -1,0 +1,303 @@
+//! The words of a command line.
+ghost use Rattle.std.specs.Prelude.{◌≡◌, ℕ, Some, [], map, IfOk, IfErr, IsSome, string_bytes};
+ghost use Rattle.std.specs.Prelude.{option_and_then, codes};
+ghost use Rattle.clap.specs.Words.{found_of, kind_of, rows_of, subcommand_rows_of};
+ghost use Rattle.clap.specs.Words.{HasKind, Kinds};
+ghost use Rattle.canary_words.specs.CommandLine.{faults_of, program_of, program_in, number_given};
+ghost use Rattle.canary_words.specs.CommandLine.{text_given, limits_of, pipe_of, serve_of};
+ghost use Rattle.canary_words.specs.CommandLine.{import_of, history_of, export_of, status_of};
+ghost use Rattle.canary_words.specs.CommandLine.{backup_of, check_of};
+ghost use Rattle.canary_words.specs.CommandLine.{IsFor, HasProgram, HasMoment, HasText};
+ghost use Rattle.canary_words.specs.CommandLine.{MayHaveNumber, HasMoments, HasListener, HasLimits};
+ghost use Rattle.canary_words.specs.CommandLine.{HasTexts, HasExport, HasStatus};
+
+use crate::commands::desk_command;
+use canary_base::lists::Text;
+use canary_base::moments::Moment;
+use canary_listen::limits::Limits;
+use clap::error::ErrorKind;
+use clap::{ArgMatches, Error};
+use std::alloc::{AllocError, Global};
+use std::fmt;
+
+/// What a command line asks for. Where it has a `db`, that is the name of the file with the desk's
+/// records; without one they are in memory.
+#[derive(Debug, Drop)]
+pub enum Program {
+    /// HTTP from standard input to standard output. The first message is at the moment `at`, and
+    /// each later one `step` seconds after the one before it.
+    Pipe {
+        at: Moment,
+        step: Moment,
+        db: Option<Text>,
+    },
+    /// HTTP on the address that `listen` spells, within these limits for its clients; and its end
+    /// after so many connections, or never.
+    Serve {
+        listen: Text,
+        db: Option<Text>,
+        connections: Option<u64>,
+        limits: Limits,
+    },
+    /// The measurements of the CSV file of this name, or of standard input where it is `-`.
+    Import {
+        db: Text,
+        csv: Text,
+    },
+    /// What happened to the service that `service` names, if it is a name.
+    History {
+        db: Text,
+        service: Text,
+    },
+    /// The measurements of that service as CSV, whose rows are requests of the caller that `caller`
+    /// names, if it is a name.
+    Export {
+        db: Text,
+        caller: Text,
+        service: Text,
+    },
+    /// How the services stand, once, or again each time after so many seconds.
+    Status {
+        db: Text,
+        watch: Option<u64>,
+    },
+    /// A copy of the records in the file of the name `copy`.
+    Backup {
+        db: Text,
+        copy: Text,
+    },
+    /// What the desk would refuse of the manifest in the file of this name.
+    Check {
+        file: Text,
+    },
+}
+
+/// Why a command line gives no program.
+#[derive(Debug, Drop)]
+pub enum WordsFault {
+    /// It asks for help or for the version, which is this text.
+    Help(String),
+    /// It is none that the desk takes. The text says why, and what is taken.
+    Usage(String),
+    /// An allocation was refused.
+    Memory,
+}
+
+/// Reads a command line: the words behind the program's name.
+pub fn read_words(alloc: Global, words: &[String]) -> Result<Program, WordsFault>
+    ensures program { IfOk result (λ p. program_of (map string_bytes words.now) ≡ Some p) }
+    ensures taken { IfOk result (λ _. faults_of (map string_bytes words.now) ≡ []) }
+    ensures fault { IfErr result (IsFor (faults_of (map string_bytes words.now))) }
+    ensures spelled { faults_of (map string_bytes words.now) ≡ []
+        → IsSome (program_of (map string_bytes words.now)) }
+{
+    let Ok(command) = desk_command(alloc) else {
+        return Err(WordsFault::Memory);
+    };
+    match command.try_get_matches_from(words) {
+        Ok(matches) => match program_of(alloc, &matches) {
+            Ok(program) => Ok(program),
+            Err(_) => Err(WordsFault::Memory),
+        },
+        Err(error) => Err(fault_of(alloc, &error)),
+    }
+}
+
+// The program that the matches name.
+fn program_of(alloc: Global, matches: &ArgMatches<'_>) -> Result<Program, AllocError>
+    requires { HasProgram (subcommand_rows_of matches.now) }
+    ensures { IfOk result (λ p.
+        option_and_then program_in (subcommand_rows_of matches.now) ≡ Some p) }
+{
+    if let Some(pipe) = matches.subcommand_matches("pipe") {
+        return pipe_of(alloc, pipe);
+    }
+    if let Some(serve) = matches.subcommand_matches("serve") {
+        return serve_of(alloc, serve);
+    }
+    if let Some(import) = matches.subcommand_matches("import") {
+        return import_of(alloc, import);
+    }
+    if let Some(history) = matches.subcommand_matches("history") {
+        return history_of(alloc, history);
+    }
+    if let Some(export) = matches.subcommand_matches("export") {
+        return export_of(alloc, export);
+    }
+    if let Some(status) = matches.subcommand_matches("status") {
+        return status_of(alloc, status);
+    }
+    if let Some(backup) = matches.subcommand_matches("backup") {
+        return backup_of(alloc, backup);
+    }
+    check_of(alloc, matches.subcommand_matches("check").unwrap())
+}
+
+// The program of `pipe` with these matches.
+fn pipe_of(alloc: Global, pipe: &ArgMatches<'_>) -> Result<Program, AllocError>
+    requires { HasMoments (rows_of (found_of pipe.now)) }
+    ensures { IfOk result (λ p. pipe_of (rows_of (found_of pipe.now)) ≡ Some p) }
+{
+    Ok(Program::Pipe {
+        at: moment_given(pipe, "at"),
+        step: moment_given(pipe, "step"),
+        db: optional_text(alloc, pipe, "db")?,
+    })
+}
+
+// The program of `serve` with these matches.
+fn serve_of(alloc: Global, serve: &ArgMatches<'_>) -> Result<Program, AllocError>
+    requires { HasListener (rows_of (found_of serve.now)) }
+    ensures { IfOk result (λ p. serve_of (rows_of (found_of serve.now)) ≡ Some p) }
+{
+    Ok(Program::Serve {
+        listen: text_given(alloc, serve, "listen")?,
+        db: optional_text(alloc, serve, "db")?,
+        connections: number_given(serve, "connections"),
+        limits: limits_of(serve),
+    })
+}
+
+// The program of `import` with these matches.
+fn import_of(alloc: Global, import: &ArgMatches<'_>) -> Result<Program, AllocError>
+    requires { HasTexts (codes "csv") (rows_of (found_of import.now)) }
+    ensures { IfOk result (λ p. import_of (rows_of (found_of import.now)) ≡ Some p) }
+{
+    Ok(Program::Import {
+        db: text_given(alloc, import, "db")?,
+        csv: text_given(alloc, import, "csv")?,
+    })
+}
+
+// The program of `history` with these matches.
+fn history_of(alloc: Global, history: &ArgMatches<'_>) -> Result<Program, AllocError>
+    requires { HasTexts (codes "service") (rows_of (found_of history.now)) }
+    ensures { IfOk result (λ p. history_of (rows_of (found_of history.now)) ≡ Some p) }
+{
+    Ok(Program::History {
+        db: text_given(alloc, history, "db")?,
+        service: text_given(alloc, history, "service")?,
+    })
+}
+
+// The program of `export` with these matches.
+fn export_of(alloc: Global, export: &ArgMatches<'_>) -> Result<Program, AllocError>
+    requires { HasExport (rows_of (found_of export.now)) }
+    ensures { IfOk result (λ p. export_of (rows_of (found_of export.now)) ≡ Some p) }
+{
+    Ok(Program::Export {
+        db: text_given(alloc, export, "db")?,
+        caller: text_given(alloc, export, "caller")?,
+        service: text_given(alloc, export, "service")?,
+    })
+}
+
+// The program of `status` with these matches.
+fn status_of(alloc: Global, status: &ArgMatches<'_>) -> Result<Program, AllocError>
+    requires { HasStatus (rows_of (found_of status.now)) }
+    ensures { IfOk result (λ p. status_of (rows_of (found_of status.now)) ≡ Some p) }
+{
+    Ok(Program::Status {
+        db: text_given(alloc, status, "db")?,
+        watch: number_given(status, "watch"),
+    })
+}
+
+// The program of `backup` with these matches.
+fn backup_of(alloc: Global, backup: &ArgMatches<'_>) -> Result<Program, AllocError>
+    requires { HasTexts (codes "copy") (rows_of (found_of backup.now)) }
+    ensures { IfOk result (λ p. backup_of (rows_of (found_of backup.now)) ≡ Some p) }
+{
+    Ok(Program::Backup {
+        db: text_given(alloc, backup, "db")?,
+        copy: text_given(alloc, backup, "copy")?,
+    })
+}
+
+// The program of `check` with these matches.
+fn check_of(alloc: Global, check: &ArgMatches<'_>) -> Result<Program, AllocError>
+    requires { HasText (codes "file") (rows_of (found_of check.now)) }
+    ensures { IfOk result (λ p. check_of (rows_of (found_of check.now)) ≡ Some p) }
+{
+    let file = text_given(alloc, check, "file")?;
+    Ok(Program::Check { file })
+}
+
+// The limits that were given, each as by default where it was not.
+fn limits_of(serve: &ArgMatches<'_>) -> Limits
+    requires { HasLimits (rows_of (found_of serve.now)) }
+    ensures { result ≡ limits_of (rows_of (found_of serve.now)) }
+{
+    let standard = Limits::DEFAULT;
+    Limits {
+        message_seconds: number_given(serve, "message").unwrap_or(standard.message_seconds),
+        idle_seconds: number_given(serve, "idle").unwrap_or(standard.idle_seconds),
+        clients: number_given(serve, "clients").unwrap_or(standard.clients),
+        owed_bytes: number_given(serve, "owed").unwrap_or(standard.owed_bytes),
+    }
+}
+
+// The number that was given to the option of this name, if one was.
+fn number_given(matches: &ArgMatches<'_>, name: &str) -> Option<u64>
+    requires { (most : ℕ) × MayHaveNumber name.now most (rows_of (found_of matches.now)) }
+    ensures { result ≡ number_given name.now (rows_of (found_of matches.now)) }
+{
+    matches.get_one::<u64>(name)
+}
+
+// The text that was given under this name.
+fn text_given(alloc: Global, matches: &ArgMatches<'_>, name: &str) -> Result<Text, AllocError>
+    requires { HasText name.now (rows_of (found_of matches.now)) }
+    ensures { IfOk result (λ t. text_given name.now (rows_of (found_of matches.now)) ≡ Some t) }
+{
+    let text = matches.get_str(name).unwrap();
+    Ok(Text::of(String::from_str(alloc, text)?))
+}
+
+// The text that was given to the option of this name, if one was.
+fn optional_text(
+    alloc: Global,
+    matches: &ArgMatches<'_>,
+    name: &str,
+) -> Result<Option<Text>, AllocError>
+    ensures { IfOk result (λ t. t ≡ text_given name.now (rows_of (found_of matches.now))) }
+{
+    match matches.get_str(name) {
+        Some(text) => Ok(Some(Text::of(String::from_str(alloc, text)?))),
+        None => Ok(None),
+    }
+}
+
+// The moment that was given to the option of this name.
+fn moment_given(matches: &ArgMatches<'_>, name: &str) -> Moment
+    requires { HasMoment name.now (rows_of (found_of matches.now)) }
+    ensures { number_given name.now (rows_of (found_of matches.now)) ≡ Some result }
+{
+    let seconds = matches.get_one::<u64>(name).unwrap();
+    Moment::new(seconds).unwrap()
+}
+
+impl fmt::Display for WordsFault {
+    fn fmt<W: fmt::Write>(&self, f: &mut fmt::Formatter<W>) -> fmt::Result {
+        match self {
+            WordsFault::Help(text) | WordsFault::Usage(text) => f.write_str(text.as_str()),
+            WordsFault::Memory => f.write_str("out of memory"),
+        }
+    }
+}
+
+impl std::error::Error for WordsFault {}
+
+// What an error of clap's says to the user.
+fn fault_of(alloc: Global, error: &Error) -> WordsFault
+    ensures { (kinds : Kinds) → HasKind kinds error.now → IsFor kinds result }
+{
+    let Ok(text) = format!(in alloc; "{error}") else {
+        return WordsFault::Memory;
+    };
+    match error.kind() {
+        ErrorKind::OutOfMemory => WordsFault::Memory,
+        ErrorKind::DisplayHelp | ErrorKind::DisplayVersion => WordsFault::Help(text),
+        _ => WordsFault::Usage(text),
+    }
+}

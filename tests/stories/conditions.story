@@ -1,0 +1,135 @@
+conditions 119
+
+# Conditions of success and failure, a result and its phase.
+phases
+ =>  => [7] => Successful
+result[2] > 0 =>  => [1;2] => Error
+result[1] == 2 =>  => [1;2] => Successful
+result > 0 =>  => [1;2] => Error
+result[0] > 0 || result[9] > 0 =>  => [1] => Successful
+result[9] > 0 || result[0] > 0 =>  => [1] => Error
+result[0] > 1 =>  => [1] => Failed
+ => result[0] > 1 => [1] => Successful
+ => result[0] > 0 => [1] => Failed
+ => result[1] > 0 => [1] => Error
+result > 10 => result < 5 => 7 => Inconclusive
+result > 1 => result < 9 => 5 => Failed
+result > 10 => result < 5 => 11 => Successful
+result > 10 => result < 5 => 4 => Failed
+result > 10 => result[1] < 5 => 11 => Error
+result[1] > 10 => result < 5 => 7 => Error
+result[1] > 10 => result < 5 => 3 => Error
+!result > 5 =>  => 3 => Successful
+!result > 5 =>  => 7 => Failed
+not result == 5 =>  => 3 => Successful
+not result == 1 and result < 5 =>  => 0 => Successful
+not result == 1 and result < 5 =>  => 1 => Failed
+not result == 1 and result < 5 =>  => 7 => Failed
+result==1||result==2&&result==3 =>  => 1 => Successful
+result==1||result==2&&result==3 =>  => 2 => Failed
+result==2&&result==3||result==1 =>  => 1 => Successful
+(result==1 or result==2) and result==2 =>  => 1 => Failed
+!(!(result != 0)) =>  => 0 => Failed
+!(!(result != 0)) =>  => 3 => Successful
+not!not result>=007 =>  => 7 => Failed
+result > -1 =>  => 0 => Successful
+result>-1 =>  => -1 => Failed
+-0 == 0 =>  => 5 => Successful
+result > -9223372036854775808 =>  => -9223372036854775808 => Failed
+result >= 9223372036854775807 =>  => 9223372036854775807 => Successful
+result[0] > 0 =>  => 1 => Error
+!(result[0] > 0) =>  => 1 => Error
+result > 0 && result[0] > 0 =>  => 0 => Failed
+result[0] > 0 && result > 0 =>  => 0 => Error
+result > 0 || result[0] > 0 && result > 0 =>  => 1 => Successful
+<<x:09>>result<<x:0d0a>><= 5  =>  => 5 => Successful
+
+# Texts that are no condition.
+refused
+result >
+result === 1
+result > 1 &
+result2 > 1
+result > 1 result > 2
+(result > 1
+result > 1)
+result > 1 || not
+result > 9223372036854775808 @
+result > 9223372036854775808
+result > -9223372036854775809
+9223372036854775808
+
+# Texts that are conditions, of at most 1,024 bytes.
+accepted
+result > -9223372036854775808
+<<300*!>>result>0
+<<1021*!>>0<1
+<<101*result>0||>>result >= 0000
+<<32*(>>result>0<<32*)>>
+
+# Texts that are nested too deep, or too long.
+refused
+<<33*(>>result>0<<33*)>>
+<<1022*!>>0<1
+<<1025* >>
+<<1024* >>
+
+# Forms of Argo Rollouts' conditions that are not read, each with what may be written instead.
+instead
+result >= 0.95 => result >= 95
+result == "up" => result == 1
+result == 'up' => result == 1
+result == true => result == 1
+result => result == 1
+result == nil => result == 0
+result ?? 0 < 5 => result < 5
+default(result, 0) < 5 => result < 5
+len(result) == 2 => result == 2
+asInt(result) < 5 => result < 5
+asFloat(result[0]) < 5 => result[0] < 5
+isNaN(result) => result == 1
+isInf(result) => result == 1
+(result) > 5 => result > 5
+(result[0]) > (5) => result[0] > 5
+result[-1] > 5 => result[1] > 5
+result[0:2] == 5 => result[0] == 5 && result[1] == 5
+result[0][1] > 5 => result[1] > 5
+result.value > 5 => result > 5
+result["value"] > 5 => result[0] > 5
+result + 1 > 5 => result > 4
+result - 1 > 5 => result > 6
+result * 2 > 5 => result > 2
+result / 2 > 5 => result > 10
+result % 2 == 0 => result == 0
+result ** 2 > 5 => result > 2 || result < -2
+result > - 5 => result > -5
+-result > 5 => result < -5
+result > +5 => result > 5
+result > 1_000 => result > 1000
+result > 0x1F => result > 31
+result > 1e3 => result > 1000
+1 < result < 5 => 1 < result && result < 5
+result in [1, 2] => result == 1 || result == 2
+result not in [1, 2] => not (result == 1 or result == 2)
+result in 1..5 => result >= 1 && result <= 5
+result == [1, 2] => result[0] == 1 && result[1] == 2
+result > 5 ? true : false => result > 5
+all(result, {# > 5}) => result[0] > 5 && result[1] > 5
+any(result, # > 5) => result[0] > 5 || result[1] > 5
+none(result, {# > 5}) => result[0] <= 5 && result[1] <= 5
+one(result, {# > 5}) => result[0] > 5 && result[1] <= 5 || result[0] <= 5 && result[1] > 5
+filter(result, {# > 5}) == [] => result[0] <= 5 && result[1] <= 5
+map(result, {# * 2})[0] > 5 => result[0] > 2
+count(result, {# > 5}) == 2 => result[0] > 5 && result[1] > 5
+max(result) > 5 => result[0] > 5 || result[1] > 5
+min(result) > 5 => result[0] > 5 && result[1] > 5
+sum(result) > 5 => result > 5
+result matches "up" => result == 1
+result contains "up" => result == 1
+result startsWith "up" => result == 1
+result endsWith "up" => result == 1
+result | len() == 2 => result == 2
+let x = result; x > 5 => result > 5
+result > 5 // high => result > 5
+result > 5 /* high */ => result > 5
+result > {{args.limit}} => result > 5

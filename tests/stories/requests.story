@@ -1,0 +1,255 @@
+desk 204
+
+# A doubled promotion acts once, a number ahead and another command under an old number change
+# nothing, and each kept reply comes again.
+ops 1 0 service v1 setWeight:20 pause setWeight:50 pause => [web Healthy 4 100]
+ops 2 1 start v2 => [web Paused 1 20]
+ops 3 2 promote => [web Paused 3 50]
+ops 3 3 promote => [web Paused 3 50]
+ops 5 4 promote => 409 {"code":"ahead","expected":4}
+ops 4 5 tick => [web Paused 3 50]
+ops 5 6 promote => [web Healthy 4 100]
+ops 3 7 abort => 409 reused
+ops 2 8 start v2 => [web Paused 1 20]
+ops 6 9 promote => 422 not-in-progress
+ops 6 10 promote => 422 not-in-progress
+
+
+# Background runs: five errors abort, and those between which a result came do not; a run is
+# reported to in turn, in time, and once; an inconclusive run holds, and its promotion enters the
+# step anew.
+ops 1 0 template errs m,interval=60 => [errs]
+background
+agent 1 0 report 1 m:1:0:!down => [web Paused 1 20 | 1 Error | Running]
+agent 2 60 report 1 m:2:60:!down => [web Paused 1 20 | 1 Error | Running]
+agent 3 120 report 1 m:3:120:!down => [web Paused 1 20 | 1 Error | Running]
+agent 4 180 report 1 m:4:180:!down => [web Paused 1 20 | 1 Error | Running]
+agent 5 240 report 1 m:5:240:!down => [web Degraded 1 0 | 1 Error | Error]
+
+ops 1 0 template errs m,interval=60 => [errs]
+background
+agent 1 0 report 1 m:1:0:5 => [web Paused 1 20 | 1 Successful | Running]
+agent 2 0 report 1 m:3:0:5 => 422 {"at":0,"code":"out-of-turn","expected":2}
+agent 3 0 report 1 m:1:0:!down => 422 {"at":0,"code":"recorded"}
+agent 4 59 report 1 m:2:59:5 => 422 {"at":0,"code":"too-early","due":1767225660}
+agent 5 60 report 1 m:2:61:5 => 422 {"at":0,"code":"future"}
+agent 6 60 report 1 m:2:60:5 => [web Paused 1 20 | 1 Successful | Running]
+agent 2 60 report 1 m:3:0:5 => 422 {"at":0,"code":"out-of-turn","expected":2}
+
+ops 1 0 template errs m,success=result>10,failure=result<5 => [errs]
+background
+agent 1 0 report 1 m:1:0:7 => [web Paused 1 20 | 1 Inconclusive | Inconclusive]
+ops 4 0 promote => [web Paused 1 20]
+ops 5 0 promote => [web Healthy 2 100]
+
+
+# Eight errors, and a result after four of them.
+ops 1 0 template errs m,interval=60 => [errs]
+background
+agent 1 0 report 1 m:1:0:!down => [web Paused 1 20 | 1 Error | Running]
+agent 2 60 report 1 m:2:60:!down => [web Paused 1 20 | 1 Error | Running]
+agent 3 120 report 1 m:3:120:!down => [web Paused 1 20 | 1 Error | Running]
+agent 4 180 report 1 m:4:180:!down => [web Paused 1 20 | 1 Error | Running]
+agent 5 240 report 1 m:5:240:1 => [web Paused 1 20 | 1 Successful | Running]
+agent 6 300 report 1 m:6:300:!down => [web Paused 1 20 | 1 Error | Running]
+agent 7 360 report 1 m:7:360:!down => [web Paused 1 20 | 1 Error | Running]
+agent 8 420 report 1 m:8:420:!down => [web Paused 1 20 | 1 Error | Running]
+agent 9 480 report 1 m:9:480:!down => [web Paused 1 20 | 1 Error | Running]
+? 480 run web 1 => {"closed":null,"code":"ok","metrics":[
+    {"consecutive":4,"counted":1,"dryRun":false,"due":1767226140,"errors":8,"failed":0,
+    "inconclusive":0,"measurements":9,"name":"m","phase":"Running"}
+    ],"run":1,"service":"web","started":1767225600,"step":null,"verdict":"Running"}
+
+
+# Runs of a step.
+ops 1 0 template t m,success=result>10,failure=result<5 => [t]
+analysis
+agent 1 0 report 1 m:1:0:7 => [web Paused 1 10 | 1 Inconclusive | Inconclusive]
+ops 4 0 promote => [web Paused 3 60]
+
+ops 1 0 template t m,success=result>1,failure=result<9 => [t]
+analysis
+agent 1 0 report 1 m:1:0:5 => [web Degraded 1 0 | 1 Failed | Failed]
+ops 4 0 retry => [web Progressing 1 10]
+agent 2 0 report 2 m:1:0:5 => [web Degraded 1 0 | 2 Failed | Failed]
+
+ops 1 0 template t m,success=result==0,count=3,interval=10,failureLimit=1 => [t]
+analysis
+agent 1 0 report 1 m:1:0:0 => [web Progressing 1 10 | 1 Successful | Running]
+agent 2 10 report 1 m:2:10:1 => [web Progressing 1 10 | 1 Failed | Running]
+agent 3 20 report 1 m:3:20:0 => [web Paused 3 60 | 1 Successful | Successful]
+
+ops 1 0 template t m,success=result==0,count=3,interval=10,failureLimit=1 => [t]
+analysis
+agent 1 0 report 1 m:1:0:1 => [web Progressing 1 10 | 1 Failed | Running]
+agent 2 10 report 1 m:2:10:1 => [web Degraded 1 0 | 1 Failed | Failed]
+
+ops 1 0 template t a,success=result>10,failure=result<5 b,success=result==0 => [t]
+analysis
+agent 1 0 report 1 a:1:0:7 c:1:0:1 => 422 {"at":1,"code":"unknown-metric"}
+agent 2 0 report 1 a:1:0:7 b:1:0:1 => [web Degraded 1 0 | 1 Inconclusive Failed | Failed]
+
+ops 1 0 template t d,success=result==0 e dryRun:d => [t]
+analysis
+agent 1 0 report 1 d:1:0:1 e:1:0:1 => [web Paused 3 60 | 1 Failed Successful | Successful]
+
+ops 1 0 template t d,success=result==0 dryRun:d => [t]
+analysis
+agent 1 0 report 1 d:1:0:1 => [web Paused 3 60 | 1 Failed | Successful]
+
+ops 1 0 template t m,success=result>10,failure=result<5 => [t]
+analysis
+ops 4 0 promote => 422 not-paused
+ops 5 0 promoteFull => [web Healthy 4 100]
+agent 1 0 report 1 m:1:0:7 => 422 run-closed
+agent 2 0 report 2 m:1:0:7 => 422 unknown-run
+
+
+# Releases without a run: pauses that end by themselves, aborts, refusals, and moments that fall.
+ops 1 0 service v1 pause:300 pause => [web Healthy 2 100]
+ops 2 0 start v2 => [web Paused 0 0]
+ops 3 299 tick => [web Paused 0 0]
+ops 4 300 tick => [web Paused 1 0]
+
+ops 1 0 service v1 pause:300 pause => [web Healthy 2 100]
+ops 2 0 start v2 => [web Paused 0 0]
+ops 3 301 tick => [web Paused 1 0]
+
+ops 1 0 service v1 setWeight:20 pause setWeight:50 pause => [web Healthy 4 100]
+ops 2 1 start v2 => [web Paused 1 20]
+ops 3 2 start v3 => 422 in-progress
+ops 4 2 abort => [web Degraded 1 0]
+ops 5 2 abort => 422 not-in-progress
+ops 6 2 retry => [web Paused 1 20]
+ops 7 2 retry => 422 not-aborted
+ops 8 2 abort => [web Degraded 1 0]
+ops 9 2 start v1 => [web Healthy 4 100]
+ops 10 2 start v1 => 422 already-stable
+
+ops 1 0 service v1 => [web Healthy 0 100]
+ops 2 1 start v2 => [web Healthy 0 100]
+
+ops 1 0 promote => 422 unknown-service
+ops 2 1 service v1 setWeight:100 setWeight:101 => 422 bad-strategy
+ops 3 2 service v1 65*pause => 422 bad-strategy
+ops 4 9 service v1 64*setWeight:7 => [web Healthy 64 100]
+ops 5 4 service v1 65*pause => 422 service-exists
+ops 6 0 start v2 => [web Healthy 64 100]
+ops 7 1 start v2 => 422 already-stable
+
+
+# Why templates and services are refused, in order; and measurements that no run takes.
+ops 1 0 template t m,success=result> => 422 bad-condition
+ops 2 0 template t m n,success=result>1,failure=result> => 422 bad-condition
+ops 3 0 template t m,count=2 => 422 interval-needed
+ops 4 0 template t m m => 422 duplicate-metric
+ops 5 0 template t m dryRun:n => 422 bad-dry-run
+ops 6 0 template t m,interval=60 => [t]
+ops 7 0 template t m => 422 template-exists
+ops 8 0 service v1 analysis:u => 422 unknown-template
+ops 9 0 service v1 analysis:t => 422 endless-metric
+ops 10 0 service v1 pause background:u => 422 unknown-template
+ops 11 0 service v1 pause background:t => [web Healthy 1 100]
+
+ops 1 0 template t a b,count=2,interval=10 => [t]
+analysis
+agent 1 0 report 1 a:1:0:5 => [web Progressing 1 10 | 1 Successful | Running]
+agent 2 0 report 1 b:1:0:5 b:2:0:5 => 422 {"at":1,"code":"repeated-metric"}
+agent 3 10 report 1 a:2:10:5 => 422 {"at":0,"code":"metric-closed"}
+agent 4 10 report 1 b:1:0:5 => [web Progressing 1 10 | 1 Successful | Running]
+
+
+# Conditions on lists, errors that abort from a step, a background run that ends well, and a pause
+# of no seconds.
+ops 1 0 template t m,success=result[2]>0 => [t]
+analysis
+agent 1 0 report 1 m:1:0:[1;2] => [web Progressing 1 10 | 1 Error | Running]
+
+ops 1 0 template t m,success=result[0]>0||result[9]>0 => [t]
+analysis
+agent 1 0 report 1 m:1:0:[1] => [web Paused 3 60 | 1 Successful | Successful]
+
+ops 1 0 template t m,success=result[9]>0||result[0]>0 => [t]
+analysis
+agent 1 0 report 1 m:1:0:[1] => [web Progressing 1 10 | 1 Error | Running]
+
+ops 1 0 template t m,count=9,interval=10 => [t]
+analysis
+agent 1 0 report 1 m:1:0:!down => [web Progressing 1 10 | 1 Error | Running]
+agent 2 10 report 1 m:2:10:!down => [web Progressing 1 10 | 1 Error | Running]
+agent 3 20 report 1 m:3:20:!down => [web Progressing 1 10 | 1 Error | Running]
+agent 4 30 report 1 m:4:30:!down => [web Progressing 1 10 | 1 Error | Running]
+agent 5 40 report 1 m:5:40:!down => [web Degraded 1 0 | 1 Error | Error]
+
+ops 1 0 template errs m => [errs]
+background
+agent 1 0 report 1 m:1:0:5 => [web Paused 1 20 | 1 Successful | Successful]
+agent 2 10 report 1 m:2:10:5 => 422 run-closed
+ops 4 20 promote => [web Healthy 2 100]
+
+ops 1 0 service v1 pause:0 pause => [web Healthy 2 100]
+ops 2 0 start v2 => [web Paused 1 0]
+
+
+# Moments that fall.
+ops 1 9 service v1 pause => [web Healthy 1 100]
+ops 2 0 start v2 => [web Paused 0 0]
+ops 3 1 promote => [web Healthy 1 100]
+? 0 service web => {"code":"ok","hold":"none","moment":1767225609,"open":[],"runs":0,
+    "service":"web","stable":"v2","status":"Healthy","step":1,"version":"v2","weight":100}
+? 0 history web => {"code":"ok","lines":[
+    "2026-01-01T00:00:09Z created v1","2026-01-01T00:00:09Z start v2",
+    "2026-01-01T00:00:09Z step 0 pause","2026-01-01T00:00:09Z promote",
+    "2026-01-01T00:00:09Z done v2"],"service":"web"}
+
+
+# A service is refused for the first cause that one of its analyses has: a metric twice, then a
+# template that is not there, then a metric without end, in a dry run too, then what else is wrong
+# with its steps. A metric of the background may have no end.
+ops 1 0 template t m => [t]
+ops 2 0 template endless m,interval=60 => [endless]
+ops 3 0 template dry m,interval=60 dryRun:m => [dry]
+ops 4 0 service v1 analysis:t+t => 422 duplicate-metric
+ops 5 0 service v1 analysis:nope analysis:t+t => 422 duplicate-metric
+ops 6 0 service v1 analysis:endless background:t+dry => 422 duplicate-metric
+ops 7 0 service v1 analysis:endless analysis:nope => 422 unknown-template
+ops 8 0 service v1 analysis:dry setWeight:101 => 422 endless-metric
+ops 9 0 service v1 analysis:t setWeight:101 => 422 bad-strategy
+ops 10 0 service v1 analysis:t background:dry => [web Healthy 1 100]
+
+
+# A request is judged at the service's last moment where its own is earlier.
+ops 1 0 template errs m,interval=60 => [errs]
+background
+ops 4 100 tick => [web Paused 1 20]
+agent 1 50 report 1 m:1:90:5 => [web Paused 1 20 | 1 Successful | Running]
+agent 2 60 report 1 m:2:160:5 => 422 {"at":0,"code":"future"}
+agent 3 40 report 1 m:2:100:5 => 422 {"at":0,"code":"too-early","due":1767225750}
+
+
+# A background run opens where its step is entered, and never behind the last step.
+ops 1 0 template errs m => [errs]
+ops 2 0 service v1 background:errs => [web Healthy 0 100]
+ops 3 0 start v2 => [web Healthy 0 100]
+agent 1 0 report 1 m:1:0:5 => 422 unknown-run
+
+ops 1 0 template errs m => [errs]
+ops 2 0 service v1 pause pause background:errs@1 => [web Healthy 2 100]
+ops 3 0 start v2 => [web Paused 0 0]
+agent 1 0 report 1 m:1:0:5 => 422 unknown-run
+ops 4 0 promote => [web Paused 1 0]
+agent 2 0 report 1 m:1:0:5 => [web Paused 1 0 | 1 Successful | Successful]
+
+ops 1 0 template errs m => [errs]
+ops 2 0 service v1 pause background:errs@1 => [web Healthy 1 100]
+ops 3 0 start v2 => [web Paused 0 0]
+ops 4 0 promote => [web Healthy 1 100]
+agent 1 0 report 1 m:1:0:5 => 422 unknown-run
+
+
+# Numbers begin with 1, and a refused request has taken its own.
+ops 2 0 tick => 409 {"code":"ahead","expected":1}
+ops 1 0 promote => 422 unknown-service
+ops 1 0 abort => 409 reused
+ops 2 0 service v1 => [web Healthy 0 100]
+ops 1 0 promote => 422 unknown-service
