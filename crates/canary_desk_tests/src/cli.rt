@@ -1,15 +1,18 @@
 //! Command lines as users type them, with their exit statuses and what is printed.
 use canary_base::error::Memory;
-use canary_cli::perform::{perform, refuse};
-use canary_cli::process::words_of;
-use canary_cli::words::{Program, WordsFault, read_words};
-use canary_listen::limits::Limits;
+use canary_cli::perform::{Terminals, perform, refuse};
 use canary_testing::rows::{lined, split};
+use canary_words::process::words_of;
 use std::alloc::Global;
 use std::env::{Env, FillError};
 use std::io;
 use std::io::{ErrorKind, Read, Write};
 use std::test::Fail;
+
+const NONE: Terminals = Terminals {
+    output: false,
+    errors: false,
+};
 
 const REQUEST: &str = "PUT /callers/ops/requests/1 HTTP/1.1\r\nContent-Length: 2\r\n\r\n{}";
 
@@ -84,7 +87,7 @@ fn outcome_of<R: Read>(rt: &HostRuntime, words: &str, input: &mut R) -> Result<O
     let words = words_in(alloc, words)?;
     let mut output = Vec::new(alloc);
     let mut errors = Vec::new(alloc);
-    let status = perform(rt, words.as_slice(), input, &mut output, &mut errors);
+    let status = perform(rt, words.as_slice(), input, &mut output, &mut errors, NONE);
     if errors.as_slice() == b"canary: memory\n".as_slice() {
         return Err(Memory);
     }
@@ -110,7 +113,7 @@ pipe --at 1 => not provided:|  --step <SECONDS>|
 pipe --step 1 => not provided:|  --at <SECONDS>|
 pipe --step 1 --at => a value is required for '--at <SECONDS>'
 pipe --at x --step 1 => invalid value 'x' for '--at <SECONDS>'
-pipe --at -5 --step 1 => unexpected argument '-5' found||Usage: canary pipe --at
+pipe --at -5 --step 1 => unexpected argument '-5' found||Usage: canary pipe [OPTIONS] --at
 pipe --at -5 --step 1 => SECONDS: a whole number from 0 to 253370764799
 pipe --at 1 --step 253370764800 => 253370764800 is not in 0..=253370764799
 pipe --at 1 --at 1 --step 1 => cannot be used multiple times
@@ -123,6 +126,17 @@ serve --listen x --message 0 => 0 is not in 1..=86400
 serve --listen x --idle 86401 => 86401 is not in 1..=86400
 serve --listen x --clients 65537 => 65537 is not in 1..=65536
 serve --listen x --owed 1073741825 => 1073741825 is not in 1..=1073741824
+import => not provided:|  --db <FILE>|  <CSV>|
+import --db a => not provided:|  <CSV>|
+import --db a b c => unexpected argument 'c' found
+history web => not provided:|  --db <FILE>|
+history --db a => not provided:|  <SERVICE>|
+export --db a web => not provided:|  --caller <NAME>|
+status => not provided:|  --db <FILE>|
+status --db a --watch 0 => 0 is not in 1..=86400
+status --db a --watch 86401 => 86401 is not in 1..=86400
+status --db a b => unexpected argument 'b' found
+backup --db a => not provided:|  <COPY>|
 check => not provided:|  <FILE>|
 check a b => unexpected argument 'b' found";
 
@@ -148,10 +162,15 @@ fn refuses_what_it_does_not_take(rt: HostRuntime) -> Result<(), Fail> {
 const HELP: &str = "--help => Usage: canary <COMMAND>| => Exit status: 0
 -h => Usage: canary <COMMAND>| => Exit status: 0
 help => Usage: canary <COMMAND>| => Exit status: 0
-pipe --help => Usage: canary pipe --at <SECONDS> --step <SECONDS>| => |  canary: truncated
-help pipe => Usage: canary pipe --at <SECONDS> --step <SECONDS>| => |  canary: truncated
+pipe --help => Usage: canary pipe [OPTIONS] --at <SECONDS> --step <SECONDS>| => |  canary: truncated
+help pipe => Usage: canary pipe [OPTIONS] --at <SECONDS> --step <SECONDS>| => |  canary: truncated
 serve --help => Usage: canary serve [OPTIONS] --listen <ADDRESS>| => |  canary: accept
 help serve => Usage: canary serve [OPTIONS] --listen <ADDRESS>| => |  canary: accept
+import --help => Usage: canary import --db <FILE> <CSV>| => |  canary: header
+history --help => Usage: canary history --db <FILE> <SERVICE>| => |  canary: unknown-service
+help export => Usage: canary export --db <FILE> --caller <NAME> <SERVICE>| => |  canary: too-many
+status --help => Usage: canary status [OPTIONS] --db <FILE>| => |  canary: broken-row
+help backup => Usage: canary backup --db <FILE> <COPY>| => |  canary: file
 check --help => Usage: canary check <FILE>| => |  canary: file
 help check => Usage: canary check <FILE>| => |  canary: file
 --version => canary  => 0.1.0|
@@ -241,7 +260,14 @@ fn is_cut_off(rt: &HostRuntime, words: &str, writes: usize) -> Result<bool, Memo
     };
     let mut errors = Vec::new(alloc);
     let mut input = REQUEST.as_bytes();
-    let status = perform(rt, words.as_slice(), &mut input, &mut output, &mut errors);
+    let status = perform(
+        rt,
+        words.as_slice(),
+        &mut input,
+        &mut output,
+        &mut errors,
+        NONE,
+    );
     let is_told = errors.as_slice() == "canary: write\n".as_bytes();
     let is_refused = errors.as_slice() == "canary: memory\n".as_bytes();
     Ok((is_told || is_refused) && status == 1 && output.bytes.len() == writes)
@@ -266,7 +292,14 @@ fn status_unheard(rt: &HostRuntime, words: &str) -> Result<u8, Memory> {
         writes: 3,
     };
     let mut input = "".as_bytes();
-    Ok(perform(rt, words.as_slice(), &mut input, &mut output, &mut errors))
+    Ok(perform(
+        rt,
+        words.as_slice(),
+        &mut input,
+        &mut output,
+        &mut errors,
+        NONE,
+    ))
 }
 
 // Asked again where memory was refused.
@@ -344,81 +377,4 @@ fn tells_why_words_are_refused(rt: HostRuntime) {
     assert!(rt; is_refused(alloc, kind, 1, line) || is_refused(alloc, kind, 1, line));
     let kind = ErrorKind::InvalidData;
     assert!(rt; is_refused(alloc, kind, 2, NO_TEXT) || is_refused(alloc, kind, 2, NO_TEXT));
-}
-
-// The program that the words ask for; none where there is none.
-fn program(alloc: Global, words: &str) -> Result<Option<Program>, Memory> {
-    let words = words_in(alloc, words)?;
-    match read_words(alloc, words.as_slice()) {
-        Ok(program) => Ok(Some(program)),
-        Err(WordsFault::Memory) => Err(Memory),
-        Err(_) => Ok(None),
-    }
-}
-
-// Whether it is `pipe` with these moments.
-fn pipes(read: &Program, at: u64, step: u64) -> bool {
-    match read {
-        Program::Pipe { at: a, step: s } => a.get() == at && s.get() == step,
-        Program::Serve { .. } | Program::Check { .. } => false,
-    }
-}
-
-// Whether it is `serve` on this address, with that many connections and these limits.
-fn serves(read: &Program, address: &str, count: Option<u64>, want: Limits) -> bool {
-    match read {
-        Program::Serve {
-            listen,
-            connections,
-            limits,
-        } => listen.as_str() == address && *connections == count && *limits == want,
-        Program::Pipe { .. } | Program::Check { .. } => false,
-    }
-}
-
-// Whether it is `check` of this file.
-fn checks(read: &Program, name: &str) -> bool {
-    match read {
-        Program::Check { file } => file.as_str() == name,
-        Program::Pipe { .. } | Program::Serve { .. } => false,
-    }
-}
-
-#[test]
-fn reads_the_moments_of_pipe(rt: HostRuntime) -> Result<(), Fail> {
-    let read = program(rt.alloc(), "pipe --step=60 --at 1767225600")?;
-    let read = read.ok_or("a program")?;
-    assert!(rt; pipes(&read, 1_767_225_600, 60));
-    Ok(())
-}
-
-// Whether the words are those of `serve` with that many connections and these limits.
-fn is_server(alloc: Global, words: &str, count: Option<u64>, want: Limits) -> Result<bool, Memory> {
-    match program(alloc, words)? {
-        Some(read) => Ok(serves(&read, "[::1]:0", count, want)),
-        None => Ok(false),
-    }
-}
-
-#[test]
-fn reads_the_limits_of_serve(rt: HostRuntime) -> Result<(), Fail> {
-    let words = "serve --listen [::1]:0";
-    assert!(rt; is_server(rt.alloc(), words, None, Limits::DEFAULT)?);
-    let words = "serve --owed 4 --clients=3 --listen [::1]:0 --idle 2 --message 1 --connections 5";
-    let limits = Limits {
-        message_seconds: 1,
-        idle_seconds: 2,
-        clients: 3,
-        owed_bytes: 4,
-    };
-    assert!(rt; is_server(rt.alloc(), words, Some(5), limits)?);
-    Ok(())
-}
-
-#[test]
-fn reads_the_file_of_check(rt: HostRuntime) -> Result<(), Fail> {
-    let read = program(rt.alloc(), "check -- -a")?;
-    let read = read.ok_or("a program")?;
-    assert!(rt; checks(&read, "-a"));
-    Ok(())
 }

@@ -2,6 +2,7 @@
 //! as well where any one allocation is refused: what was answered 503 is sent again.
 
 use crate::asked::event;
+use canary_adopting::progress::Untold;
 use canary_base::error::Memory;
 use canary_once::book::Book;
 use canary_once::event::Answer;
@@ -147,14 +148,14 @@ fn send_all(rt: &impl Abort, alloc: Global, books: &mut Books, part: &str) -> Re
 
 /// The book over the tables of another, with its connection; once more where memory was refused.
 fn adopted(alloc: Global, tables: TableBook<MemStore>) -> Result<TableBook<MemStore>, Fail> {
-    let left = match TableBook::adopt(alloc, tables.into_connection()) {
+    let left = match TableBook::adopt(alloc, tables.into_connection(), &mut Untold) {
         Ok(tables) => return Ok(tables),
         Err((_, left)) => left,
     };
     let Left::Connection(conn) = left else {
         return Err(Memory.into());
     };
-    match TableBook::adopt(alloc, conn) {
+    match TableBook::adopt(alloc, conn, &mut Untold) {
         Ok(tables) => Ok(tables),
         Err((fault, _)) => Err(fault.into()),
     }

@@ -1,5 +1,6 @@
-//! Conditions, measurements and the texts of results: worked values from the grammar and the table
-//! of measurements.
+//! Conditions and the texts of results: which fault a text has and where, copies, and what is written
+//! and read back. Which texts are conditions, and the phases of results, is told by the program
+//! (tests/stories).
 use canary_base::error::Memory;
 use canary_base::lists::Text;
 use canary_condition::condition::{Condition, ConditionFault, Verdict3};
@@ -8,7 +9,6 @@ use canary_condition::measurement::measure;
 use canary_condition::outcome::{FailureText, Outcome, Phase, Value};
 use canary_testing::rows::split;
 use std::alloc::{AllocError, Global};
-use std::process::Abort;
 use std::test::Fail;
 
 // What a text is said to be; none where memory was refused.
@@ -41,65 +41,6 @@ number-range result > -9223372036854775809
 number-range 9223372036854775808
 reads result > -9223372036854775808";
 
-// Forms of Argo Rollouts' conditions that are not read, each with what may be written instead.
-const DEPARTURES: &str = r#"result >= 0.95 => result >= 95
-result == "up" => result == 1
-result == 'up' => result == 1
-result == true => result == 1
-result => result == 1
-result == nil => result == 0
-result ?? 0 < 5 => result < 5
-default(result, 0) < 5 => result < 5
-len(result) == 2 => result == 2
-asInt(result) < 5 => result < 5
-asFloat(result[0]) < 5 => result[0] < 5
-isNaN(result) => result == 1
-isInf(result) => result == 1
-(result) > 5 => result > 5
-(result[0]) > (5) => result[0] > 5
-result[-1] > 5 => result[1] > 5
-result[0:2] == 5 => result[0] == 5 && result[1] == 5
-result[0][1] > 5 => result[1] > 5
-result.value > 5 => result > 5
-result["value"] > 5 => result[0] > 5
-result + 1 > 5 => result > 4
-result - 1 > 5 => result > 6
-result * 2 > 5 => result > 2
-result / 2 > 5 => result > 10
-result % 2 == 0 => result == 0
-result ** 2 > 5 => result > 2 || result < -2
-result > - 5 => result > -5
--result > 5 => result < -5
-result > +5 => result > 5
-result > 1_000 => result > 1000
-result > 0x1F => result > 31
-result > 1e3 => result > 1000
-1 < result < 5 => 1 < result && result < 5
-result in [1, 2] => result == 1 || result == 2
-result not in [1, 2] => not (result == 1 or result == 2)
-result in 1..5 => result >= 1 && result <= 5
-result == [1, 2] => result[0] == 1 && result[1] == 2
-result > 5 ? true : false => result > 5
-all(result, {# > 5}) => result[0] > 5 && result[1] > 5
-any(result, # > 5) => result[0] > 5 || result[1] > 5
-none(result, {# > 5}) => result[0] <= 5 && result[1] <= 5
-one(result, {# > 5}) => result[0] > 5 && result[1] <= 5 || result[0] <= 5 && result[1] > 5
-filter(result, {# > 5}) == [] => result[0] <= 5 && result[1] <= 5
-map(result, {# * 2})[0] > 5 => result[0] > 2
-count(result, {# > 5}) == 2 => result[0] > 5 && result[1] > 5
-max(result) > 5 => result[0] > 5 || result[1] > 5
-min(result) > 5 => result[0] > 5 && result[1] > 5
-sum(result) > 5 => result > 5
-result matches "up" => result == 1
-result contains "up" => result == 1
-result startsWith "up" => result == 1
-result endsWith "up" => result == 1
-result | len() == 2 => result == 2
-let x = result; x > 5 => result > 5
-result > 5 // high => result > 5
-result > 5 /* high */ => result > 5
-result > {{args.limit}} => result > 5"#;
-
 #[test]
 fn names_each_fault(rt: HostRuntime) -> Result<(), Fail> {
     for row in TEXTS.lines() {
@@ -107,41 +48,6 @@ fn names_each_fault(rt: HostRuntime) -> Result<(), Fail> {
         assert!(rt; reads_as(rt.alloc(), text, want), "{row}");
     }
     assert!(rt; reads_as(rt.alloc(), "", "syntax"));
-    Ok(())
-}
-
-#[test]
-fn departs_from_argo(rt: HostRuntime) -> Result<(), Fail> {
-    for row in DEPARTURES.lines() {
-        let (form, instead) = split(row)?;
-        assert!(rt; reads_as(rt.alloc(), form, "syntax"), "{row}");
-        assert!(rt; reads_as(rt.alloc(), instead, "reads"), "{row}");
-    }
-    Ok(())
-}
-
-// How often a text stands before the end of a condition, what the condition says of 1, that text,
-// and the end. The second and the third have 1,024 bytes, the most of a condition.
-const LONG: &str = "300 true ! result>0
-1021 false ! 0<1
-101 true result>0|| result >= 0000";
-
-// Whether a copy of a row's condition says what the row has.
-fn says_when_long(alloc: Global, row: &str) -> Result<bool, Fail> {
-    let (count, row) = row.split_once(' ').ok_or("a count")?;
-    let (want, row) = row.split_once(' ').ok_or("what it says")?;
-    let (text, end) = row.split_once(' ').ok_or("a text and an end")?;
-    let front = text.repeat(alloc, count.parse::<usize>()?)?;
-    let text = format!(in alloc; "{front}{end}")?;
-    let condition = Condition::parse(alloc, text.as_str())?.copy(alloc)?;
-    Ok((condition.eval(&Value::Whole(1)) == Verdict3::True) == (want == "true"))
-}
-
-#[test]
-fn reads_and_copies_long_conditions(rt: HostRuntime) -> Result<(), Fail> {
-    for row in LONG.lines() {
-        assert!(rt; says_when_long(rt.alloc(), row)?, "{row}");
-    }
     Ok(())
 }
 
@@ -273,90 +179,6 @@ fn explains_each_fault(rt: HostRuntime) -> Result<(), Fail> {
     assert!(rt; stops_blank(alloc, 1025, "1024 too-long")?);
     assert!(rt; stops_blank(alloc, 1024, "1024 term")?);
     assert!(rt; explain("not (result[1] > -5 or 1 == result)").is_none());
-    Ok(())
-}
-
-// The condition of a text, or none for an empty one.
-fn condition_of(alloc: Global, text: &str) -> Result<Option<Condition>, ConditionFault> {
-    if text.is_empty() {
-        return Ok(None);
-    }
-    Ok(Some(Condition::parse(alloc, text)?))
-}
-
-// The word of the phase of a result by these conditions.
-fn phase_of(
-    alloc: Global,
-    success: &str,
-    failure: &str,
-    value: &str,
-) -> Result<&'static str, Fail> {
-    let value = Value::read(value).ok_or("the text of a result")?;
-    let success = condition_of(alloc, success)?;
-    let failure = condition_of(alloc, failure)?;
-    let phase = measure(success.as_ref(), failure.as_ref(), &Outcome::Result(value));
-    Ok(phase.text())
-}
-
-// A success condition, a failure condition, a result and its phase.
-const MEASURED: &str = " =>  => [7] => Successful
-result[2] > 0 =>  => [1;2] => Error
-result[1] == 2 =>  => [1;2] => Successful
-result > 0 =>  => [1;2] => Error
-result[0] > 0 || result[9] > 0 =>  => [1] => Successful
-result[9] > 0 || result[0] > 0 =>  => [1] => Error
-result[0] > 1 =>  => [1] => Failed
- => result[0] > 1 => [1] => Successful
- => result[0] > 0 => [1] => Failed
- => result[1] > 0 => [1] => Error
-result > 10 => result < 5 => 7 => Inconclusive
-result > 1 => result < 9 => 5 => Failed
-result > 10 => result < 5 => 11 => Successful
-result > 10 => result < 5 => 4 => Failed
-result > 10 => result[1] < 5 => 11 => Error";
-
-// Conditions of success, whose groups and numbers decide.
-const GROUPED: &str = "!result > 5 =>  => 3 => Successful
-!result > 5 =>  => 7 => Failed
-not result == 5 =>  => 3 => Successful
-not result == 1 and result < 5 =>  => 0 => Successful
-not result == 1 and result < 5 =>  => 1 => Failed
-not result == 1 and result < 5 =>  => 7 => Failed
-result==1||result==2&&result==3 =>  => 1 => Successful
-result==1||result==2&&result==3 =>  => 2 => Failed
-result==2&&result==3||result==1 =>  => 1 => Successful
-(result==1 or result==2) and result==2 =>  => 1 => Failed
-!(!(result != 0)) =>  => 0 => Failed
-!(!(result != 0)) =>  => 3 => Successful
-not!not result>=007 =>  => 7 => Failed
-result > -1 =>  => 0 => Successful
-result>-1 =>  => -1 => Failed
--0 == 0 =>  => 5 => Successful
-result > -9223372036854775808 =>  => -9223372036854775808 => Failed
-result >= 9223372036854775807 =>  => 9223372036854775807 => Successful
-result[0] > 0 =>  => 1 => Error
-!(result[0] > 0) =>  => 1 => Error
-result > 0 && result[0] > 0 =>  => 0 => Failed
-result[0] > 0 && result > 0 =>  => 0 => Error
-result > 0 || result[0] > 0 && result > 0 =>  => 1 => Successful";
-
-fn expect_phases(rt: &impl Abort, alloc: Global, rows: &str) -> Result<(), Fail> {
-    for row in rows.lines() {
-        let (success, others) = split(row)?;
-        let (failure, others) = split(others)?;
-        let (value, want) = split(others)?;
-        assert_eq!(rt; phase_of(alloc, success, failure, value)?, want, "{row}");
-    }
-    Ok(())
-}
-
-#[test]
-fn measures_by_the_table(rt: HostRuntime) -> Result<(), Fail> {
-    let alloc = rt.alloc();
-    expect_phases(&rt, alloc, MEASURED)?;
-    expect_phases(&rt, alloc, GROUPED)?;
-    let blanks = "\tresult\r\n<= 5 ";
-    assert_eq!(rt; phase_of(alloc, blanks, "", "5")?, "Successful");
     Ok(())
 }
 

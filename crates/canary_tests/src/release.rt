@@ -1,5 +1,9 @@
-//! Releases: worked ones with the lines of their histories, and the copies of what they leave. A test
-//! ends with an error where memory was refused.
+//! Releases: copies of what commands decide and leave, services that pass, and services of parts. The
+//! histories of whole releases are told by the program (tests/stories). A test ends with an error
+//! where memory was refused.
+//!
+//! A row is the seconds after B and what is asked, what the body of the reply stands for, and the
+//! lines that are told, each with its seconds after B.
 
 use canary_base::error::Memory;
 use canary_base::moments::{LAST_MOMENT, Moment};
@@ -17,60 +21,6 @@ use canary_testing::asked::{B, body, command, moment};
 use canary_testing::rows::{says, split};
 use std::alloc::Global;
 use std::test::Fail;
-
-/// Releases from their service on, each on a desk of its own: seconds after B and what is asked, what
-/// the body of the reply stands for, and the lines that are told, each with its seconds after B. The
-/// last promotion of the first comes with an earlier moment.
-const HISTORIES: &str =
-    r#"0 service v1 setWeight:20 pause setWeight:50 pause => [web Healthy 4 100] => 0 created v1;
-1 start v2 => [web Paused 1 20] => 1 start v2;1 step 0 setWeight 20;1 step 1 pause;
-2 promote => [web Paused 3 50] => 2 promote;2 step 2 setWeight 50;2 step 3 pause;
-0 promote => [web Healthy 4 100] => 2 promote;2 done v2;
-
-0 service v1 setWeight:20 pause => [web Healthy 2 100] => 0 created v1;
-1 start v2 => [web Paused 1 20] => 1 start v2;1 step 0 setWeight 20;1 step 1 pause;
-2 abort => [web Degraded 1 0] => 2 abort;
-3 retry => [web Paused 1 20] => 3 retry v2;3 step 0 setWeight 20;3 step 1 pause;
-4 retry => not-aborted => nothing
-4 abort => [web Degraded 1 0] => 4 abort;
-5 start v1 => [web Healthy 2 100] => 5 start v1;5 done v1;
-
-0 service v1 pause:300 pause => [web Healthy 2 100] => 0 created v1;
-0 start v2 => [web Paused 0 0] => 0 start v2;0 step 0 pause 300s;
-299 tick => [web Paused 0 0] => nothing
-300 tick => [web Paused 1 0] => 300 step 1 pause;
-
-0 service v1 pause:300 pause => [web Healthy 2 100] => 0 created v1;
-0 start v2 => [web Paused 0 0] => 0 start v2;0 step 0 pause 300s;
-301 tick => [web Paused 1 0] => 300 step 1 pause;
-
-0 template t m,success=result>10,failure=result<5 => [t] => nothing
-0 service v1 setWeight:20 pause background:t => [web Healthy 2 100] => 0 created v1;
-0 start v2 => [web Paused 1 20] => 0 start v2;0 background run 1;0 step 0 setWeight 20;0 step 1 pause;
-0 report 1 m:1:0:7 => [web Paused 1 20 | 1 Inconclusive | Inconclusive] => 0 run 1 Inconclusive;0 hold background;
-0 promote => [web Paused 1 20] => 0 promote;0 step 1 pause;
-0 promote => [web Healthy 2 100] => 0 promote;0 done v2;
-
-0 template t m => [t] => nothing
-0 service v1 setWeight:20 pause background:t => [web Healthy 2 100] => 0 created v1;
-0 start v2 => [web Paused 1 20] => 0 start v2;0 background run 1;0 step 0 setWeight 20;0 step 1 pause;
-1 abort => [web Degraded 1 0] => 1 abort;1 run 1 Successful ended;
-
-0 template t m,success=result>10,failure=result<5 => [t] => nothing
-0 service v1 setWeight:10 analysis:t setWeight:60 pause => [web Healthy 4 100] => 0 created v1;
-0 start v2 => [web Progressing 1 10] => 0 start v2;0 step 0 setWeight 10;0 step 1 analysis run 1;
-0 report 1 m:1:0:7 => [web Paused 1 10 | 1 Inconclusive | Inconclusive] => 0 run 1 Inconclusive;0 hold step 1;
-1 promote => [web Paused 3 60] => 1 promote;1 step 2 setWeight 60;1 step 3 pause;
-
-0 template t a,success=result>10,failure=result<5 b,success=result==0 => [t] => nothing
-0 service v1 setWeight:10 analysis:t setWeight:60 pause => [web Healthy 4 100] => 0 created v1;
-0 start v2 => [web Progressing 1 10] => 0 start v2;0 step 0 setWeight 10;0 step 1 analysis run 1;
-0 report 1 a:1:0:7 b:1:0:1 => [web Degraded 1 0 | 1 Inconclusive Failed | Failed] => 0 run 1 Failed;0 abort run 1;
-
-0 template t m => [t] => nothing
-0 service v1 setWeight:10 analysis:t setWeight:60 pause => [web Healthy 4 100] => 0 created v1;
-0 start v2 => [web Progressing 1 10] => 0 start v2;0 step 0 setWeight 10;0 step 1 analysis run 1;
-0 promoteFull => [web Healthy 4 100] => 0 promote full;0 run 1 Successful ended;0 done v2;"#;
 
 /// A release at a pause that ends at the moment 300, with an open run.
 const TIMED: &str = r#"0 template t m => [t] => nothing
@@ -183,17 +133,6 @@ fn desk_after(alloc: Global, story: &str) -> Result<Desk, Fail> {
         }
     }
     Ok(desk)
-}
-
-#[test]
-fn releases_tell_their_histories(rt: HostRuntime) -> Result<(), Fail> {
-    for story in HISTORIES.split("\n\n") {
-        let mut desk = Desk::new(rt.alloc());
-        for row in story.lines() {
-            assert!(rt; holds(rt.alloc(), &mut desk, row)?, "{row}");
-        }
-    }
-    Ok(())
 }
 
 /// Whether a copy of what a command decides is what the row tells.

@@ -7,8 +7,7 @@
 //! - a request: the caller, its number, the seconds, and the command (`asked::command`)
 //! - a query: `?`, the seconds, and `service NAME`, `history NAME` or `run NAME NUMBER`
 //!
-//! A story is rows for one new book; a line `background` or `analysis` stands for the two rows
-//! below.
+//! A story is rows for one new book; a line `analysis` stands for the two rows below.
 
 use canary_base::error::Memory;
 use canary_base::moments::Moment;
@@ -41,11 +40,6 @@ pub(crate) const UNKNOWN: &str = r#"{"code":"unknown-service"}"#;
 pub(crate) const NO_MEMORY: &str = r#"{"code":"no-memory"}"#;
 
 pub(crate) const STORAGE: &str = r#"{"code":"storage"}"#;
-
-/// A service whose background analysis has the template errs, and its release.
-const WITH_BACKGROUND: &str =
-    "ops 2 0 service v1 setWeight:20 pause background:errs => [web Healthy 2 100]
-ops 3 0 start v2 => [web Paused 1 20]";
 
 /// A service with an analysis of the template t as its second step, and its release.
 const WITH_ANALYSIS: &str =
@@ -169,9 +163,6 @@ fn send_all<B: Book>(
 
 /// The rows that a line of a story stands for.
 fn rows_of(line: &str) -> &str {
-    if line == "background" {
-        return WITH_BACKGROUND;
-    }
     if line == "analysis" {
         return WITH_ANALYSIS;
     }
@@ -197,17 +188,6 @@ fn send_lines(
     let mut again = 0u32;
     for line in story.lines() {
         again = again.saturating_add(send_all(rt, alloc, book, rows_of(line))?);
-    }
-    Ok(again)
-}
-
-/// Sends each story of a text, with an empty line between two, to a book of its own. How many times
-/// more than once rows were sent.
-pub(crate) fn send_stories(rt: &impl Abort, alloc: Global, stories: &str) -> Result<u32, Fail> {
-    let mut again = 0u32;
-    for story in stories.split("\n\n") {
-        let mut book = MemoryBook::new(alloc);
-        again = again.saturating_add(send_lines(rt, alloc, &mut book, story)?);
     }
     Ok(again)
 }

@@ -1,5 +1,5 @@
 //! Clients that are served, each as if it were alone.
-use crate::clients::{Client, Desk, NO_ROUTE, NOBODY};
+use crate::listen_clients::{Client, Desk, NO_ROUTE, NOBODY};
 use canary_listen::limits::Limits;
 use std::alloc::Global;
 use std::test::Fail;

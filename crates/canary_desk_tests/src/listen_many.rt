@@ -1,5 +1,5 @@
 //! Many clients, at once and in turn, and how many there may be.
-use crate::clients::{Client, Desk, NO_ROUTE, NOBODY};
+use crate::listen_clients::{Client, Desk, NO_ROUTE, NOBODY};
 use canary_listen::limits::Limits;
 use std::test::Fail;
 
