@@ -125,13 +125,13 @@ fits_background None ms = true
 fits_background (Some b) ms = are_metrics_of_run ms
 
 -- no count, or one of at least 1
-abbrev pub is_count : Option ℕ → Bool
-is_count None = true
-is_count (Some n) = nat_le 1 n
+abbrev pub is_at_least_one : Option ℕ → Bool
+is_at_least_one None = true
+is_at_least_one (Some n) = nat_le 1 n
 
 -- the count of each of these metrics is one
 abbrev pub have_counts : List MetricValue → Bool
-have_counts ms = list_all (λ (m : MetricValue). is_count m.count) ms
+have_counts ms = list_all (λ (m : MetricValue). is_at_least_one m.count) ms
 
 -- at most 64 steps, no weight above 100, 1 to 32 metrics for each analysis, and each count of a metric at least 1
 abbrev pub is_accepted : CheckedStrategy → Bool

@@ -6,7 +6,7 @@ use Rattle.canary_condition.specs.declared.outcome.Phase.{Phase}
 use Rattle.canary_condition.specs.declared.outcome.Phase.TheVariants.{Pending, Running, Successful, Inconclusive, Error, Failed}
 use Rattle.canary_metric.specs.Metrics.{MetricValue}
 use Rattle.canary_metric.specs.MetricPhases.{is_completed}
-use Rattle.canary_metric.specs.Verdicts.{watched_phase, judging}
+use Rattle.canary_metric.specs.Verdicts.{counted_phase, judging}
 use Rattle.canary_plan.specs.declared.step.Step.{Step}
 use Rattle.canary_plan.specs.declared.step.Step.TheVariants.{SetWeight, Pause, Analysis}
 use Rattle.canary_plan.specs.declared.service.Background.{Background}
@@ -92,7 +92,7 @@ background_there st i started e = (st.background_metrics, by st.background e)
 
 -- a run that is ended from outside has a completed verdict
 ended_completed : (st : CheckedStrategy) (r : OpenRun) → is_completed (run_verdict st true r) ≡ true
-ended_completed st r = fold_completed Successful (map (watched_phase true) (judging (zip (run_metrics st r.step) r.tallies))) refl
+ended_completed st r = fold_completed Successful (map (counted_phase true) (judging (zip (run_metrics st r.step) r.tallies))) refl
 
 module _ (s : Stand) (w : Runs) (accepted : IsTrue (is_accepted s.strategy)) (numbered : IsNumbered w) where
   pub told : (c : Course) (at : ℕ) (event : LineEvent) → IsFollowing s w c → IsFollowing s w (tell c at event)

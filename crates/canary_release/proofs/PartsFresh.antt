@@ -8,12 +8,12 @@ use Rattle.canary_condition.specs.declared.outcome.Phase.TheVariants.{Pending, R
 use Rattle.canary_metric.specs.Metrics.{MetricValue, count_or_one}
 use Rattle.canary_metric.specs.Counts.{Counts, counts}
 use Rattle.canary_metric.specs.MetricPhases.{is_reached, phase_of_counts, is_completed}
-use Rattle.canary_metric.specs.Verdicts.{Watched, watched_phase, judging, is_bad, is_closing, are_completed, worst_of, verdict_of_counts}
+use Rattle.canary_metric.specs.Verdicts.{MetricCounts, counted_phase, judging, is_bad, is_closing, are_completed, worst_of, verdict_of_counts}
 use Rattle.canary_plan.specs.declared.step.Step.{Step}
 use Rattle.canary_plan.specs.declared.step.Step.TheVariants.{Analysis}
 use Rattle.canary_plan.specs.declared.service.Background.{Background}
 use Rattle.canary_plan.specs.declared.strategy.CheckedStrategy.{CheckedStrategy}
-use Rattle.canary_plan.specs.Plans.{metrics_at, has_weight_in_range, are_metrics_of_run, fits_step, fit_steps, fits_background, is_count, have_counts, is_accepted}
+use Rattle.canary_plan.specs.Plans.{metrics_at, has_weight_in_range, are_metrics_of_run, fits_step, fit_steps, fits_background, is_at_least_one, have_counts, is_accepted}
 use Rattle.canary_release.specs.declared.runs.OpenRun.{OpenRun}
 use Rattle.canary_release.specs.Watching.{opened_now}
 use Rattle.canary_release.specs.Courses.{run_metrics, run_verdict}
@@ -23,7 +23,7 @@ use Rattle.canary_release.specs.Parts.{is_unfit}
 abbrev nothing : Counts
 nothing = counts []
 
-unreached : (o interval : Option ℕ) → is_count o ≡ true → is_reached (count_or_one o interval) 0 ≡ false
+unreached : (o interval : Option ℕ) → is_at_least_one o ≡ true → is_reached (count_or_one o interval) 0 ≡ false
 unreached (Some n) interval h = grind (arith, nat_tests)
 unreached None None h = refl
 unreached None (Some d) h = refl
@@ -32,7 +32,7 @@ none_below : (n : ℕ) → nat_lt n 0 ≡ false
 none_below n = grind (arith, nat_tests)
 
 -- a metric with no measurements is pending
-pending : (m : MetricValue) → is_count m.count ≡ true → phase_of_counts m nothing false ≡ Pending
+pending : (m : MetricValue) → is_at_least_one m.count ≡ true → phase_of_counts m nothing false ≡ Pending
 pending m h = rw (none_below m.failure_limit, none_below m.inconclusive_limit, none_below m.consecutive_error_limit, unreached m.count m.interval h) refl
 
 pub and_left : (a b : Bool) → (a && b) ≡ true → a ≡ true
@@ -44,26 +44,26 @@ and_right true b h = h
 and_right false b h = cc h
 
 -- metrics with no measurements
-abbrev unmeasured : List MetricValue → List Watched
+abbrev unmeasured : List MetricValue → List MetricCounts
 unmeasured ms = zip ms (replicate (length ms) nothing)
 
-none_bad : (ms : List MetricValue) → have_counts ms ≡ true → list_any (λ w. is_bad (watched_phase false w)) (judging (unmeasured ms)) ≡ false
+none_bad : (ms : List MetricValue) → have_counts ms ≡ true → list_any (λ w. is_bad (counted_phase false w)) (judging (unmeasured ms)) ≡ false
 none_bad [] h = refl
 none_bad (m ∷ ms) h =
-    let rest = none_bad ms (and_right (is_count m.count) (have_counts ms) h) in
-    let first = pending m (and_left (is_count m.count) (have_counts ms) h) in
-    elim m.dry_run as (λ b. list_any (λ w. is_bad (watched_phase false w)) (cond (not b) ((m, nothing) ∷ judging (unmeasured ms)) (judging (unmeasured ms))) ≡ false)
-    [ true ↦ rest | false ↦ ap (λ p. is_bad p || list_any (λ w. is_bad (watched_phase false w)) (judging (unmeasured ms))) first ∙ rest ]
+    let rest = none_bad ms (and_right (is_at_least_one m.count) (have_counts ms) h) in
+    let first = pending m (and_left (is_at_least_one m.count) (have_counts ms) h) in
+    elim m.dry_run as (λ b. list_any (λ w. is_bad (counted_phase false w)) (cond (not b) ((m, nothing) ∷ judging (unmeasured ms)) (judging (unmeasured ms))) ≡ false)
+    [ true ↦ rest | false ↦ ap (λ p. is_bad p || list_any (λ w. is_bad (counted_phase false w)) (judging (unmeasured ms))) first ∙ rest ]
 
 some_incomplete : (ms : List MetricValue) → 1 ≤ length ms → have_counts ms ≡ true → are_completed (unmeasured ms) ≡ false
 some_incomplete [] some h = absurd (omega arith)
-some_incomplete (m ∷ ms) some h = ap (λ p. is_completed p && are_completed (unmeasured ms)) (pending m (and_left (is_count m.count) (have_counts ms) h))
+some_incomplete (m ∷ ms) some h = ap (λ p. is_completed p && are_completed (unmeasured ms)) (pending m (and_left (is_at_least_one m.count) (have_counts ms) h))
 
 undecided : (closing completed : Bool) (p : Bool → Phase) → closing ≡ false → completed ≡ false → (if closing || completed then p closing else Running) ≡ Running
 undecided closing completed p g h = rw (g, h) refl
 
 running : (ms : List MetricValue) → 1 ≤ length ms → have_counts ms ≡ true → verdict_of_counts false (unmeasured ms) ≡ Running
-running ms some h = undecided (is_closing false (unmeasured ms)) (are_completed (unmeasured ms)) (λ b. worst_of (map (watched_phase b) (judging (unmeasured ms)))) (none_bad ms h) (some_incomplete ms some h)
+running ms some h = undecided (is_closing false (unmeasured ms)) (are_completed (unmeasured ms)) (λ b. worst_of (map (counted_phase b) (judging (unmeasured ms)))) (none_bad ms h) (some_incomplete ms some h)
 
 -- the metrics of an analysis of an accepted strategy
 pub record HasMetrics (s : CheckedStrategy) (step : Option ℕ) : Type 0 where

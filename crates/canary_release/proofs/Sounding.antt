@@ -11,7 +11,7 @@ use Rattle.canary_condition.specs.Phases.{phase_of}
 use Rattle.canary_metric.specs.Metrics.{MetricValue}
 use Rattle.canary_metric.specs.Counts.{Counts, counts}
 use Rattle.canary_metric.specs.MetricPhases.{is_completed}
-use Rattle.canary_metric.specs.Verdicts.{Watched, worst_of, watched_phase, judging, is_closing, are_completed, verdict_of_counts, verdict}
+use Rattle.canary_metric.specs.Verdicts.{MetricCounts, worst_of, counted_phase, judging, is_closing, are_completed, verdict_of_counts, verdict}
 use Rattle.canary_plan.specs.declared.strategy.CheckedStrategy.{CheckedStrategy}
 use Rattle.canary_plan.specs.declared.command.Command.{Command}
 use Rattle.canary_plan.specs.Plans.{Templates}
@@ -40,13 +40,13 @@ use Rattle.canary_release.proofs.Ordering.{parts_say, past_ordered, OrderIf, Has
 
 -- A verdict that isn't completed is Running.
 
-running : (outside : Bool) (ws : List Watched) → is_completed (verdict_of_counts outside ws) ≡ false → verdict_of_counts outside ws ≡ Running
+running : (outside : Bool) (ws : List MetricCounts) → is_completed (verdict_of_counts outside ws) ≡ false → verdict_of_counts outside ws ≡ Running
 running outside ws e =
     let closing = is_closing outside ws in
-    let worst_one : Phase = worst_of (map (watched_phase closing) (judging ws)) in
+    let worst_one : Phase = worst_of (map (counted_phase closing) (judging ws)) in
     elim (closing || are_completed ws)
     as (λ b. is_completed (if b then worst_one else Running) ≡ false → (if b then worst_one else Running) ≡ Running) [
-      | true ↦ λ h. absurd (true≢false (sym (fold_completed Successful (map (watched_phase closing) (judging ws)) refl) ∙ h))
+      | true ↦ λ h. absurd (true≢false (sym (fold_completed Successful (map (counted_phase closing) (judging ws)) refl) ∙ h))
       | false ↦ λ h. refl
     ] e
 

@@ -1,5 +1,5 @@
 -- What adopting a database comes to.
-use Rattle.std.specs.Prelude.{◌≡◌, ◌↔◌}
+use Rattle.std.specs.Prelude.{◌≡◌, ◌↔◌, false}
 use Rattle.sqlite.specs.Effect.{Database}
 use Rattle.sqlite.specs.Held.{state}
 use Rattle.sqlite.specs.State.{State}
@@ -57,3 +57,8 @@ TellsTables g (left.Store store) = Unit {0}
 abbrev pub LeavesRows : {S : Type 0} → Ghosts S → State → Left S → Type 0
 LeavesRows g old (left.Connection conn) = IsUsable (state g conn) → IsUsable old × HaveSameRows old.now (state g conn).now
 LeavesRows g old (left.Store store) = IsLeft old (g.view store)
+
+-- a connection stands outside a transaction; a store alone has none
+abbrev pub IsOutside : {S : Type 0} → Left S → Type 0
+IsOutside (left.Connection conn) = conn.in_transaction ≡ false
+IsOutside (left.Store store) = Unit {0}

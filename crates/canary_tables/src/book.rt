@@ -2,6 +2,7 @@
 ghost use Rattle.std.specs.Prelude.{◌≡◌};
 ghost use Rattle.canary_once.specs.declared.book.BookFault.TheVariants as book_fault;
 ghost use Rattle.canary_schema.specs.declared.fault.StoreFault.TheVariants as store_fault;
+ghost use Rattle.canary_tables.specs.Faults.{book_fault_of};
 
 use crate::settle::settle;
 use crate::{found, found_runs, found_services, pages};
@@ -40,7 +41,9 @@ impl<S: Alter> Model for TableBook<S> {
     ghost invariant = { λ b. IsBook S.Store b.conn };
 }
 
-pub(crate) fn book_fault(fault: StoreFault) -> BookFault {
+pub(crate) fn book_fault(fault: StoreFault) -> BookFault
+    ensures { result ≡ book_fault_of fault }
+{
     match fault {
         StoreFault::Memory => BookFault::Memory,
         StoreFault::Storage => BookFault::Storage,

@@ -1,5 +1,5 @@
 //! A book over an empty database.
-ghost use Rattle.std.specs.Prelude.{◌≡◌, ◌≢◌, IfOk, IfErr};
+ghost use Rattle.std.specs.Prelude.{◌≡◌, ◌≢◌, false, IfOk, IfErr};
 ghost use Rattle.sqlite.specs.Held.{state};
 ghost use Rattle.canary_once.specs.Contents.{no_contents};
 ghost use Rattle.canary_schema.specs.Schema.{no_schema};
@@ -40,6 +40,8 @@ impl<S: Alter> TableBook<S> {
         ensures same { IfErr result (λ e. IsUsable (state S.Store e.1)
             → IsUsable (state S.Store conn)
             × ((state S.Store e.1).now ≡ (state S.Store conn).now)) }
+        ensures mode { IfErr result
+            (λ e. conn.in_transaction ≡ false → e.1.in_transaction ≡ false) }
     {
         laws::nothing();
         schema_laws::one_reading();

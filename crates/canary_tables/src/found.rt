@@ -6,6 +6,7 @@ ghost use Rattle.canary_schema.specs.Stores.{IsUsable};
 ghost use Rattle.canary_reads.specs.Finds.{IsSame};
 ghost use Rattle.canary_stored.specs.Values.{receipt_of_row};
 ghost use Rattle.canary_tables.specs.Desk.{IsDesk, contents_in};
+ghost use Rattle.canary_tables.specs.Faults.{fault_of_row};
 
 use canary_base::names::Name;
 use canary_base::numbers::Number;
@@ -20,7 +21,9 @@ use std::alloc::Global;
 
 /// The fault that a row which is not read comes to: one that stands for no value is a fault of the
 /// storage.
-pub(crate) fn store_fault(fault: RowFault) -> StoreFault {
+pub(crate) fn store_fault(fault: RowFault) -> StoreFault
+    ensures { result ≡ fault_of_row fault }
+{
     match fault {
         RowFault::Broken => StoreFault::Storage,
         RowFault::Memory => StoreFault::Memory,

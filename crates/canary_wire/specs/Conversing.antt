@@ -1,5 +1,5 @@
 -- A conversation with one client, turn by turn.
-use Rattle.std.specs.Prelude.{◌≡◌, ℕ, ◌<◌, true, false, List, [], ◌++◌, length, flat_map}
+use Rattle.std.specs.Prelude.{◌≡◌, ◌≢◌, ℕ, ◌<◌, true, false, List, [], ◌++◌, length, flat_map}
 use Rattle.std.specs.Prelude.{if◌then◌else◌}
 use Rattle.std.specs.List.{list_all}
 use Rattle.std.specs.Io.KnownBytes.{Appends, Consumes, IsAtEnd}
@@ -70,6 +70,10 @@ pub record TakesTurn (r new_r w new_w : Known) (p q : Point) (old new : Talk) : 
 -- it is open, nothing is owed, and no whole message is held
 abbrev pub IsListening : Talk → Type 0
 IsListening t = (t.stage ≡ Open) × (t.owed ≡ []) × IsUnfinished t.held
+
+-- the last reply is owed or was written, or there was no memory for one
+abbrev pub IsOver : Talk → Type 0
+IsOver t = t.stage ≢ Open
 
 -- why a conversation ended whose input ended with these bytes behind the last message
 abbrev pub end_cause : List ℕ → Cause

@@ -1,8 +1,9 @@
 //! A conversation with one client, turn by turn: where `serve` waits for its reader and its
 //! writer, a turn never does, so many clients can be served at once.
-ghost use Rattle.std.specs.Prelude.{◌≡◌, None, [], length, IfOk, IfSome};
+ghost use Rattle.std.specs.Prelude.{◌≡◌, ◌≢◌, None, [], length, IfOk, IfSome};
 ghost use Rattle.canary_wire.specs.Buffers.{bytes_held};
 ghost use Rattle.canary_wire.specs.Conversing.{begun, IsListening, end_cause, Awaits, StandsAt};
+ghost use Rattle.canary_wire.specs.Conversing.{IsOver};
 ghost use Rattle.canary_wire.specs.Conversing.{Receives, Sends, AnswersMore, Replies, TakesTurn};
 ghost use Rattle.canary_wire.specs.Conversing.{AnswersNext};
 ghost use Rattle.canary_wire.specs.Exchanges.{point};
@@ -195,6 +196,8 @@ impl Conversation {
             (point (C.tells clock.new) (B.state book.new))
             (talk_of self.old) (talk_of self.new) }
         ensures awaits { Awaits (R.remaining reader.new) (talk_of self.new) result }
+        ensures rest { IsOver (talk_of self.old) → (reader.new ≡ reader.old)
+            × (clock.new ≡ clock.old) × (book.new ≡ book.old) }
     {
         if let Some(wants) = self.write_owed(writer) {
             return wants;
@@ -257,6 +260,8 @@ impl Conversation {
             (talk_of self.old) (talk_of self.new) }
         ensures awaits { (r : Known) → IfSome result (Awaits r (talk_of self.new)) }
         ensures listens { result ≡ None → IsListening (talk_of self.new) }
+        ensures rest { IsOver (talk_of self.old) → (result ≢ None)
+            × (clock.new ≡ clock.old) × (book.new ≡ book.old) }
     {
         let step = self.answer_all(alloc, routes, clock, book);
         if let Some(wants) = self.write_owed(writer) {
@@ -283,6 +288,8 @@ impl Conversation {
             (point (C.tells clock.new) (B.state book.new))
             (talk_of self.old) (talk_of self.new) }
         ensures stands { StandsAt (talk_of self.new) result }
+        ensures rest { IsOver (talk_of self.old) → IsOver (talk_of self.new)
+            × (clock.new ≡ clock.old) × (book.new ≡ book.old) }
     {
         let mut step = self.advance(alloc, routes, clock, book);
         'steps: for _ in 1..MOST_STEPS {
@@ -307,6 +314,8 @@ impl Conversation {
             (point (C.tells clock.new) (B.state book.new))
             (talk_of self.old) (talk_of self.new) }
         ensures stands { StandsAt (talk_of self.new) result }
+        ensures rest { IsOver (talk_of self.old) → IsOver (talk_of self.new)
+            × (clock.new ≡ clock.old) × (book.new ≡ book.old) }
     {
         match self.stage {
             Stage::Open => {}

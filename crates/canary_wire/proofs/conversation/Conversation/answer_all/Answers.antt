@@ -1,3 +1,4 @@
+use Rattle.std.proofs.Common.{◌∙◌}
 use Rattle.canary_wire.specs.Talks.{talk_of}
 use Rattle.canary_wire.specs.Exchanges.{point}
 use Rattle.canary_wire.proofs.OrderLemmas.{more_then}
@@ -10,4 +11,8 @@ steps-preserved g c = (
       (point (g.C.Clock.tells c.advance-step-in-steps.new.clock) (g.B.Book.state c.advance-step-in-steps.new.book))
       (talk_of c.args.self.now) (talk_of c.steps.self) (talk_of c.advance-step-in-steps.new.self) c.steps.invariant.0 c.advance-step-in-steps.ensures.answers,
   c.advance-step-in-steps.ensures.stands,
+  (λ over.
+      let before = c.steps.invariant.2 over in
+      let after = c.advance-step-in-steps.ensures.rest before.0 in
+      (after.0, after.1 ∙ before.1, after.2 ∙ before.2)),
 )

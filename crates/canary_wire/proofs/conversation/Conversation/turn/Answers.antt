@@ -1,3 +1,4 @@
+use Rattle.std.proofs.Common.{refl, sym, ◌∙◌}
 use Rattle.canary_wire.specs.Talks.{talk_of}
 use Rattle.canary_wire.specs.Exchanges.{point}
 use Rattle.canary_wire.proofs.TurnLemmas.{turn_sent, turn_first, turn_read, turn_whole}
@@ -48,3 +49,20 @@ returns-clause-turn g c =
 
 pub returns-clause-awaits : goal.returns-clause-awaits
 returns-clause-awaits g c = c.reply-2.ensures.listens c.in_default-reply-2.is
+
+pub returns-in-Some-reply-clause-rest : goal.returns-in-Some-reply-clause-rest
+returns-in-Some-reply-clause-rest g c over =
+    let rest = c.reply.ensures.rest (λ is. over (sym c.write_owed.ensures.sends.same.1 ∙ is)) in
+    (refl, rest.1, rest.2)
+
+pub returns-in-Some-read_more-clause-rest : goal.returns-in-Some-read_more-clause-rest
+returns-in-Some-read_more-clause-rest g c over =
+    absurd ((c.reply.ensures.rest (λ is. over (sym c.write_owed.ensures.sends.same.1 ∙ is))).0 c.in_default-reply.is)
+
+pub returns-in-Some-reply-2-clause-rest : goal.returns-in-Some-reply-2-clause-rest
+returns-in-Some-reply-2-clause-rest g c over =
+    absurd ((c.reply.ensures.rest (λ is. over (sym c.write_owed.ensures.sends.same.1 ∙ is))).0 c.in_default-reply.is)
+
+pub returns-clause-rest : goal.returns-clause-rest
+returns-clause-rest g c over =
+    absurd ((c.reply.ensures.rest (λ is. over (sym c.write_owed.ensures.sends.same.1 ∙ is))).0 c.in_default-reply.is)
