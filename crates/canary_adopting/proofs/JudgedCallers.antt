@@ -10,7 +10,7 @@ use Rattle.canary_schema.specs.Stores.{IsUsable, Stores}
 use Rattle.canary_stored.specs.Values.{receipt_of_row}
 use Rattle.canary_judging.specs.Judged.{AreCallersJudged, IsCallerJudged, IsOneRead}
 use Rattle.canary_reads.specs.Finds.{IsSame}
-use Rattle.canary_adopting.specs.Alone.{IsAlone, IsRead, only}
+use Rattle.canary_adopting.specs.Alone.{IsAlone, HasValue, only}
 use Rattle.canary_adopting.proofs.Standing.{same_then, stores_then}
 
 pub only_one : {R : Type 0} (rows : List R) (row : R) → only rows ≡ Some row → rows ≡ row ∷ []
@@ -20,10 +20,10 @@ only_one (x ∷ y ∷ rest) row is = cc
 
 -- A receipt.
 
-pub receipt_found : {R A : Type 0} (test : R → Bool) (value : R → Option A) (all rows : List R) → rows ≡ filter test all → IsAlone (IsRead value) rows → IsOneRead test value all
+pub receipt_found : {R A : Type 0} (test : R → Bool) (value : R → Option A) (all rows : List R) → rows ≡ filter test all → IsAlone (HasValue value) rows → IsOneRead test value all
 receipt_found test value all rows is alone = record { row = alone.row; one = sym is ∙ alone.one; read = alone.has.0; is = alone.has.1 }
 
-pub receipt_there : {R A : Type 0} (test : R → Bool) (value : R → Option A) (all rows : List R) → rows ≡ filter test all → IsOneRead test value all → IsAlone (IsRead value) rows
+pub receipt_there : {R A : Type 0} (test : R → Bool) (value : R → Option A) (all rows : List R) → rows ≡ filter test all → IsOneRead test value all → IsAlone (HasValue value) rows
 receipt_there test value all rows is one = record { row = one.row; one = is ∙ one.one; has = (one.read, one.is) }
 
 -- The numbers from 1 on.

@@ -18,5 +18,5 @@ pub record IsNamed {R : Type 0} (name : R → List ℕ) (P : R → Type 0) (own 
   pub has : P row
 
 -- something is read of a row
-abbrev pub IsRead : {R A : Type 0} → (R → Option A) → R → Type 0
-IsRead {R} {A} value row = (read : A) × (value row ≡ Some read)
+abbrev pub HasValue : {R A : Type 0} → (R → Option A) → R → Type 0
+HasValue {R} {A} value row = (read : A) × (value row ≡ Some read)

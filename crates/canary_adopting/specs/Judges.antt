@@ -11,6 +11,8 @@ use Rattle.canary_reads.specs.Breaks.{BreaksUnless}
 abbrev pub FindsThat : {A F : Type 0} → (Tables → Type 0) → State → State → Result A F → Type 0
 FindsThat P old new result = IsUsable new → (t : Tables) → Stores old t → OnOk result (P t)
 
--- it tells that the tables are broken only where a program cannot hold a row of theirs, or this is not so of them
-abbrev pub RefusesUnless : {A : Type 0} → (Tables → Type 0) → State → State → Result A ReadFault → Type 0
+-- it tells that the tables are broken only where a program cannot hold a row of theirs, or this is
+-- not so of them
+abbrev pub RefusesUnless : {A : Type 0} → (Tables → Type 0) → State → State → Result A ReadFault
+    → Type 0
 RefusesUnless P old new result = BreaksUnless (λ t. AreWithin t × P t) old new result

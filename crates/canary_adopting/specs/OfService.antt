@@ -47,8 +47,10 @@ ArePlaced place [] = Unit {0}
 ArePlaced place (row ∷ rows) = (row.metric ≡ place) × ArePlaced (suc place) rows
 
 -- the tallies of the run of that number, by the places of its metrics
-pub record AreTalliesOf (name : List ℕ) (number : ℕ) (t : Tables) (tallies : List Counts) : Type 0 where
-  pub each : (place : ℕ) (c : Counts) → slice_get tallies place ≡ Some c → filter (is_tally name number place) t.tallies ≡ tally_row name number place c ∷ []
+pub record AreTalliesOf (name : List ℕ) (number : ℕ) (t : Tables)
+    (tallies : List Counts) : Type 0 where
+  pub each : (place : ℕ) (c : Counts) → slice_get tallies place ≡ Some c
+      → filter (is_tally name number place) t.tallies ≡ tally_row name number place c ∷ []
   pub no_more : length (filter (is_tally_of name number) t.tallies) ≡ length tallies
 
 -- the run of that number
@@ -56,15 +58,18 @@ abbrev pub IsRunOf : CheckedStrategy → List ℕ → ℕ → Tables → RunReco
 IsRunOf strategy name number t r = (r.number ≡ number) × IsRunJudged t strategy name r
 
 -- the runs 1 to that number
-pub record AreRunsOf (strategy : CheckedStrategy) (name : List ℕ) (count : ℕ) (t : Tables) (runs : List RunRecord) : Type 0 where
+pub record AreRunsOf (strategy : CheckedStrategy) (name : List ℕ) (count : ℕ) (t : Tables)
+    (runs : List RunRecord) : Type 0 where
   pub as_many : length runs ≡ count
-  pub each : (place : ℕ) (r : RunRecord) → slice_get runs place ≡ Some r → IsRunOf strategy name (suc place) t r
+  pub each : (place : ℕ) (r : RunRecord) → slice_get runs place ≡ Some r
+      → IsRunOf strategy name (suc place) t r
 
 -- Measurements and lines.
 
 -- each row of its measurements is read
 abbrev pub AreMeasurementsOf : List ℕ → Tables → List Recorded → Type 0
-AreMeasurementsOf name t measurements = AreRead measurement_of_row (filter (is_measurement_of name) t.measurements) measurements
+AreMeasurementsOf name t measurements =
+    AreRead measurement_of_row (filter (is_measurement_of name) t.measurements) measurements
 
 abbrev pub line_words : Line → List ℕ
 line_words line = words line.event

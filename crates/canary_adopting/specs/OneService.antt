@@ -24,12 +24,18 @@ use Rattle.canary_recounting.specs.Recounted.{AreTallied}
 -- Where templates are judged.
 
 -- it finds such a value
-abbrev pub FindsJudged : {A : Type 0} → (Tables → A → Type 0) → State → State → Result A ReadFault → Type 0
-FindsJudged such old new result = IsUsable new → (t : Tables) → Stores old t → AreTemplatesJudged t → IfOk result (such t)
+abbrev pub FindsJudged : {A : Type 0} → (Tables → A → Type 0) → State → State → Result A ReadFault
+    → Type 0
+FindsJudged such old new result =
+    IsUsable new → (t : Tables) → Stores old t → AreTemplatesJudged t → IfOk result (such t)
 
--- it tells that the tables are broken only where a program cannot hold a row of theirs, or this is not so of them
-abbrev pub RefusesJudged : {A : Type 0} → (Tables → Type 0) → State → State → Result A ReadFault → Type 0
-RefusesJudged P old new result = IsUsable new → (t : Tables) → Stores old t → AreTemplatesJudged t → result ≡ Err Broken → AreWithin t → ¬ P t
+-- it tells that the tables are broken only where a program cannot hold a row of theirs, or this is
+-- not so of them
+abbrev pub RefusesJudged : {A : Type 0} → (Tables → Type 0) → State → State → Result A ReadFault
+    → Type 0
+RefusesJudged P old new result =
+    IsUsable new → (t : Tables) → Stores old t → AreTemplatesJudged t → result ≡ Err Broken
+    → AreWithin t → ¬ P t
 
 -- One service.
 
@@ -42,7 +48,10 @@ pub record IsPastJudged (t : Tables) (row : ServiceRow) (stand : Stand) : Type 0
   pub tallied : AreTallied stand.strategy runs measurements
   pub history : List Line
   pub told : IsHistoryOf row.name t history
-  pub parts : is_broken (record { stand = stand; runs = record { count = row.standing.runs; open_runs = open_runs_in runs } }) ≡ false
+  pub parts : is_broken
+      (record
+      { stand = stand; runs = record { count = row.standing.runs; open_runs = open_runs_in runs } })
+      ≡ false
 
 abbrev pub measurements_under : Tables → ServiceRow → ℕ
 measurements_under t row = length (filter (is_measurement_of row.name) t.measurements)
@@ -52,14 +61,22 @@ lines_under t row = length (filter (is_line_of row.name) t.history)
 
 -- how much it has
 abbrev pub totals_of : Tables → ServiceRow → Totals
-totals_of t row = record { runs = row.standing.runs; tallies = tallies_under t row; measurements = measurements_under t row; lines = lines_under t row }
+totals_of t row =
+    record {
+      runs = row.standing.runs;
+      tallies = tallies_under t row;
+      measurements = measurements_under t row;
+      lines = lines_under t row;
+    }
 
 abbrev pub IsServiceUnder : Tables → List ℕ → Type 0
 IsServiceUnder t = IsNamed (λ (row : ServiceRow). row.name) (IsServiceJudged t)
 
 -- the service of that name is as it is to be, and has so much
 abbrev pub IsServiceFound : List ℕ → Tables → Totals → Type 0
-IsServiceFound name t totals = IsNamed (λ (row : ServiceRow). row.name) (λ row. IsServiceJudged t row × (totals ≡ totals_of t row)) name
+IsServiceFound name t totals =
+    IsNamed (λ (row : ServiceRow). row.name)
+    (λ row. IsServiceJudged t row × (totals ≡ totals_of t row)) name
 
 -- All services.
 

@@ -14,4 +14,5 @@ IsStrategyAccepted t spec = strategy_refusal (get (contents_of t).desk.templates
 
 -- nothing refuses it, and it is this
 abbrev pub IsStrategyOf : Tables → ServiceSpec → CheckedStrategy → Type 0
-IsStrategyOf t spec strategy = IsStrategyAccepted t spec × (strategy ≡ strategy_of (get (contents_of t).desk.templates) spec)
+IsStrategyOf t spec strategy =
+    IsStrategyAccepted t spec × (strategy ≡ strategy_of (get (contents_of t).desk.templates) spec)

@@ -7,7 +7,7 @@ ghost use Rattle.canary_stored.specs.Values.{receipt_of_row};
 ghost use Rattle.canary_judging.specs.Judged.{AreCallersJudged, IsCallerJudged, IsOneRead};
 ghost use Rattle.canary_reads.specs.declared.fault.ReadFault.TheVariants.{Broken};
 ghost use Rattle.canary_reads.specs.Finds.{IsSame, FindsSuch};
-ghost use Rattle.canary_adopting.specs.Alone.{IsAlone, IsRead, only};
+ghost use Rattle.canary_adopting.specs.Alone.{IsAlone, HasValue, only};
 ghost use Rattle.canary_adopting.specs.Judges.{FindsThat, RefusesUnless};
 
 use crate::fault::read_fault;
@@ -161,8 +161,8 @@ fn judge_receipt<S: Alter>(
 
 // That there is one row, of a receipt.
 fn read_receipt(alloc: Global, rows: Listed<KeptRow>) -> Result<(), ReadFault>
-    ensures judged { OnOk result (IsAlone (IsRead receipt_of_row) rows) }
-    ensures refused { result ≡ Err Broken → ¬ IsAlone (IsRead receipt_of_row) rows }
+    ensures judged { OnOk result (IsAlone (HasValue receipt_of_row) rows) }
+    ensures refused { result ≡ Err Broken → ¬ IsAlone (HasValue receipt_of_row) rows }
 {
     let Some(row) = alone::only(rows) else {
         return Err(ReadFault::Broken);

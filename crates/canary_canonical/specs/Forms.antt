@@ -18,7 +18,8 @@ at key form value = option_and_then form (get key value)
 
 -- an object with so many members; each key is there once, so that no key is beside those asked for
 abbrev pub is_object_of : ℕ → Data → Bool
-is_object_of count value = unwrap_or (option_map (λ members. members_len members == count) (as_object value)) false
+is_object_of count value =
+    unwrap_or (option_map (λ members. members_len members == count) (as_object value)) false
 
 abbrev pub in_object_of : {A : Type 0} → ℕ → Data → Option A → Option A
 in_object_of count value form = if is_object_of count value then form else None
@@ -30,7 +31,8 @@ only_member _ = None
 
 -- what the form gives of an object of one member, by its key and its value
 abbrev pub by_key : {A : Type 0} → (List ℕ → Data → Option A) → Data → Option A
-by_key form value = option_and_then (λ m. form m.0 m.1) (option_and_then only_member (as_object value))
+by_key form value =
+    option_and_then (λ m. form m.0 m.1) (option_and_then only_member (as_object value))
 
 -- ---- what a value holds
 
@@ -50,7 +52,8 @@ up_to greatest number = if nat_le number greatest then Some number else None
 
 -- a number without point and exponent, from 0 up to this
 abbrev pub number_up_to : ℕ → Data → Option ℕ
-number_up_to greatest value = option_and_then (up_to greatest) (option_and_then as_u64 (as_number value))
+number_up_to greatest value =
+    option_and_then (up_to greatest) (option_and_then as_u64 (as_number value))
 
 -- a number without point and exponent that a word of 64 bits with a sign holds
 abbrev pub signed_in : Data → Option ℤ
@@ -65,7 +68,8 @@ null_or form value = option_map Some (form value)
 
 abbrev pub each : {A : Type 0} → (Data → Option A) → Items → Option (List A)
 each form no_items = Some []
-each form (item value rest) = option_and_then (λ a. option_map (λ more. a ∷ more) (each form rest)) (form value)
+each form (item value rest) =
+    option_and_then (λ a. option_map (λ more. a ∷ more) (each form rest)) (form value)
 
 -- a list, each item of which has the form
 abbrev pub list_of : {A : Type 0} → (Data → Option A) → Data → Option (List A)

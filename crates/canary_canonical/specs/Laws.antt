@@ -18,7 +18,8 @@ use Rattle.canary_plan.specs.declared.command.Command.TheVariants as command
 use Rattle.canary_canonical.specs.Texts.{command_text}
 use Rattle.canary_canonical.specs.Readings.{canonical_in}
 
--- The limits of a command's parts that the model does not show by itself, since a name is a list of bytes there and a duration a number. Each command of a program keeps them.
+-- The limits of a command's parts that the model does not show by itself, since a name is a list of
+-- bytes there and a duration a number. Each command of a program keeps them.
 
 abbrev pub is_duration : ℕ → Bool
 is_duration n = nat_le n 31536000
@@ -50,11 +51,15 @@ unfoldable pub keeps_background : Background → Bool
 keeps_background b = list_all is_name b.templates && is_word b.starting_step
 
 unfoldable pub keeps_service : ServiceSpec → Bool
-keeps_service s = is_name s.name && (is_label s.version && (list_all keeps_step s.steps && all_of keeps_background s.background))
+keeps_service s =
+    is_name s.name
+    && (is_label s.version
+    && (list_all keeps_step s.steps && all_of keeps_background s.background))
 
 unfoldable pub keeps_outcome : Outcome → Bool
 keeps_outcome (Brought (Whole number)) = is_signed_word number
-keeps_outcome (Brought (ListResult values)) = (nat_le 1 (length values) && nat_le (length values) 16) && list_all is_signed_word values
+keeps_outcome (Brought (ListResult values)) =
+    (nat_le 1 (length values) && nat_le (length values) 16) && list_all is_signed_word values
 keeps_outcome (Failure text) = nat_le 1 (length text) && nat_le (length text) 200
 
 unfoldable pub keeps_entry : Entry → Bool
@@ -84,4 +89,5 @@ ReadsBack = (c : Command) → KeepsLimits c → canonical_in (command_text c) �
 
 -- the law: two commands have one text exactly where they are equal
 abbrev pub OneText : Type 0
-OneText = (a b : Command) → KeepsLimits a → KeepsLimits b → (command_text a ≡ command_text b) ↔ (a ≡ b)
+OneText =
+    (a b : Command) → KeepsLimits a → KeepsLimits b → (command_text a ≡ command_text b) ↔ (a ≡ b)

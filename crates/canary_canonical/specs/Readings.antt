@@ -1,4 +1,5 @@
--- The command that a text is: each name in it is a name, each label a label, and each number within its limit.
+-- The command that a text is: each name in it is a name, each label a label, and each number within
+-- its limit.
 use Rattle.std.specs.Prelude.{ℕ, ℤ, List, [], ◌&&◌, nat_le, if◌then◌else◌, length, Option, Some, None, option_map, option_and_then, unwrap_or, IsSome, codes}
 use Rattle.std.specs.Option.{option_flatten, option_or}
 use Rattle.std.specs.Str.{bytes_eq}
@@ -37,9 +38,11 @@ word_in = number_up_to 4294967295
 
 -- ---- templates
 
-abbrev pub metric_with : List ℕ → Option (List ℕ) → Option (List ℕ) → Option ℕ → ℕ → Option ℕ → ℕ → ℕ → ℕ → Option MetricSpec
+abbrev pub metric_with : List ℕ → Option (List ℕ) → Option (List ℕ) → Option ℕ → ℕ → Option ℕ → ℕ
+    → ℕ → ℕ → Option MetricSpec
 metric_with name success failure interval delay count failed inconclusive errors =
-    where_kept (are_metric_limits success failure count failed inconclusive errors) (λ kept. record {
+    where_kept (are_metric_limits success failure count failed inconclusive errors)
+    (λ kept. record {
       name = name;
       success = success;
       failure = failure;
@@ -66,7 +69,8 @@ metric_in d = option_flatten (Some metric_with
 
 abbrev pub template_with : List ℕ → List MetricSpec → List (List ℕ) → Option TemplateSpec
 template_with name metrics dry_run =
-    where_kept (is_metric_count (length metrics)) (λ kept. record { name = name; metrics = metrics; dry_run = dry_run; within = kept })
+    where_kept (is_metric_count (length metrics))
+    (λ kept. record { name = name; metrics = metrics; dry_run = dry_run; within = kept })
 
 unfoldable pub template_in : Data → Option TemplateSpec
 template_in d = option_flatten (Some template_with
@@ -87,7 +91,8 @@ unfoldable pub step_in : Data → Option Step
 step_in d = by_key step_of_kind d
 
 abbrev pub background_with : List (List ℕ) → ℕ → Background
-background_with templates starting_step = record { templates = templates; starting_step = starting_step }
+background_with templates starting_step =
+    record { templates = templates; starting_step = starting_step }
 
 unfoldable pub background_in : Data → Option Background
 background_in d = Some background_with
@@ -95,7 +100,8 @@ background_in d = Some background_with
     ⊛ at (codes "startingStep") word_in d
 
 abbrev pub service_with : List ℕ → List ℕ → List Step → Option Background → ServiceSpec
-service_with name version steps background = record { name = name; version = version; steps = steps; background = background }
+service_with name version steps background =
+    record { name = name; version = version; steps = steps; background = background }
 
 unfoldable pub service_in : Data → Option ServiceSpec
 service_in d = Some service_with
@@ -108,11 +114,14 @@ service_in d = Some service_with
 
 -- 1 to 16 numbers
 abbrev pub values_with : List ℤ → Option (List ℤ)
-values_with values = if nat_le 1 (length values) && nat_le (length values) 16 then Some values else None
+values_with values =
+    if nat_le 1 (length values) && nat_le (length values) 16 then Some values else None
 
 -- a list, or else a number
 abbrev pub result_in : Data → Option Value
-result_in d = option_or (option_map ListResult (option_and_then values_with (list_of signed_in d))) (option_map Whole (signed_in d))
+result_in d =
+    option_or (option_map ListResult (option_and_then values_with (list_of signed_in d)))
+    (option_map Whole (signed_in d))
 
 -- 1 to 200 bytes
 abbrev pub failure_with : List ℕ → Option (List ℕ)
@@ -132,7 +141,9 @@ outcome_in d = outcome_of (get (codes "result") d) (get (codes "failure") d)
 
 abbrev pub entry_of : List ℕ → ℕ → ℕ → Outcome → Option Entry
 entry_of metric ordinal taken outcome =
-    where_kept (is_ordinal ordinal) (λ kept. record { metric = metric; ordinal = ordinal; taken = taken; outcome = outcome; within = kept })
+    where_kept (is_ordinal ordinal)
+    (λ kept. record
+    { metric = metric; ordinal = ordinal; taken = taken; outcome = outcome; within = kept })
 
 unfoldable pub entry_in : Data → Option Entry
 entry_in d = in_object_of 4 d (option_flatten (Some entry_of
@@ -143,7 +154,8 @@ entry_in d = in_object_of 4 d (option_flatten (Some entry_of
 
 abbrev pub report_with : List ℕ → ℕ → List Entry → Option Report
 report_with service run entries =
-    where_kept (are_report_limits run (length entries)) (λ kept. record { service = service; run = run; entries = entries; within = kept })
+    where_kept (are_report_limits run (length entries))
+    (λ kept. record { service = service; run = run; entries = entries; within = kept })
 
 unfoldable pub report_in : Data → Option Report
 report_in d = in_object_of 3 d (option_flatten (Some report_with
@@ -157,13 +169,16 @@ abbrev pub start_with : List ℕ → List ℕ → Command
 start_with service version = command.Start service version
 
 unfoldable pub start_in : Data → Option Command
-start_in d = in_object_of 2 d (Some start_with ⊛ at (codes "service") name_in d ⊛ at (codes "version") label_in d)
+start_in d =
+    in_object_of 2 d
+    (Some start_with ⊛ at (codes "service") name_in d ⊛ at (codes "version") label_in d)
 
 -- the service that is named, in a command of a service alone
 abbrev pub named_in : Data → Option (List ℕ)
 named_in d = in_object_of 1 d (at (codes "service") name_in d)
 
--- of the commands whose canonical text has the form in which they are asked for, the one of that kind
+-- of the commands whose canonical text has the form in which they are asked for, the one of that
+-- kind
 unfoldable pub plain_of_kind : List ℕ → Data → Option Command
 plain_of_kind kind d =
     if bytes_eq kind (codes "start") then start_in d
@@ -197,7 +212,8 @@ if_text_of text command = if bytes_eq (command_text command) text then Some comm
 unfoldable pub canonical_in : List ℕ → Option Command
 canonical_in text = option_and_then (if_text_of text) (spelt_in text)
 
--- what stands for a text that is no command's: a Tick of a service whose name is empty, as no name is
+-- what stands for a text that is no command's: a Tick of a service whose name is empty, as no name
+-- is
 abbrev pub no_command : Command
 no_command = command.Tick []
 

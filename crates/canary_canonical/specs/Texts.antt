@@ -19,7 +19,8 @@ use Rattle.canary_plan.specs.declared.report.Report.{Report}
 use Rattle.canary_plan.specs.declared.command.Command.{Command}
 use Rattle.canary_plan.specs.declared.command.Command.TheVariants as command
 
--- The members of each object stand in ascending order of the bytes of their keys. What is absent is null.
+-- The members of each object stand in ascending order of the bytes of their keys. What is absent is
+-- null.
 
 abbrev pub whole_data : ℕ → Data
 whole_data n = number (unsigned n)

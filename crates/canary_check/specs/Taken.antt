@@ -38,7 +38,8 @@ plain_metric name =
 
 -- a template of one metric, which has the template's name
 abbrev pub stand_in : List ℕ → TemplateSpec
-stand_in name = record { name = name; metrics = plain_metric name ∷ []; dry_run = []; within = refl }
+stand_in name =
+    record { name = name; metrics = plain_metric name ∷ []; dry_run = []; within = refl }
 
 abbrev pub Known : Type 0
 Known = map.FinMap (slice_cmp nat_cmp) Template
@@ -46,9 +47,11 @@ Known = map.FinMap (slice_cmp nat_cmp) Template
 -- these templates and the stand-ins of these names
 abbrev pub with_stand_ins : Known → List (List ℕ) → Known
 with_stand_ins known [] = known
-with_stand_ins known (name ∷ names) = with_stand_ins (map.insert known name (template_of (stand_in name))) names
+with_stand_ins known (name ∷ names) =
+    with_stand_ins (map.insert known name (template_of (stand_in name))) names
 
--- why a service is refused where the templates of these names are there, with one metric of its own each
+-- why a service is refused where the templates of these names are there, with one metric of its own
+-- each
 abbrev pub refusal_among : List (List ℕ) → ServiceSpec → Option Refusal
 refusal_among names spec = strategy_refusal (map.get (with_stand_ins map.empty names)) spec
 
@@ -57,7 +60,8 @@ refusal_among names spec = strategy_refusal (map.get (with_stand_ins map.empty n
 -- nothing that the command itself holds is refused
 abbrev pub is_command_taken : Command → Bool
 is_command_taken (command.Template spec) = is_none (template_refusal spec)
-is_command_taken (command.Service spec) = is_none (refusal_among (names_looked_up (command.Service spec)) spec)
+is_command_taken (command.Service spec) =
+    is_none (refusal_among (names_looked_up (command.Service spec)) spec)
 is_command_taken other = false
 
 abbrev pub is_reading_taken : Reading Command → Bool
@@ -80,8 +84,10 @@ is_of_kind kind manifest = has (codes "kind") (λ value. not (is_other_text kind
 -- the text of this manifest is read and taken as that of its kind
 abbrev pub is_manifest_taken : List ℕ → Data → Bool
 is_manifest_taken text manifest =
-    if is_of_kind (codes "AnalysisTemplate") manifest then is_reading_taken (body_reading (template_body text))
-    else (if is_of_kind (codes "Rollout") manifest then is_reading_taken (body_reading (service_body text))
+    if is_of_kind (codes "AnalysisTemplate") manifest
+    then is_reading_taken (body_reading (template_body text))
+    else (if is_of_kind (codes "Rollout") manifest
+    then is_reading_taken (body_reading (service_body text))
     else false)
 
 abbrev pub is_json_taken : List ℕ → Option Data → Bool

@@ -44,7 +44,10 @@ pub record Standing : Type 0 where
 
 -- nothing else writes its book, whose store is in memory and can't fail
 abbrev pub point_of : Standing → Point
-point_of s = point (TellsSteps s.at s.step) (record { contents = s.contents; is_intact = Unit {0}; is_in_memory = Unit {0}; is_sure = true })
+point_of s =
+    point (TellsSteps s.at s.step)
+    (record
+    { contents = s.contents; is_honest = Unit {0}; is_in_memory = Unit {0}; is_sure = true })
 
 abbrev pub fresh : ℕ → ℕ → Standing
 fresh at step = record { at = at; step = step; contents = no_contents }
@@ -60,7 +63,8 @@ IsServed r new_r w new_w start (Err Write) =
     (end : Standing) × ServesUntil r new_r w new_w (point_of start) (point_of end)
 IsServed r new_r w new_w start (Err Memory) = (new_r ≡ r) × (new_w ≡ w)
 
--- `pipe` served its input on its output from a fresh desk in memory, and this says whether to its end
+-- `pipe` served its input on its output from a fresh desk in memory, and this says whether to its
+-- end
 abbrev pub IsPiped : Known → Known → Known → Known → ℕ → ℕ → Result (Unit {0}) Fault → Type 0
 IsPiped r new_r w new_w at step done = (served : Result Ended ServeFault)
     × (done ≡ done_of served) × IsServed r new_r w new_w (fresh at step) served
@@ -68,20 +72,21 @@ IsPiped r new_r w new_w at step done = (served : Result Ended ServeFault)
 -- (here the `Bool` is whether the desk takes the manifest)
 -- a manifest was judged so: `ok` was written where the desk takes it, and something else where it
 -- does not; or memory ran out, or the output failed
-abbrev pub IsJudged : Bool → Known → Known → Result Outcome Fault → Type 0
-IsJudged taken w new_w (Ok Done) = (taken ≡ true) × Appends w new_w (codes "ok\n")
-IsJudged taken w new_w (Ok Findings) =
+abbrev pub IsCheckShown : Bool → Known → Known → Result Outcome Fault → Type 0
+IsCheckShown taken w new_w (Ok Done) = (taken ≡ true) × Appends w new_w (codes "ok\n")
+IsCheckShown taken w new_w (Ok Findings) =
     (taken ≡ false) × (text : List ℕ) × (text ≢ codes "ok\n") × Appends w new_w text
-IsJudged taken w new_w (Err f) = (f ≡ fault.Memory) ⊎ (f ≡ fault.Write)
+IsCheckShown taken w new_w (Err f) = (f ≡ fault.Memory) ⊎ (f ≡ fault.Write)
 
 -- where a check found nothing, it wrote `ok`
-abbrev pub IsChecked : Known → Known → Result Outcome Fault → Type 0
-IsChecked w new_w done = done ≡ Ok Done → Appends w new_w (codes "ok\n")
+abbrev pub IsCheckShown : Known → Known → Result Outcome Fault → Type 0
+IsCheckShown w new_w done = done ≡ Ok Done → Appends w new_w (codes "ok\n")
 
 -- the program was run so; `pipe` and `import` alone read the input
 abbrev pub IsRun : Known → Known → Known → Known → Program → Result Outcome Fault → Type 0
 IsRun r new_r w new_w (Pipe at step None) done =
-    (piped : Result (Unit {0}) Fault) × (done ≡ outcome_of piped) × IsPiped r new_r w new_w at step piped
+    (piped : Result (Unit {0}) Fault) × (done ≡ outcome_of piped)
+    × IsPiped r new_r w new_w at step piped
 IsRun r new_r w new_w (Pipe at step (Some db)) done = Unit {0}
 IsRun r new_r w new_w (Serve listen db connections limits) done = new_r ≡ r
 IsRun r new_r w new_w (Import db csv) done = Unit {0}
@@ -89,14 +94,15 @@ IsRun r new_r w new_w (History db service) done = new_r ≡ r
 IsRun r new_r w new_w (Export db caller service) done = new_r ≡ r
 IsRun r new_r w new_w (Status db watch) done = new_r ≡ r
 IsRun r new_r w new_w (Backup db copy) done = new_r ≡ r
-IsRun r new_r w new_w (Check file) done = (new_r ≡ r) × IsChecked w new_w done
+IsRun r new_r w new_w (Check file) done = (new_r ≡ r) × IsCheckShown w new_w done
 
 -- `pipe` in memory ended with this exit status
 abbrev pub IsPipedTo : Known → Known → Known → Known → ℕ → ℕ → ℕ → Type 0
 IsPipedTo r new_r w new_w at step status = (piped : Result (Unit {0}) Fault)
     × (status ≡ status_of (outcome_of piped)) × IsPiped r new_r w new_w at step piped
 
--- it may write on the error stream though it is done: how connections ended, or, on a terminal, how far it has come
+-- it may write on the error stream though it is done: how connections ended, or, on a terminal, how
+-- far it has come
 abbrev pub MayTell : Program → Type 0
 MayTell (Pipe at step None) = ⊥
 MayTell (Backup db copy) = ⊥
@@ -113,12 +119,15 @@ AsksForOneThatTells words = (faults_of words ≡ []) × IsOneThatTells (program_
 
 -- ---- what comes of words that have no program
 
--- help goes out whole, with status 0, or the output fails; why the words have no program leaves the output as it was
+-- help goes out whole, with status 0, or the output fails; why the words have no program leaves the
+-- output as it was
 abbrev pub IsTold : WordsFault → Known → Known → ℕ → Type 0
-IsTold (Help text) w new_w status = ((status ≡ 0) × Appends w new_w (string_bytes text)) ⊎ (status ≡ 1)
+IsTold (Help text) w new_w status =
+    ((status ≡ 0) × Appends w new_w (string_bytes text)) ⊎ (status ≡ 1)
 IsTold (Usage text) w new_w status = (status ≡ 2) × (new_w ≡ w)
 IsTold NoMemory w new_w status = (status ≡ 1) × (new_w ≡ w)
 
 -- help is told only where it is asked for, and a mistake only where the words have one
 abbrev pub IsTurnedAway : Kinds → Known → Known → ℕ → Type 0
-IsTurnedAway kinds w new_w status = (fault : WordsFault) × IsFor kinds fault × IsTold fault w new_w status
+IsTurnedAway kinds w new_w status =
+    (fault : WordsFault) × IsFor kinds fault × IsTold fault w new_w status

@@ -2,7 +2,7 @@
 ghost use Rattle.std.specs.Prelude.{◌≡◌, Ok, codes};
 ghost use Rattle.std.specs.Io.KnownBytes.{Appends};
 ghost use Rattle.canary_check.specs.Taken.{is_taken};
-ghost use Rattle.canary_cli.specs.Performed.{IsJudged};
+ghost use Rattle.canary_cli.specs.Performed.{IsCheckShown};
 
 use crate::perform::{Outcome, show};
 use canary_database::fault::Fault;
@@ -24,12 +24,12 @@ pub(crate) fn check<P: Files + AllocGlobal, W: Write>(
         → Appends (W.contents output.old) (W.contents output.new) (codes "ok\n") }
 {
     let manifest = read_file(rt, file)?;
-    judge(rt.alloc(), manifest.as_slice(), output)
+    check_bytes(rt.alloc(), manifest.as_slice(), output)
 }
 
 // Writes `ok` where the desk takes this manifest, and otherwise what it would refuse of it.
-fn judge<W: Write>(alloc: Global, manifest: &[u8], output: &mut W) -> Result<Outcome, Fault>
-    ensures { IsJudged (is_taken manifest.now)
+fn check_bytes<W: Write>(alloc: Global, manifest: &[u8], output: &mut W) -> Result<Outcome, Fault>
+    ensures { IsCheckShown (is_taken manifest.now)
         (W.contents output.old) (W.contents output.new) result }
 {
     let Ok(findings) = canary_check::check::check(alloc, manifest) else {

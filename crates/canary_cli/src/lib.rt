@@ -2,8 +2,8 @@
 //! canary_words, on a given input, output and error stream.
 //!
 //! Callers may rest on this: where the words are those of `pipe` in memory, what is written is what
-//! it comes to on what was read, and the exit status says how it ended; where they are no program's,
-//! the input is not read. What the others take from sockets and files no contract says.
+//! it comes to on what was read, and the exit status says how it ended; where they are no
+//! program's, the input is not read. What the others take from sockets and files no contract says.
 #![tactic(auto)]
 
 mod check;

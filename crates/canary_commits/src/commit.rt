@@ -38,7 +38,8 @@ fn settle_caller<S: Alter>(
     ensures same_reference { tx.new.conn.ghost_name ≡ tx.old.conn.ghost_name }
     ensures wrote { WroteIf (CallerAsks caller.now number) (caller_settled caller.now number)
         (state S.Store tx.old.conn.now) (state S.Store tx.new.conn.now) result }
-    ensures live { StaysLive (state S.Store tx.old.conn.now) (state S.Store tx.new.conn.now) result }
+    ensures live { StaysLive (state S.Store tx.old.conn.now)
+        (state S.Store tx.new.conn.now) result }
     ensures kept { StaysCommitted (state S.Store tx.old.conn.now) (state S.Store tx.new.conn.now) }
     ensures survives { SurvivesCut (state S.Store tx.old.conn.now) (state S.Store tx.new.conn.now) }
 {
@@ -60,7 +61,8 @@ fn put_service<S: Alter>(
     ensures wrote { WroteIf (PutAsks is_there parts.now.stand.name)
         (service_put command.now parts.now)
         (state S.Store tx.old.conn.now) (state S.Store tx.new.conn.now) result }
-    ensures live { StaysLive (state S.Store tx.old.conn.now) (state S.Store tx.new.conn.now) result }
+    ensures live { StaysLive (state S.Store tx.old.conn.now)
+        (state S.Store tx.new.conn.now) result }
     ensures kept { StaysCommitted (state S.Store tx.old.conn.now) (state S.Store tx.new.conn.now) }
     ensures survives { SurvivesCut (state S.Store tx.old.conn.now) (state S.Store tx.new.conn.now) }
 {
@@ -86,7 +88,8 @@ fn change_desk<S: Alter>(
         (desk_changed command.now change.now)
         (state S.Store tx.old.conn.now) (state S.Store tx.new.conn.now) result }
     ensures readable { OnOk result (IsReadableChange change.now) }
-    ensures live { StaysLive (state S.Store tx.old.conn.now) (state S.Store tx.new.conn.now) result }
+    ensures live { StaysLive (state S.Store tx.old.conn.now)
+        (state S.Store tx.new.conn.now) result }
     ensures kept { StaysCommitted (state S.Store tx.old.conn.now) (state S.Store tx.new.conn.now) }
     ensures survives { SurvivesCut (state S.Store tx.old.conn.now) (state S.Store tx.new.conn.now) }
 {
@@ -115,7 +118,8 @@ fn add_template<S: Alter>(
     ensures same_reference { tx.new.conn.ghost_name ≡ tx.old.conn.ghost_name }
     ensures wrote { Wrote (desk_changed command.now (change.Template template.now))
         (state S.Store tx.old.conn.now) (state S.Store tx.new.conn.now) result }
-    ensures live { StaysLive (state S.Store tx.old.conn.now) (state S.Store tx.new.conn.now) result }
+    ensures live { StaysLive (state S.Store tx.old.conn.now)
+        (state S.Store tx.new.conn.now) result }
     ensures kept { StaysCommitted (state S.Store tx.old.conn.now) (state S.Store tx.new.conn.now) }
     ensures survives { SurvivesCut (state S.Store tx.old.conn.now) (state S.Store tx.new.conn.now) }
 {
@@ -137,7 +141,8 @@ fn change_service<S: Alter>(
         (desk_changed command.now (change.Service parts.now effects.now))
         (state S.Store tx.old.conn.now) (state S.Store tx.new.conn.now) result }
     ensures readable { OnOk result (IsReadableChange (change.Service parts.now effects.now)) }
-    ensures live { StaysLive (state S.Store tx.old.conn.now) (state S.Store tx.new.conn.now) result }
+    ensures live { StaysLive (state S.Store tx.old.conn.now)
+        (state S.Store tx.new.conn.now) result }
     ensures kept { StaysCommitted (state S.Store tx.old.conn.now) (state S.Store tx.new.conn.now) }
     ensures survives { SurvivesCut (state S.Store tx.old.conn.now) (state S.Store tx.new.conn.now) }
 {
@@ -157,7 +162,8 @@ fn write<S: Alter>(
     ensures wrote { WroteIf (CommitAsks is_there settlement.now) (request_settled settlement.now)
         (state S.Store tx.old.conn.now) (state S.Store tx.new.conn.now) result }
     ensures readable { OnOk result (IsReadableSettlement settlement.now) }
-    ensures live { StaysLive (state S.Store tx.old.conn.now) (state S.Store tx.new.conn.now) result }
+    ensures live { StaysLive (state S.Store tx.old.conn.now)
+        (state S.Store tx.new.conn.now) result }
     ensures kept { StaysCommitted (state S.Store tx.old.conn.now) (state S.Store tx.new.conn.now) }
     ensures survives { SurvivesCut (state S.Store tx.old.conn.now) (state S.Store tx.new.conn.now) }
 {
@@ -184,7 +190,8 @@ fn keep<S: Alter>(
     ensures wrote { Wrote (with_kept (kept_row caller.now number receipt.now))
         (state S.Store tx.old.conn.now) (state S.Store tx.new.conn.now) result }
     ensures readable { OnOk result (IsReadableCommand receipt.now.command) }
-    ensures live { StaysLive (state S.Store tx.old.conn.now) (state S.Store tx.new.conn.now) result }
+    ensures live { StaysLive (state S.Store tx.old.conn.now)
+        (state S.Store tx.new.conn.now) result }
     ensures kept { StaysCommitted (state S.Store tx.old.conn.now) (state S.Store tx.new.conn.now) }
     ensures survives { SurvivesCut (state S.Store tx.old.conn.now) (state S.Store tx.new.conn.now) }
 {

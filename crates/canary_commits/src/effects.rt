@@ -35,7 +35,8 @@ fn tell<S: Alter>(
     ensures wrote { Wrote (happened service.now (Told line.now))
         (state S.Store tx.old.conn.now) (state S.Store tx.new.conn.now) result }
     ensures readable { OnOk result (IsReadableLine line.now) }
-    ensures live { StaysLive (state S.Store tx.old.conn.now) (state S.Store tx.new.conn.now) result }
+    ensures live { StaysLive (state S.Store tx.old.conn.now)
+        (state S.Store tx.new.conn.now) result }
     ensures kept { StaysCommitted (state S.Store tx.old.conn.now) (state S.Store tx.new.conn.now) }
     ensures survives { SurvivesCut (state S.Store tx.old.conn.now) (state S.Store tx.new.conn.now) }
 {
@@ -54,7 +55,8 @@ fn open_run<S: Alter>(
     ensures same_reference { tx.new.conn.ghost_name ≡ tx.old.conn.ghost_name }
     ensures wrote { Wrote (happened service.now (Opened opening.now))
         (state S.Store tx.old.conn.now) (state S.Store tx.new.conn.now) result }
-    ensures live { StaysLive (state S.Store tx.old.conn.now) (state S.Store tx.new.conn.now) result }
+    ensures live { StaysLive (state S.Store tx.old.conn.now)
+        (state S.Store tx.new.conn.now) result }
     ensures kept { StaysCommitted (state S.Store tx.old.conn.now) (state S.Store tx.new.conn.now) }
     ensures survives { SurvivesCut (state S.Store tx.old.conn.now) (state S.Store tx.new.conn.now) }
 {
@@ -99,7 +101,8 @@ fn measure<S: Alter>(
         (happened service.now (Measured recorded.now))
         (state S.Store tx.old.conn.now) (state S.Store tx.new.conn.now) result }
     ensures readable { OnOk result (IsReadableMeasurement recorded.now) }
-    ensures live { StaysLive (state S.Store tx.old.conn.now) (state S.Store tx.new.conn.now) result }
+    ensures live { StaysLive (state S.Store tx.old.conn.now)
+        (state S.Store tx.new.conn.now) result }
     ensures kept { StaysCommitted (state S.Store tx.old.conn.now) (state S.Store tx.new.conn.now) }
     ensures survives { SurvivesCut (state S.Store tx.old.conn.now) (state S.Store tx.new.conn.now) }
 {
@@ -122,7 +125,8 @@ fn close<S: Alter>(
         (state S.Store tx.old.conn.now) (state S.Store tx.new.conn.now) result }
     ensures readable { OnOk result
         (phase_of_number (phase_column closing.now.verdict) ≡ Some closing.now.verdict) }
-    ensures live { StaysLive (state S.Store tx.old.conn.now) (state S.Store tx.new.conn.now) result }
+    ensures live { StaysLive (state S.Store tx.old.conn.now)
+        (state S.Store tx.new.conn.now) result }
     ensures kept { StaysCommitted (state S.Store tx.old.conn.now) (state S.Store tx.new.conn.now) }
     ensures survives { SurvivesCut (state S.Store tx.old.conn.now) (state S.Store tx.new.conn.now) }
 {
@@ -145,7 +149,8 @@ fn happen<S: Alter>(
     ensures wrote { WroteIf (Asks service.now effect.now) (happened service.now effect.now)
         (state S.Store tx.old.conn.now) (state S.Store tx.new.conn.now) result }
     ensures readable { OnOk result (IsReadableEffect effect.now) }
-    ensures live { StaysLive (state S.Store tx.old.conn.now) (state S.Store tx.new.conn.now) result }
+    ensures live { StaysLive (state S.Store tx.old.conn.now)
+        (state S.Store tx.new.conn.now) result }
     ensures kept { StaysCommitted (state S.Store tx.old.conn.now) (state S.Store tx.new.conn.now) }
     ensures survives { SurvivesCut (state S.Store tx.old.conn.now) (state S.Store tx.new.conn.now) }
 {
@@ -171,7 +176,8 @@ pub(crate) fn happen_all<S: Alter>(
     ensures wrote { WroteIf (AllAsk service.now effects.now) (all_happened service.now effects.now)
         (state S.Store tx.old.conn.now) (state S.Store tx.new.conn.now) result }
     ensures readable { OnOk result (AllByRecursion IsReadableEffect effects.now) }
-    ensures live { StaysLive (state S.Store tx.old.conn.now) (state S.Store tx.new.conn.now) result }
+    ensures live { StaysLive (state S.Store tx.old.conn.now)
+        (state S.Store tx.new.conn.now) result }
     ensures kept { StaysCommitted (state S.Store tx.old.conn.now) (state S.Store tx.new.conn.now) }
     ensures survives { SurvivesCut (state S.Store tx.old.conn.now) (state S.Store tx.new.conn.now) }
 {

@@ -1,4 +1,5 @@
--- From token to token without the tree: which token may stand at a place of a condition, and what is noted on the way. No public contract cites this: what comes out is said by the grammar.
+-- From token to token without the tree: which token may stand at a place of a condition, and what
+-- is noted on the way. No public contract cites this: what comes out is said by the grammar.
 use Rattle.std.specs.Prelude.{ℕ, zero, suc, ◌-◌, Bool, true, false, if◌then◌else◌, nat_lt, List, [], ◌∷◌, Option, Some, None, pos}
 use Rattle.canary_condition.specs.declared.token.Token.{Token}
 use Rattle.canary_condition.specs.declared.token.Token.TheVariants.{Compares, OrSign, AndSign, NotSign, Open, Close, OpenItem, CloseItem, ResultWord, Digits, Minus}
@@ -93,7 +94,8 @@ expected End (suc n) = SignOrClose
 -- how far the tokens are those of a condition, with one more at this byte
 abbrev pub course_after : Course → ℕ → ℕ → Token → Course
 course_after (Stopped byte e) n at t = Stopped byte e
-course_after (At place) n at t = elim (next place n t) [ None ↦ Stopped at (expected place n) | Some after ↦ At after ]
+course_after (At place) n at t =
+    elim (next place n t) [ None ↦ Stopped at (expected place n) | Some after ↦ At after ]
 
 -- the byte where something holds for the first time
 abbrev pub first_of : Option ℕ → Bool → ℕ → Option ℕ
@@ -127,15 +129,25 @@ course_end (At place) n at = end_at (expected place n) at
 abbrev pub finished : Notes → ℕ → Option Explained
 finished s end = elim s.number [
   | Some at ↦ Some (record { at = at; why = NumberRange })
-  | None ↦ elim s.bracket [ Some at ↦ Some (record { at = at; why = TooDeep }) | None ↦ course_end s.course s.opened end ]
+  | None ↦ elim s.bracket [
+    | Some at ↦ Some
+        (record { at = at; why = TooDeep })
+    | None ↦ course_end s.course s.opened end
+  ]
 ]
 
--- what the rest of a text comes to after these notes, from this byte, after so many bytes that belong to the token before
+-- what the rest of a text comes to after these notes, from this byte, after so many bytes that
+-- belong to the token before
 abbrev pub explain_after : Notes → ℕ → ℕ → List ℕ → Option Explained
 explain_after s at n [] = finished s at
 explain_after s at (suc n) (b ∷ text) = explain_after s (suc at) n text
 explain_after s at zero (b ∷ text) =
     elim (is_blank b) [
       | true ↦ explain_after s (suc at) zero text
-      | false ↦ elim (front_token (b ∷ text)) [ None ↦ Some (record { at = at; why = NoToken }) | Some front ↦ explain_after (noted s at front.0) (suc at) (front.1 - 1) text ]
+      | false ↦ elim
+          (front_token (b ∷ text)) [
+            | None ↦ Some (record { at = at; why = NoToken })
+            | Some front ↦ explain_after
+                (noted s at front.0) (suc at) (front.1 - 1) text
+          ]
     ]

@@ -19,7 +19,10 @@ IsFront ts = (more : List Token) × IsWhole (ts ++ more)
 
 -- no longer front of these tokens is one with which a tree may begin
 abbrev pub IsLongestFront : List Token → List Token → Type 0
-IsLongestFront front ts = IsFront front × ((other : List Token) → (rest : List Token) → ts ≡ other ++ rest → IsFront other → length other ≤ length front)
+IsLongestFront front ts =
+    IsFront front
+    × ((other : List Token) → (rest : List Token) → ts ≡ other ++ rest → IsFront other
+    → length other ≤ length front)
 
 -- the tokens that may stand where this is expected
 abbrev pub may_stand : Expected → Token → Bool
@@ -56,18 +59,25 @@ may_end SignOrEnd = true
 may_end ItemSignOrEnd = true
 may_end expected = false
 
--- after these tokens, those that this allows are exactly those with which a tree may go on, and it allows the end exactly where they spell one
+-- after these tokens, those that this allows are exactly those with which a tree may go on, and it
+-- allows the end exactly where they spell one
 abbrev pub IsExpectedAfter : List Token → Expected → Type 0
-IsExpectedAfter front expected = ((t : Token) → IsFront (front ++ t ∷ []) ↔ IsTrue (may_stand expected t)) × (IsWhole front ↔ IsTrue (may_end expected))
+IsExpectedAfter front expected =
+    ((t : Token) → IsFront (front ++ t ∷ []) ↔ IsTrue (may_stand expected t))
+    × (IsWhole front ↔ IsTrue (may_end expected))
 
--- The bytes at which the tokens of a text begin, and last the one at which they stop: the text's end, or one where no token begins. Counted from this byte, after so many bytes that belong to the token before.
+-- The bytes at which the tokens of a text begin, and last the one at which they stop: the text's
+-- end, or one where no token begins. Counted from this byte, after so many bytes that belong to the
+-- token before.
 abbrev pub begins_after : ℕ → ℕ → List ℕ → List ℕ
 begins_after at n [] = at ∷ []
 begins_after at (suc n) (b ∷ text) = begins_after (suc at) n text
 begins_after at zero (b ∷ text) =
     elim (is_blank b) [
       | true ↦ begins_after (suc at) zero text
-      | false ↦ elim (front_token (b ∷ text)) [ None ↦ at ∷ [] | Some front ↦ at ∷ begins_after (suc at) (front.1 - 1) text ]
+      | false ↦ elim
+          (front_token (b ∷ text))
+          [ None ↦ at ∷ [] | Some front ↦ at ∷ begins_after (suc at) (front.1 - 1) text ]
     ]
 
 abbrev pub begins : List ℕ → List ℕ

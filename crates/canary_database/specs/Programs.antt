@@ -45,10 +45,13 @@ FindsHistory c name (Err fault.Storage) = Unit {0}
 FindsHistory c name (Err _) = ⊥
 
 -- (here `w` is what the writer holds)
--- the history of a service was written whole; or nothing, since there is no such service, or the book or memory failed; or the writer failed
+-- the history of a service was written whole; or nothing, since there is no such service, or the
+-- book or memory failed; or the writer failed
 abbrev pub TellsHistory : Contents → List ℕ → Known → Known → Result (Unit {0}) Fault → Type 0
-TellsHistory c name w new_w (Ok _) = (get c.desk.services name ≢ None) × Appends w new_w (history_text (history_of c name))
-TellsHistory c name w new_w (Err fault.UnknownService) = (get c.desk.services name ≡ None) × (new_w ≡ w)
+TellsHistory c name w new_w (Ok _) =
+    (get c.desk.services name ≢ None) × Appends w new_w (history_text (history_of c name))
+TellsHistory c name w new_w (Err fault.UnknownService) =
+    (get c.desk.services name ≡ None) × (new_w ≡ w)
 TellsHistory c name w new_w (Err fault.Memory) = new_w ≡ w
 TellsHistory c name w new_w (Err fault.Storage) = new_w ≡ w
 TellsHistory c name w new_w (Err fault.Write) = Unit {0}
@@ -73,13 +76,16 @@ TellsExport c service f = (cause : ExportFault) × (f ≡ of_export cause) × Te
 
 -- (here `r` is what the reader has left)
 -- a stream was served so
-abbrev pub IsServed : Known → Known → Known → Known → wire.Point → wire.Point → Result Ended ServeFault → Type 0
+abbrev pub IsServed : Known → Known → Known → Known → wire.Point → wire.Point
+    → Result Ended ServeFault → Type 0
 IsServed r new_r w new_w old new (Ok ended) = ServesTo r new_r w new_w old new ended
 IsServed r new_r w new_w old new (Err serving.Read) = ServesSome r new_r w new_w old new
 IsServed r new_r w new_w old new (Err serving.Write) = ServesUntil r new_r w new_w old new
 IsServed r new_r w new_w old new (Err serving.Memory) = (new_r ≡ r) × (new_w ≡ w)
 
 -- and this says whether to its end
-abbrev pub AnswersSo : Known → Known → Known → Known → wire.Point → wire.Point → Result (Unit {0}) Fault → Type 0
+abbrev pub AnswersSo : Known → Known → Known → Known → wire.Point → wire.Point
+    → Result (Unit {0}) Fault → Type 0
 AnswersSo r new_r w new_w old new done =
-    (served : Result Ended ServeFault) × (done ≡ done_of served) × IsServed r new_r w new_w old new served
+    (served : Result Ended ServeFault) × (done ≡ done_of served)
+    × IsServed r new_r w new_w old new served

@@ -46,15 +46,15 @@ pub fn export_rows<W: Write, B: Book>(
     out: &mut W,
 ) -> Result<u64, Fault>
     ensures kept { Stays (B.state book.old) (B.state book.new) }
-    ensures file { (B.state book.new).is_intact
+    ensures file { (B.state book.new).is_honest
         → Puts (W.contents out.old) (W.contents out.new)
         (file_in (B.state book.old).contents service caller) result }
-    ensures rows { (B.state book.new).is_intact → IfOk result (λ rows.
+    ensures rows { (B.state book.new).is_honest → IfOk result (λ rows.
         (rows ≡ length (recorded_of (B.state book.old).contents service))
         × (rows ≤ MOST_ROWS)) }
-    ensures why { (B.state book.new).is_intact
+    ensures why { (B.state book.new).is_honest
         → IfErr result (TellsExport (B.state book.old).contents service) }
-    ensures unknown { (B.state book.new).is_intact → result ≡ Err fault.UnknownService
+    ensures unknown { (B.state book.new).is_honest → result ≡ Err fault.UnknownService
         → out.new ≡ out.old }
 {
     match canary_files::export::export(alloc, book, service, caller, out) {

@@ -51,7 +51,7 @@ pub fn write_history<W: Write, B: Book>(
     output: &mut W,
 ) -> Result<(), Fault>
     ensures stays { Stays (B.state book.old) (B.state book.new) }
-    ensures told { (B.state book.new).is_intact
+    ensures told { (B.state book.new).is_honest
         → TellsHistory (B.state book.old).contents service
         (W.contents output.old) (W.contents output.new) result }
     ensures name { result ≢ Err fault.BadName }
@@ -65,7 +65,7 @@ pub fn write_history<W: Write, B: Book>(
 // The lines of a service's history.
 fn lines_of<B: Book>(book: &mut B, service: Name) -> Result<Listed<Line>, Fault>
     ensures stays { Stays (B.state book.old) (B.state book.new) }
-    ensures found { (B.state book.new).is_intact
+    ensures found { (B.state book.new).is_honest
         → FindsHistory (B.state book.old).contents service result }
     ensures name { result ≢ Err fault.BadName }
 {

@@ -1,7 +1,7 @@
 //! `import`: the rows of a measurement file as requests.
 ghost use Rattle.std.specs.Prelude.{◌≡◌, Err};
 ghost use Rattle.canary_files.specs.RowExchanges.{point};
-ghost use Rattle.canary_files.specs.Importing.{Keeps};
+ghost use Rattle.canary_files.specs.Importing.{KeepsBook};
 ghost use Rattle.canary_database.specs.declared.fault.Fault.TheVariants as fault;
 ghost use Rattle.canary_database.specs.Programs.{ImportsSo, imported};
 
@@ -119,7 +119,7 @@ pub fn import_rows<R: Read, W: Write, C: Clock, B: Book>(
         (point (C.tells clock.new) (B.state book.new)) result }
     ensures header { result ≡ Err fault.Header → (output.new ≡ output.old)
         × (clock.new ≡ clock.old) × (book.new ≡ book.old) }
-    ensures kept { Keeps (B.state book.old) (B.state book.new) }
+    ensures kept { KeepsBook (B.state book.old) (B.state book.new) }
 {
     imported(canary_files::import::import(alloc, input, output, clock, book))
 }

@@ -56,9 +56,9 @@ pub fn answer<R: Read, W: Write, C: Clock, B: Book>(
         (point (C.tells clock.new) (B.state book.new)) result }
     ensures memory { result ≡ Err fault.Memory → (input.new ≡ input.old)
         × (output.new ≡ output.old) × (clock.new ≡ clock.old) × (book.new ≡ book.old) }
-    ensures intact { (B.state book.new).is_intact → (B.state book.old).is_intact }
+    ensures honest { (B.state book.new).is_honest → (B.state book.old).is_honest }
     ensures sure { (B.state book.new).is_sure ≡ (B.state book.old).is_sure }
-    ensures receipts { (B.state book.new).is_intact
+    ensures receipts { (B.state book.new).is_honest
         → KeepsReceipts (B.state book.old).contents (B.state book.new).contents }
 {
     done_of(canary_wire::serve::serve(alloc, input, output, clock, book))

@@ -19,8 +19,8 @@ enum Unit {
 }
 
 /// Shows on a terminal how far a program has come, in one line that is written anew as it goes, and
-/// erased where it is done. Nothing is written where it is no terminal. A fault of the terminal, and
-/// memory that is refused for the line, are ignored.
+/// erased where it is done. Nothing is written where it is no terminal. A fault of the terminal,
+/// and memory that is refused for the line, are ignored.
 #[derive(Drop)]
 pub struct Shown<'a, F: Write> {
     errors: &'a mut F,

@@ -1,6 +1,6 @@
-//! The tests of the wire and of the command line that the program itself cannot show: streams in any
-//! pieces, readers, writers and stores that fail, conversations, command lines, and clients of a
-//! listener on real sockets of this machine, in one thread with it, which is given one round at a
+//! The tests of the wire and of the command line that the program itself cannot show: streams in
+//! any pieces, readers, writers and stores that fail, conversations, command lines, and clients of
+//! a listener on real sockets of this machine, in one thread with it, which is given one round at a
 //! time (`listen_..`). Bodies, streams and manifests are told to the program (tests/stories).
 #![tactic(auto)]
 

@@ -143,7 +143,7 @@ impl Book for Broken {
 
     ghost state = { λ _. record {
       contents = no_contents;
-      is_intact = ⊥;
+      is_honest = ⊥;
       is_in_memory = ⊥;
       is_sure = false;
     } };

@@ -37,7 +37,7 @@ use Rattle.canary_files.specs.declared.answer.Told.TheVariants.{Answered}
 use Rattle.canary_files.specs.Lines.{line_of, told_status, told_body}
 use Rattle.canary_files.specs.Rows.{if_number, number_in, word_in, row_with, row_of, report_of, field}
 use Rattle.canary_files.specs.RowExchanges.{Handling, refused, no_memory, posted, told_of, IsHandling, Exchange, IsExchange, rows_of, lines_from, event_in, answer_in, events_of, answers_in, Point, Holds, IsHandled, AreHandled}
-use Rattle.canary_files.specs.Importing.{Fields, AreRows}
+use Rattle.canary_files.specs.Importing.{Fields, AreDataRows}
 use Rattle.canary_files.specs.Again.{IsAhead, IsLasting, IsHeard, AllLasting, AllHeard, told_by, told_in, IsSettledBy, IsSettledRow, AreTold, TellsAfterwards, TellsSettled, SameLines, ImportsAgain}
 
 -- ---- lists
@@ -290,8 +290,8 @@ handled_of goes c new (x ∷ xs) e f =
     let back = one_back goes c new x.handling (events_of xs) (answers_in xs) e f in
     (back.0, back.1, handled_of goes back.0 new xs back.2 back.3)
 
-handled_in : RunsOn → (p q : Point) (xs : List Exchange) → Holds p q xs → q.book.is_intact → AreHandled p.book.contents xs q.book.contents
-handled_in goes p q xs holds intact = handled_of goes p.book.contents q.book.contents xs (holds.answers intact) (holds.contents intact)
+handled_in : RunsOn → (p q : Point) (xs : List Exchange) → Holds p q xs → q.book.is_honest → AreHandled p.book.contents xs q.book.contents
+handled_in goes p q xs holds honest = handled_of goes p.book.contents q.book.contents xs (holds.answers honest) (holds.contents honest)
 
 -- ---- the records of a file
 
@@ -310,27 +310,27 @@ one_reach cfg s xs (p ∷ ps) (q ∷ qs) s1 s2 ys zs a ends b stops =
 one_list : (cfg : Config) (s : State) (xs : List ℕ) (ps qs : List Fields) → AreRecords cfg s xs ps → AreRecords cfg s xs qs → ps ≡ qs
 one_list cfg s xs ps qs a b = one_reach cfg s xs ps qs a.0 b.0 a.1 b.1 a.2 a.3 b.2 b.3
 
-one_rows : (records ps qs : List Fields) → AreRows records ps → AreRows records qs → ps ≡ qs
+one_rows : (records ps qs : List Fields) → AreDataRows records ps → AreDataRows records qs → ps ≡ qs
 one_rows [] ps qs a b = a ∙ sym b
 one_rows (first ∷ rest) ps qs a b = a.1 ∙ sym b.1
 
 -- ---- the laws
 
 pub afterwards : OneRequest → RunsOn → SameWhereEqual → (p q : Point) → TellsAfterwards p q
-afterwards one goes same p q xs holds intact = all_told one same p.book.contents q.book.contents xs holds.each (handled_in goes p q xs holds intact)
+afterwards one goes same p q xs holds honest = all_told one same p.book.contents q.book.contents xs holds.each (handled_in goes p q xs holds honest)
 
 pub settled : OneRequest → RunsOn → (p q : Point) → TellsSettled p q
-settled one goes p q xs holds intact known = all_again one p.book.contents q.book.contents xs holds.each (handled_in goes p q xs holds intact) known
+settled one goes p q xs holds honest known = all_again one p.book.contents q.book.contents xs holds.each (handled_in goes p q xs holds honest) known
 
 pub again : OneRequest → RunsOn → SameWhereEqual → (p q r s : Point) → ImportsAgain p q r s
-again one goes same p q r s bytes u v w x m n first second intact intact2 keeps =
+again one goes same p q r s bytes u v w x m n first second honest honest2 keeps =
     let xs = first.5.exchanges in
     let ys = second.5.exchanges in
     let records = one_list _ _ _ second.0 first.0 second.2 first.2 in
     let rows : rows_of ys ≡ rows_of xs =
-    sym second.5.are ∙ one_rows first.0 second.1 first.1 (subst (λ t. AreRows t second.1) records second.3) first.3 ∙ first.5.are in
-    let told = afterwards one goes same p q xs first.5.holds intact in
-    let handled = handled_in goes r s ys second.5.holds intact2 in
+    sym second.5.are ∙ one_rows first.0 second.1 first.1 (subst (λ t. AreDataRows t second.1) records second.3) first.3 ∙ first.5.are in
+    let told = afterwards one goes same p q xs first.5.holds honest in
+    let handled = handled_in goes r s ys second.5.holds honest2 in
     let each = same_lines one q.book.contents r.book.contents s.book.contents xs ys rows told second.5.holds.each handled keeps in
     record {
       rows = rows;

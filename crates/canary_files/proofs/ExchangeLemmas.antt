@@ -71,7 +71,7 @@ pub went_none : (p : Point) → Went p p []
 went_none p = record {
   each = tt;
   moments = λ says h. (λ k inside. absurd (omega arith), subst p.clock (first_is says) h);
-  intact = λ h. h;
+  honest = λ h. h;
   sure = (refl, tt);
   sound = λ h sound. sound;
   handled = λ h. refl;
@@ -83,7 +83,7 @@ pub went_one : (p q : Point) (x : Exchange) → Exchanges p q x → Went p q (x 
 went_one p q x e = record {
   each = (e.is, tt);
   moments = λ says h. (let m = e.moment says h in (λ k inside. first_one says x.moment m.0 k inside, m.1));
-  intact = e.books.intact;
+  honest = e.books.honest;
   sure = (e.books.sure.0, (e.books.sure.1, tt));
   sound = e.books.sound;
   handled = λ h. (q.book.contents, e.books.handled h, refl);
@@ -101,11 +101,11 @@ went_then p q r xs ys a b = record {
             (first-append says (moments_of xs) (moments_of ys) m.0 (subst (λ (f : ℕ → ℕ). AreFirst f (moments_of ys)) (shift_as says (length xs) (length (moments_of xs)) (sym lx)) n.0)),
         subst r.clock (later_is says (length xs) (length ys) (length (xs ++ ys)) (len_is xs ys)) n.1,
       );
-  intact = λ h. a.intact (b.intact h);
+  honest = λ h. a.honest (b.honest h);
   sure = (b.sure.0 ∙ a.sure.0, all-append (λ x. IsSureHandling p.book.is_sure x.handling) xs ys a.sure.1 (sure_as q.book.is_sure p.book.is_sure ys a.sure.0 b.sure.1));
-  sound = λ h sound. b.sound h (a.sound (b.intact h) sound);
-  handled = λ h. handled-append p.book.contents q.book.contents r.book.contents xs ys (a.handled (b.intact h)) (b.handled h);
-  receipts = λ h caller number receipt e. b.receipts h caller number receipt (a.receipts (b.intact h) caller number receipt e);
+  sound = λ h sound. b.sound h (a.sound (b.honest h) sound);
+  handled = λ h. handled-append p.book.contents q.book.contents r.book.contents xs ys (a.handled (b.honest h)) (b.handled h);
+  receipts = λ h caller number receipt e. b.receipts h caller number receipt (a.receipts (b.honest h) caller number receipt e);
 }
 
 -- ---- the whole list
@@ -149,7 +149,7 @@ pub holds_of : RunsOn → (p q : Point) (xs : List Exchange) → Went p q xs →
 holds_of goes p q xs went = record {
   each = went.each;
   moments = went.moments;
-  intact = went.intact;
+  honest = went.honest;
   sure = went.sure;
   sound = went.sound;
   answers = λ h. (handled_are goes p.book.contents q.book.contents xs (went.handled h)).0;

@@ -29,9 +29,9 @@ use Rattle.canary_files.proofs.WriteLemmas.{appends_more, appends_none}
 
 pub stays_then : (a b c : BookState) → Stays a b → Stays b c → Stays a c
 stays_then a b c p q = record {
-  intact = λ h. p.intact (q.intact h);
+  honest = λ h. p.honest (q.honest h);
   in_memory = λ h. q.in_memory (p.in_memory h);
-  same = λ h. q.same h ∙ p.same (q.intact h);
+  same = λ h. q.same h ∙ p.same (q.honest h);
   sure = q.sure ∙ p.sure;
 }
 
@@ -158,28 +158,28 @@ so_far_short w now new caller service name all rows r (Err e) p q failed =
 
 pub short_on : {A F : Type 0} (a b d : BookState) (strategy : CheckedStrategy) (caller service : List ℕ) (w now new : Known) (rows : ℕ) (r s : Result A F)
     → Stays a b → Stays b d
-    → (b.is_intact → SoFar w now caller service (name_of strategy (past_of a.contents service)) (recorded_of a.contents service) rows)
-    → (d.is_intact → Puts now new (rows_text caller service (name_of strategy (past_of b.contents service)) rows (measurements_of b.contents service rows 256)) r)
-    → IsErr s → d.is_intact
+    → (b.is_honest → SoFar w now caller service (name_of strategy (past_of a.contents service)) (recorded_of a.contents service) rows)
+    → (d.is_honest → Puts now new (rows_text caller service (name_of strategy (past_of b.contents service)) rows (measurements_of b.contents service rows 256)) r)
+    → IsErr s → d.is_honest
     → Puts w new (rows_text caller service (name_of strategy (past_of a.contents service)) 0 (recorded_of a.contents service)) s
 short_on a b d strategy caller service w now new rows r s p q so_far puts failed h =
     let P : Contents → Type 0 = λ c. Puts now new (rows_text caller service (name_of strategy (past_of c service)) rows (measurements_of c service rows 256)) r in
-    so_far_short w now new caller service (name_of strategy (past_of a.contents service)) (recorded_of a.contents service) rows r s (so_far (q.intact h)) (subst P (p.same (q.intact h)) (puts h)) failed
+    so_far_short w now new caller service (name_of strategy (past_of a.contents service)) (recorded_of a.contents service) rows r s (so_far (q.honest h)) (subst P (p.same (q.honest h)) (puts h)) failed
 
 pub more_on : {F : Type 0} (a b d : BookState) (strategy : CheckedStrategy) (caller service : List ℕ) (w now new : Known) (rows next : ℕ)
     → Stays a b → Stays b d
-    → (b.is_intact → SoFar w now caller service (name_of strategy (past_of a.contents service)) (recorded_of a.contents service) rows)
-    → (d.is_intact → Puts {A = ℕ} {E = F} now new (rows_text caller service (name_of strategy (past_of b.contents service)) rows (measurements_of b.contents service rows 256)) (Ok next))
-    → (d.is_intact → next ≡ rows + length (measurements_of b.contents service rows 256))
-    → d.is_intact
+    → (b.is_honest → SoFar w now caller service (name_of strategy (past_of a.contents service)) (recorded_of a.contents service) rows)
+    → (d.is_honest → Puts {A = ℕ} {E = F} now new (rows_text caller service (name_of strategy (past_of b.contents service)) rows (measurements_of b.contents service rows 256)) (Ok next))
+    → (d.is_honest → next ≡ rows + length (measurements_of b.contents service rows 256))
+    → d.is_honest
     → SoFar w new caller service (name_of strategy (past_of a.contents service)) (recorded_of a.contents service) next
 more_on {F = F} a b d strategy caller service w now new rows next p q so_far puts counted h =
     let text : Contents → List ℕ = λ c. rows_text caller service (name_of strategy (past_of c service)) rows (measurements_of c service rows 256) in
     let P : Contents → Type 0 = λ c. Appends now new (text c) in
     let Q : Contents → Type 0 = λ c. next ≡ rows + length (measurements_of c service rows 256) in
-    so_far_more w now new caller service (name_of strategy (past_of a.contents service)) (recorded_of a.contents service) rows next (so_far (q.intact h))
-    (subst P (p.same (q.intact h)) (puts_all {F = F} now new (text b.contents) next (puts h)))
-    (subst Q (p.same (q.intact h)) (counted h))
+    so_far_more w now new caller service (name_of strategy (past_of a.contents service)) (recorded_of a.contents service) rows next (so_far (q.honest h))
+    (subst P (p.same (q.honest h)) (puts_all {F = F} now new (text b.contents) next (puts h)))
+    (subst Q (p.same (q.honest h)) (counted h))
 
 -- why a page was not written tells why all rows were not
 tells_more : (n m : ℕ) → n ≤ m → (e : ExportFault) → TellsPage n e → TellsPage m e
@@ -191,15 +191,15 @@ tells_more n m le UnknownService t = absurd t
 
 pub why_on : {A : Type 0} (a b d : BookState) (strategy : CheckedStrategy) (caller service : List ℕ) (w now : Known) (rows : ℕ) (r s : Result A ExportFault)
     → Stays a b → Stays b d
-    → (b.is_intact → SoFar w now caller service (name_of strategy (past_of a.contents service)) (recorded_of a.contents service) rows)
-    → (d.is_intact → IfErr r (TellsPage (rows + length (measurements_of b.contents service rows 256))))
-    → s ≡ r → d.is_intact
+    → (b.is_honest → SoFar w now caller service (name_of strategy (past_of a.contents service)) (recorded_of a.contents service) rows)
+    → (d.is_honest → IfErr r (TellsPage (rows + length (measurements_of b.contents service rows 256))))
+    → s ≡ r → d.is_honest
     → IfErr s (TellsPage (length (recorded_of a.contents service)))
 why_on {A = A} a b d strategy caller service w now rows r s p q so_far why same h =
     let P : Contents → Type 0 = λ c. IfErr r (TellsPage (rows + length (measurements_of c service rows 256))) in
     let all : List Recorded = recorded_of a.contents service in
     let R : Result A ExportFault → Type 0 = λ x. IfErr x (TellsPage (length all)) in
-    subst R (sym same) (IfErr-weaker r (TellsPage (rows + length (measurements_of a.contents service rows 256))) (TellsPage (length all)) (λ e t. tells_more (rows + length (measurements_of a.contents service rows 256)) (length all) (page_fits rows 256 all (so_far (q.intact h)).some) e t) (subst P (p.same (q.intact h)) (why h)))
+    subst R (sym same) (IfErr-weaker r (TellsPage (rows + length (measurements_of a.contents service rows 256))) (TellsPage (length all)) (λ e t. tells_more (rows + length (measurements_of a.contents service rows 256)) (length all) (page_fits rows 256 all (so_far (q.honest h)).some) e t) (subst P (p.same (q.honest h)) (why h)))
 
 -- The whole file.
 
@@ -225,15 +225,15 @@ rows_by caller service strategy (Some m) is =
 -- the header went out whole, and then some of the rows
 pub file_on : {F : Type 0} (a b d : BookState) (service caller : List ℕ) (s : Source) (w now new : Known) (r : Result ℕ F)
     → Stays a b → Stays b d
-    → (b.is_intact → IsSource a.contents service caller s)
+    → (b.is_honest → IsSource a.contents service caller s)
     → Appends w now (record_text header)
-    → (d.is_intact → Puts now new (rows_text s.caller s.service (name_of s.strategy (past_of b.contents s.service)) 0 (recorded_of b.contents s.service)) r)
-    → d.is_intact
+    → (d.is_honest → Puts now new (rows_text s.caller s.service (name_of s.strategy (past_of b.contents s.service)) 0 (recorded_of b.contents s.service)) r)
+    → d.is_honest
     → Puts w new (file_in a.contents service caller) r
 file_on a b d service caller s w now new r p q source head puts h =
-    let is : IsSource a.contents service caller s = source (q.intact h) in
+    let is : IsSource a.contents service caller s = source (q.honest h) in
     let text : List ℕ → List ℕ → Contents → List ℕ = λ sender name c. rows_text sender name (name_of s.strategy (past_of c name)) 0 (recorded_of c name) in
-    let same : text s.caller s.service b.contents ≡ text caller service a.contents = λ i. text (is.caller i) (is.service i) (p.same (q.intact h) i) in
+    let same : text s.caller s.service b.contents ≡ text caller service a.contents = λ i. text (is.caller i) (is.service i) (p.same (q.honest h) i) in
     let P : List ℕ → Type 0 = λ t. Puts now new t r in
     puts_then w now new (record_text header) (rows_text caller service (name_by (get a.contents.desk.services service)) 0 (recorded_of a.contents service)) r head
     (subst P (same ∙ rows_by caller service s.strategy (get a.contents.desk.services service) is.strategy) (puts h))

@@ -11,7 +11,7 @@ use Rattle.canary_files.specs.declared.import.ImportFault.TheVariants as fault
 use Rattle.canary_files.specs.Writes.{Known, Writes}
 use Rattle.canary_files.specs.Rows.{header, is_header}
 use Rattle.canary_files.specs.RowExchanges.{Exchange, rows_of, lines_from, lines, told_line, Point, Exchanges, Went}
-use Rattle.canary_files.specs.Importing.{Fields, StandsBehind, TakesNext, Answers, ImportsUntil, ImportsTo, Keeps, IsSoFar}
+use Rattle.canary_files.specs.Importing.{Fields, StandsBehind, TakesNext, Answers, ImportsUntil, ImportsTo, KeepsBook, IsSoFar}
 use Rattle.canary_files.proofs.WriteLemmas.{appends_none, appends_more, writes_all}
 use Rattle.canary_files.proofs.ExchangeLemmas.{went_none, went_one, went_then, holds_of}
 use Rattle.canary_files.proofs.ReadLemmas.{begins}
@@ -27,8 +27,8 @@ lines_more k n (y ∷ ys) x e =
 
 -- ---- the book
 
-pub keeps_of : (p q : Point) (xs : List Exchange) → Went p q xs → Keeps p.book q.book
-keeps_of p q xs went = record { intact = went.intact; sure = went.sure.0; sound = went.sound; receipts = went.receipts }
+pub keeps_of : (p q : Point) (xs : List Exchange) → Went p q xs → KeepsBook p.book q.book
+keeps_of p q xs went = record { honest = went.honest; sure = went.sure.0; sound = went.sound; receipts = went.receipts }
 
 pub answers_of_went : RunsOn → (w w1 : Known) (p q : Point) (xs : List Exchange) → Went p q xs → Appends w w1 (lines xs) → Answers w w1 p q (rows_of xs)
 answers_of_went goes w w1 p q xs went written = record { exchanges = xs; are = refl; holds = holds_of goes p q xs went; written = written }
@@ -86,7 +86,7 @@ module _ {S : Type 0} (left : S → Known) where
               written = appends_more w w1 w2 (lines so.exchanges) wrote.front so.written wrote.written;
             }
 
-        pub keeps_more : Keeps p.book p2.book
+        pub keeps_more : KeepsBook p.book p2.book
         keeps_more = keeps_of p p2 (so.exchanges ++ x ∷ []) went_more
 
       pub so_far_too_many : RunsOn → n ≡ 1000000 → (file : Known) → StandsBehind left file r0 (header ∷ []) → ImportsTo file w w1 p p1 (Err fault.RowsSpent)
@@ -129,7 +129,7 @@ module _ {S : Type 0} (left : S → Known) where
     so_far_failed goes fault.Header takes file s = absurd (takes file (header ∷ rows_of so.exchanges) (so.stands file s))
     so_far_failed goes fault.RowsSpent takes file s = absurd (takes file (header ∷ rows_of so.exchanges) (so.stands file s))
 
-    pub keeps_so : Keeps p.book p1.book
+    pub keeps_so : KeepsBook p.book p1.book
     keeps_so = keeps_of p p1 so.exchanges so.went
 
 -- ---- the header

@@ -44,7 +44,8 @@ AllHeard xs = AllByRecursion (λ x. IsHeard x.handling) xs
 -- why it is refused, or the reply that is kept under its number, if it is of the same command
 abbrev pub told_by : Contents → Result Row Refusal → Told
 told_by c (Err refusal) = Refused refusal
-told_by c (Ok row) = Answered (Replied (repeat_reply (receipt_at c row.caller row.number) (Report row.report)))
+told_by c (Ok row) =
+    Answered (Replied (repeat_reply (receipt_at c row.caller row.number) (Report row.report)))
 
 abbrev pub told_in : Contents → Fields → Told
 told_in c fields = told_by c (row_of fields)
@@ -59,25 +60,36 @@ IsSettledRow c fields = IsSettledBy c (row_of fields)
 
 -- ---- the laws
 
--- each row that has its line for good has that of the register of these contents, in which its number is settled
+-- each row that has its line for good has that of the register of these contents, in which its
+-- number is settled
 abbrev pub AreTold : Contents → List Exchange → Type 0
-AreTold c xs = AllByRecursion (λ x. IsLasting x.handling → (told_of x.handling ≡ told_in c x.fields) × IsSettledRow c x.fields) xs
+AreTold c xs =
+    AllByRecursion
+    (λ x. IsLasting x.handling
+    → (told_of x.handling ≡ told_in c x.fields) × IsSettledRow c x.fields) xs
 
 -- so it is of the contents behind rows that were answered
 abbrev pub TellsAfterwards : Point → Point → Type 0
-TellsAfterwards p q = (xs : List Exchange) → Holds p q xs → q.book.is_intact → AreTold q.book.contents xs
+TellsAfterwards p q =
+    (xs : List Exchange) → Holds p q xs → q.book.is_honest → AreTold q.book.contents xs
 
--- rows whose numbers are settled, or that do not read, change nothing, and have the lines of the register of the contents, 503 aside
+-- rows whose numbers are settled, or that do not read, change nothing, and have the lines of the
+-- register of the contents, 503 aside
 abbrev pub TellsSettled : Point → Point → Type 0
 TellsSettled p q =
-    (xs : List Exchange) → Holds p q xs → q.book.is_intact → AllByRecursion (λ x. IsSettledRow p.book.contents x.fields) xs
-    → (q.book.contents ≡ p.book.contents) × AllByRecursion (λ x. IsHeard x.handling → told_of x.handling ≡ told_in p.book.contents x.fields) xs
+    (xs : List Exchange) → Holds p q xs → q.book.is_honest
+    → AllByRecursion (λ x. IsSettledRow p.book.contents x.fields) xs
+    → (q.book.contents ≡ p.book.contents)
+    × AllByRecursion
+    (λ x. IsHeard x.handling → told_of x.handling ≡ told_in p.book.contents x.fields) xs
 
 -- row by row: where a row had its line for good, it has it again, 503 aside
 abbrev pub SameLines : List Exchange → List Exchange → Type 0
 SameLines [] ys = Unit {0}
 SameLines (x ∷ xs) [] = ⊥
-SameLines (x ∷ xs) (y ∷ ys) = (IsLasting x.handling → IsHeard y.handling → told_of y.handling ≡ told_of x.handling) × SameLines xs ys
+SameLines (x ∷ xs) (y ∷ ys) =
+    (IsLasting x.handling → IsHeard y.handling → told_of y.handling ≡ told_of x.handling)
+    × SameLines xs ys
 
 -- rows that were answered twice, the second time from these contents to those
 pub record IsAgain (c new : Contents) (first second : List Exchange) : Type 0 where
@@ -86,9 +98,11 @@ pub record IsAgain (c new : Contents) (first second : List Exchange) : Type 0 wh
   pub unchanged : AllLasting first → new ≡ c
   pub lines : AllLasting first → AllHeard second → lines second ≡ lines first
 
--- a file that was imported to its end from p to q is imported to its end again, from r to s, the receipts of q being kept in r (part 5 of an import is what came of its rows)
+-- a file that was imported to its end from p to q is imported to its end again, from r to s, the
+-- receipts of q being kept in r (part 5 of an import is what came of its rows)
 abbrev pub ImportsAgain : Point → Point → Point → Point → Type 0
 ImportsAgain p q r s =
-    (bytes : List ℕ) (u v w x : Known) (m n : ℕ) (first : ImportsAll (Some bytes) u v p q m) (second : ImportsAll (Some bytes) w x r s n)
-    → q.book.is_intact → s.book.is_intact → KeepsReceipts q.book.contents r.book.contents
+    (bytes : List ℕ) (u v w x : Known) (m n : ℕ) (first : ImportsAll (Some bytes) u v p q m)
+    (second : ImportsAll (Some bytes) w x r s n)
+    → q.book.is_honest → s.book.is_honest → KeepsReceipts q.book.contents r.book.contents
     → IsAgain r.book.contents s.book.contents first.5.exchanges second.5.exchanges

@@ -27,10 +27,13 @@ use Rattle.canary_files.specs.Written.{file_of}
 
 -- the name of the metric at a place of a run
 abbrev pub name_at : Option (List MetricValue) → ℕ → Option (List ℕ)
-name_at metrics place = option_map (λ (m : MetricValue). m.name) (option_and_then (λ (ms : List MetricValue). slice_get ms place) metrics)
+name_at metrics place =
+    option_map (λ (m : MetricValue). m.name)
+    (option_and_then (λ (ms : List MetricValue). slice_get ms place) metrics)
 
 abbrev pub name_in : CheckedStrategy → Option RunRecord → ℕ → Option (List ℕ)
-name_in strategy run place = option_and_then (λ (r : RunRecord). name_at (metrics_at strategy r.step) place) run
+name_in strategy run place =
+    option_and_then (λ (r : RunRecord). name_at (metrics_at strategy r.step) place) run
 
 -- the name of the metric of a measurement
 abbrev pub name_of : CheckedStrategy → Past → Recorded → List ℕ
@@ -42,7 +45,8 @@ name_by (Some m) x = name_of m.stand.strategy m.past x
 
 -- the step of the analysis of a run
 abbrev pub step_in : Contents → List ℕ → ℕ → Option (Option ℕ)
-step_in c service run = option_map (λ (r : RunRecord). r.step) (record_numbered (past_of c service) run)
+step_in c service run =
+    option_map (λ (r : RunRecord). r.step) (record_numbered (past_of c service) run)
 
 -- the measurements of a service, in the order in which they were recorded
 abbrev pub recorded_of : Contents → List ℕ → List Recorded
@@ -50,19 +54,21 @@ recorded_of c service = (past_of c service).measurements
 
 -- the file of a service's measurements, under that caller
 abbrev pub file_in : Contents → List ℕ → List ℕ → List ℕ
-file_in c service caller = file_of caller service (name_by (get c.desk.services service)) (recorded_of c service)
+file_in c service caller =
+    file_of caller service (name_by (get c.desk.services service)) (recorded_of c service)
 
 -- What a call does.
 
 -- the book contains what it did
 pub record Stays (old new : BookState) : Type 0 where
-  pub intact : new.is_intact → old.is_intact
+  pub honest : new.is_honest → old.is_honest
   pub in_memory : StaysInMemory old new
-  pub same : new.is_intact → new.contents ≡ old.contents
+  pub same : new.is_honest → new.contents ≡ old.contents
   pub sure : new.is_sure ≡ old.is_sure
 
 -- the first bytes of a text went out, and all of them if the call succeeded
-pub record Puts {A E : Type 0} (old new : Known) (text : List ℕ) (result : Result A E) : Type 0 where
+pub record Puts {A E : Type 0} (old new : Known) (text : List ℕ)
+    (result : Result A E) : Type 0 where
   pub front : List ℕ
   pub back : List ℕ
   pub parts : text ≡ front ++ back
@@ -70,14 +76,15 @@ pub record Puts {A E : Type 0} (old new : Known) (text : List ℕ) (result : Res
   pub all : OnOk result (back ≡ [])
 
 -- a call finds this in the contents of the book, or fails; it changes nothing
-pub record Reads {A : Type 0} (told : Contents → A) (old new : BookState) (found : Result A ExportFault) : Type 0 where
+pub record Reads {A : Type 0} (told : Contents → A) (old new : BookState)
+    (found : Result A ExportFault) : Type 0 where
   pub stays : Stays old new
-  pub value : new.is_intact → IfOk found (λ x. x ≡ told old.contents)
+  pub value : new.is_honest → IfOk found (λ x. x ≡ told old.contents)
 
 -- what is kept of a run is what the book says of it
 abbrev pub IsLatest : BookState → List ℕ → Option Placed → Type 0
 IsLatest now service None = Unit {0}
-IsLatest now service (Some p) = now.is_intact → step_in now.contents service p.run ≡ Some p.step
+IsLatest now service (Some p) = now.is_honest → step_in now.contents service p.run ≡ Some p.step
 
 -- why no more was written of so many rows
 abbrev pub TellsPage : ℕ → ExportFault → Type 0

@@ -23,7 +23,9 @@ Fields = List (List ℕ)
 -- a file, where its bytes are known, begins with these records
 abbrev pub BeginsWith : Known → List Fields → Type 0
 BeginsWith None records = Unit {0}
-BeginsWith (Some bytes) records = (state : State) × (rest : List ℕ) × Reached default_config st.StartRecord (strip_bom bytes) records state rest
+BeginsWith (Some bytes) records =
+    (state : State) × (rest : List ℕ)
+    × Reached default_config st.StartRecord (strip_bom bytes) records state rest
 
 -- and has no others
 abbrev pub HasRecords : Known → List Fields → Type 0
@@ -31,9 +33,9 @@ HasRecords None records = Unit {0}
 HasRecords (Some bytes) records = AreRecords default_config st.StartRecord (strip_bom bytes) records
 
 -- the first record is the header, and the others are the rows; without any record there are no rows
-abbrev pub AreRows : List Fields → List Fields → Type 0
-AreRows [] rows = rows ≡ []
-AreRows (first ∷ rest) rows = (first ≡ header) × (rows ≡ rest)
+abbrev pub AreDataRows : List Fields → List Fields → Type 0
+AreDataRows [] rows = rows ≡ []
+AreDataRows (first ∷ rest) rows = (first ≡ header) × (rows ≡ rest)
 
 -- ---- what an import does
 
@@ -48,11 +50,14 @@ pub record Answers (w new_w : Known) (old new : Point) (rows : List Fields) : Ty
 -- so were all rows of a file
 abbrev pub ImportsAll : Known → Known → Known → Point → Point → ℕ → Type 0
 ImportsAll file w new_w old new count =
-    (records : List Fields) × (rows : List Fields) × HasRecords file records × AreRows records rows × (count ≡ length rows) × Answers w new_w old new rows
+    (records : List Fields) × (rows : List Fields) × HasRecords file records × AreDataRows records rows
+    × (count ≡ length rows) × Answers w new_w old new rows
 
 -- so were the first rows of a file
 abbrev pub ImportsSome : Known → Known → Known → Point → Point → Type 0
-ImportsSome file w new_w old new = (records : List Fields) × (rows : List Fields) × BeginsWith file records × AreRows records rows × Answers w new_w old new rows
+ImportsSome file w new_w old new =
+    (records : List Fields) × (rows : List Fields) × BeginsWith file records × AreDataRows records rows
+    × Answers w new_w old new rows
 
 -- so were the first rows of a file, but that the writer failed in the midst of the last one's line
 pub record ImportsUntil (file w new_w : Known) (old new : Point) : Type 0 where
@@ -68,12 +73,14 @@ pub record ImportsUntil (file w new_w : Known) (old new : Point) : Type 0 where
 
 -- the first record of a file is not the header, and nothing was done
 abbrev pub HasNoHeader : Known → Known → Known → Point → Point → Type 0
-HasNoHeader file w new_w old new = (first : Fields) × BeginsWith file (first ∷ []) × (first ≢ header) × Answers w new_w old new []
+HasNoHeader file w new_w old new =
+    (first : Fields) × BeginsWith file (first ∷ []) × (first ≢ header) × Answers w new_w old new []
 
 -- 1,000,000 rows of a file were answered, and it has one more
 abbrev pub ImportsTooMany : Known → Known → Known → Point → Point → Type 0
 ImportsTooMany file w new_w old new =
-    (rows : List Fields) × (more : Fields) × BeginsWith file (header ∷ rows ++ more ∷ []) × (length rows ≡ 1000000) × Answers w new_w old new rows
+    (rows : List Fields) × (more : Fields) × BeginsWith file (header ∷ rows ++ more ∷ [])
+    × (length rows ≡ 1000000) × Answers w new_w old new rows
 
 -- what it did, by how it ended
 abbrev pub ImportsTo : Known → Known → Known → Point → Point → Result ℕ ImportFault → Type 0
@@ -85,34 +92,41 @@ ImportsTo file w new_w old new (Err fault.Header) = HasNoHeader file w new_w old
 ImportsTo file w new_w old new (Err fault.RowsSpent) = ImportsTooMany file w new_w old new
 
 -- what an import leaves of a book, however it ended
-pub record Keeps (old new : BookState) : Type 0 where
-  pub intact : new.is_intact → old.is_intact
+pub record KeepsBook (old new : BookState) : Type 0 where
+  pub honest : new.is_honest → old.is_honest
   pub sure : new.is_sure ≡ old.is_sure
-  pub sound : new.is_intact → AreSoundContents old.contents → AreSoundContents new.contents
-  pub receipts : new.is_intact → KeepsReceipts old.contents new.contents
+  pub sound : new.is_honest → AreSoundContents old.contents → AreSoundContents new.contents
+  pub receipts : new.is_honest → KeepsReceipts old.contents new.contents
 
 -- ---- step by step
 
 -- a reader of a file stands behind these records
-pub record StandsBehind {S : Type 0} (left : S → Known) (file : Known) (reader : Reader S) (records : List Fields) : Type 0 where
+pub record StandsBehind {S : Type 0} (left : S → Known) (file : Known) (reader : Reader S)
+    (records : List Fields) : Type 0 where
   pub config : reader_config reader ≡ default_config
   pub trim : reader_trim reader ≡ trim.None
   pub ready : Ready reader
   pub known : (bytes : List ℕ) → file ≡ Some bytes
-      → (rest : List ℕ) × (source_of left reader ≡ Some rest) × Reached default_config st.StartRecord (strip_bom bytes) records (reader_state reader) rest
+      → (rest : List ℕ) × (source_of left reader ≡ Some rest)
+      × Reached default_config st.StartRecord (strip_bom bytes) records
+      (reader_state reader) rest
 
 -- the next record of a file was read, or it has no more, or the reader failed, or memory ran out
-abbrev pub TakesNext : {S : Type 0} → (S → Known) → Known → Reader S → List Fields → Fields → Result Bool ImportFault → Type 0
-TakesNext left file new records fields (Ok true) = StandsBehind left file new (records ++ fields ∷ [])
+abbrev pub TakesNext : {S : Type 0} → (S → Known) → Known → Reader S → List Fields → Fields
+    → Result Bool ImportFault → Type 0
+TakesNext left file new records fields (Ok true) =
+    StandsBehind left file new (records ++ fields ∷ [])
 TakesNext left file new records fields (Ok false) = HasRecords file records
 TakesNext left file new records fields (Err fault.Read) = Unit {0}
 TakesNext left file new records fields (Err fault.Memory) = Unit {0}
 TakesNext left file new records fields (Err _) = ⊥
 
 -- since a reader was elsewhere these rows were answered, and it stands behind them
-pub record IsSoFar {S : Type 0} (left : S → Known) (first now : Reader S) (w now_w : Known) (old new : Point) (count : ℕ) : Type 0 where
+pub record IsSoFar {S : Type 0} (left : S → Known) (first now : Reader S) (w now_w : Known)
+    (old new : Point) (count : ℕ) : Type 0 where
   pub exchanges : List Exchange
   pub many : length exchanges ≡ count
-  pub stands : (file : Known) → StandsBehind left file first (header ∷ []) → StandsBehind left file now (header ∷ rows_of exchanges)
+  pub stands : (file : Known) → StandsBehind left file first (header ∷ [])
+      → StandsBehind left file now (header ∷ rows_of exchanges)
   pub went : Went old new exchanges
   pub written : Appends w now_w (lines exchanges)

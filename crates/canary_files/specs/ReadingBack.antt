@@ -13,9 +13,11 @@ use Rattle.canary_release.specs.declared.effect.Recorded.{Recorded}
 use Rattle.canary_files.specs.Rows.{row_of}
 use Rattle.canary_files.specs.Written.{row_fields}
 
--- an outcome as there are: a result whose text is read back, as that of any is, or a failure of 1 to 200 bytes of text
+-- an outcome as there are: a result whose text is read back, as that of any is, or a failure of 1
+-- to 200 bytes of text
 abbrev pub IsKept : Outcome → Type 0
-IsKept (Brought value) = IsTrue (is_utf8 (words_of value)) × (value_in (words_of value) ≡ Some value)
+IsKept (Brought value) =
+    IsTrue (is_utf8 (words_of value)) × (value_in (words_of value) ≡ Some value)
 IsKept (Failure text) = IsTrue (is_utf8 text) × (1 ≤ length text) × (length text ≤ 200)
 
 -- a measurement that a report can bring
@@ -26,14 +28,25 @@ pub record IsReportable (x : Recorded) : Type 0 where
   pub outcome : IsKept x.outcome
 
 abbrev pub entry_for : List ℕ → (x : Recorded) → IsReportable x → Entry
-entry_for metric x is = record { metric = metric; ordinal = x.ordinal; taken = x.taken; outcome = x.outcome; within = is.ordinal }
+entry_for metric x is =
+    record {
+      metric = metric;
+      ordinal = x.ordinal;
+      taken = x.taken;
+      outcome = x.outcome;
+      within = is.ordinal;
+    }
 
 -- the report of this measurement alone
 abbrev pub report_for : List ℕ → List ℕ → (x : Recorded) → IsReportable x → Report
-report_for service metric x is = record { service = service; run = x.run; entries = entry_for metric x is ∷ []; within = is.run }
+report_for service metric x is =
+    record { service = service; run = x.run; entries = entry_for metric x is ∷ []; within = is.run }
 
 -- the law: the row of a measurement is read as the request that reports it
 abbrev pub AreReadBack : Type 0
 AreReadBack =
-    (caller service metric : List ℕ) (number : ℕ) (x : Recorded) (is : IsReportable x) → IsTrue (is_name caller) → IsTrue (is_name service) → IsTrue (is_label metric) → IsTrue (is_ordinal number)
-    → row_of (row_fields caller number service x metric) ≡ Ok (record { caller = caller; number = number; report = report_for service metric x is })
+    (caller service metric : List ℕ) (number : ℕ) (x : Recorded) (is : IsReportable x)
+    → IsTrue (is_name caller) → IsTrue (is_name service) → IsTrue (is_label metric)
+    → IsTrue (is_ordinal number)
+    → row_of (row_fields caller number service x metric)
+    ≡ Ok (record { caller = caller; number = number; report = report_for service metric x is })

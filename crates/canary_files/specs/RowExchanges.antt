@@ -20,7 +20,8 @@ use Rattle.canary_files.specs.Lines.{told_status, told_body, line_of}
 
 -- ---- what comes of a row
 
--- it is refused, or memory ran out as it was read, or it is a request to the register, which answered
+-- it is refused, or memory ran out as it was read, or it is a request to the register, which
+-- answered
 pub data Handling : Type 0 where
   refused : Refusal → Handling
   no_memory : Handling
@@ -32,12 +33,14 @@ told_of (refused refusal) = Refused refusal
 told_of no_memory = NoMemory
 told_of (posted request answer) = Answered answer
 
--- what comes of these fields at a moment: the first refusal that holds, or the request that they are
+-- what comes of these fields at a moment: the first refusal that holds, or the request that they
+-- are
 abbrev pub IsHandling : List (List ℕ) → ℕ → Handling → Type 0
 IsHandling fields moment (refused refusal) = row_of fields ≡ Err refusal
 IsHandling fields moment no_memory = Unit {0}
 IsHandling fields moment (posted request answer) =
-    (row : Row) × (row_of fields ≡ Ok row) × (request ≡ request_of moment row.caller row.number (Report row.report))
+    (row : Row) × (row_of fields ≡ Ok row)
+    × (request ≡ request_of moment row.caller row.number (Report row.report))
 
 -- only over a book that is not sure a request is answered 503 for its store
 abbrev pub IsSureHandling : Bool → Handling → Type 0
@@ -106,16 +109,24 @@ point clock book = record { clock = clock; book = book }
 abbrev pub AreFirst : (ℕ → ℕ) → List ℕ → Type 0
 AreFirst moment_at moments = (k : ℕ) → k < length moments → slice_index moments k ≡ moment_at k
 
--- from one point to another these rows were answered, in order: the k-th row has the clock's k-th moment, and of the requests answered otherwise than by 503 the answers, and the contents afterwards, are those of the small machine, which stay sound
+-- from one point to another these rows were answered, in order: the k-th row has the clock's k-th
+-- moment, and of the requests answered otherwise than by 503 the answers, and the contents
+-- afterwards, are those of the small machine, which stay sound
 pub record Holds (old new : Point) (xs : List Exchange) : Type 0 where
   pub each : AllByRecursion IsExchange xs
-  pub moments : (moment_at : ℕ → ℕ) → old.clock moment_at → AreFirst moment_at (moments_of xs) × new.clock (λ k. moment_at (k + length xs))
-  pub intact : new.book.is_intact → old.book.is_intact
-  pub sure : (new.book.is_sure ≡ old.book.is_sure) × AllByRecursion (λ x. IsSureHandling old.book.is_sure x.handling) xs
-  pub sound : new.book.is_intact → AreSoundContents old.book.contents → AreSoundContents new.book.contents
-  pub answers : new.book.is_intact → replies_in (answers_in xs) ≡ answers_of old.book.contents (heard (events_of xs) (answers_in xs))
-  pub contents : new.book.is_intact → new.book.contents ≡ after old.book.contents (heard (events_of xs) (answers_in xs))
-  pub receipts : new.book.is_intact → KeepsReceipts old.book.contents new.book.contents
+  pub moments : (moment_at : ℕ → ℕ) → old.clock moment_at
+      → AreFirst moment_at (moments_of xs) × new.clock (λ k. moment_at (k + length xs))
+  pub honest : new.book.is_honest → old.book.is_honest
+  pub sure : (new.book.is_sure ≡ old.book.is_sure)
+      × AllByRecursion (λ x. IsSureHandling old.book.is_sure x.handling) xs
+  pub sound : new.book.is_honest → AreSoundContents old.book.contents
+      → AreSoundContents new.book.contents
+  pub answers : new.book.is_honest
+      → replies_in (answers_in xs)
+      ≡ answers_of old.book.contents (heard (events_of xs) (answers_in xs))
+  pub contents : new.book.is_honest
+      → new.book.contents ≡ after old.book.contents (heard (events_of xs) (answers_in xs))
+  pub receipts : new.book.is_honest → KeepsReceipts old.book.contents new.book.contents
 
 -- ---- step by step
 
@@ -132,24 +143,28 @@ AreHandled c (x ∷ xs) new = (mid : Contents) × IsHandled c x.handling mid × 
 
 -- what the book did as one row was handled
 pub record Books (old new : BookState) (h : Handling) : Type 0 where
-  pub intact : new.is_intact → old.is_intact
+  pub honest : new.is_honest → old.is_honest
   pub sure : (new.is_sure ≡ old.is_sure) × IsSureHandling old.is_sure h
-  pub sound : new.is_intact → AreSoundContents old.contents → AreSoundContents new.contents
-  pub handled : new.is_intact → IsHandled old.contents h new.contents
-  pub receipts : new.is_intact → KeepsReceipts old.contents new.contents
+  pub sound : new.is_honest → AreSoundContents old.contents → AreSoundContents new.contents
+  pub handled : new.is_honest → IsHandled old.contents h new.contents
+  pub receipts : new.is_honest → KeepsReceipts old.contents new.contents
 
 -- one row is answered
 pub record Exchanges (old new : Point) (x : Exchange) : Type 0 where
   pub is : IsExchange x
-  pub moment : (moment_at : ℕ → ℕ) → old.clock moment_at → (x.moment ≡ moment_at 0) × new.clock (λ k. moment_at (k + 1))
+  pub moment : (moment_at : ℕ → ℕ) → old.clock moment_at
+      → (x.moment ≡ moment_at 0) × new.clock (λ k. moment_at (k + 1))
   pub books : Books old.book new.book x.handling
 
 -- rows are answered, one after another
 pub record Went (old new : Point) (xs : List Exchange) : Type 0 where
   pub each : AllByRecursion IsExchange xs
-  pub moments : (moment_at : ℕ → ℕ) → old.clock moment_at → AreFirst moment_at (moments_of xs) × new.clock (λ k. moment_at (k + length xs))
-  pub intact : new.book.is_intact → old.book.is_intact
-  pub sure : (new.book.is_sure ≡ old.book.is_sure) × AllByRecursion (λ x. IsSureHandling old.book.is_sure x.handling) xs
-  pub sound : new.book.is_intact → AreSoundContents old.book.contents → AreSoundContents new.book.contents
-  pub handled : new.book.is_intact → AreHandled old.book.contents xs new.book.contents
-  pub receipts : new.book.is_intact → KeepsReceipts old.book.contents new.book.contents
+  pub moments : (moment_at : ℕ → ℕ) → old.clock moment_at
+      → AreFirst moment_at (moments_of xs) × new.clock (λ k. moment_at (k + length xs))
+  pub honest : new.book.is_honest → old.book.is_honest
+  pub sure : (new.book.is_sure ≡ old.book.is_sure)
+      × AllByRecursion (λ x. IsSureHandling old.book.is_sure x.handling) xs
+  pub sound : new.book.is_honest → AreSoundContents old.book.contents
+      → AreSoundContents new.book.contents
+  pub handled : new.book.is_honest → AreHandled old.book.contents xs new.book.contents
+  pub receipts : new.book.is_honest → KeepsReceipts old.book.contents new.book.contents

@@ -20,7 +20,8 @@ use Rattle.canary_files.specs.declared.row.Row.{Row}
 -- the first record of a file
 unfoldable pub header : List (List ℕ)
 header =
-    codes "caller" ∷ codes "number" ∷ codes "service" ∷ codes "run" ∷ codes "metric" ∷ codes "ordinal" ∷ codes "taken" ∷ codes "result"
+    codes "caller" ∷ codes "number" ∷ codes "service" ∷ codes "run" ∷ codes "metric"
+    ∷ codes "ordinal" ∷ codes "taken" ∷ codes "result"
     ∷ codes "failure" ∷ []
 
 -- the field at a place, from 0
@@ -33,16 +34,23 @@ is_at fields place text = bytes_eq (field fields place) text
 
 -- a record is the first one of a file, field by field
 unfoldable pub says_who : List (List ℕ) → Bool
-says_who fields = is_at fields 0 (codes "caller") && (is_at fields 1 (codes "number") && is_at fields 2 (codes "service"))
+says_who fields =
+    is_at fields 0 (codes "caller")
+    && (is_at fields 1 (codes "number") && is_at fields 2 (codes "service"))
 
 unfoldable pub says_where : List (List ℕ) → Bool
-says_where fields = is_at fields 3 (codes "run") && (is_at fields 4 (codes "metric") && is_at fields 5 (codes "ordinal"))
+says_where fields =
+    is_at fields 3 (codes "run")
+    && (is_at fields 4 (codes "metric") && is_at fields 5 (codes "ordinal"))
 
 unfoldable pub says_what : List (List ℕ) → Bool
-says_what fields = is_at fields 6 (codes "taken") && (is_at fields 7 (codes "result") && is_at fields 8 (codes "failure"))
+says_what fields =
+    is_at fields 6 (codes "taken")
+    && (is_at fields 7 (codes "result") && is_at fields 8 (codes "failure"))
 
 unfoldable pub is_header : List (List ℕ) → Bool
-is_header fields = (length fields == 9) && (says_who fields && (says_where fields && says_what fields))
+is_header fields =
+    (length fields == 9) && (says_who fields && (says_where fields && says_what fields))
 
 -- ---- fields
 
@@ -75,7 +83,9 @@ number_in text = option_and_then if_number (word_in text)
 
 -- text of 1 to 200 bytes
 abbrev pub failure_in : List ℕ → Option Outcome
-failure_in text = if is_utf8 text && (nat_le 1 (length text) && nat_le (length text) 200) then Some (Failure text) else None
+failure_in text =
+    if is_utf8 text && (nat_le 1 (length text) && nat_le (length text) 200) then Some (Failure text)
+    else None
 
 -- one of the two is empty, and the other one says what was measured
 abbrev pub outcome_in : List ℕ → List ℕ → Option Outcome
@@ -108,7 +118,8 @@ report_of fields = option_flatten (Some report_with
 abbrev pub row_with : List ℕ → Option ℕ → Option Report → Result Row Refusal
 row_with caller None report = Err BadNumber
 row_with caller (Some number) None = Err Unreadable
-row_with caller (Some number) (Some report) = Ok (record { caller = caller; number = number; report = report })
+row_with caller (Some number) (Some report) =
+    Ok (record { caller = caller; number = number; report = report })
 
 -- the request that a row is, or the first reason to refuse it
 abbrev pub row_of : List (List ℕ) → Result Row Refusal

@@ -7,7 +7,8 @@ abbrev pub Known : Type 0
 Known = Option (List ℕ)
 
 -- the first bytes of the text went out: all of them, or on a fault less
-pub record Writes {E : Type 0} (old new : Known) (text : List ℕ) (result : Result (Unit {0}) E) : Type 0 where
+pub record Writes {E : Type 0} (old new : Known) (text : List ℕ)
+    (result : Result (Unit {0}) E) : Type 0 where
   pub front : List ℕ
   pub back : List ℕ
   pub parts : text ≡ front ++ back

@@ -20,7 +20,8 @@ failure_field (Failure text) = text
 -- the row of a measurement, by its caller, its number, its service and its metric's name
 abbrev pub row_fields : List ℕ → ℕ → List ℕ → Recorded → List ℕ → List (List ℕ)
 row_fields caller number service x metric =
-    caller ∷ decimal number ∷ service ∷ decimal x.run ∷ metric ∷ decimal x.ordinal ∷ decimal x.taken ∷ result_field x.outcome ∷ failure_field x.outcome ∷ []
+    caller ∷ decimal number ∷ service ∷ decimal x.run ∷ metric ∷ decimal x.ordinal ∷ decimal x.taken
+    ∷ result_field x.outcome ∷ failure_field x.outcome ∷ []
 
 -- a record as `csv` writes it
 abbrev pub record_text : List (List ℕ) → List ℕ
@@ -30,8 +31,10 @@ record_text fields = row_text default_writer fields
 abbrev pub rows_text : List ℕ → List ℕ → (Recorded → List ℕ) → ℕ → List Recorded → List ℕ
 rows_text caller service name n [] = []
 rows_text caller service name n (x ∷ xs) =
-    record_text (row_fields caller (suc n) service x (name x)) ++ rows_text caller service name (suc n) xs
+    record_text (row_fields caller (suc n) service x (name x))
+    ++ rows_text caller service name (suc n) xs
 
--- the file of a list of measurements, whose metrics have these names: the header, and their rows, numbered from 1
+-- the file of a list of measurements, whose metrics have these names: the header, and their rows,
+-- numbered from 1
 abbrev pub file_of : List ℕ → List ℕ → (Recorded → List ℕ) → List Recorded → List ℕ
 file_of caller service name xs = record_text header ++ rows_text caller service name 0 xs

@@ -102,15 +102,15 @@ pub fn export<W: Write, B: Book>(
     out: &mut W,
 ) -> Result<u64, ExportFault>
     ensures kept { Stays (B.state book.old) (B.state book.new) }
-    ensures file { (B.state book.new).is_intact
+    ensures file { (B.state book.new).is_honest
         → Puts (W.contents out.old) (W.contents out.new)
         (file_in (B.state book.old).contents service caller) result }
-    ensures rows { (B.state book.new).is_intact → IfOk result (λ rows.
+    ensures rows { (B.state book.new).is_honest → IfOk result (λ rows.
         (rows ≡ length (recorded_of (B.state book.old).contents service))
         × (rows ≤ MOST_ROWS)) }
-    ensures why { (B.state book.new).is_intact
+    ensures why { (B.state book.new).is_honest
         → IfErr result (Tells (B.state book.old).contents service) }
-    ensures unknown { (B.state book.new).is_intact → result ≡ Err ExportFault.UnknownService
+    ensures unknown { (B.state book.new).is_honest → result ≡ Err ExportFault.UnknownService
         → out.new ≡ out.old }
 {
     let source = source_of(book, service, caller)?;
@@ -120,9 +120,9 @@ pub fn export<W: Write, B: Book>(
 
 fn source_of<B: Book>(book: &mut B, service: Name, caller: Name) -> Result<Source, ExportFault>
     ensures stays { Stays (B.state book.old) (B.state book.new) }
-    ensures source { (B.state book.new).is_intact
+    ensures source { (B.state book.new).is_honest
         → IfOk result (IsSource (B.state book.old).contents service caller) }
-    ensures why { (B.state book.new).is_intact
+    ensures why { (B.state book.new).is_honest
         → IfErr result (Tells (B.state book.old).contents service) }
 {
     match book.service(&service)? {
@@ -152,16 +152,16 @@ fn write_rows<W: Write, B: Book>(
     out: &mut W,
 ) -> Result<u64, ExportFault>
     ensures stays { Stays (B.state book.old) (B.state book.new) }
-    ensures writes { (B.state book.new).is_intact
+    ensures writes { (B.state book.new).is_honest
         → Puts (W.contents out.old) (W.contents out.new)
         (rows_text source.now.caller source.now.service
         (name_of source.now.strategy
         (past_of (B.state book.old).contents source.now.service))
         0 (recorded_of (B.state book.old).contents source.now.service)) result }
-    ensures rows { (B.state book.new).is_intact → IfOk result (λ rows.
+    ensures rows { (B.state book.new).is_honest → IfOk result (λ rows.
         (rows ≡ length (recorded_of (B.state book.old).contents source.now.service))
         × (rows ≤ MOST_ROWS)) }
-    ensures why { (B.state book.new).is_intact
+    ensures why { (B.state book.new).is_honest
         → IfErr result (TellsPage
         (length (recorded_of (B.state book.old).contents source.now.service))) }
 {
@@ -190,18 +190,18 @@ fn write_page<W: Write, B: Book>(
     ensures stays { Stays (B.state book.old) (B.state book.new) }
     ensures latest { OnOk result
         (IsLatest (B.state book.new) source.now.service latest.new) }
-    ensures writes { (B.state book.new).is_intact
+    ensures writes { (B.state book.new).is_honest
         → Puts (W.contents out.old) (W.contents out.new)
         (rows_text source.now.caller source.now.service
         (name_of source.now.strategy
         (past_of (B.state book.old).contents source.now.service))
         from (measurements_of (B.state book.old).contents source.now.service from 256))
         result }
-    ensures rows { (B.state book.new).is_intact → IfOk result (λ rows.
+    ensures rows { (B.state book.new).is_honest → IfOk result (λ rows.
         rows ≡ from + length
         (measurements_of (B.state book.old).contents source.now.service from 256)) }
     ensures grows { IfOk result (λ rows. (from ≤ rows) × (rows ≤ MOST_ROWS)) }
-    ensures why { (B.state book.new).is_intact → IfErr result (TellsPage
+    ensures why { (B.state book.new).is_honest → IfErr result (TellsPage
         (from + length
         (measurements_of (B.state book.old).contents source.now.service from 256))) }
 {
@@ -223,7 +223,7 @@ fn write_measurements<W: Write, B: Book>(
     ensures stays { Stays (B.state book.old) (B.state book.new) }
     ensures latest { OnOk result
         (IsLatest (B.state book.new) source.now.service latest.new) }
-    ensures writes { (B.state book.new).is_intact
+    ensures writes { (B.state book.new).is_honest
         → Puts (W.contents out.old) (W.contents out.new)
         (rows_text source.now.caller source.now.service
         (name_of source.now.strategy

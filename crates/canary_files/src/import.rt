@@ -4,7 +4,7 @@ ghost use Rattle.csv.specs.Records.{fields_of};
 ghost use Rattle.canary_files.specs.Writes.{Known};
 ghost use Rattle.canary_files.specs.Rows.{header};
 ghost use Rattle.canary_files.specs.RowExchanges.{point};
-ghost use Rattle.canary_files.specs.Importing.{StandsBehind, TakesNext, ImportsTo, Keeps};
+ghost use Rattle.canary_files.specs.Importing.{StandsBehind, TakesNext, ImportsTo, KeepsBook};
 
 use crate::answer::answer_row;
 use crate::bounded::{Bounded, MOST_BYTES};
@@ -73,7 +73,7 @@ pub fn import<R: Read, W: Write, C: Clock, B: Book>(
         (point (C.tells clock.new) (B.state book.new)) result }
     ensures header { result ≡ Err ImportFault.Header → (output.new ≡ output.old)
         × (clock.new ≡ clock.old) × (book.new ≡ book.old) }
-    ensures kept { Keeps (B.state book.old) (B.state book.new) }
+    ensures kept { KeepsBook (B.state book.old) (B.state book.new) }
 {
     running_on();
     let bounded = Bounded {
@@ -117,7 +117,7 @@ fn import_rows<S: Read, W: Write, C: Clock, B: Book>(
         (point (C.tells clock.old) (B.state book.old))
         (point (C.tells clock.new) (B.state book.new)) result }
     ensures headed { result ≢ Err ImportFault.Header }
-    ensures kept { Keeps (B.state book.old) (B.state book.new) }
+    ensures kept { KeepsBook (B.state book.old) (B.state book.new) }
 {
     running_on();
     'rows: for done in 0..MOST_ROWS {

@@ -39,8 +39,10 @@ abbrev pub counted_all : List (List Counts) → List Recorded → List (List Cou
 counted_all tallies [] = tallies
 counted_all tallies (x ∷ xs) = counted_all (counted_at x tallies) xs
 
--- a measurement that may come next: its metric is one of its run, it has the next ordinal of it, there is room, and its phase is that of the metric's conditions
-pub record IsNext (runs : List (List MetricValue)) (tallies : List (List Counts)) (x : Recorded) : Type 0 where
+-- a measurement that may come next: its metric is one of its run, it has the next ordinal of it,
+-- there is room, and its phase is that of the metric's conditions
+pub record IsNext (runs : List (List MetricValue)) (tallies : List (List Counts))
+    (x : Recorded) : Type 0 where
   pub metric : MetricValue
   pub planned : of_metric x.run x.metric runs ≡ Some metric
   pub tally : Counts
@@ -61,7 +63,8 @@ pub record IsOfMetric (runs : List (List MetricValue)) (x : Recorded) : Type 0 w
   pub metric : MetricValue
   pub planned : of_metric x.run x.metric runs ≡ Some metric
 
--- the measurements of a metric are in order, at most 1,000,000, and each has the phase that the conditions give it
+-- the measurements of a metric are in order, at most 1,000,000, and each has the phase that the
+-- conditions give it
 pub record IsList (run place : ℕ) (metric : MetricValue) (list : List Recorded) : Type 0 where
   pub ordered : AreOrdered run place 1 list
   pub few : length list ≤ 1000000
@@ -69,20 +72,28 @@ pub record IsList (run place : ℕ) (metric : MetricValue) (list : List Recorded
 
 pub record AreListed (runs : List (List MetricValue)) (xs : List Recorded) : Type 0 where
   pub placed : AllByRecursion (IsOfMetric runs) xs
-  pub lists : (run place : ℕ) (metric : MetricValue) → of_metric run place runs ≡ Some metric → IsList run place metric (filter (is_of run place) xs)
+  pub lists : (run place : ℕ) (metric : MetricValue) → of_metric run place runs ≡ Some metric
+      → IsList run place metric (filter (is_of run place) xs)
 
--- the law: measurements are counted one after another exactly where their lists are in order and judged
+-- the law: measurements are counted one after another exactly where their lists are in order and
+-- judged
 abbrev pub CountingIsExact : Type 0
-CountingIsExact = (runs : List (List MetricValue)) (xs : List Recorded) → AreCounted runs (none_counted runs) xs ↔ AreListed runs xs
+CountingIsExact =
+    (runs : List (List MetricValue)) (xs : List Recorded) → AreCounted runs (none_counted runs) xs
+    ↔ AreListed runs xs
 
 -- the law: then each metric has the counts of its whole list
 abbrev pub CountingCounts : Type 0
 CountingCounts =
-    (runs : List (List MetricValue)) (xs : List Recorded) (run place : ℕ) (metric : MetricValue) → of_metric run place runs ≡ Some metric
-    → of_metric run place (counted_all (none_counted runs) xs) ≡ Some (counts_of (filter (is_of run place) xs))
+    (runs : List (List MetricValue)) (xs : List Recorded) (run place : ℕ) (metric : MetricValue)
+    → of_metric run place runs ≡ Some metric
+    → of_metric run place (counted_all (none_counted runs) xs)
+    ≡ Some (counts_of (filter (is_of run place) xs))
 
 -- the law: what a run has then is the counts of its lists, a list for each of its metrics
 abbrev pub RunsAreTallied : Type 0
 RunsAreTallied =
-    (runs : List (List MetricValue)) (xs : List Recorded) (place : ℕ) (metrics : List MetricValue) → slice_get runs place ≡ Some metrics
-    → slice_get (counted_all (none_counted runs) xs) place ≡ Some (map counts_of (lists_in xs (suc place) 0 (length metrics)))
+    (runs : List (List MetricValue)) (xs : List Recorded) (place : ℕ) (metrics : List MetricValue)
+    → slice_get runs place ≡ Some metrics
+    → slice_get (counted_all (none_counted runs) xs) place
+    ≡ Some (map counts_of (lists_in xs (suc place) 0 (length metrics)))

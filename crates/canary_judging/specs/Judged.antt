@@ -1,4 +1,5 @@
--- What is judged key by key: what stands under each key that rows name, and how many rows there are.
+-- What is judged key by key: what stands under each key that rows name, and how many rows there
+-- are.
 use Rattle.std.specs.Prelude.{◌≡◌, ◌↔◌, ℕ, ◌≤◌, Bool, List, [], ◌∷◌, length, filter, Option, Some, None}
 use Rattle.std.specs.List.{AllByRecursion, sum_by}
 use Rattle.std.specs.FinMap.{get}
@@ -16,7 +17,8 @@ use Rattle.canary_stored.specs.Tables.{row_if, kept_rows, IsReadableCommand}
 use Rattle.canary_stored.specs.Reading.{contents_of}
 
 -- just one row passes, and it is read
-pub record IsOneRead {R A : Type 0} (test : R → Bool) (value : R → Option A) (rows : List R) : Type 0 where
+pub record IsOneRead {R A : Type 0} (test : R → Bool) (value : R → Option A)
+    (rows : List R) : Type 0 where
   pub row : R
   pub one : filter test rows ≡ row ∷ []
   pub read : A
@@ -29,7 +31,8 @@ pub record IsCallerJudged (t : Tables) (row : CallerRow) : Type 0 where
   pub one : filter (is_caller row.name) t.callers ≡ row ∷ []
   pub some : 1 ≤ row.settled
   pub within : row.settled ≤ 1000000000
-  pub kept : (number : ℕ) → 1 ≤ number → number ≤ row.settled → IsOneRead (is_kept row.name number) receipt_of_row t.kept
+  pub kept : (number : ℕ) → 1 ≤ number → number ≤ row.settled
+      → IsOneRead (is_kept row.name number) receipt_of_row t.kept
 
 -- there are no more kept rows than these
 pub record AreCallersJudged (t : Tables) : Type 0 where
@@ -38,9 +41,14 @@ pub record AreCallersJudged (t : Tables) : Type 0 where
 
 -- what of tables that hold contents is of callers and receipts alone
 pub record HoldCallers (t : Tables) : Type 0 where
-  pub callers : (name : List ℕ) → filter (is_caller name) t.callers ≡ row_if (λ receipts. caller_row name (length receipts)) (get (contents_of t).callers name)
-  pub kept : (caller : List ℕ) (number : ℕ) → filter (is_kept caller number) t.kept ≡ kept_rows caller number (receipts_of (contents_of t) caller)
-  pub readable : (caller : List ℕ) (number : ℕ) (receipt : Receipt) → receipt_at (contents_of t) caller number ≡ Some receipt → IsReadableCommand receipt.command
+  pub callers : (name : List ℕ)
+      → filter (is_caller name) t.callers
+      ≡ row_if (λ receipts. caller_row name (length receipts)) (get (contents_of t).callers name)
+  pub kept : (caller : List ℕ) (number : ℕ)
+      → filter (is_kept caller number) t.kept
+      ≡ kept_rows caller number (receipts_of (contents_of t) caller)
+  pub readable : (caller : List ℕ) (number : ℕ) (receipt : Receipt)
+      → receipt_at (contents_of t) caller number ≡ Some receipt → IsReadableCommand receipt.command
   pub numbers : HaveReceipts (contents_of t).callers
   pub statuses : KeepsSettled (contents_of t)
 
@@ -62,9 +70,14 @@ AreTemplatesJudged t = AllByRecursion (IsTemplateJudged t) t.templates
 
 -- what of tables that hold contents is of templates alone
 pub record HoldTemplates (t : Tables) : Type 0 where
-  pub templates : (name : List ℕ) → filter (is_template name) t.templates ≡ row_if (template_row name) (get (contents_of t).desk.templates name)
-  pub readable : (name : List ℕ) (found : Template) → get (contents_of t).desk.templates name ≡ Some found → IsReadableCommand (command.Template found.spec)
-  pub are : (name : List ℕ) (found : Template) → get (contents_of t).desk.templates name ≡ Some found → IsTemplate name found
+  pub templates : (name : List ℕ)
+      → filter (is_template name) t.templates
+      ≡ row_if (template_row name) (get (contents_of t).desk.templates name)
+  pub readable : (name : List ℕ) (found : Template)
+      → get (contents_of t).desk.templates name ≡ Some found
+      → IsReadableCommand (command.Template found.spec)
+  pub are : (name : List ℕ) (found : Template)
+      → get (contents_of t).desk.templates name ≡ Some found → IsTemplate name found
 
 abbrev pub TemplatesAreJudged : Type 0
 TemplatesAreJudged = (t : Tables) → AreTemplatesJudged t ↔ HoldTemplates t

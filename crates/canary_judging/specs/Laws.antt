@@ -9,14 +9,19 @@ use Rattle.canary_judging.specs.Soundness.{AreSoundTables}
 use Rattle.canary_judging.specs.Judged.{AreTemplatesJudged}
 use Rattle.canary_judging.specs.Services.{AreServicesJudged, HoldServices, IsJudged}
 
--- under a name stands the row of the template that there is, or none, as soon as templates are judged
+-- under a name stands the row of the template that there is, or none, as soon as templates are
+-- judged
 abbrev pub JudgedTemplatesAreFound : Type 0
 JudgedTemplatesAreFound =
-    (t : Tables) → AreTemplatesJudged t → (name : List ℕ) → IsFound template_of_row (first_row (filter (is_template name) t.templates)) (get (contents_of t).desk.templates name)
+    (t : Tables) → AreTemplatesJudged t → (name : List ℕ)
+    → IsFound template_of_row (first_row (filter (is_template name) t.templates))
+    (get (contents_of t).desk.templates name)
 
 -- and no other
 abbrev pub JudgedTemplatesAreUnique : Type 0
-JudgedTemplatesAreUnique = (t : Tables) → AreTemplatesJudged t → (name : List ℕ) → length (filter (is_template name) t.templates) ≤ 1
+JudgedTemplatesAreUnique =
+    (t : Tables) → AreTemplatesJudged t → (name : List ℕ)
+    → length (filter (is_template name) t.templates) ≤ 1
 
 abbrev pub ServicesAreJudged : Type 0
 ServicesAreJudged = (t : Tables) → AreServicesJudged t ↔ HoldServices t

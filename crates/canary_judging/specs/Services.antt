@@ -41,18 +41,30 @@ use Rattle.canary_judging.specs.Counting.{none_counted, counted_all, AreCounted}
 -- a run is closed exactly where the verdict of its tallies isn't Running
 abbrev pub HasVerdictBy : List MetricValue → List Counts → Option Closing → Type 0
 HasVerdictBy metrics tallies None = verdict_of_counts false (zip metrics tallies) ≡ Running
-HasVerdictBy metrics tallies (Some x) = (x.verdict ≡ verdict_of_counts x.outside (zip metrics tallies)) × (is_completed x.verdict ≡ true)
+HasVerdictBy metrics tallies (Some x) =
+    (x.verdict ≡ verdict_of_counts x.outside (zip metrics tallies))
+    × (is_completed x.verdict ≡ true)
 
 abbrev pub row_of_record : List ℕ → RunRecord → RunRow
-row_of_record name r = record { service = name; number = r.number; step = r.step; started = r.started; ending = ending_of r.closed }
+row_of_record name r =
+    record {
+      service = name;
+      number = r.number;
+      step = r.step;
+      started = r.started;
+      ending = ending_of r.closed;
+    }
 
--- a run: no other has its number, its analysis is there, its tallies have a row each and it has no others, and its verdict is theirs
-pub record IsRunJudged (t : Tables) (strategy : CheckedStrategy) (name : List ℕ) (r : RunRecord) : Type 0 where
+-- a run: no other has its number, its analysis is there, its tallies have a row each and it has no
+-- others, and its verdict is theirs
+pub record IsRunJudged (t : Tables) (strategy : CheckedStrategy) (name : List ℕ)
+    (r : RunRecord) : Type 0 where
   pub one : filter (is_run name r.number) t.runs ≡ row_of_record name r ∷ []
   pub closed : IsReadableClosing r.number r.closed
   pub metrics : List MetricValue
   pub analysis : metrics_at strategy r.step ≡ Some metrics
-  pub tallies : (place : ℕ) (c : Counts) → slice_get r.tallies place ≡ Some c → filter (is_tally name r.number place) t.tallies ≡ tally_row name r.number place c ∷ []
+  pub tallies : (place : ℕ) (c : Counts) → slice_get r.tallies place ≡ Some c
+      → filter (is_tally name r.number place) t.tallies ≡ tally_row name r.number place c ∷ []
   pub no_more : length (filter (is_tally_of name r.number) t.tallies) ≡ length r.tallies
   pub verdict : HasVerdictBy metrics r.tallies r.closed
 
@@ -60,7 +72,8 @@ abbrev pub is_open_record : RunRecord → Bool
 is_open_record r = is_none r.closed
 
 abbrev pub open_of_record : RunRecord → OpenRun
-open_of_record r = record { number = r.number; step = r.step; started = r.started; tallies = r.tallies }
+open_of_record r =
+    record { number = r.number; step = r.step; started = r.started; tallies = r.tallies }
 
 abbrev pub open_runs_in : List RunRecord → List OpenRun
 open_runs_in runs = map open_of_record (filter is_open_record runs)
@@ -69,7 +82,8 @@ open_runs_in runs = map open_of_record (filter is_open_record runs)
 abbrev pub metrics_of_runs : CheckedStrategy → List RunRecord → List (List MetricValue)
 metrics_of_runs strategy runs = map (λ (r : RunRecord). run_metrics strategy r.step) runs
 
--- a service's row: no other has its name, its command is accepted, its runs are numbered from 1 on, its measurements come to their tallies, its lines are read, and its parts are accepted
+-- a service's row: no other has its name, its command is accepted, its runs are numbered from 1 on,
+-- its measurements come to their tallies, its lines are read, and its parts are accepted
 pub record IsServiceJudged (t : Tables) (row : ServiceRow) : Type 0 where
   pub one : filter (is_service row.name) t.services ≡ row ∷ []
   pub made : ServiceSpec
@@ -77,26 +91,40 @@ pub record IsServiceJudged (t : Tables) (row : ServiceRow) : Type 0 where
   pub named : made.name ≡ row.name
   pub accepted : strategy_refusal (get (contents_of t).desk.templates) made ≡ None
   pub stand : Stand
-  pub stands : stand_of row.name (strategy_of (get (contents_of t).desk.templates) made) row.standing ≡ Some stand
+  pub stands : stand_of row.name
+      (strategy_of (get (contents_of t).desk.templates) made) row.standing ≡ Some stand
   pub runs : List RunRecord
   pub as_many : length runs ≡ row.standing.runs
-  pub each : (place : ℕ) (r : RunRecord) → slice_get runs place ≡ Some r → (r.number ≡ suc place) × IsRunJudged t stand.strategy row.name r
+  pub each : (place : ℕ) (r : RunRecord) → slice_get runs place ≡ Some r
+      → (r.number ≡ suc place) × IsRunJudged t stand.strategy row.name r
   pub measurements : List Recorded
-  pub read : AreRead measurement_of_row (filter (is_measurement_of row.name) t.measurements) measurements
-  pub counted : AreCounted (metrics_of_runs stand.strategy runs) (none_counted (metrics_of_runs stand.strategy runs)) measurements
-  pub tallied : map (λ (r : RunRecord). r.tallies) runs ≡ counted_all (none_counted (metrics_of_runs stand.strategy runs)) measurements
+  pub read : AreRead measurement_of_row
+      (filter (is_measurement_of row.name) t.measurements) measurements
+  pub counted : AreCounted (metrics_of_runs stand.strategy runs)
+      (none_counted (metrics_of_runs stand.strategy runs)) measurements
+  pub tallied : map (λ (r : RunRecord). r.tallies) runs
+      ≡ counted_all (none_counted (metrics_of_runs stand.strategy runs)) measurements
   pub history : List Line
   pub told : filter (is_line_of row.name) t.history ≡ map (history_row row.name) history
   pub lines : AllByRecursion IsReadableLine history
-  pub parts : is_broken (record { stand = stand; runs = record { count = length runs; open_runs = open_runs_in runs } }) ≡ false
+  pub parts : is_broken
+      (record
+      { stand = stand; runs = record { count = length runs; open_runs = open_runs_in runs } })
+      ≡ false
 
 -- and no table has other rows
 pub record AreServicesJudged (t : Tables) : Type 0 where
   pub each : AllByRecursion (IsServiceJudged t) t.services
   pub runs : sum_by (λ (row : ServiceRow). row.standing.runs) t.services ≡ length t.runs
-  pub tallies : sum_by (λ (row : RunRow). length (filter (is_tally_of row.service row.number) t.tallies)) t.runs ≡ length t.tallies
-  pub measurements : sum_by (λ (row : ServiceRow). length (filter (is_measurement_of row.name) t.measurements)) t.services ≡ length t.measurements
-  pub history : sum_by (λ (row : ServiceRow). length (filter (is_line_of row.name) t.history)) t.services ≡ length t.history
+  pub tallies : sum_by
+      (λ (row : RunRow). length (filter (is_tally_of row.service row.number) t.tallies)) t.runs
+      ≡ length t.tallies
+  pub measurements : sum_by
+      (λ (row : ServiceRow). length (filter (is_measurement_of row.name) t.measurements)) t.services
+      ≡ length t.measurements
+  pub history : sum_by
+      (λ (row : ServiceRow). length (filter (is_line_of row.name) t.history)) t.services
+      ≡ length t.history
 
 -- what is judged of tables
 pub record IsJudged (t : Tables) : Type 0 where
@@ -108,14 +136,27 @@ pub record IsJudged (t : Tables) : Type 0 where
 
 -- what of sound tables is of services alone
 pub record HoldServices (t : Tables) : Type 0 where
-  pub services : (name : List ℕ) → filter (is_service name) t.services ≡ row_if (service_row name) (get (contents_of t).desk.services name)
-  pub runs : (name : List ℕ) (number : ℕ) → filter (is_run name number) t.runs ≡ run_rows name number (past_of (contents_of t) name).runs
-  pub tallies : (name : List ℕ) (number metric : ℕ) → filter (is_tally name number metric) t.tallies ≡ tally_rows name number metric (past_of (contents_of t) name).runs
-  pub measurements : (name : List ℕ) → filter (is_measurement_of name) t.measurements ≡ map (measurement_row name) (past_of (contents_of t) name).measurements
-  pub history : (name : List ℕ) → filter (is_line_of name) t.history ≡ map (history_row name) (past_of (contents_of t) name).history
-  pub made : (name : List ℕ) (m : ModelService) → get (contents_of t).desk.services name ≡ Some m → IsReadableCommand (command.Service m.made)
+  pub services : (name : List ℕ)
+      → filter (is_service name) t.services
+      ≡ row_if (service_row name) (get (contents_of t).desk.services name)
+  pub runs : (name : List ℕ) (number : ℕ)
+      → filter (is_run name number) t.runs
+      ≡ run_rows name number (past_of (contents_of t) name).runs
+  pub tallies : (name : List ℕ) (number metric : ℕ)
+      → filter (is_tally name number metric) t.tallies
+      ≡ tally_rows name number metric (past_of (contents_of t) name).runs
+  pub measurements : (name : List ℕ)
+      → filter (is_measurement_of name) t.measurements
+      ≡ map (measurement_row name) (past_of (contents_of t) name).measurements
+  pub history : (name : List ℕ)
+      → filter (is_line_of name) t.history
+      ≡ map (history_row name) (past_of (contents_of t) name).history
+  pub made : (name : List ℕ) (m : ModelService) → get (contents_of t).desk.services name ≡ Some m
+      → IsReadableCommand (command.Service m.made)
   pub pasts : (name : List ℕ) → IsReadablePast (past_of (contents_of t) name)
-  pub in_order : (name : List ℕ) (m : ModelService) → get (contents_of t).desk.services name ≡ Some m → IsInOrder (get (contents_of t).desk.templates) name m
+  pub in_order : (name : List ℕ) (m : ModelService)
+      → get (contents_of t).desk.services name ≡ Some m
+      → IsInOrder (get (contents_of t).desk.templates) name m
   pub sound : AreSoundContents (contents_of t)
 
 -- sound tables, in three parts

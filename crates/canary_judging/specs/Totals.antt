@@ -10,14 +10,18 @@ use Rattle.canary_judging.specs.Services.{IsServiceJudged}
 -- those of its runs 1 to n
 abbrev pub tallies_to : List TallyRow → List ℕ → ℕ → ℕ
 tallies_to tallies name zero = 0
-tallies_to tallies name (suc n) = tallies_to tallies name n + length (filter (is_tally_of name (suc n)) tallies)
+tallies_to tallies name (suc n) =
+    tallies_to tallies name n + length (filter (is_tally_of name (suc n)) tallies)
 
 -- those of all its runs
 abbrev pub tallies_under : Tables → ServiceRow → ℕ
 tallies_under t row = tallies_to t.tallies row.name row.standing.runs
 
--- the law: where each service is judged, and there are no more runs than theirs, the tallies of all runs are those of the services' runs
+-- the law: where each service is judged, and there are no more runs than theirs, the tallies of all
+-- runs are those of the services' runs
 abbrev pub RunsAreSummedByService : Type 0
 RunsAreSummedByService =
-    (t : Tables) → AllByRecursion (IsServiceJudged t) t.services → sum_by (λ (row : ServiceRow). row.standing.runs) t.services ≡ length t.runs
-    → sum_by (λ (row : RunRow). length (filter (is_tally_of row.service row.number) t.tallies)) t.runs ≡ sum_by (tallies_under t) t.services
+    (t : Tables) → AllByRecursion (IsServiceJudged t) t.services
+    → sum_by (λ (row : ServiceRow). row.standing.runs) t.services ≡ length t.runs
+    → sum_by (λ (row : RunRow). length (filter (is_tally_of row.service row.number) t.tallies))
+    t.runs ≡ sum_by (tallies_under t) t.services

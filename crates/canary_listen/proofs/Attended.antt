@@ -9,31 +9,31 @@ use Rattle.std.proofs.lemmas.Bool.Decides.{eqb_tells}
 use Rattle.canary_wire.specs.Conversing.{Talk, begun, so_far, TakesTurn}
 use Rattle.canary_wire.specs.Crowds.{Turn, Crowd, all_held, IsCrowd, IsNew, Becomes, Comes, HasTurn, Goes}
 use Rattle.canary_wire.specs.Exchanges.{Exchange, Point, Went, Holds}
-use Rattle.canary_listen.specs.Attending.{Attendance, attendance, nobody, IsServed, Keeps, Attends, ServesAll}
+use Rattle.canary_listen.specs.Attending.{Attendance, attendance, nobody, IsServed, KeepsServed, Attends, ServesAll}
 
 -- ---- nothing, and one after another
 
-pub keeps_same : (a b : Attendance) → a ≡ b → Keeps a b
+pub keeps_same : (a b : Attendance) → a ≡ b → KeepsServed a b
 keeps_same a b e turns s = subst (λ (x : Attendance). IsServed turns x) e s
 
-pub keeps_then : (a b c : Attendance) → Keeps a b → Keeps b c → Keeps a c
+pub keeps_then : (a b c : Attendance) → KeepsServed a b → KeepsServed b c → KeepsServed a c
 keeps_then a b c x y turns s = y turns (x turns s)
 
-pub attends_kept : (p : Point) (a b : Attendance) → Went p p [] → Keeps a b → Attends p p a b
+pub attends_kept : (p : Point) (a b : Attendance) → Went p p [] → KeepsServed a b → Attends p p a b
 attends_kept p a b none k = record {
   turns = [];
   went = none;
   keeps = λ before s. subst (λ (t : List Turn). IsServed t b) (sym (append-nil before)) (k before s);
 }
 
-pub attends_and_keeps : (p q : Point) (a b c : Attendance) → Attends p q a b → Keeps b c → Attends p q a c
+pub attends_and_keeps : (p q : Point) (a b c : Attendance) → Attends p q a b → KeepsServed b c → Attends p q a c
 attends_and_keeps p q a b c x k = record {
   turns = x.turns;
   went = x.went;
   keeps = λ before s. k (before ++ x.turns) (x.keeps before s);
 }
 
-pub keeps_and_attends : (p q : Point) (a b c : Attendance) → Keeps a b → Attends p q b c → Attends p q a c
+pub keeps_and_attends : (p q : Point) (a b c : Attendance) → KeepsServed a b → Attends p q b c → Attends p q a c
 keeps_and_attends p q a b c k x = record {
   turns = x.turns;
   went = x.went;
@@ -83,7 +83,7 @@ below_one : (turns : List Turn) (one : Turn) (n : ℕ) → one.client < n → Al
 below_one [] one n l h = (l, tt)
 below_one (t ∷ turns) one n l h = (h.0, below_one turns one n l h.1)
 
-pub comes_keeps : Comes → (crowd new : Crowd) (next : ℕ) → Becomes crowd new next (Some begun) → Keeps (attendance crowd next) (attendance new (next + 1))
+pub comes_keeps : Comes → (crowd new : Crowd) (next : ℕ) → Becomes crowd new next (Some begun) → KeepsServed (attendance crowd next) (attendance new (next + 1))
 comes_keeps law crowd new next becomes turns s = record {
   crowd = law turns crowd new next s.crowd (below_is_new turns next s.given) becomes;
   given = below_more turns next s.given;
@@ -96,7 +96,7 @@ none_or_other crowd new n client becomes e = elim (eqb_tells client n) [
   | inr h ↦ becomes.others client h.1 ∙ e
 ]
 
-pub goes_keeps : Goes → (crowd new : Crowd) (n next : ℕ) → Becomes crowd new n None → Keeps (attendance crowd next) (attendance new next)
+pub goes_keeps : Goes → (crowd new : Crowd) (n next : ℕ) → Becomes crowd new n None → KeepsServed (attendance crowd next) (attendance new next)
 goes_keeps law crowd new n next becomes turns s = record {
   crowd = law turns crowd new n s.crowd becomes;
   given = s.given;

@@ -40,8 +40,8 @@ pub record IsServed (turns : List Turn) (a : Attendance) : Type 0 where
   pub free : (client : ℕ) → a.next ≤ client → a.crowd client ≡ None
 
 -- clients came or went, and had no turn
-abbrev pub Keeps : Attendance → Attendance → Type 0
-Keeps old new = (turns : List Turn) → IsServed turns old → IsServed turns new
+abbrev pub KeepsServed : Attendance → Attendance → Type 0
+KeepsServed old new = (turns : List Turn) → IsServed turns old → IsServed turns new
 
 -- clients came, had turns or went
 pub record Attends (p q : Point) (old new : Attendance) : Type 0 where

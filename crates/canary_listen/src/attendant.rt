@@ -1,6 +1,6 @@
 //! Clients are accepted, have their turns, and are let go.
 ghost use Rattle.canary_wire.specs.Exchanges.{point};
-ghost use Rattle.canary_listen.specs.Attending.{Attends, Keeps};
+ghost use Rattle.canary_listen.specs.Attending.{Attends, KeepsServed};
 ghost use Rattle.canary_listen.specs.Crowd.{clients_attendance};
 
 use crate::client::{Client, Fate};
@@ -103,7 +103,7 @@ impl Attendant {
 
     // Keeps a client, or lets it go.
     fn settle<F: Write>(&mut self, number: usize, fate: Fate, errors: &mut F)
-        ensures { Keeps (clients_attendance self.old.clients)
+        ensures { KeepsServed (clients_attendance self.old.clients)
             (clients_attendance self.new.clients) }
     {
         match fate {
@@ -118,7 +118,7 @@ impl Attendant {
 
     // Lets a client go, and tells the fault with which its connection ended.
     fn let_go<F: Write>(&mut self, number: usize, cause: Cause, errors: &mut F)
-        ensures { Keeps (clients_attendance self.old.clients)
+        ensures { KeepsServed (clients_attendance self.old.clients)
             (clients_attendance self.new.clients) }
     {
         self.clients.remove(number);
@@ -127,7 +127,7 @@ impl Attendant {
 
     // Lets those go that take too long; each second this is asked once.
     pub(crate) fn sweep<F: Write>(&mut self, errors: &mut F)
-        ensures { Keeps (clients_attendance self.old.clients)
+        ensures { KeepsServed (clients_attendance self.old.clients)
             (clients_attendance self.new.clients) }
     {
         if self.now == self.swept {
@@ -146,7 +146,7 @@ impl Attendant {
 
     // Accepts some of those that wait, as long as there is room.
     pub(crate) fn accept_some(&mut self, alloc: Global)
-        ensures { Keeps (clients_attendance self.old.clients)
+        ensures { KeepsServed (clients_attendance self.old.clients)
             (clients_attendance self.new.clients) }
     {
         'batch: for _ in 0..MOST_ACCEPTED {
@@ -159,7 +159,7 @@ impl Attendant {
 
     // Accepts one.
     fn accept(&mut self, alloc: Global)
-        ensures { Keeps (clients_attendance self.old.clients)
+        ensures { KeepsServed (clients_attendance self.old.clients)
             (clients_attendance self.new.clients) }
     {
         match self.socket.accept() {
@@ -174,7 +174,7 @@ impl Attendant {
     // Nobody waits, or the system could not accept, as where it has no descriptor left: then to ask
     // again at once would take all of a processor's time, so it is asked a second later.
     fn wait_to_accept(&mut self, kind: ErrorKind)
-        ensures { Keeps (clients_attendance self.old.clients)
+        ensures { KeepsServed (clients_attendance self.old.clients)
             (clients_attendance self.new.clients) }
     {
         match kind {
@@ -186,7 +186,7 @@ impl Attendant {
 
     // Takes in a client that was accepted. Where that fails, its connection is closed.
     fn welcome(&mut self, alloc: Global, stream: TcpStream) -> Result<(), Memory>
-        ensures { Keeps (clients_attendance self.old.clients)
+        ensures { KeepsServed (clients_attendance self.old.clients)
             (clients_attendance self.new.clients) }
     {
         let most_owed = usize::try_from(self.limits.owed_bytes).unwrap_or(usize::MAX);

@@ -3,7 +3,7 @@ ghost use Rattle.std.specs.Prelude.{◌≡◌, IfOk};
 ghost use Rattle.canary_wire.specs.Conversing.{begun};
 ghost use Rattle.canary_wire.specs.Exchanges.{point};
 ghost use Rattle.canary_wire.specs.Talks.{talk_of};
-ghost use Rattle.canary_listen.specs.Attending.{Attends, Keeps, nobody};
+ghost use Rattle.canary_listen.specs.Attending.{Attends, KeepsServed, nobody};
 ghost use Rattle.canary_listen.specs.Crowd.{client_talk, clients_attendance};
 
 use crate::client::{Client, Fate};
@@ -78,7 +78,7 @@ impl Clients {
     // Takes a client in, under the next number.
     pub(crate) fn add(&mut self, client: Client) -> Result<(), Memory>
         requires { client_talk client ≡ begun }
-        ensures { Keeps (clients_attendance self.old) (clients_attendance self.new) }
+        ensures { KeepsServed (clients_attendance self.old) (clients_attendance self.new) }
     {
         crowds();
         let number = self.next;
@@ -114,7 +114,7 @@ impl Clients {
 
     // Has a client's connection reported when it is ready for this. Says whether it could be done.
     pub(crate) fn report(&mut self, registry: &Registry, number: usize, interest: Interest) -> bool
-        ensures { Keeps (clients_attendance self.old) (clients_attendance self.new) }
+        ensures { KeepsServed (clients_attendance self.old) (clients_attendance self.new) }
     {
         match self.by_number.get_mut(&number) {
             Some(client) => client.report(registry, Token(number), interest).is_ok(),
@@ -124,7 +124,7 @@ impl Clients {
 
     // Lets a client go: its connection is closed.
     pub(crate) fn remove(&mut self, number: usize)
-        ensures { Keeps (clients_attendance self.old) (clients_attendance self.new) }
+        ensures { KeepsServed (clients_attendance self.old) (clients_attendance self.new) }
     {
         crowds();
         if let Some(client) = self.by_number.remove(&number) {

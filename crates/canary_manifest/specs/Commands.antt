@@ -25,12 +25,16 @@ service_of value = in_object_of 2 value (Some service_with
     ⊛ at (codes "manifest") (in_canary canary_background) value)
 
 abbrev pub template_reading : Data → Reading Command
-template_reading manifest = reading_unless (is_unsupported_template manifest) (option_map Template (template_of manifest))
+template_reading manifest =
+    reading_unless (is_unsupported_template manifest) (option_map Template (template_of manifest))
 
 abbrev pub service_reading : Data → Reading Command
-service_reading value = reading_unless (has (codes "manifest") is_unsupported_rollout value) (option_map Service (service_of value))
+service_reading value =
+    reading_unless (has (codes "manifest") is_unsupported_rollout value)
+    (option_map Service (service_of value))
 
--- the reading of a command of that kind; all but templates and services are asked for in the form of their canonical text
+-- the reading of a command of that kind; all but templates and services are asked for in the form
+-- of their canonical text
 unfoldable pub reading_of_kind : List ℕ → Data → Reading Command
 reading_of_kind kind value =
     if bytes_eq kind (codes "template") then template_reading value

@@ -50,11 +50,13 @@ is_digits text = nat_lt 0 (length text) && list_all is_ascii_digit text
 
 -- the number that a text of digits spells, up to this
 abbrev pub digits_up_to : ℕ → List ℕ → Option ℕ
-digits_up_to greatest text = option_and_then (λ digits. up_to greatest (digits_value 10 digits)) (some_if is_digits text)
+digits_up_to greatest text =
+    option_and_then (λ digits. up_to greatest (digits_value 10 digits)) (some_if is_digits text)
 
 -- a whole number or a text of digits, up to this
 abbrev pub count_up_to : ℕ → Data → Option ℕ
-count_up_to greatest value = option_or (number_up_to greatest value) (option_and_then (digits_up_to greatest) (as_str value))
+count_up_to greatest value =
+    option_or (number_up_to greatest value) (option_and_then (digits_up_to greatest) (as_str value))
 
 -- a limit of a metric
 abbrev pub limit_in : Data → Option ℕ
@@ -89,7 +91,8 @@ delay_in value = option_map (λ duration. unwrap_or duration 0) (duration_in val
 
 -- how long a pause is: the text of a duration, or seconds as a whole number or a text of digits
 abbrev pub pause_seconds : Data → Option ℕ
-pause_seconds value = option_or (count_up_to 31536000 value) (option_and_then seconds_of (as_str value))
+pause_seconds value =
+    option_or (count_up_to 31536000 value) (option_and_then seconds_of (as_str value))
 
 -- 1 to 63 bytes
 abbrev pub is_short : List ℕ → Bool
@@ -107,10 +110,12 @@ abbrev pub is_true : Data → Bool
 is_true value = unwrap_or (as_bool value) false
 
 abbrev pub is_other_text : List ℕ → Data → Bool
-is_other_text text value = unwrap_or (option_map (λ found. not (bytes_eq found text)) (as_str value)) true
+is_other_text text value =
+    unwrap_or (option_map (λ found. not (bytes_eq found text)) (as_str value)) true
 
 abbrev pub is_no_empty_list : Data → Bool
-is_no_empty_list value = unwrap_or (option_map (λ items. not (items_len items == 0)) (as_array value)) true
+is_no_empty_list value =
+    unwrap_or (option_map (λ items. not (items_len items == 0)) (as_array value)) true
 
 abbrev pub is_negative_number : Num → Bool
 is_negative_number (unsigned n) = false
@@ -120,11 +125,14 @@ is_negative_number (float x) = false
 -- a minus and digits that are not all 0
 abbrev pub is_negative_text : List ℕ → Bool
 is_negative_text [] = false
-is_negative_text (b ∷ bs) = b == 45 && list_all is_ascii_digit bs && not (list_all (λ d. d == 48) bs)
+is_negative_text (b ∷ bs) =
+    b == 45 && list_all is_ascii_digit bs && not (list_all (λ d. d == 48) bs)
 
 -- a whole number below 0, or a text of one
 abbrev pub is_negative : Data → Bool
-is_negative value = unwrap_or (option_map is_negative_number (as_number value)) false || unwrap_or (option_map is_negative_text (as_str value)) false
+is_negative value =
+    unwrap_or (option_map is_negative_number (as_number value)) false
+    || unwrap_or (option_map is_negative_text (as_str value)) false
 
 abbrev pub any_item : (Data → Bool) → Items → Bool
 any_item test no_items = false

@@ -17,7 +17,9 @@ rollout_name manifest = in_member (codes "metadata") (in_member (codes "name") n
 
 -- an object; without a duration the pause lasts until the release is promoted
 abbrev pub pause_in : Data → Option (Option ℕ)
-pause_in = in_object (in_member_or (codes "duration") None (λ value. option_map Some (pause_seconds value)))
+pause_in =
+    in_object
+    (in_member_or (codes "duration") None (λ value. option_map Some (pause_seconds value)))
 
 -- the names of the templates of an analysis
 abbrev pub templates_in : Data → Option (List (List ℕ))
@@ -31,7 +33,9 @@ only_step None None (Some analysis) = option_map Analysis (templates_in analysis
 only_step weight pause analysis = None
 
 unfoldable pub step_in : Data → Option Step
-step_in step = only_step (member_of (codes "setWeight") step) (member_of (codes "pause") step) (member_of (codes "analysis") step)
+step_in step =
+    only_step (member_of (codes "setWeight") step) (member_of (codes "pause") step)
+    (member_of (codes "analysis") step)
 
 -- the analysis beside the steps
 unfoldable pub background_in : Data → Option Background
@@ -43,11 +47,14 @@ abbrev pub canary_steps : Data → Option (List Step)
 canary_steps = in_object (in_member_or (codes "steps") [] (list_of step_in))
 
 abbrev pub canary_background : Data → Option (Option Background)
-canary_background = in_object (in_member_or (codes "analysis") None (λ value. option_map Some (background_in value)))
+canary_background =
+    in_object
+    (in_member_or (codes "analysis") None (λ value. option_map Some (background_in value)))
 
 -- what the form gives of the canary strategy
 abbrev pub in_canary : {A : Type 0} → (Data → Option A) → Data → Option A
-in_canary form = in_member (codes "spec") (in_member (codes "strategy") (in_member (codes "canary") form))
+in_canary form =
+    in_member (codes "spec") (in_member (codes "strategy") (in_member (codes "canary") form))
 
 -- ---- what the desk does not do
 
@@ -58,27 +65,37 @@ is_unsupported_analysis analysis =
     || has (codes "templates") (some_item (has (codes "clusterScope") is_true)) analysis
 
 abbrev pub is_step_key : List ℕ → Bool
-is_step_key key = bytes_eq key (codes "setWeight") || bytes_eq key (codes "pause") || bytes_eq key (codes "analysis")
+is_step_key key =
+    bytes_eq key (codes "setWeight") || bytes_eq key (codes "pause")
+    || bytes_eq key (codes "analysis")
 
 -- a member of another key, not null
 abbrev pub any_other : Members → Bool
 any_other no_members = false
-any_other (member key value rest) = (not (is_step_key key) && is_some (unless_null value)) || any_other rest
+any_other (member key value rest) =
+    (not (is_step_key key) && is_some (unless_null value)) || any_other rest
 
 abbrev pub has_other_member : Data → Bool
 has_other_member step = unwrap_or (option_map any_other (as_object step)) false
 
 unfoldable pub is_unsupported_step : Data → Bool
-is_unsupported_step step = has_other_member step || has (codes "analysis") is_unsupported_analysis step
+is_unsupported_step step =
+    has_other_member step || has (codes "analysis") is_unsupported_analysis step
 
 abbrev pub is_unsupported_canary : Data → Bool
-is_unsupported_canary canary = has (codes "steps") (some_item is_unsupported_step) canary || has (codes "analysis") is_unsupported_analysis canary
+is_unsupported_canary canary =
+    has (codes "steps") (some_item is_unsupported_step) canary
+    || has (codes "analysis") is_unsupported_analysis canary
 
 abbrev pub is_unsupported_strategy : Data → Bool
-is_unsupported_strategy strategy = has (codes "blueGreen") anything strategy || has (codes "canary") is_unsupported_canary strategy
+is_unsupported_strategy strategy =
+    has (codes "blueGreen") anything strategy || has (codes "canary") is_unsupported_canary strategy
 
 abbrev pub is_unsupported_spec : Data → Bool
-is_unsupported_spec spec = has (codes "paused") is_true spec || has (codes "strategy") is_unsupported_strategy spec
+is_unsupported_spec spec =
+    has (codes "paused") is_true spec || has (codes "strategy") is_unsupported_strategy spec
 
 unfoldable pub is_unsupported_rollout : Data → Bool
-is_unsupported_rollout manifest = has (codes "kind") (is_other_text (codes "Rollout")) manifest || has (codes "spec") is_unsupported_spec manifest
+is_unsupported_rollout manifest =
+    has (codes "kind") (is_other_text (codes "Rollout")) manifest
+    || has (codes "spec") is_unsupported_spec manifest

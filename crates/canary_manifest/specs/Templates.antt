@@ -36,7 +36,9 @@ template_of manifest = option_flatten (Some template_with
 -- ---- what the desk does not do
 
 abbrev pub is_unsupported_metric : Data → Bool
-is_unsupported_metric metric = has (codes "consecutiveSuccessLimit") anything metric || has (codes "failureLimit") is_negative metric
+is_unsupported_metric metric =
+    has (codes "consecutiveSuccessLimit") anything metric
+    || has (codes "failureLimit") is_negative metric
 
 abbrev pub is_unsupported_analysis_spec : Data → Bool
 is_unsupported_analysis_spec spec =
@@ -45,4 +47,6 @@ is_unsupported_analysis_spec spec =
     || has (codes "metrics") (some_item is_unsupported_metric) spec
 
 unfoldable pub is_unsupported_template : Data → Bool
-is_unsupported_template manifest = has (codes "kind") (is_other_text (codes "AnalysisTemplate")) manifest || has (codes "spec") is_unsupported_analysis_spec manifest
+is_unsupported_template manifest =
+    has (codes "kind") (is_other_text (codes "AnalysisTemplate")) manifest
+    || has (codes "spec") is_unsupported_analysis_spec manifest

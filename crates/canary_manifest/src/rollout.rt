@@ -101,8 +101,8 @@ fn steps_in(alloc: Global, list: &Vec<Value>) -> Result<Listed<Step>, FormFault>
 /// The step that it is.
 ///
 /// # Errors
-/// `Unreadable` where it has none or several of `setWeight`, `pause` and `analysis`, or the one that
-/// it has is not read; `Memory`.
+/// `Unreadable` where it has none or several of `setWeight`, `pause` and `analysis`, or the one
+/// that it has is not read; `Memory`.
 #[tactic(auto, unfolding(crate::specs::Rollouts::step_in))]
 pub fn step_in(alloc: Global, step: &Value) -> Result<Step, FormFault>
     ensures { IsRead (step_in (view step.now)) result }

@@ -1,4 +1,5 @@
--- Once and in order: the answers to a list of events, and the contents after them, by the small machine on the settled requests alone, each once.
+-- Once and in order: the answers to a list of events, and the contents after them, by the small
+-- machine on the settled requests alone, each once.
 use Rattle.std.specs.Prelude.{ℕ, ◌+◌, ◌==◌, nat_lt, Bool, if◌then◌else◌, List, [], ◌∷◌, ◌++◌, length, map, filter, Option, Some, None, codes, decimal}
 use Rattle.std.specs.Ordering.{nat_cmp}
 use Rattle.std.specs.Cmp.Lexicographic.{slice_cmp}
@@ -64,7 +65,8 @@ receipt_of r reply = record { command = r.command; reply = reply }
 abbrev pub with_receipts : CallerMap → List Request → List Reply → CallerMap
 with_receipts callers [] replies = callers
 with_receipts callers (r ∷ rs) [] = callers
-with_receipts callers (r ∷ rs) (reply ∷ replies) = with_receipts (with_receipt callers r.caller (receipt_of r reply)) rs replies
+with_receipts callers (r ∷ rs) (reply ∷ replies) =
+    with_receipts (with_receipt callers r.caller (receipt_of r reply)) rs replies
 
 abbrev pub after : Contents → List Event → Contents
 after c es =
@@ -79,20 +81,28 @@ reused_reply = record { status = Conflict; body = code_alone (codes "reused") }
 
 -- {"code":"ahead","expected":NUMBER}
 abbrev pub ahead_reply : ℕ → Reply
-ahead_reply expected = record { status = Conflict; body = codes "{\"code\":\"ahead\",\"expected\":" ++ (decimal expected ++ codes "}") }
+ahead_reply expected =
+    record {
+      status = Conflict;
+      body = codes "{\"code\":\"ahead\",\"expected\":" ++ (decimal expected ++ codes "}");
+    }
 
 -- a repeat gets the reply of the receipt under its number, if it is the same command
 abbrev pub repeat_reply : Option Receipt → Command → Reply
 repeat_reply None command = reused_reply
-repeat_reply (Some receipt) command = if same_command receipt.command command then receipt.reply else reused_reply
+repeat_reply (Some receipt) command =
+    if same_command receipt.command command then receipt.reply else reused_reply
 
--- the reply to a request, after these events: the machine's where it is new; that of the receipt where it is a repeat; else that it is ahead
+-- the reply to a request, after these events: the machine's where it is new; that of the receipt
+-- where it is a repeat; else that it is ahead
 abbrev pub answer_request : Contents → List Event → Request → Reply
 answer_request c before r =
     let next = next_number c (news_of c before) r.caller in
     if r.number == next
     then (apply (machine c.desk (settled_requests c before)).desk r.moment r.command).reply
-    else (if nat_lt r.number next then repeat_reply (receipt_at (after c before) r.caller r.number) r.command else ahead_reply next)
+    else (if nat_lt r.number next
+    then repeat_reply (receipt_at (after c before) r.caller r.number) r.command
+    else ahead_reply next)
 
 -- the reply to an event, after these
 abbrev pub answer : Contents → List Event → Event → Reply

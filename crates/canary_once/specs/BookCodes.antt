@@ -19,14 +19,16 @@ map_code x = code (coded_list coded_ℕ) x
 
 abbrev pub desk_code : Coded Desk
 desk_code =
-    code_by (FinMap (slice_cmp nat_cmp) Template × FinMap (slice_cmp nat_cmp) ModelService) (coded× (map_code template.the_row.coded) (map_code service_code))
+    code_by (FinMap (slice_cmp nat_cmp) Template × FinMap (slice_cmp nat_cmp) ModelService)
+    (coded× (map_code template.the_row.coded) (map_code service_code))
     (λ d. (d.templates, d.services))
     (λ p. record { templates = p.0; services = p.1 })
     (λ _. refl)
 
 abbrev pub contents_code : Coded Contents
 contents_code =
-    code_by (FinMap (slice_cmp nat_cmp) (List Receipt) × Desk) (coded× (map_code (coded_list receipt.the_row.coded)) desk_code)
+    code_by (FinMap (slice_cmp nat_cmp) (List Receipt) × Desk)
+    (coded× (map_code (coded_list receipt.the_row.coded)) desk_code)
     (λ c. (c.callers, c.desk))
     (λ p. record { callers = p.0; desk = p.1 })
     (λ _. refl)

@@ -6,10 +6,12 @@ use Rattle.canary_once.specs.declared.book.Settlement.{Settlement}
 use Rattle.canary_once.specs.Contents.{Contents, no_contents, KeepsReceipts, with_settlement}
 use Rattle.canary_once.specs.Sound.{AreContents, AreSoundContents}
 
--- what it contains, however it is kept; whether its store is honest: nobody else writes it, and it gives back what was written; whether its store is memory alone; and whether it is sure: its calls never answer Storage
+-- what it contains, however it is kept; whether its store is honest: nobody else writes it, and it
+-- gives back what was written; whether its store is memory alone; and whether it is sure: its calls
+-- never answer Storage
 pub record BookState : Type 1 where
   pub contents : Contents
-  pub is_intact : Type 0
+  pub is_honest : Type 0
   pub is_in_memory : Type 0
   pub is_sure : Bool
 
@@ -21,31 +23,34 @@ IsFault false Storage = Unit {0}
 
 -- an honest store in memory
 abbrev pub IsHonestMemory : BookState → Type 0
-IsHonestMemory b = b.is_in_memory × b.is_intact
+IsHonestMemory b = b.is_in_memory × b.is_honest
 
--- A store that is honest as a call ends was so as the call began. An honest store in memory stays one, whatever failed. No call changes whether the book is sure.
+-- A store that is honest as a call ends was so as the call began. An honest store in memory stays
+-- one, whatever failed. No call changes whether the book is sure.
 abbrev pub StaysInMemory : BookState → BookState → Type 0
 StaysInMemory old new = IsHonestMemory old → IsHonestMemory new
 
 -- a call finds this in the contents, or fails; it changes nothing
-pub record Finds {A : Type 0} (value : Contents → A) (old new : BookState) (found : Result A BookFault) : Type 0 where
-  pub intact : new.is_intact → old.is_intact
+pub record Finds {A : Type 0} (value : Contents → A) (old new : BookState)
+    (found : Result A BookFault) : Type 0 where
+  pub honest : new.is_honest → old.is_honest
   pub in_memory : StaysInMemory old new
-  pub lawful : new.is_intact → AreContents old.contents
-  pub same : new.is_intact → new.contents ≡ old.contents
-  pub value_of_old : new.is_intact → IfOk found (λ x. x ≡ value old.contents)
+  pub lawful : new.is_honest → AreContents old.contents
+  pub same : new.is_honest → new.contents ≡ old.contents
+  pub value_of_old : new.is_honest → IfOk found (λ x. x ≡ value old.contents)
   pub sure : new.is_sure ≡ old.is_sure
   pub fault : IfErr found (IsFault old.is_sure)
 
 -- a call settles a request, with all that it changes, or fails and changes nothing
-pub record Commits (s : Settlement) (old new : BookState) (done : Result (Unit {0}) BookFault) : Type 0 where
-  pub intact : new.is_intact → old.is_intact
+pub record Commits (s : Settlement) (old new : BookState)
+    (done : Result (Unit {0}) BookFault) : Type 0 where
+  pub honest : new.is_honest → old.is_honest
   pub in_memory : StaysInMemory old new
-  pub lawful : new.is_intact → AreContents new.contents
-  pub sound : new.is_intact → AreSoundContents old.contents → AreSoundContents new.contents
-  pub ok : new.is_intact → OnOk done (new.contents ≡ with_settlement old.contents s)
-  pub err : new.is_intact → OnErr done (new.contents ≡ old.contents)
-  pub receipts : new.is_intact → KeepsReceipts old.contents new.contents
+  pub lawful : new.is_honest → AreContents new.contents
+  pub sound : new.is_honest → AreSoundContents old.contents → AreSoundContents new.contents
+  pub ok : new.is_honest → OnOk done (new.contents ≡ with_settlement old.contents s)
+  pub err : new.is_honest → OnErr done (new.contents ≡ old.contents)
+  pub receipts : new.is_honest → KeepsReceipts old.contents new.contents
   pub sure : new.is_sure ≡ old.is_sure
   pub fault : IfErr done (IsFault old.is_sure)
 

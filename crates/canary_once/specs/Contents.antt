@@ -1,4 +1,5 @@
--- What a book contains: for each caller the receipts of its settled requests, from number 1 on, and the desk.
+-- What a book contains: for each caller the receipts of its settled requests, from number 1 on, and
+-- the desk.
 use Rattle.std.specs.Prelude.{◌≡◌, ◌⊎◌, ℕ, ◌+◌, ◌-◌, ◌≤◌, List, [], ◌∷◌, ◌++◌, length, Option, Some, unwrap_or, slice_get}
 use Rattle.std.specs.Ordering.{nat_cmp}
 use Rattle.std.specs.Cmp.Lexicographic.{slice_cmp}
@@ -49,25 +50,39 @@ IsSettledStatus status = (status ≡ Accepted) ⊎ (status ≡ Refused)
 
 -- no receipt is of a conflict
 abbrev pub KeepsSettled : Contents → Type 0
-KeepsSettled c = (caller : List ℕ) (number : ℕ) (receipt : Receipt) → receipt_at c caller number ≡ Some receipt → IsSettledStatus receipt.reply.status
+KeepsSettled c =
+    (caller : List ℕ) (number : ℕ) (receipt : Receipt) → receipt_at c caller number ≡ Some receipt
+    → IsSettledStatus receipt.reply.status
 
 -- a caller has at least one receipt, and at most 1,000,000,000
 abbrev pub HaveReceipts : CallerMap → Type 0
-HaveReceipts callers = (caller : List ℕ) (receipts : List Receipt) → get callers caller ≡ Some receipts → (1 ≤ length receipts) × (length receipts ≤ 1000000000)
+HaveReceipts callers =
+    (caller : List ℕ) (receipts : List Receipt) → get callers caller ≡ Some receipts
+    → (1 ≤ length receipts) × (length receipts ≤ 1000000000)
 
 -- each receipt stays as it was
 abbrev pub KeepsReceipts : Contents → Contents → Type 0
-KeepsReceipts old new = (caller : List ℕ) (number : ℕ) (receipt : Receipt) → receipt_at old caller number ≡ Some receipt → receipt_at new caller number ≡ Some receipt
+KeepsReceipts old new =
+    (caller : List ℕ) (number : ℕ) (receipt : Receipt) → receipt_at old caller number ≡ Some receipt
+    → receipt_at new caller number ≡ Some receipt
 
 -- with one more receipt for a caller
 abbrev pub with_receipt : CallerMap → List ℕ → Receipt → CallerMap
-with_receipt callers caller receipt = insert callers caller (receipts_in callers caller ++ receipt ∷ [])
+with_receipt callers caller receipt =
+    insert callers caller (receipts_in callers caller ++ receipt ∷ [])
 
 -- with one more settled request
 abbrev pub with_settlement : Contents → Settlement → Contents
-with_settlement c s = record { callers = with_receipt c.callers s.caller s.receipt; desk = changed c.desk s.receipt.command s.change }
+with_settlement c s =
+    record {
+      callers = with_receipt c.callers s.caller s.receipt;
+      desk = changed c.desk s.receipt.command s.change;
+    }
 
--- the number is the caller's next, and reply and change are the machine's step, for the command on this desk at some moment
+-- the number is the caller's next, and reply and change are the machine's step, for the command on
+-- this desk at some moment
 pub record IsSettling (c : Contents) (s : Settlement) : Type 0 where
   pub number : s.number ≡ count_of c s.caller + 1
-  pub step : (moment : ℕ) × IsStep c.desk moment s.receipt.command (record { reply = s.receipt.reply; change = s.change })
+  pub step : (moment : ℕ)
+      × IsStep c.desk moment s.receipt.command
+      (record { reply = s.receipt.reply; change = s.change })

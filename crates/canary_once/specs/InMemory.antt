@@ -16,4 +16,5 @@ name_in (change.Service s effects) = s.stand.name
 abbrev pub IsKept : Desk → List ℕ → DeskChange → Type 0
 IsKept desk name change.Nothing = Unit {0}
 IsKept desk name (change.Template t) = Unit {0}
-IsKept desk name (change.Service s effects) = s ≡ shape (after (get desk.services name) s.stand effects)
+IsKept desk name (change.Service s effects) =
+    s ≡ shape (after (get desk.services name) s.stand effects)

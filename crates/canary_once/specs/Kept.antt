@@ -1,4 +1,5 @@
--- How a book in memory keeps the past of a service: all measurements once, and no lists of runs, which are read off from them.
+-- How a book in memory keeps the past of a service: all measurements once, and no lists of runs,
+-- which are read off from them.
 use Rattle.std.specs.Prelude.{◌≡◌, ℕ, zero, suc, ◌-◌, ◌≤◌, List, [], ◌∷◌, ◌++◌, length, map, filter, find, slice_get, Option, Some, None, option_map}
 use Rattle.std.specs.List.{AllByRecursion}
 use Rattle.canary_metric.specs.Counts.{Counts}
@@ -29,7 +30,8 @@ nothing_kept = record { runs = []; measurements = []; history = [] }
 -- of all measurements, the lists of so many metrics of a run, from this metric on
 abbrev pub lists_from : List Recorded → ℕ → ℕ → ℕ → List (List Recorded)
 lists_from all run metric zero = []
-lists_from all run metric (suc n) = filter (is_of run metric) all ∷ lists_from all run (suc metric) n
+lists_from all run metric (suc n) =
+    filter (is_of run metric) all ∷ lists_from all run (suc metric) n
 
 -- the lists of a run
 abbrev pub lists_of : List Recorded → Opening → List (List Recorded)
@@ -40,10 +42,22 @@ closing_of None = None
 closing_of (Some c) = Some c.closing
 
 abbrev pub run_in : List Recorded → KeptRun → Run
-run_in all r = record { number = r.opening.run; step = r.opening.step; started = r.opening.started; closed = closing_of r.closed; lists = lists_of all r.opening }
+run_in all r =
+    record {
+      number = r.opening.run;
+      step = r.opening.step;
+      started = r.opening.started;
+      closed = closing_of r.closed;
+      lists = lists_of all r.opening;
+    }
 
 abbrev pub past_kept : Kept → Past
-past_kept k = record { runs = map (run_in k.measurements) k.runs; measurements = k.measurements; history = k.history }
+past_kept k =
+    record {
+      runs = map (run_in k.measurements) k.runs;
+      measurements = k.measurements;
+      history = k.history;
+    }
 
 -- What is kept grows.
 
@@ -62,7 +76,8 @@ abbrev pub keeps : Kept → Effect → Kept
 keeps k (Told line) = record k { history = k.history ++ line ∷ [] }
 keeps k (Opened x) = record k { runs = k.runs ++ new_run x ∷ [] }
 keeps k (Measured x) = record k { measurements = k.measurements ++ x ∷ [] }
-keeps k (Closed x tallies) = record k { runs = close_in (record { closing = x; tallies = tallies }) k.runs }
+keeps k (Closed x tallies) =
+    record k { runs = close_in (record { closing = x; tallies = tallies }) k.runs }
 
 -- all that happens, in order
 abbrev pub keeps_all : Kept → List Effect → Kept
@@ -82,7 +97,8 @@ HasLast all r = IsLast r.closed (map counts_of (lists_of all r.opening))
 abbrev pub IsWithin : ℕ → Recorded → Type 0
 IsWithin count x = x.run ≤ count
 
--- its runs are numbered from 1, no measurement has a number above theirs, and each closed run has its last tallies
+-- its runs are numbered from 1, no measurement has a number above theirs, and each closed run has
+-- its last tallies
 pub record AreKept (k : Kept) : Type 0 where
   pub numbered : AreNumbered 1 (past_kept k).runs
   pub within : AllByRecursion (IsWithin (length k.runs)) k.measurements
@@ -97,12 +113,21 @@ kept_numbered runs (suc place) = slice_get runs place
 
 -- the tallies of a run: its last ones where it is closed, else those of the open run of its number
 abbrev pub tallies_in : Option ClosedRun → ℕ → List OpenRun → Option (List Counts)
-tallies_in None number open_runs = option_map (λ (r : OpenRun). r.tallies) (find (has_number number) open_runs)
+tallies_in None number open_runs =
+    option_map (λ (r : OpenRun). r.tallies) (find (has_number number) open_runs)
 tallies_in (Some c) number open_runs = Some c.tallies
 
 abbrev pub record_with : KeptRun → List Counts → RunRecord
-record_with r tallies = record { number = r.opening.run; step = r.opening.step; started = r.opening.started; closed = closing_of r.closed; tallies = tallies }
+record_with r tallies =
+    record {
+      number = r.opening.run;
+      step = r.opening.step;
+      started = r.opening.started;
+      closed = closing_of r.closed;
+      tallies = tallies;
+    }
 
 abbrev pub record_among : Option KeptRun → List OpenRun → Option RunRecord
 record_among None open_runs = None
-record_among (Some r) open_runs = option_map (record_with r) (tallies_in r.closed r.opening.run open_runs)
+record_among (Some r) open_runs =
+    option_map (record_with r) (tallies_in r.closed r.opening.run open_runs)

@@ -6,7 +6,8 @@ use Rattle.canary_once.specs.declared.kept_past.KeptPast.{KeptPast}
 use Rattle.canary_once.specs.Kept.{Kept}
 
 abbrev pub kept_in : KeptPast → Kept
-kept_in p = record { runs = p.runs.items; measurements = p.measurements.items; history = p.history.items }
+kept_in p =
+    record { runs = p.runs.items; measurements = p.measurements.items; history = p.history.items }
 
 -- it adds a run, a measurement or a line
 
@@ -31,5 +32,6 @@ is_line (Closed x tallies) = false
 -- there is room for all that effects add
 pub record HasRoom (p : KeptPast) (xs : List Effect) : Type 0 where
   pub runs : vec_len p.runs + length (filter is_opening xs) ≤ vec_capacity p.runs
-  pub measurements : vec_len p.measurements + length (filter is_measurement xs) ≤ vec_capacity p.measurements
+  pub measurements : vec_len p.measurements + length (filter is_measurement xs)
+      ≤ vec_capacity p.measurements
   pub history : vec_len p.history + length (filter is_line xs) ≤ vec_capacity p.history

@@ -13,7 +13,8 @@ abbrev pub made_of : List ℕ → List ℕ → ServiceParts → ServiceSpec
 made_of name version s = record (made_as s.stand) { name = name; version = version }
 
 abbrev pub model_of : List ℕ → List ℕ → ServiceParts → Kept → ModelService
-model_of name version s k = record { made = made_of name version s; stand = s.stand; past = past_kept k }
+model_of name version s k =
+    record { made = made_of name version s; stand = s.stand; past = past_kept k }
 
 abbrev pub kept_model : Inside → ModelService
 kept_model s = model_of s.name s.version s.service (kept_in s.past)

@@ -10,7 +10,14 @@ use Rattle.canary_once.specs.Contents.{Contents}
 
 -- a run, each metric with the counts of its whole list
 abbrev pub record_of : Run → RunRecord
-record_of r = record { number = r.number; step = r.step; started = r.started; closed = r.closed; tallies = map counts_of r.lists }
+record_of r =
+    record {
+      number = r.number;
+      step = r.step;
+      started = r.started;
+      closed = r.closed;
+      tallies = map counts_of r.lists;
+    }
 
 abbrev pub is_numbered : ℕ → Run → Bool
 is_numbered number r = r.number == number
@@ -33,6 +40,7 @@ run_of c name number = record_numbered (past_of c name) number
 abbrev pub history_of : Contents → List ℕ → List Line
 history_of c name = (past_of c name).history
 
--- the measurements from a place on, at most so many, in the order in which they were recorded; the first has place 0
+-- the measurements from a place on, at most so many, in the order in which they were recorded; the
+-- first has place 0
 abbrev pub measurements_of : Contents → List ℕ → ℕ → ℕ → List Recorded
 measurements_of c name from most = take most (drop from (past_of c name).measurements)

@@ -18,21 +18,30 @@ use Rattle.canary_release.specs.Desks.{ModelService}
 
 abbrev pub run_code : Coded Run
 run_code =
-    code_by (ℕ × (Option ℕ × (ℕ × (Option Closing × List (List Recorded))))) (coded× coded_ℕ (coded× (coded_option coded_ℕ) (coded× coded_ℕ (coded× (coded_option closing.the_row.coded) (coded_list (coded_list recorded.the_row.coded))))))
+    code_by (ℕ × (Option ℕ × (ℕ × (Option Closing × List (List Recorded)))))
+    (coded× coded_ℕ
+    (coded× (coded_option coded_ℕ)
+    (coded× coded_ℕ
+    (coded× (coded_option closing.the_row.coded)
+    (coded_list (coded_list recorded.the_row.coded))))))
     (λ r. (r.number, (r.step, (r.started, (r.closed, r.lists)))))
-    (λ p. record { number = p.0; step = p.1.0; started = p.1.1.0; closed = p.1.1.1.0; lists = p.1.1.1.1 })
+    (λ p. record
+    { number = p.0; step = p.1.0; started = p.1.1.0; closed = p.1.1.1.0; lists = p.1.1.1.1 })
     (λ _. refl)
 
 abbrev pub past_code : Coded Past
 past_code =
-    code_by (List Run × (List Recorded × List Line)) (coded× (coded_list run_code) (coded× (coded_list recorded.the_row.coded) (coded_list line.the_row.coded)))
+    code_by (List Run × (List Recorded × List Line))
+    (coded× (coded_list run_code)
+    (coded× (coded_list recorded.the_row.coded) (coded_list line.the_row.coded)))
     (λ p. (p.runs, (p.measurements, p.history)))
     (λ t. record { runs = t.0; measurements = t.1.0; history = t.1.1 })
     (λ _. refl)
 
 abbrev pub service_code : Coded ModelService
 service_code =
-    code_by (ServiceSpec × (Stand × Past)) (coded× spec.the_row.coded (coded× stand.the_row.coded past_code))
+    code_by (ServiceSpec × (Stand × Past))
+    (coded× spec.the_row.coded (coded× stand.the_row.coded past_code))
     (λ m. (m.made, (m.stand, m.past)))
     (λ t. record { made = t.0; stand = t.1.0; past = t.1.1 })
     (λ _. refl)

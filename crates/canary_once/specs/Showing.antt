@@ -1,4 +1,5 @@
--- What the code tells of a service that was passed: what a book told of it, as the effects on the way leave it.
+-- What the code tells of a service that was passed: what a book told of it, as the effects on the
+-- way leave it.
 use Rattle.std.specs.Prelude.{◌≡◌, ℕ, ◌==◌, Bool, true, false, if◌then◌else◌, List, [], ◌∷◌, ◌++◌, replicate, Option, Some, None, option_map, Result, IfOk, IfErr}
 use Rattle.canary_metric.specs.Counts.{counts}
 use Rattle.canary_plan.specs.declared.line.Line.{Line}
@@ -36,7 +37,14 @@ lines_after lines (x ∷ xs) = lines_after (lines_then lines x) xs
 
 -- a run that is opened has measured nothing
 abbrev pub opened_record : Opening → RunRecord
-opened_record x = record { number = x.run; step = x.step; started = x.started; closed = None; tallies = replicate x.metrics (counts []) }
+opened_record x =
+    record {
+      number = x.run;
+      step = x.step;
+      started = x.started;
+      closed = None;
+      tallies = replicate x.metrics (counts []);
+    }
 
 abbrev pub closed_record : Closing → RunRecord → RunRecord
 closed_record x r = if r.number == x.run then record r { closed = Some x } else r
@@ -60,14 +68,17 @@ record_after number r (x ∷ xs) = record_after number (record_then number r x) 
 -- the reply to a query on a service that was passed, of which this was past before
 abbrev pub shown : Passed → Query → Past → Reply
 shown p (Service name) past = found (service_view p.service.stand p.service.runs)
-shown p (History name) past = found (history_view p.service.stand.name (lines_after past.history p.effects))
-shown p (Run name number) past = run_reply p.service.stand (record_after number (record_numbered past number) p.effects)
+shown p (History name) past =
+    found (history_view p.service.stand.name (lines_after past.history p.effects))
+shown p (Run name number) past =
+    run_reply p.service.stand (record_after number (record_numbered past number) p.effects)
 
 -- a reply was made from these contents, with what more the book was asked, or that failed
-pub record Shows (reply : Contents → Reply) (old new : BookState) (given : Result Reply BookFault) : Type 0 where
-  pub intact : new.is_intact → old.is_intact
+pub record Shows (reply : Contents → Reply) (old new : BookState)
+    (given : Result Reply BookFault) : Type 0 where
+  pub honest : new.is_honest → old.is_honest
   pub in_memory : StaysInMemory old new
-  pub same : new.is_intact → new.contents ≡ old.contents
-  pub ok : new.is_intact → IfOk given (λ r. r ≡ reply old.contents)
+  pub same : new.is_honest → new.contents ≡ old.contents
+  pub ok : new.is_honest → IfOk given (λ r. r ≡ reply old.contents)
   pub sure : new.is_sure ≡ old.is_sure
   pub fault : IfErr given (IsFault old.is_sure)

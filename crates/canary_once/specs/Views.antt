@@ -49,17 +49,28 @@ number_text r = decimal r.number
 -- {"code":"ok","hold":HOLD,"moment":MOMENT,"open":[..]
 abbrev pub service_front : Stand → Runs → List ℕ
 service_front s runs =
-    codes "{\"code\":\"ok\",\"hold\":\"" ++ (hold_text s.step_hold s.background_hold ++ (codes "\",\"moment\":" ++ (decimal s.last ++ (codes ",\"open\":" ++ bracketed (map number_text runs.open_runs)))))
+    codes "{\"code\":\"ok\",\"hold\":\""
+    ++ (hold_text s.step_hold s.background_hold
+    ++ (codes "\",\"moment\":"
+    ++ (decimal s.last ++ (codes ",\"open\":" ++ bracketed (map number_text runs.open_runs)))))
 
 -- ,"runs":RUNS,"service":NAME,"stable":VERSION
 abbrev pub service_middle : Stand → ℕ → List ℕ
 service_middle s count =
-    codes ",\"runs\":" ++ (decimal count ++ (codes ",\"service\":\"" ++ (s.name ++ (codes "\",\"stable\":\"" ++ (s.stable ++ codes "\"")))))
+    codes ",\"runs\":"
+    ++ (decimal count
+    ++ (codes ",\"service\":\""
+    ++ (s.name ++ (codes "\",\"stable\":\"" ++ (s.stable ++ codes "\"")))))
 
 -- ,"status":STATUS,"step":STEP,"version":VERSION,"weight":WEIGHT}
 abbrev pub service_back : Stand → List ℕ
 service_back s =
-    codes ",\"status\":\"" ++ (status_text (status s) ++ (codes "\",\"step\":" ++ (decimal s.step ++ (codes ",\"version\":\"" ++ (s.version ++ (codes "\",\"weight\":" ++ (decimal (weight s) ++ codes "}")))))))
+    codes ",\"status\":\""
+    ++ (status_text (status s)
+    ++ (codes "\",\"step\":"
+    ++ (decimal s.step
+    ++ (codes ",\"version\":\""
+    ++ (s.version ++ (codes "\",\"weight\":" ++ (decimal (weight s) ++ codes "}")))))))
 
 abbrev pub service_view : Stand → Runs → List ℕ
 service_view s runs = service_front s runs ++ (service_middle s runs.count ++ service_back s)
@@ -71,27 +82,46 @@ quoted_line l = quoted (line_text l)
 
 -- {"code":"ok","lines":[..],"service":NAME}
 abbrev pub history_view : List ℕ → List Line → List ℕ
-history_view name lines = codes "{\"code\":\"ok\",\"lines\":" ++ (bracketed (map quoted_line lines) ++ (codes ",\"service\":\"" ++ (name ++ codes "\"}")))
+history_view name lines =
+    codes "{\"code\":\"ok\",\"lines\":"
+    ++ (bracketed (map quoted_line lines) ++ (codes ",\"service\":\"" ++ (name ++ codes "\"}")))
 
 -- A run.
 
 -- when a metric is due next; null where it is completed or its run is closed
 abbrev pub due_text : RunRecord → MetricValue → Counts → List ℕ
-due_text r m t = if is_completed (phase_of_counts m t false) || is_some r.closed then codes "null" else decimal (due_of_counts m r.started t)
+due_text r m t =
+    if is_completed (phase_of_counts m t false) || is_some r.closed then codes "null"
+    else decimal (due_of_counts m r.started t)
 
 -- {"consecutive":N,"counted":N,"dryRun":BOOL,"due":DUE
 abbrev pub metric_front : RunRecord → MetricValue → Counts → List ℕ
 metric_front r m t =
-    codes "{\"consecutive\":" ++ (decimal t.consecutive ++ (codes ",\"counted\":" ++ (decimal t.counted ++ (codes ",\"dryRun\":" ++ (bool_text m.dry_run ++ (codes ",\"due\":" ++ due_text r m t))))))
+    codes "{\"consecutive\":"
+    ++ (decimal t.consecutive
+    ++ (codes ",\"counted\":"
+    ++ (decimal t.counted
+    ++ (codes ",\"dryRun\":"
+    ++ (bool_text m.dry_run ++ (codes ",\"due\":" ++ due_text r m t))))))
 
 -- ,"errors":N,"failed":N,"inconclusive":N,"measurements":N
 abbrev pub metric_middle : Counts → List ℕ
 metric_middle t =
-    codes ",\"errors\":" ++ (decimal t.errors ++ (codes ",\"failed\":" ++ (decimal t.failed ++ (codes ",\"inconclusive\":" ++ (decimal t.inconclusive ++ (codes ",\"measurements\":" ++ decimal (t.counted + t.errors)))))))
+    codes ",\"errors\":"
+    ++ (decimal t.errors
+    ++ (codes ",\"failed\":"
+    ++ (decimal t.failed
+    ++ (codes ",\"inconclusive\":"
+    ++ (decimal t.inconclusive
+    ++ (codes ",\"measurements\":" ++ decimal (t.counted + t.errors)))))))
 
 -- ,"name":NAME,"phase":PHASE}, the phase being that with closing where the run is closed
 abbrev pub metric_back : RunRecord → MetricValue → Counts → List ℕ
-metric_back r m t = codes ",\"name\":\"" ++ (m.name ++ (codes "\",\"phase\":\"" ++ (phase_text (phase_of_counts m t (is_some r.closed)) ++ codes "\"}")))
+metric_back r m t =
+    codes ",\"name\":\""
+    ++ (m.name
+    ++ (codes "\",\"phase\":\""
+    ++ (phase_text (phase_of_counts m t (is_some r.closed)) ++ codes "\"}")))
 
 abbrev pub metric_view : RunRecord → MetricValue × Counts → List ℕ
 metric_view r w = metric_front r w.0 w.1 ++ (metric_middle w.1 ++ metric_back r w.0 w.1)
@@ -108,15 +138,24 @@ verdict_in (Some x) = x.verdict
 -- {"closed":MOMENT or null,"code":"ok","metrics":[..]
 abbrev pub run_front : List MetricValue → RunRecord → List ℕ
 run_front metrics r =
-    codes "{\"closed\":" ++ (null_or (closed_at r.closed) ++ (codes ",\"code\":\"ok\",\"metrics\":" ++ bracketed (map (metric_view r) (zip metrics r.tallies))))
+    codes "{\"closed\":"
+    ++ (null_or (closed_at r.closed)
+    ++ (codes ",\"code\":\"ok\",\"metrics\":"
+    ++ bracketed (map (metric_view r) (zip metrics r.tallies))))
 
 -- ,"run":RUN,"service":NAME,"started":MOMENT
 abbrev pub run_middle : List ℕ → RunRecord → List ℕ
-run_middle name r = codes ",\"run\":" ++ (decimal r.number ++ (codes ",\"service\":\"" ++ (name ++ (codes "\",\"started\":" ++ decimal r.started))))
+run_middle name r =
+    codes ",\"run\":"
+    ++ (decimal r.number
+    ++ (codes ",\"service\":\"" ++ (name ++ (codes "\",\"started\":" ++ decimal r.started))))
 
 -- ,"step":STEP or null,"verdict":PHASE}
 abbrev pub run_back : RunRecord → List ℕ
-run_back r = codes ",\"step\":" ++ (null_or r.step ++ (codes ",\"verdict\":\"" ++ (phase_text (verdict_in r.closed) ++ codes "\"}")))
+run_back r =
+    codes ",\"step\":"
+    ++ (null_or r.step
+    ++ (codes ",\"verdict\":\"" ++ (phase_text (verdict_in r.closed) ++ codes "\"}")))
 
 abbrev pub run_view : List ℕ → List MetricValue → RunRecord → List ℕ
 run_view name metrics r = run_front metrics r ++ (run_middle name r ++ run_back r)

@@ -16,7 +16,8 @@ use canary_release::service::Service;
 use std::alloc::Global;
 use thiserror::Error;
 
-/// What is kept of a settled request: its command, by its canonical text, and the reply that it got.
+/// What is kept of a settled request: its command, by its canonical text, and the reply that it
+/// got.
 #[derive(Drop)]
 pub struct Receipt {
     pub command: CanonicalCommand,
@@ -157,6 +158,6 @@ pub trait Book {
     /// `Memory` where an allocation was refused, `Storage` where the store failed; nothing is
     /// settled, and nothing changed.
     fn commit(&mut self, settlement: Settlement) -> Result<(), BookFault>
-        requires { (state self.old).is_intact → IsSettling (state self.old).contents settlement }
+        requires { (state self.old).is_honest → IsSettling (state self.old).contents settlement }
         ensures { Commits settlement (state self.old) (state self.new) result };
 }

@@ -63,7 +63,8 @@ pub fn queries()
 {}
 
 /// Empty contents are sound, as what holds of all contents holds of them; and a desk in order stays
-/// in order, and sound contents stay sound: each verdict is that of its run's recorded measurements.
+/// in order, and sound contents stay sound: each verdict is that of its run's recorded
+/// measurements.
 pub fn soundness()
     ensures lawful { AreContents no_contents }
     ensures none { AreSoundContents no_contents }

@@ -70,7 +70,7 @@ impl Book for MemoryBook {
 
     ghost state = { λ contents. record {
       contents = contents;
-      is_intact = Unit {0};
+      is_honest = Unit {0};
       is_in_memory = Unit {0};
       is_sure = true;
     } };

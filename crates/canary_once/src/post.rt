@@ -73,7 +73,7 @@ fn settle_new<B: Book>(
     number: Number,
     command: &Command,
 ) -> Result<Reply, BookFault>
-    requires { (B.state book.old).is_intact
+    requires { (B.state book.old).is_honest
         → number ≡ count_of (B.state book.old).contents caller + 1 }
     ensures { let r = request_of moment caller number command.now
         in RepliesBy (λ c. new_reply c r) (λ c. settle c r)

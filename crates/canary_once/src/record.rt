@@ -9,8 +9,8 @@ use canary_release::effect::Closing;
 use std::alloc::Global;
 
 /// A run of a service: its number, from 1 on; its analysis, that at a step or of the background
-/// (none); when it was started, how it was closed, if it was; and one tally for each of its metrics,
-/// in order.
+/// (none); when it was started, how it was closed, if it was; and one tally for each of its
+/// metrics, in order.
 #[derive(Drop)]
 pub struct RunRecord {
     pub number: u32,

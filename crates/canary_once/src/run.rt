@@ -20,20 +20,20 @@ use std::alloc::Global;
 /// # Errors
 /// `Memory` where there is no room for the answers; nothing was done.
 pub fn run<B: Book>(alloc: Global, book: &mut B, events: &[Event]) -> Result<Vec<Answer>, Memory>
-    ensures intact { (B.state book.new).is_intact → (B.state book.old).is_intact }
+    ensures honest { (B.state book.new).is_honest → (B.state book.old).is_honest }
     ensures in_memory { StaysInMemory (B.state book.old) (B.state book.new) }
     ensures sure { ((B.state book.new).is_sure ≡ (B.state book.old).is_sure)
         × IfOk result (λ answers. All (IsFaultOf (B.state book.old).is_sure) answers.items) }
     ensures count { IfOk result (λ answers. length answers.items ≡ length events.now) }
-    ensures answers { (B.state book.new).is_intact → IfOk result (λ answers.
+    ensures answers { (B.state book.new).is_honest → IfOk result (λ answers.
         replies_in answers.items
         ≡ answers_of (B.state book.old).contents (heard events.now answers.items)) }
-    ensures contents { (B.state book.new).is_intact → IfOk result (λ answers.
+    ensures contents { (B.state book.new).is_honest → IfOk result (λ answers.
         (B.state book.new).contents
         ≡ after (B.state book.old).contents (heard events.now answers.items)) }
-    ensures receipts { (B.state book.new).is_intact
+    ensures receipts { (B.state book.new).is_honest
         → KeepsReceipts (B.state book.old).contents (B.state book.new).contents }
-    ensures sound { (B.state book.new).is_intact
+    ensures sound { (B.state book.new).is_honest
         → AreSoundContents (B.state book.old).contents
         → AreSoundContents (B.state book.new).contents }
     ensures err { OnErr result (book.new ≡ book.old) }

@@ -10,14 +10,16 @@ use Rattle.canary_plan.specs.declared.template.BadCondition.{BadCondition as Bad
 use Rattle.canary_plan.specs.PlanRefusals.{is_unreadable}
 
 -- what is read where no condition is bad, or that one is; out of memory at any point
-abbrev pub IsRead : {A : Type 0} → Bool → A → Result A BindFault → Type 0
-IsRead bad value (Ok found) = (bad ≡ false) × (found ≡ value)
-IsRead bad value (Err (bind.Refused refusal)) = (bad ≡ true) × (refusal ≡ BadCondition)
-IsRead bad value (Err bind.Memory) = Unit {0}
+abbrev pub IsReadUnless : {A : Type 0} → Bool → A → Result A BindFault → Type 0
+IsReadUnless bad value (Ok found) = (bad ≡ false) × (found ≡ value)
+IsReadUnless bad value (Err (bind.Refused refusal)) = (bad ≡ true) × (refusal ≡ BadCondition)
+IsReadUnless bad value (Err bind.Memory) = Unit {0}
 
 -- the key of a metric's first condition that has no reading
 abbrev pub bad_key : MetricSpec → Option ConditionKey
-bad_key m = if is_unreadable m.success then Some Success else (if is_unreadable m.failure then Some Failure else None)
+bad_key m =
+    if is_unreadable m.success then Some Success
+    else (if is_unreadable m.failure then Some Failure else None)
 
 abbrev pub bad_place : ℕ → Option ConditionKey → Option BadPlace → Option BadPlace
 bad_place place None later = later

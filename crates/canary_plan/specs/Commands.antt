@@ -97,21 +97,34 @@ abbrev pub same_background : Background → Background → Bool
 same_background a b = same_names a.templates b.templates && a.starting_step == b.starting_step
 
 abbrev pub same_limits : MetricSpec → MetricSpec → Bool
-same_limits a b = a.failure_limit == b.failure_limit && (a.inconclusive_limit == b.inconclusive_limit && a.consecutive_error_limit == b.consecutive_error_limit)
+same_limits a b =
+    a.failure_limit == b.failure_limit
+    && (a.inconclusive_limit == b.inconclusive_limit
+    && a.consecutive_error_limit == b.consecutive_error_limit)
 
 -- measured as often, and at the same times
 abbrev pub same_times : MetricSpec → MetricSpec → Bool
-same_times a b = same_option same_number a.interval b.interval && (a.initial_delay == b.initial_delay && same_option same_number a.count b.count)
+same_times a b =
+    same_option same_number a.interval b.interval
+    && (a.initial_delay == b.initial_delay && same_option same_number a.count b.count)
 
 abbrev pub same_metric : MetricSpec → MetricSpec → Bool
 same_metric a b =
-    bytes_eq a.name b.name && (same_option bytes_eq a.success b.success && (same_option bytes_eq a.failure b.failure && (same_times a b && same_limits a b)))
+    bytes_eq a.name b.name
+    && (same_option bytes_eq a.success b.success
+    && (same_option bytes_eq a.failure b.failure && (same_times a b && same_limits a b)))
 
 abbrev pub same_template : TemplateSpec → TemplateSpec → Bool
-same_template a b = bytes_eq a.name b.name && (pointwise same_metric a.metrics b.metrics && same_names a.dry_run b.dry_run)
+same_template a b =
+    bytes_eq a.name b.name
+    && (pointwise same_metric a.metrics b.metrics && same_names a.dry_run b.dry_run)
 
 abbrev pub same_service : ServiceSpec → ServiceSpec → Bool
-same_service a b = bytes_eq a.name b.name && (bytes_eq a.version b.version && (pointwise same_step a.steps b.steps && same_option same_background a.background b.background))
+same_service a b =
+    bytes_eq a.name b.name
+    && (bytes_eq a.version b.version
+    && (pointwise same_step a.steps b.steps
+    && same_option same_background a.background b.background))
 
 abbrev pub same_value : Value → Value → Bool
 same_value (Whole a) (Whole b) = int_eq a b
@@ -124,10 +137,13 @@ same_outcome (Failure a) (Failure b) = bytes_eq a b
 same_outcome a b = false
 
 abbrev pub same_entry : Entry → Entry → Bool
-same_entry a b = bytes_eq a.metric b.metric && (a.ordinal == b.ordinal && (a.taken == b.taken && same_outcome a.outcome b.outcome))
+same_entry a b =
+    bytes_eq a.metric b.metric
+    && (a.ordinal == b.ordinal && (a.taken == b.taken && same_outcome a.outcome b.outcome))
 
 abbrev pub same_report : Report → Report → Bool
-same_report a b = bytes_eq a.service b.service && (a.run == b.run && pointwise same_entry a.entries b.entries)
+same_report a b =
+    bytes_eq a.service b.service && (a.run == b.run && pointwise same_entry a.entries b.entries)
 
 -- the place of a kind among the kinds
 abbrev pub place_of_kind : CommandKind → ℕ
@@ -147,8 +163,11 @@ same_kind a b = place_of_kind a == place_of_kind b
 -- the parts but for the kind
 abbrev pub same_parts : Command → Command → Bool
 same_parts a b =
-    bytes_eq (subject_of a) (subject_of b) && (same_option bytes_eq (version_of a) (version_of b) && (same_option same_template (template_in a) (template_in b)
-    && (same_option same_service (service_in a) (service_in b) && same_option same_report (report_in a) (report_in b))))
+    bytes_eq (subject_of a) (subject_of b)
+    && (same_option bytes_eq (version_of a) (version_of b)
+    && (same_option same_template (template_in a) (template_in b)
+    && (same_option same_service (service_in a) (service_in b)
+    && same_option same_report (report_in a) (report_in b))))
 
 -- of one kind, with the same parts
 abbrev pub same_command : Command → Command → Bool

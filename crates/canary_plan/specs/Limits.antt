@@ -18,7 +18,9 @@ is_condition_asked (Some text) = nat_lt 0 (length text)
 -- the conditions, the count and the limits of a metric
 abbrev pub are_metric_limits : Option (List ℕ) → Option (List ℕ) → Option ℕ → ℕ → ℕ → ℕ → Bool
 are_metric_limits success failure count failed inconclusive errors =
-    is_condition_asked success && (is_condition_asked failure && (is_count count && (is_limit failed && (is_limit inconclusive && is_limit errors))))
+    is_condition_asked success
+    && (is_condition_asked failure
+    && (is_count count && (is_limit failed && (is_limit inconclusive && is_limit errors))))
 
 -- 1 to 32 metrics of a template, or entries of a report
 abbrev pub is_metric_count : ℕ → Bool

@@ -67,9 +67,12 @@ event_alone text =
 -- what was entered, by its kind and the words after that
 abbrev pub entered_as : ℕ → List ℕ → List ℕ → Option LineEvent
 entered_as step kind rest =
-    if bytes_eq kind (codes "setWeight") then option_map (λ weight. WeightEntered step weight) (number_of rest)
-    else (if bytes_eq kind (codes "pause") then option_map (λ seconds. TimedPauseEntered step seconds) (seconds_of rest)
-    else (if bytes_eq kind (codes "analysis") then option_map (λ run. AnalysisEntered step run) (numbered (codes "run") rest) else None))
+    if bytes_eq kind (codes "setWeight")
+    then option_map (λ weight. WeightEntered step weight) (number_of rest)
+    else (if bytes_eq kind (codes "pause")
+    then option_map (λ seconds. TimedPauseEntered step seconds) (seconds_of rest)
+    else (if bytes_eq kind (codes "analysis")
+    then option_map (λ run. AnalysisEntered step run) (numbered (codes "run") rest) else None))
 
 -- what was entered, by the words after the step's number as they were cut
 abbrev pub entered_at : ℕ → List ℕ → Option (List ℕ × List ℕ) → Option LineEvent
@@ -84,7 +87,8 @@ entered step text = entered_at step text (cut text)
 abbrev pub closed_at : ℕ → List ℕ → Option (List ℕ × List ℕ) → Option LineEvent
 closed_at run text None = option_map (λ phase. Completed run phase) (phase_read text)
 closed_at run text (Some parts) =
-    if bytes_eq parts.1 (codes "ended") then option_map (λ phase. Ended run phase) (phase_read parts.0) else None
+    if bytes_eq parts.1 (codes "ended")
+    then option_map (λ phase. Ended run phase) (phase_read parts.0) else None
 
 -- how a run was closed, by the words after its number
 abbrev pub closed : ℕ → List ℕ → Option LineEvent
@@ -96,7 +100,8 @@ with_number event None text = None
 with_number event (Some number) text = event number text
 
 -- the same of a text that was cut
-abbrev pub after_number_at : (ℕ → List ℕ → Option LineEvent) → Option (List ℕ × List ℕ) → Option LineEvent
+abbrev pub after_number_at : (ℕ → List ℕ → Option LineEvent) → Option (List ℕ × List ℕ)
+    → Option LineEvent
 after_number_at event None = None
 after_number_at event (Some parts) = with_number event (number_of parts.0) parts.1
 
@@ -106,7 +111,9 @@ after_number event text = after_number_at event (cut text)
 
 -- where the release is held
 abbrev pub held : List ℕ → Option LineEvent
-held text = if bytes_eq text (codes "background") then Some BackgroundHeld else option_map (λ step. StepHeld step) (numbered (codes "step") text)
+held text =
+    if bytes_eq text (codes "background") then Some BackgroundHeld
+    else option_map (λ step. StepHeld step) (numbered (codes "step") text)
 
 -- how far the release was promoted, by the words after `promote`
 abbrev pub promoted : List ℕ → Option LineEvent
@@ -115,8 +122,10 @@ promoted text = if bytes_eq text (codes "full") then Some PromotedFull else None
 -- the event of a first word that no version follows, and what stands after it
 abbrev pub event_without_version : List ℕ → List ℕ → Option LineEvent
 event_without_version word rest =
-    if bytes_eq word (codes "background") then option_map (λ run. BackgroundOpened run) (numbered (codes "run") rest)
-    else (if bytes_eq word (codes "abort") then option_map (λ run. AbortedBy run) (numbered (codes "run") rest)
+    if bytes_eq word (codes "background")
+    then option_map (λ run. BackgroundOpened run) (numbered (codes "run") rest)
+    else (if bytes_eq word (codes "abort")
+    then option_map (λ run. AbortedBy run) (numbered (codes "run") rest)
     else (if bytes_eq word (codes "step") then after_number entered rest
     else (if bytes_eq word (codes "run") then after_number closed rest
     else (if bytes_eq word (codes "hold") then held rest
@@ -126,10 +135,14 @@ event_without_version word rest =
 -- the event of a first word, and what stands after it
 abbrev pub event_with : List ℕ → List ℕ → Option LineEvent
 event_with word rest =
-    if bytes_eq word (codes "created") then option_map (λ version. Created version) (version_of rest)
-    else (if bytes_eq word (codes "start") then option_map (λ version. Started version) (version_of rest)
-    else (if bytes_eq word (codes "retry") then option_map (λ version. Retried version) (version_of rest)
-    else (if bytes_eq word (codes "done") then option_map (λ version. Finished version) (version_of rest)
+    if bytes_eq word (codes "created")
+    then option_map (λ version. Created version) (version_of rest)
+    else (if bytes_eq word (codes "start")
+    then option_map (λ version. Started version) (version_of rest)
+    else (if bytes_eq word (codes "retry")
+    then option_map (λ version. Retried version) (version_of rest)
+    else (if bytes_eq word (codes "done")
+    then option_map (λ version. Finished version) (version_of rest)
     else event_without_version word rest)))
 
 -- the event of a text that was cut

@@ -13,12 +13,16 @@ words (Created version) = codes "created " ++ version
 words (Started version) = codes "start " ++ version
 words (Retried version) = codes "retry " ++ version
 words (BackgroundOpened run) = codes "background run " ++ decimal run
-words (WeightEntered step weight) = codes "step " ++ (decimal step ++ (codes " setWeight " ++ decimal weight))
+words (WeightEntered step weight) =
+    codes "step " ++ (decimal step ++ (codes " setWeight " ++ decimal weight))
 words (PauseEntered step) = codes "step " ++ (decimal step ++ codes " pause")
-words (TimedPauseEntered step seconds) = codes "step " ++ (decimal step ++ (codes " pause " ++ (decimal seconds ++ codes "s")))
-words (AnalysisEntered step run) = codes "step " ++ (decimal step ++ (codes " analysis run " ++ decimal run))
+words (TimedPauseEntered step seconds) =
+    codes "step " ++ (decimal step ++ (codes " pause " ++ (decimal seconds ++ codes "s")))
+words (AnalysisEntered step run) =
+    codes "step " ++ (decimal step ++ (codes " analysis run " ++ decimal run))
 words (Completed run phase) = codes "run " ++ (decimal run ++ (codes " " ++ phase_text phase))
-words (Ended run phase) = codes "run " ++ (decimal run ++ (codes " " ++ (phase_text phase ++ codes " ended")))
+words (Ended run phase) =
+    codes "run " ++ (decimal run ++ (codes " " ++ (phase_text phase ++ codes " ended")))
 words (StepHeld step) = codes "hold step " ++ decimal step
 words BackgroundHeld = codes "hold background"
 words Promoted = codes "promote"

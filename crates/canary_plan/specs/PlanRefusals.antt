@@ -38,7 +38,8 @@ needs_interval m = is_above_one m.count && is_none m.interval
 
 -- a name that is neither a metric of the template nor `.*`
 abbrev pub is_foreign : TemplateSpec → List ℕ → Bool
-is_foreign t name = not (bytes_eq name all_metrics || list_any (λ (m : MetricSpec). bytes_eq m.name name) t.metrics)
+is_foreign t name =
+    not (bytes_eq name all_metrics || list_any (λ (m : MetricSpec). bytes_eq m.name name) t.metrics)
 
 -- why a template is refused
 abbrev pub template_refusal : TemplateSpec → Option Refusal
@@ -70,21 +71,27 @@ analyses s = step_analyses s ++ names_of_background s.background
 
 -- two metrics of one name among the known templates of an analysis
 abbrev pub repeats_metric : Templates → List (List ℕ) → Bool
-repeats_metric known names = has_duplicate (map (λ (m : MetricValue). m.name) (metrics_named known names))
+repeats_metric known names =
+    has_duplicate (map (λ (m : MetricValue). m.name) (metrics_named known names))
 
 abbrev pub has_unknown : Templates → List (List ℕ) → Bool
 has_unknown known names = list_any (λ name. is_none (known name)) names
 
 -- a metric that has no effective count, dry-run or not
 abbrev pub is_endless : Templates → List (List ℕ) → Bool
-is_endless known names = list_any (λ (m : MetricValue). is_none (effective_count m)) (metrics_named known names)
+is_endless known names =
+    list_any (λ (m : MetricValue). is_none (effective_count m)) (metrics_named known names)
 
 -- no template or more than 8, or not 1 to 32 metrics
 abbrev pub is_misfit : Templates → List (List ℕ) → Bool
-is_misfit known names = nat_lt (length names) 1 || (nat_lt 8 (length names) || not (are_metrics_of_run (metrics_named known names)))
+is_misfit known names =
+    nat_lt (length names) 1
+    || (nat_lt 8 (length names) || not (are_metrics_of_run (metrics_named known names)))
 
 abbrev pub is_bad_strategy : Templates → ServiceSpec → Bool
-is_bad_strategy known s = nat_lt 64 (length s.steps) || (not (list_all has_weight_in_range s.steps) || list_any (is_misfit known) (analyses s))
+is_bad_strategy known s =
+    nat_lt 64 (length s.steps)
+    || (not (list_all has_weight_in_range s.steps) || list_any (is_misfit known) (analyses s))
 
 -- why a service's strategy is refused
 abbrev pub strategy_refusal : Templates → ServiceSpec → Option Refusal

@@ -93,7 +93,8 @@ metrics_if_background (Some b) ms = Some ms
 
 -- the metrics of the analysis at that step, or of the background
 abbrev pub metrics_at : CheckedStrategy → Option ℕ → Option (List MetricValue)
-metrics_at s (Some i) = if is_analysis (slice_get s.steps i) then slice_get s.step_metrics i else None
+metrics_at s (Some i) =
+    if is_analysis (slice_get s.steps i) then slice_get s.step_metrics i else None
 metrics_at s None = metrics_if_background s.background s.background_metrics
 
 -- Limits of a strategy that was checked.
@@ -133,8 +134,11 @@ is_at_least_one (Some n) = nat_le 1 n
 abbrev pub have_counts : List MetricValue → Bool
 have_counts ms = list_all (λ (m : MetricValue). is_at_least_one m.count) ms
 
--- at most 64 steps, no weight above 100, 1 to 32 metrics for each analysis, and each count of a metric at least 1
+-- at most 64 steps, no weight above 100, 1 to 32 metrics for each analysis, and each count of a
+-- metric at least 1
 abbrev pub is_accepted : CheckedStrategy → Bool
 is_accepted s =
-    nat_le (length s.steps) 64 && (list_all has_weight_in_range s.steps && (fit_steps s.steps s.step_metrics
-    && (fits_background s.background s.background_metrics && (list_all have_counts s.step_metrics && have_counts s.background_metrics))))
+    nat_le (length s.steps) 64
+    && (list_all has_weight_in_range s.steps && (fit_steps s.steps s.step_metrics
+    && (fits_background s.background s.background_metrics
+    && (list_all have_counts s.step_metrics && have_counts s.background_metrics))))

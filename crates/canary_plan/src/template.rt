@@ -7,7 +7,7 @@ ghost use Rattle.canary_plan.specs.Plans.{all_metrics, is_marked, bound_metric, 
 ghost use Rattle.canary_plan.specs.PlanRefusals.{is_unreadable, has_bad_condition, template_refusal};
 ghost use Rattle.canary_plan.specs.PlanRefusals.{needs_interval, has_duplicate, is_foreign};
 ghost use Rattle.canary_metric.specs.Settings.{are_within_limits, metric_of};
-ghost use Rattle.canary_plan.specs.Binding.{IsRead, bad_key, bad_condition};
+ghost use Rattle.canary_plan.specs.Binding.{IsReadUnless, bad_key, bad_condition};
 ghost use Rattle.canary_plan.specs.Checking.{IsBound};
 
 use crate::fault::BindFault;
@@ -137,7 +137,7 @@ fn bound_metrics(
     specs: &[MetricSpec],
     dry_run: &[Text],
 ) -> Result<Listed<Metric>, BindFault>
-    ensures { IsRead (list_any has_bad_condition specs.now)
+    ensures { IsReadUnless (list_any has_bad_condition specs.now)
         (map (bound_metric dry_run.now) specs.now) result }
 {
     let mut metrics = Listed::of(Vec::new(alloc));
@@ -149,7 +149,7 @@ fn bound_metrics(
 
 // A metric with its conditions read, and its mark.
 fn bound_metric(alloc: Global, spec: &MetricSpec, dry_run: &[Text]) -> Result<Metric, BindFault>
-    ensures { IsRead (has_bad_condition spec.now) (bound_metric dry_run.now spec.now) result }
+    ensures { IsReadUnless (has_bad_condition spec.now) (bound_metric dry_run.now spec.now) result }
 {
     let success = read(alloc, &spec.success)?;
     let failure = read(alloc, &spec.failure)?;
@@ -190,7 +190,7 @@ fn marks(marked: &Text, name: Label) -> bool
 
 // The condition that is asked for, if one is.
 fn read(alloc: Global, text: &Option<Text>) -> Result<Option<Condition>, BindFault>
-    ensures { IsRead (is_unreadable text.now) (condition_if text.now) result }
+    ensures { IsReadUnless (is_unreadable text.now) (condition_if text.now) result }
 {
     let Some(text) = text else {
         return Ok(None);

@@ -23,7 +23,8 @@ pub struct MetricSpec {
     pub failure_limit: u32,
     pub inconclusive_limit: u32,
     pub consecutive_error_limit: u32,
-    ghost within: { IsTrue (are_metric_limits success failure count failure_limit inconclusive_limit consecutive_error_limit) },
+    ghost within: { IsTrue (are_metric_limits success failure count failure_limit inconclusive_limit
+        consecutive_error_limit) },
 }
 
 impl MetricSpec {

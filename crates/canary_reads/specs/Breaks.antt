@@ -7,5 +7,7 @@ use Rattle.canary_reads.specs.declared.fault.ReadFault.{ReadFault}
 use Rattle.canary_reads.specs.declared.fault.ReadFault.TheVariants.{Broken}
 
 -- only where the tables are not within these limits
-abbrev pub BreaksUnless : {A : Type 0} → (Tables → Type 0) → State → State → Result A ReadFault → Type 0
-BreaksUnless Within old new result = IsUsable new → (t : Tables) → Stores old t → result ≡ Err Broken → ¬ Within t
+abbrev pub BreaksUnless : {A : Type 0} → (Tables → Type 0) → State → State → Result A ReadFault
+    → Type 0
+BreaksUnless Within old new result =
+    IsUsable new → (t : Tables) → Stores old t → result ≡ Err Broken → ¬ Within t

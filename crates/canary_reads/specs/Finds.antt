@@ -14,8 +14,8 @@ abbrev pub FindsSuch : {A F : Type 0} → (Tables → A → Type 0) → State �
 FindsSuch such old new result = IsUsable new → (t : Tables) → Stores old t → IfOk result (such t)
 
 -- it finds this value in the tables
-abbrev pub Finds : {A F : Type 0} → (Tables → A) → State → State → Result A F → Type 0
-Finds told = FindsSuch (λ t found. found ≡ told t)
+abbrev pub FindsRows : {A F : Type 0} → (Tables → A) → State → State → Result A F → Type 0
+FindsRows told = FindsSuch (λ t found. found ≡ told t)
 
 abbrev pub first : {A : Type 0} → List A → Option A
 first xs = slice_get xs 0

@@ -24,4 +24,6 @@ caller_with (Some name) None = None
 caller_with (Some name) (Some settled) = Some (record { name = name; settled = settled })
 
 abbrev pub caller_of : Row → Option CallerRow
-caller_of row = if length row == 2 then caller_with (name_in (column row 0)) (number_in (column row 1)) else None
+caller_of row =
+    if length row == 2 then caller_with (name_in (column row 0)) (number_in (column row 1))
+    else None

@@ -32,4 +32,5 @@ Assures Holds old new result = IsUsable new → IsFormed old.now → OnOk result
 
 -- and that something is broken only where it does not
 abbrev pub Denies : {A : Type 0} → (Trees → Type 0) → State → State → Result A ReadFault → Type 0
-Denies Holds old new result = IsUsable new → IsFormed old.now → result ≡ Err Broken → ¬ Holds old.now.trees
+Denies Holds old new result =
+    IsUsable new → IsFormed old.now → result ≡ Err Broken → ¬ Holds old.now.trees

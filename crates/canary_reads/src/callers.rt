@@ -6,7 +6,7 @@ ghost use Rattle.sqlite.specs.declared.types.Value.TheVariants.{Text as Words};
 ghost use Rattle.canary_rows.specs.Tables.{is_caller, is_kept};
 ghost use Rattle.canary_rows.specs.Limits.{IsCallerWithin, IsKeptWithin};
 ghost use Rattle.canary_schema.specs.Cells.{caller_cells, kept_cells};
-ghost use Rattle.canary_reads.specs.Finds.{IsSame, Finds, FindsSuch, TellsCells, first};
+ghost use Rattle.canary_reads.specs.Finds.{IsSame, FindsRows, FindsSuch, TellsCells, first};
 ghost use Rattle.canary_reads.specs.Breaks.{BreaksUnless};
 
 use crate::fault::ReadFault;
@@ -25,7 +25,7 @@ pub fn settled<S: Alter>(conn: &mut Connection<S>, caller: &Name) -> Result<Opti
     requires autocommit { conn.old.in_transaction ≡ false }
     ensures mode { conn.new.in_transaction ≡ false }
     ensures same { IsSame (state S.Store conn.old) (state S.Store conn.new) }
-    ensures found { Finds
+    ensures found { FindsRows
         (λ t. option_map (λ row. row.settled) (first (filter (is_caller caller.now) t.callers)))
         (state S.Store conn.old) (state S.Store conn.new) result }
     ensures broken { BreaksUnless (λ t. AllByRecursion IsCallerWithin t.callers)
@@ -46,7 +46,7 @@ pub fn caller_rows<S: Alter>(
     requires autocommit { conn.old.in_transaction ≡ false }
     ensures mode { conn.new.in_transaction ≡ false }
     ensures same { IsSame (state S.Store conn.old) (state S.Store conn.new) }
-    ensures found { Finds (λ t. filter (is_caller name.now) t.callers)
+    ensures found { FindsRows (λ t. filter (is_caller name.now) t.callers)
         (state S.Store conn.old) (state S.Store conn.new) result }
     ensures broken { BreaksUnless (λ t. AllByRecursion IsCallerWithin t.callers)
         (state S.Store conn.old) (state S.Store conn.new) result }
@@ -82,7 +82,7 @@ pub fn kept<S: Alter>(
     requires autocommit { conn.old.in_transaction ≡ false }
     ensures mode { conn.new.in_transaction ≡ false }
     ensures same { IsSame (state S.Store conn.old) (state S.Store conn.new) }
-    ensures found { Finds (λ t. first (filter (is_kept caller.now number) t.kept))
+    ensures found { FindsRows (λ t. first (filter (is_kept caller.now number) t.kept))
         (state S.Store conn.old) (state S.Store conn.new) result }
     ensures broken { BreaksUnless (λ t. AllByRecursion IsKeptWithin t.kept)
         (state S.Store conn.old) (state S.Store conn.new) result }
@@ -103,7 +103,7 @@ pub fn kept_rows<S: Alter>(
     requires autocommit { conn.old.in_transaction ≡ false }
     ensures mode { conn.new.in_transaction ≡ false }
     ensures same { IsSame (state S.Store conn.old) (state S.Store conn.new) }
-    ensures found { Finds (λ t. filter (is_kept caller.now number) t.kept)
+    ensures found { FindsRows (λ t. filter (is_kept caller.now number) t.kept)
         (state S.Store conn.old) (state S.Store conn.new) result }
     ensures broken { BreaksUnless (λ t. AllByRecursion IsKeptWithin t.kept)
         (state S.Store conn.old) (state S.Store conn.new) result }

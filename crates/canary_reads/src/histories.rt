@@ -4,7 +4,7 @@ ghost use Rattle.std.specs.List.{AllByRecursion};
 ghost use Rattle.sqlite.specs.Held.{state};
 ghost use Rattle.canary_rows.specs.Tables.{is_line_of, is_measurement_of};
 ghost use Rattle.canary_rows.specs.Limits.{IsLineWithin, IsMeasurementWithin};
-ghost use Rattle.canary_reads.specs.Finds.{IsSame, Finds};
+ghost use Rattle.canary_reads.specs.Finds.{IsSame, FindsRows};
 ghost use Rattle.canary_reads.specs.Breaks.{BreaksUnless};
 
 use crate::fault::ReadFault;
@@ -25,7 +25,7 @@ pub fn history<S: Alter>(
     requires autocommit { conn.old.in_transaction ≡ false }
     ensures mode { conn.new.in_transaction ≡ false }
     ensures same { IsSame (state S.Store conn.old) (state S.Store conn.new) }
-    ensures found { Finds (λ t. filter (is_line_of service.now) t.history)
+    ensures found { FindsRows (λ t. filter (is_line_of service.now) t.history)
         (state S.Store conn.old) (state S.Store conn.new) result }
     ensures broken { BreaksUnless (λ t. AllByRecursion IsLineWithin t.history)
         (state S.Store conn.old) (state S.Store conn.new) result }
@@ -51,7 +51,7 @@ pub fn measurements<S: Alter>(
     requires autocommit { conn.old.in_transaction ≡ false }
     ensures mode { conn.new.in_transaction ≡ false }
     ensures same { IsSame (state S.Store conn.old) (state S.Store conn.new) }
-    ensures found { Finds
+    ensures found { FindsRows
         (λ t. take most (drop from (filter (is_measurement_of service.now) t.measurements)))
         (state S.Store conn.old) (state S.Store conn.new) result }
     ensures broken { BreaksUnless (λ t. AllByRecursion IsMeasurementWithin t.measurements)
@@ -79,7 +79,7 @@ pub fn measurement_rows<S: Alter>(
     requires autocommit { conn.old.in_transaction ≡ false }
     ensures mode { conn.new.in_transaction ≡ false }
     ensures same { IsSame (state S.Store conn.old) (state S.Store conn.new) }
-    ensures found { Finds (λ t. filter (is_measurement_of service.now) t.measurements)
+    ensures found { FindsRows (λ t. filter (is_measurement_of service.now) t.measurements)
         (state S.Store conn.old) (state S.Store conn.new) result }
     ensures broken { BreaksUnless (λ t. AllByRecursion IsMeasurementWithin t.measurements)
         (state S.Store conn.old) (state S.Store conn.new) result }

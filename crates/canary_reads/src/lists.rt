@@ -10,7 +10,7 @@ ghost use Rattle.canary_rows.specs.Limits.{IsCallerWithin, IsTemplateWithin, IsS
 ghost use Rattle.canary_schema.specs.Cells.{whole};
 ghost use Rattle.canary_schema.specs.Stores.{IsUsable};
 ghost use Rattle.canary_reads.specs.Queries.{IsQuery};
-ghost use Rattle.canary_reads.specs.Finds.{IsSame, Finds};
+ghost use Rattle.canary_reads.specs.Finds.{IsSame, FindsRows};
 ghost use Rattle.canary_reads.specs.Breaks.{BreaksUnless};
 
 use crate::fault::ReadFault;
@@ -31,7 +31,7 @@ pub fn callers<S: Alter>(
     requires autocommit { conn.old.in_transaction ≡ false }
     ensures mode { conn.new.in_transaction ≡ false }
     ensures same { IsSame (state S.Store conn.old) (state S.Store conn.new) }
-    ensures found { Finds (λ t. t.callers)
+    ensures found { FindsRows (λ t. t.callers)
         (state S.Store conn.old) (state S.Store conn.new) result }
     ensures broken { BreaksUnless (λ t. AllByRecursion IsCallerWithin t.callers)
         (state S.Store conn.old) (state S.Store conn.new) result }
@@ -50,7 +50,7 @@ pub fn template_names<S: Alter>(
     requires autocommit { conn.old.in_transaction ≡ false }
     ensures mode { conn.new.in_transaction ≡ false }
     ensures same { IsSame (state S.Store conn.old) (state S.Store conn.new) }
-    ensures found { Finds (λ t. map (λ row. row.name) t.templates)
+    ensures found { FindsRows (λ t. map (λ row. row.name) t.templates)
         (state S.Store conn.old) (state S.Store conn.new) result }
     ensures broken { BreaksUnless (λ t. AllByRecursion IsTemplateWithin t.templates)
         (state S.Store conn.old) (state S.Store conn.new) result }
@@ -69,7 +69,7 @@ pub fn service_names<S: Alter>(
     requires autocommit { conn.old.in_transaction ≡ false }
     ensures mode { conn.new.in_transaction ≡ false }
     ensures same { IsSame (state S.Store conn.old) (state S.Store conn.new) }
-    ensures found { Finds (λ t. map (λ row. row.name) t.services)
+    ensures found { FindsRows (λ t. map (λ row. row.name) t.services)
         (state S.Store conn.old) (state S.Store conn.new) result }
     ensures broken { BreaksUnless (λ t. AllByRecursion IsServiceWithin t.services)
         (state S.Store conn.old) (state S.Store conn.new) result }
@@ -84,7 +84,7 @@ pub fn kept_count<S: Alter>(conn: &mut Connection<S>) -> Result<u64, ReadFault>
     requires autocommit { conn.old.in_transaction ≡ false }
     ensures mode { conn.new.in_transaction ≡ false }
     ensures same { IsSame (state S.Store conn.old) (state S.Store conn.new) }
-    ensures found { Finds (λ t. min (length t.kept) 9223372036854775807)
+    ensures found { FindsRows (λ t. min (length t.kept) 9223372036854775807)
         (state S.Store conn.old) (state S.Store conn.new) result }
     ensures whole { result ≢ Err ReadFault.Broken }
 {
@@ -97,7 +97,7 @@ pub fn run_count<S: Alter>(conn: &mut Connection<S>) -> Result<u64, ReadFault>
     requires autocommit { conn.old.in_transaction ≡ false }
     ensures mode { conn.new.in_transaction ≡ false }
     ensures same { IsSame (state S.Store conn.old) (state S.Store conn.new) }
-    ensures found { Finds (λ t. min (length t.runs) 9223372036854775807)
+    ensures found { FindsRows (λ t. min (length t.runs) 9223372036854775807)
         (state S.Store conn.old) (state S.Store conn.new) result }
     ensures whole { result ≢ Err ReadFault.Broken }
 {
@@ -110,7 +110,7 @@ pub fn tally_count<S: Alter>(conn: &mut Connection<S>) -> Result<u64, ReadFault>
     requires autocommit { conn.old.in_transaction ≡ false }
     ensures mode { conn.new.in_transaction ≡ false }
     ensures same { IsSame (state S.Store conn.old) (state S.Store conn.new) }
-    ensures found { Finds (λ t. min (length t.tallies) 9223372036854775807)
+    ensures found { FindsRows (λ t. min (length t.tallies) 9223372036854775807)
         (state S.Store conn.old) (state S.Store conn.new) result }
     ensures whole { result ≢ Err ReadFault.Broken }
 {
@@ -123,7 +123,7 @@ pub fn measurement_count<S: Alter>(conn: &mut Connection<S>) -> Result<u64, Read
     requires autocommit { conn.old.in_transaction ≡ false }
     ensures mode { conn.new.in_transaction ≡ false }
     ensures same { IsSame (state S.Store conn.old) (state S.Store conn.new) }
-    ensures found { Finds (λ t. min (length t.measurements) 9223372036854775807)
+    ensures found { FindsRows (λ t. min (length t.measurements) 9223372036854775807)
         (state S.Store conn.old) (state S.Store conn.new) result }
     ensures whole { result ≢ Err ReadFault.Broken }
 {
@@ -136,7 +136,7 @@ pub fn history_count<S: Alter>(conn: &mut Connection<S>) -> Result<u64, ReadFaul
     requires autocommit { conn.old.in_transaction ≡ false }
     ensures mode { conn.new.in_transaction ≡ false }
     ensures same { IsSame (state S.Store conn.old) (state S.Store conn.new) }
-    ensures found { Finds (λ t. min (length t.history) 9223372036854775807)
+    ensures found { FindsRows (λ t. min (length t.history) 9223372036854775807)
         (state S.Store conn.old) (state S.Store conn.new) result }
     ensures whole { result ≢ Err ReadFault.Broken }
 {

@@ -7,7 +7,7 @@ ghost use Rattle.canary_rows.specs.Tables.{is_run, is_open_run_of, is_tally_of};
 ghost use Rattle.canary_rows.specs.Limits.{IsRunWithin, IsTallyWithin};
 ghost use Rattle.canary_schema.specs.Cells.{run_cells};
 ghost use Rattle.canary_reads.specs.Breaks.{BreaksUnless};
-ghost use Rattle.canary_reads.specs.Finds.{IsSame, Finds, FindsSuch, TellsCells, first};
+ghost use Rattle.canary_reads.specs.Finds.{IsSame, FindsRows, FindsSuch, TellsCells, first};
 ghost use Rattle.canary_reads.specs.Sorts.{Sorts, IsFront, is_open, is_run_of};
 ghost use Rattle.canary_reads.specs.Sorts.{number_of, metric_of};
 
@@ -32,7 +32,7 @@ pub fn run<S: Alter>(
     requires autocommit { conn.old.in_transaction ≡ false }
     ensures mode { conn.new.in_transaction ≡ false }
     ensures same { IsSame (state S.Store conn.old) (state S.Store conn.new) }
-    ensures found { Finds (λ t. first (filter (is_run service.now number) t.runs))
+    ensures found { FindsRows (λ t. first (filter (is_run service.now number) t.runs))
         (state S.Store conn.old) (state S.Store conn.new) result }
     ensures broken { BreaksUnless (λ t. AllByRecursion IsRunWithin t.runs)
         (state S.Store conn.old) (state S.Store conn.new) result }
@@ -53,7 +53,7 @@ pub fn run_rows<S: Alter>(
     requires autocommit { conn.old.in_transaction ≡ false }
     ensures mode { conn.new.in_transaction ≡ false }
     ensures same { IsSame (state S.Store conn.old) (state S.Store conn.new) }
-    ensures found { Finds (λ t. filter (is_run service.now number) t.runs)
+    ensures found { FindsRows (λ t. filter (is_run service.now number) t.runs)
         (state S.Store conn.old) (state S.Store conn.new) result }
     ensures broken { BreaksUnless (λ t. AllByRecursion IsRunWithin t.runs)
         (state S.Store conn.old) (state S.Store conn.new) result }

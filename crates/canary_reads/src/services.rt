@@ -6,7 +6,7 @@ ghost use Rattle.sqlite.specs.declared.types.Value.TheVariants.{Text as Words};
 ghost use Rattle.canary_rows.specs.Tables.{is_template, is_service};
 ghost use Rattle.canary_rows.specs.Limits.{IsTemplateWithin, IsServiceWithin};
 ghost use Rattle.canary_schema.specs.Cells.{template_cells, service_cells};
-ghost use Rattle.canary_reads.specs.Finds.{IsSame, Finds, FindsSuch, TellsCells, first};
+ghost use Rattle.canary_reads.specs.Finds.{IsSame, FindsRows, FindsSuch, TellsCells, first};
 ghost use Rattle.canary_reads.specs.Breaks.{BreaksUnless};
 
 use crate::fault::ReadFault;
@@ -25,7 +25,7 @@ pub fn template<S: Alter>(conn: &mut Connection<S>, name: &Name) -> Result<Optio
     requires autocommit { conn.old.in_transaction ≡ false }
     ensures mode { conn.new.in_transaction ≡ false }
     ensures same { IsSame (state S.Store conn.old) (state S.Store conn.new) }
-    ensures found { Finds
+    ensures found { FindsRows
         (λ t. option_map (λ row. row.spec) (first (filter (is_template name.now) t.templates)))
         (state S.Store conn.old) (state S.Store conn.new) result }
     ensures broken { BreaksUnless (λ t. AllByRecursion IsTemplateWithin t.templates)
@@ -46,7 +46,7 @@ pub fn template_rows<S: Alter>(
     requires autocommit { conn.old.in_transaction ≡ false }
     ensures mode { conn.new.in_transaction ≡ false }
     ensures same { IsSame (state S.Store conn.old) (state S.Store conn.new) }
-    ensures found { Finds (λ t. filter (is_template name.now) t.templates)
+    ensures found { FindsRows (λ t. filter (is_template name.now) t.templates)
         (state S.Store conn.old) (state S.Store conn.new) result }
     ensures broken { BreaksUnless (λ t. AllByRecursion IsTemplateWithin t.templates)
         (state S.Store conn.old) (state S.Store conn.new) result }
@@ -80,7 +80,7 @@ pub fn service<S: Alter>(
     requires autocommit { conn.old.in_transaction ≡ false }
     ensures mode { conn.new.in_transaction ≡ false }
     ensures same { IsSame (state S.Store conn.old) (state S.Store conn.new) }
-    ensures found { Finds (λ t. first (filter (is_service name.now) t.services))
+    ensures found { FindsRows (λ t. first (filter (is_service name.now) t.services))
         (state S.Store conn.old) (state S.Store conn.new) result }
     ensures broken { BreaksUnless (λ t. AllByRecursion IsServiceWithin t.services)
         (state S.Store conn.old) (state S.Store conn.new) result }
@@ -99,7 +99,7 @@ pub fn service_rows<S: Alter>(
     requires autocommit { conn.old.in_transaction ≡ false }
     ensures mode { conn.new.in_transaction ≡ false }
     ensures same { IsSame (state S.Store conn.old) (state S.Store conn.new) }
-    ensures found { Finds (λ t. filter (is_service name.now) t.services)
+    ensures found { FindsRows (λ t. filter (is_service name.now) t.services)
         (state S.Store conn.old) (state S.Store conn.new) result }
     ensures broken { BreaksUnless (λ t. AllByRecursion IsServiceWithin t.services)
         (state S.Store conn.old) (state S.Store conn.new) result }
@@ -131,7 +131,7 @@ pub fn has_service<S: Alter>(conn: &mut Connection<S>, name: &Name) -> Result<bo
     requires autocommit { conn.old.in_transaction ≡ false }
     ensures mode { conn.new.in_transaction ≡ false }
     ensures same { IsSame (state S.Store conn.old) (state S.Store conn.new) }
-    ensures found { Finds (λ t. list_any (is_service name.now) t.services)
+    ensures found { FindsRows (λ t. list_any (is_service name.now) t.services)
         (state S.Store conn.old) (state S.Store conn.new) result }
     ensures whole { result ≢ Err ReadFault.Broken }
 {

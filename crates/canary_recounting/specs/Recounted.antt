@@ -15,6 +15,9 @@ pub record HasAnalysis (strategy : CheckedStrategy) (r : RunRecord) : Type 0 whe
   pub verdict : HasVerdictBy metrics r.tallies r.closed
 
 -- the measurements come one after another, and to the tallies of the runs
-pub record AreTallied (strategy : CheckedStrategy) (runs : List RunRecord) (measurements : List Recorded) : Type 0 where
-  pub counted : AreCounted (metrics_of_runs strategy runs) (none_counted (metrics_of_runs strategy runs)) measurements
-  pub tallied : map (λ (r : RunRecord). r.tallies) runs ≡ counted_all (none_counted (metrics_of_runs strategy runs)) measurements
+pub record AreTallied (strategy : CheckedStrategy) (runs : List RunRecord)
+    (measurements : List Recorded) : Type 0 where
+  pub counted : AreCounted (metrics_of_runs strategy runs)
+      (none_counted (metrics_of_runs strategy runs)) measurements
+  pub tallied : map (λ (r : RunRecord). r.tallies) runs
+      ≡ counted_all (none_counted (metrics_of_runs strategy runs)) measurements

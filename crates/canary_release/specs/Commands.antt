@@ -44,10 +44,14 @@ start_refusal c version =
     )
 
 abbrev pub retry_refusal : Course → Option Refusal
-retry_refusal c = first_that_holds ((not (is_aborted c.stand.state), NotAborted) ∷ (is_spent (runs_now c), RunsSpent) ∷ [])
+retry_refusal c =
+    first_that_holds
+    ((not (is_aborted c.stand.state), NotAborted) ∷ (is_spent (runs_now c), RunsSpent) ∷ [])
 
 abbrev pub promote_refusal : Stand → Option Refusal
-promote_refusal s = first_that_holds ((not (is_going s.state), NotInProgress) ∷ (is_progressing (status s), NotPaused) ∷ [])
+promote_refusal s =
+    first_that_holds
+    ((not (is_going s.state), NotInProgress) ∷ (is_progressing (status s), NotPaused) ∷ [])
 
 -- of PromoteFull and Abort
 abbrev pub progress_refusal : Stand → Option Refusal
@@ -57,7 +61,10 @@ progress_refusal s = first_that_holds ((not (is_going s.state), NotInProgress) �
 
 -- an attempt with that version is in progress, with no holds and no background run yet
 abbrev pub begun : Course → List ℕ → Course
-begun c version = with_stand c (record (without_holds c.stand) { version = version; state = InProgress; background = false })
+begun c version =
+    with_stand c
+    (record (without_holds c.stand)
+    { version = version; state = InProgress; background = false })
 
 -- an attempt with that version, from that step
 abbrev pub begin : Course → ℕ → List ℕ → LineEvent → ℕ → Course
@@ -65,7 +72,8 @@ begin c t version event i = enter (tell (begun c version) t event) i t
 
 -- a start is at step 0, or for the stable version after an abort at the end
 abbrev pub started_at : Stand → List ℕ → ℕ
-started_at s version = if is_aborted s.state && bytes_eq version s.stable then length s.strategy.steps else 0
+started_at s version =
+    if is_aborted s.state && bytes_eq version s.stable then length s.strategy.steps else 0
 
 abbrev pub start : Course → ℕ → List ℕ → Course
 start c t version = begin c t version (Started version) (started_at c.stand version)
@@ -73,9 +81,11 @@ start c t version = begin c t version (Started version) (started_at c.stand vers
 abbrev pub retry : Course → ℕ → Course
 retry c t = begin c t c.stand.version (Retried c.stand.version) 0
 
--- a promotion leads with the step hold to the next step, else with the background hold to the same anew, else from a pause to the next
+-- a promotion leads with the step hold to the next step, else with the background hold to the same
+-- anew, else from a pause to the next
 abbrev pub promoted_to : Stand → ℕ
-promoted_to s = if s.step_hold then s.step + 1 else (if s.background_hold then s.step else s.step + 1)
+promoted_to s =
+    if s.step_hold then s.step + 1 else (if s.background_hold then s.step else s.step + 1)
 
 abbrev pub promote : Course → ℕ → Course
 promote c t = enter (tell (with_stand c (without_holds c.stand)) t Promoted) (promoted_to c.stand) t
@@ -103,13 +113,15 @@ unless (Some refusal) a = Err refusal
 
 -- a report shows its entries' phases and the run's verdict, too
 abbrev pub reports : Course → OpenRun → List Entry → ℕ → Acted
-reports c r entries t = record { course = report_on c r entries t; shows = report_text (reported_on c r entries) }
+reports c r entries t =
+    record { course = report_on c r entries t; shows = report_text (reported_on c r entries) }
 
 abbrev pub reports_if : Course → Option OpenRun → List Entry → ℕ → Acted
 reports_if c None entries t = leads c
 reports_if c (Some r) entries t = reports c r entries t
 
--- where a command leads a service that was passed to t, or why it is refused; a Template names no service, and never comes here
+-- where a command leads a service that was passed to t, or why it is refused; a Template names no
+-- service, and never comes here
 abbrev pub act : Command → Course → ℕ → Result Acted Refusal
 act (Start name version) c t = unless (start_refusal c version) (leads (start c t version))
 act (Promote name) c t = unless (promote_refusal c.stand) (leads (promote c t))
@@ -117,6 +129,8 @@ act (PromoteFull name) c t = unless (progress_refusal c.stand) (leads (promote_f
 act (Abort name) c t = unless (progress_refusal c.stand) (leads (abort_by_command c t))
 act (Retry name) c t = unless (retry_refusal c) (leads (retry c t))
 act (Tick name) c t = Ok (leads c)
-act (Report report) c t = let r = open_run_now c report.run in unless (report_refusal c t report.run report.entries r) (reports_if c r report.entries t)
+act (Report report) c t =
+    let r = open_run_now c report.run in unless (report_refusal c t report.run report.entries r)
+    (reports_if c r report.entries t)
 act (AddService spec) c t = Err ServiceExists
 act (AddTemplate spec) c t = Err ServiceExists

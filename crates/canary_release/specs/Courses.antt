@@ -55,7 +55,8 @@ run_metrics strategy step = unwrap_or (metrics_at strategy step) []
 
 -- the verdict of an open run, ended from outside or not
 abbrev pub run_verdict : CheckedStrategy → Bool → OpenRun → Phase
-run_verdict strategy outside r = verdict_of_counts outside (zip (run_metrics strategy r.step) r.tallies)
+run_verdict strategy outside r =
+    verdict_of_counts outside (zip (run_metrics strategy r.step) r.tallies)
 
 -- the number of the next run
 abbrev pub next_run : Course → ℕ
@@ -63,15 +64,30 @@ next_run c = (runs_now c).count + 1
 
 -- the next run is opened
 abbrev pub open_run : Course → Option ℕ → ℕ → Course
-open_run c step at = happen c (Opened (record { run = next_run c; step = step; started = at; metrics = length (run_metrics c.stand.strategy step) }))
+open_run c step at =
+    happen c (Opened
+    (record {
+      run = next_run c;
+      step = step;
+      started = at;
+      metrics = length (run_metrics c.stand.strategy step);
+    }))
 
 -- a run is closed at its verdict, with its last tallies
 abbrev pub close_run : Course → OpenRun → ℕ → Bool → Course
-close_run c r at outside = happen c (Closed (record { run = r.number; at = at; outside = outside; verdict = run_verdict c.stand.strategy outside r }) r.tallies)
+close_run c r at outside =
+    happen c (Closed
+    (record {
+      run = r.number;
+      at = at;
+      outside = outside;
+      verdict = run_verdict c.stand.strategy outside r;
+    }) r.tallies)
 
 -- a run is ended from outside
 abbrev pub end_run : ℕ → Course → OpenRun → Course
-end_run at c r = tell (close_run c r at true) at (Ended r.number (run_verdict c.stand.strategy true r))
+end_run at c r =
+    tell (close_run c r at true) at (Ended r.number (run_verdict c.stand.strategy true r))
 
 abbrev pub end_runs : ℕ → Course → List OpenRun → Course
 end_runs at c [] = c

@@ -62,7 +62,8 @@ abbrev pub passed_on : Result Acted Refusal → ℕ → Result Acted Refusal
 passed_on (Ok a) t = Ok (record a { course = pass a.course t })
 passed_on (Err refusal) t = Err refusal
 
--- a command on a service, which is passed to t before and after; t is the later of the moment and the service's last
+-- a command on a service, which is passed to t before and after; t is the later of the moment and
+-- the service's last
 abbrev pub act_passed : Command → Course → ℕ → Result Acted Refusal
 act_passed command c now =
     let t = judged_at c.stand now in
@@ -86,15 +87,18 @@ new_stand known spec now =
     }
 
 abbrev pub new_service : Templates → ServiceSpec → ℕ → Course
-new_service known spec now = tell (course_from (new_stand known spec now) (watch_of no_past)) now (Created spec.version)
+new_service known spec now =
+    tell (course_from (new_stand known spec now) (watch_of no_past)) now (Created spec.version)
 
 -- a command where no service of its name is there
 abbrev pub act_new : Templates → Command → ℕ → Result Acted Refusal
-act_new known (AddService spec) now = unless (strategy_refusal known spec) (leads (new_service known spec now))
+act_new known (AddService spec) now =
+    unless (strategy_refusal known spec) (leads (new_service known spec now))
 act_new known command now = Err UnknownService
 
 abbrev pub adds_unless : Option Refusal → TemplateSpec → Ruling
-adds_unless None spec = record { change = Adds (template_of spec); reply = accepted (template_text spec.name) }
+adds_unless None spec =
+    record { change = Adds (template_of spec); reply = accepted (template_text spec.name) }
 adds_unless (Some refusal) spec = refuses refusal
 
 -- a template is added, where none of its name is there
@@ -122,7 +126,13 @@ no_desk = record { templates = empty; services = empty }
 
 -- the command that made a service that is new, by how it stands
 abbrev pub made_as : Stand → ServiceSpec
-made_as s = record { name = s.name; version = s.version; steps = s.strategy.steps; background = s.strategy.background }
+made_as s =
+    record {
+      name = s.name;
+      version = s.version;
+      steps = s.strategy.steps;
+      background = s.strategy.background;
+    }
 
 -- a service before a change: as it is, or a new one with no past
 abbrev pub before : Option ModelService → Stand → ModelService
@@ -137,12 +147,14 @@ after found s effects =
 
 -- the desk with the service of that name changed
 abbrev pub with_service : Desk → List ℕ → Stand → List Effect → Desk
-with_service desk name s effects = record desk { services = insert desk.services name (after (get desk.services name) s effects) }
+with_service desk name s effects =
+    record desk { services = insert desk.services name (after (get desk.services name) s effects) }
 
 -- the desk after a change that a command brings
 abbrev pub desk_after : Desk → Command → Change → Desk
 desk_after desk command Nothing = desk
-desk_after desk command (Adds t) = record desk { templates = insert desk.templates (subject_of command) t }
+desk_after desk command (Adds t) =
+    record desk { templates = insert desk.templates (subject_of command) t }
 desk_after desk command (Becomes c) = with_service desk (subject_of command) c.stand c.effects
 
 pub record Applied : Type 0 where
@@ -150,7 +162,9 @@ pub record Applied : Type 0 where
   pub reply : Reply
 
 abbrev pub ruling_on : Desk → ℕ → Command → Ruling
-ruling_on desk now command = ruling (get desk.templates) (option_map course_of (get desk.services (subject_of command))) now command
+ruling_on desk now command =
+    ruling (get desk.templates)
+    (option_map course_of (get desk.services (subject_of command))) now command
 
 -- one command at its moment
 abbrev pub apply : Desk → ℕ → Command → Applied
@@ -162,7 +176,8 @@ pub record Machine : Type 0 where
   pub desk : Desk
   pub replies : List Reply
 
--- the small machine: commands at their moments, one after another, with no callers, numbers or register
+-- the small machine: commands at their moments, one after another, with no callers, numbers or
+-- register
 abbrev pub machine : Desk → List (ℕ × Command) → Machine
 machine desk [] = record { desk = desk; replies = [] }
 machine desk (x ∷ xs) =

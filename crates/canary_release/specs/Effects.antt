@@ -1,4 +1,5 @@
--- Which effects may happen to a service, and that commands and time bring such alone: a change tells all that a store writes.
+-- Which effects may happen to a service, and that commands and time bring such alone: a change
+-- tells all that a store writes.
 use Rattle.std.specs.Prelude.{◌≡◌, ℕ, ◌+◌, ◌≤◌, true, List, [], ◌∷◌, length, find, Option, Some, slice_get}
 use Rattle.std.specs.FinMap.{get}
 use Rattle.std.specs.List.{AllByRecursion}
@@ -47,8 +48,10 @@ pub record Measures (st : CheckedStrategy) (w : Runs) (x : Recorded) : Type 0 wh
   pub room : size tally + 1 ≤ 1000000
   pub judged : x.phase ≡ phase_of metric.success metric.failure x.outcome
 
--- a run that is closed is open, and is closed at its verdict, a completed phase, with its last tallies
-pub record Closes (st : CheckedStrategy) (w : Runs) (x : Closing) (tallies : List Counts) : Type 0 where
+-- a run that is closed is open, and is closed at its verdict, a completed phase, with its last
+-- tallies
+pub record Closes (st : CheckedStrategy) (w : Runs) (x : Closing)
+    (tallies : List Counts) : Type 0 where
   pub run : OpenRun
   pub found : find (has_number x.run) w.open_runs ≡ Some run
   pub verdict : x.verdict ≡ run_verdict st x.outside run
@@ -67,8 +70,10 @@ abbrev pub AreAllowed : CheckedStrategy → Runs → List Effect → Type 0
 AreAllowed st w [] = Unit {0}
 AreAllowed st w (x ∷ xs) = Allowed st w x × AreAllowed st (happens w x) xs
 
--- a service as it was found, or a new one, becomes this one: under that name, with the strategy that it had, and what happens may happen
-pub record Changes (found : Option ModelService) (name : List ℕ) (s : ServiceParts) (effects : List Effect) : Type 0 where
+-- a service as it was found, or a new one, becomes this one: under that name, with the strategy
+-- that it had, and what happens may happen
+pub record Changes (found : Option ModelService) (name : List ℕ) (s : ServiceParts)
+    (effects : List Effect) : Type 0 where
   pub named : s.stand.name ≡ name
   pub strategy : s.stand.strategy ≡ (before found s.stand).stand.strategy
   pub allowed : AreAllowed s.stand.strategy (watched (before found s.stand).past) effects
@@ -81,7 +86,9 @@ IsChange desk name (change.Service s effects) = Changes (get desk.services name)
 
 -- the law: what commands change of a desk in order is such a change
 abbrev pub CommandsChange : Type 0
-CommandsChange = (desk : Desk) (now : ℕ) (command : Command) → AreInOrder desk → IsChange desk (subject_of command) (said (ruling_on desk now command).change)
+CommandsChange =
+    (desk : Desk) (now : ℕ) (command : Command) → AreInOrder desk
+    → IsChange desk (subject_of command) (said (ruling_on desk now command).change)
 
 -- no measurement is recorded
 abbrev pub IsQuiet : Effect → Type 0
@@ -92,4 +99,5 @@ IsQuiet (Closed x tallies) = Unit {0}
 
 -- the law: as time passes no measurement is recorded
 abbrev pub TimeMeasuresNothing : Type 0
-TimeMeasuresNothing = (m : ModelService) (t : ℕ) → AllByRecursion IsQuiet (pass (course_of m) t).effects
+TimeMeasuresNothing =
+    (m : ModelService) (t : ℕ) → AllByRecursion IsQuiet (pass (course_of m) t).effects

@@ -29,18 +29,23 @@ begins_background (Some b) i started = nat_le b.starting_step i && not started
 
 -- the background run is opened
 abbrev pub begin_background : Course → ℕ → Course
-begin_background c at = tell (open_run (with_stand c (record c.stand { background = true })) None at) at (BackgroundOpened (next_run c))
+begin_background c at =
+    tell (open_run (with_stand c (record c.stand { background = true })) None at) at
+    (BackgroundOpened (next_run c))
 
 -- the background run is opened, where it begins
 abbrev pub open_background : Course → ℕ → ℕ → Course
-open_background c i at = if begins_background c.stand.strategy.background i c.stand.background then begin_background c at else c
+open_background c i at =
+    if begins_background c.stand.strategy.background i c.stand.background then begin_background c at
+    else c
 
 -- the step's line, and its run where it is an analysis
 abbrev pub show_step : Course → Option Step → ℕ → ℕ → Course
 show_step c (Some (SetWeight percent)) i at = tell c at (WeightEntered i percent)
 show_step c (Some (Pause None)) i at = tell c at (PauseEntered i)
 show_step c (Some (Pause (Some seconds))) i at = tell c at (TimedPauseEntered i seconds)
-show_step c (Some (Analysis names)) i at = tell (open_run c (Some i) at) at (AnalysisEntered i (next_run c))
+show_step c (Some (Analysis names)) i at =
+    tell (open_run c (Some i) at) at (AnalysisEntered i (next_run c))
 show_step c None i at = c
 
 -- entering step i at a moment, or the end where i is the number of steps

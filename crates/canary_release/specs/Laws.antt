@@ -22,7 +22,10 @@ WatchesAlike = (p : Past) (xs : List Effect) → watched (grows_by p xs) ≡ aft
 
 -- a command is accepted, or refused and the desk as it was
 abbrev pub RefusalsLeaveTheDesk : Type 0
-RefusalsLeaveTheDesk = (desk : Desk) (now : ℕ) (command : Command) → let a = apply desk now command in (a.reply.status ≡ Accepted) ⊎ ((a.reply.status ≡ Refused) × (a.desk ≡ desk))
+RefusalsLeaveTheDesk =
+    (desk : Desk) (now : ℕ) (command : Command)
+    → let a = apply desk now command in (a.reply.status ≡ Accepted)
+    ⊎ ((a.reply.status ≡ Refused) × (a.desk ≡ desk))
 
 -- two sets of templates agree on these names
 abbrev pub Agree : Templates → Templates → List (List ℕ) → Type 0
@@ -30,7 +33,10 @@ Agree known other names = AllByRecursion (λ name. known name ≡ other name) na
 
 -- a ruling looks only at the templates that its command looks up
 abbrev pub LooksOnlyAt : Type 0
-LooksOnlyAt = (known other : Templates) (found : Option Course) (now : ℕ) (command : Command) → Agree known other (names_looked_up command) → ruling known found now command ≡ ruling other found now command
+LooksOnlyAt =
+    (known other : Templates) (found : Option Course) (now : ℕ) (command : Command)
+    → Agree known other (names_looked_up command)
+    → ruling known found now command ≡ ruling other found now command
 
 -- Services apart from one another.
 
@@ -56,17 +62,22 @@ is_reply_on name answered = is_on name answered.0.1
 
 -- the commands on a service, in order, each with its reply
 abbrev pub replies_on : List ℕ → Desk → List (ℕ × Command) → List ((ℕ × Command) × Reply)
-replies_on name desk requests = filter (is_reply_on name) (zip requests (machine desk requests).replies)
+replies_on name desk requests =
+    filter (is_reply_on name) (zip requests (machine desk requests).replies)
 
 -- two desks agree on the templates and on a service, with its whole past
 pub record AgreeOn (name : List ℕ) (desk other : Desk) : Type 0 where
   pub templates : (template : List ℕ) → get desk.templates template ≡ get other.templates template
   pub service : get desk.services name ≡ get other.services name
 
--- from desks that agree on a service, commands of which the same concern it lead to the same service and the same replies
+-- from desks that agree on a service, commands of which the same concern it lead to the same
+-- service and the same replies
 abbrev pub AreIndependent : Type 0
-AreIndependent = (name : List ℕ) (desk other : Desk) (xs ys : List (ℕ × Command)) → AgreeOn name desk other → concerning name xs ≡ concerning name ys
-    → AgreeOn name (machine desk xs).desk (machine other ys).desk × (replies_on name desk xs ≡ replies_on name other ys)
+AreIndependent =
+    (name : List ℕ) (desk other : Desk) (xs ys : List (ℕ × Command)) → AgreeOn name desk other
+    → concerning name xs ≡ concerning name ys
+    → AgreeOn name (machine desk xs).desk (machine other ys).desk
+    × (replies_on name desk xs ≡ replies_on name other ys)
 
 -- Ticks.
 
@@ -78,7 +89,8 @@ passed_to t m =
 
 -- no command on that service has an earlier moment
 abbrev pub AreFrom : ℕ → List ℕ → List (ℕ × Command) → Type 0
-AreFrom t name requests = AllByRecursion (λ request. IsTrue (is_on name request.1) → t ≤ request.0) requests
+AreFrom t name requests =
+    AllByRecursion (λ request. IsTrue (is_on name request.1) → t ≤ request.0) requests
 
 -- a list without its element at a place, from 0
 abbrev pub left_out : {A : Type 0} → ℕ → List A → List A
@@ -86,15 +98,21 @@ left_out k [] = []
 left_out zero (x ∷ xs) = xs
 left_out (suc k) (x ∷ xs) = x ∷ left_out k xs
 
--- two desks agree on the templates, on every other service, and on this one passed to any moment from t on
+-- two desks agree on the templates, on every other service, and on this one passed to any moment
+-- from t on
 pub record AgreeFrom (t : ℕ) (name : List ℕ) (desk other : Desk) : Type 0 where
   pub templates : (template : List ℕ) → get desk.templates template ≡ get other.templates template
-  pub others : (service : List ℕ) → service ≢ name → get desk.services service ≡ get other.services service
-  pub service : (u : ℕ) → t ≤ u → option_map (passed_to u) (get desk.services name) ≡ option_map (passed_to u) (get other.services name)
+  pub others : (service : List ℕ) → service ≢ name
+      → get desk.services service ≡ get other.services service
+  pub service : (u : ℕ) → t ≤ u
+      → option_map (passed_to u) (get desk.services name)
+      ≡ option_map (passed_to u) (get other.services name)
 
--- a Tick on a service, after which no command on that service has an earlier moment, changes no reply but its own, and the service only by time
+-- a Tick on a service, after which no command on that service has an earlier moment, changes no
+-- reply but its own, and the service only by time
 abbrev pub TicksOnlyPassTime : Type 0
-TicksOnlyPassTime = (desk : Desk) (name : List ℕ) (t : ℕ) (xs ys : List (ℕ × Command)) → AreFrom t name ys
+TicksOnlyPassTime =
+    (desk : Desk) (name : List ℕ) (t : ℕ) (xs ys : List (ℕ × Command)) → AreFrom t name ys
     → (let ticked = machine desk (xs ++ (t, Tick name) ∷ ys) in
     let plain = machine desk (xs ++ ys) in
     (left_out (length xs) ticked.replies ≡ plain.replies) × AgreeFrom t name ticked.desk plain.desk)

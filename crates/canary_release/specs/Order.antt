@@ -21,15 +21,19 @@ AreNumbered n (r ∷ rs) = (r.number ≡ n) × AreNumbered (suc n) rs
 -- measurement k of a list has ordinal k, and is of this metric of the run
 abbrev pub AreOrdered : ℕ → ℕ → ℕ → List Recorded → Type 0
 AreOrdered run metric n [] = Unit {0}
-AreOrdered run metric n (x ∷ xs) = (x.run ≡ run) × (x.metric ≡ metric) × (x.ordinal ≡ n) × AreOrdered run metric (suc n) xs
+AreOrdered run metric n (x ∷ xs) =
+    (x.run ≡ run) × (x.metric ≡ metric) × (x.ordinal ≡ n) × AreOrdered run metric (suc n) xs
 
--- the lists of a run, of which the first is that of this metric: in order, no longer than 1,000,000, and among all measurements in the same order
+-- the lists of a run, of which the first is that of this metric: in order, no longer than
+-- 1,000,000, and among all measurements in the same order
 abbrev pub is_of : ℕ → ℕ → Recorded → Bool
 is_of run metric x = x.run == run && x.metric == metric
 
 abbrev pub AreLists : List Recorded → ℕ → ℕ → List (List Recorded) → Type 0
 AreLists all run metric [] = Unit {0}
-AreLists all run metric (list ∷ lists) = AreOrdered run metric 1 list × (length list ≤ 1000000) × (list ≡ filter (is_of run metric) all) × AreLists all run (suc metric) lists
+AreLists all run metric (list ∷ lists) =
+    AreOrdered run metric 1 list × (length list ≤ 1000000) × (list ≡ filter (is_of run metric) all)
+    × AreLists all run (suc metric) lists
 
 -- a run has a list for each metric of its analysis, which there is
 pub record IsRun (s : ModelService) (r : Run) : Type 0 where
@@ -45,7 +49,9 @@ is_measured_by x r = x.run == r.number && nat_lt x.metric (length r.lists)
 abbrev pub is_of_some : List Run → Recorded → Bool
 is_of_some runs x = list_any (is_measured_by x) runs
 
--- a service under a name: the name is its command's and its own; its strategy is its command's, which these templates accept; its runs are numbered from 1, each with the lists of an analysis; each measurement is of one of them; and its parts are accepted
+-- a service under a name: the name is its command's and its own; its strategy is its command's,
+-- which these templates accept; its runs are numbered from 1, each with the lists of an analysis;
+-- each measurement is of one of them; and its parts are accepted
 pub record IsInOrder (known : Templates) (name : List ℕ) (s : ModelService) : Type 0 where
   pub named : s.made.name ≡ name
   pub shown : s.stand.name ≡ name
@@ -63,9 +69,12 @@ pub record IsTemplate (name : List ℕ) (t : Template) : Type 0 where
   pub bound : t ≡ template_of t.spec
 
 pub record AreInOrder (desk : Desk) : Type 0 where
-  pub templates : (name : List ℕ) (t : Template) → get desk.templates name ≡ Some t → IsTemplate name t
-  pub services : (name : List ℕ) (s : ModelService) → get desk.services name ≡ Some s → IsInOrder (get desk.templates) name s
+  pub templates : (name : List ℕ) (t : Template) → get desk.templates name ≡ Some t
+      → IsTemplate name t
+  pub services : (name : List ℕ) (s : ModelService) → get desk.services name ≡ Some s
+      → IsInOrder (get desk.templates) name s
 
 -- the law: the machine keeps a desk in order
 abbrev pub StayInOrder : Type 0
-StayInOrder = (desk : Desk) (xs : List (ℕ × Command)) → AreInOrder desk → AreInOrder (machine desk xs).desk
+StayInOrder =
+    (desk : Desk) (xs : List (ℕ × Command)) → AreInOrder desk → AreInOrder (machine desk xs).desk

@@ -26,17 +26,25 @@ is_step_run r = is_some r.step
 abbrev pub has_background_run : ServiceParts → Bool
 has_background_run s = list_any is_background_run s.runs.open_runs
 
--- one if the background run wasn't started in this attempt, and a spare one if it wasn't, is open or is held
+-- one if the background run wasn't started in this attempt, and a spare one if it wasn't, is open
+-- or is held
 abbrev pub background_wanted : ServiceParts → ℕ
-background_wanted s = one_if (not s.stand.background) + one_if (not s.stand.background || (has_background_run s || s.stand.background_hold))
+background_wanted s =
+    one_if (not s.stand.background)
+    + one_if (not s.stand.background || (has_background_run s || s.stand.background_hold))
 
--- the run numbers that the present attempt may still take: one for each step after the present one, and those of the background
+-- the run numbers that the present attempt may still take: one for each step after the present one,
+-- and those of the background
 abbrev pub runs_wanted : ServiceParts → ℕ
-runs_wanted s = (length s.stand.strategy.steps - (s.stand.step + 1)) + (if is_some s.stand.strategy.background then background_wanted s else 0)
+runs_wanted s =
+    (length s.stand.strategy.steps - (s.stand.step + 1))
+    + (if is_some s.stand.strategy.background then background_wanted s else 0)
 
 -- the step is above the end, or at the end in another state than done, or below it in done
 abbrev pub is_misplaced : Stand → Bool
-is_misplaced s = let n = length s.strategy.steps in nat_lt n s.step || (if s.step == n then not (is_done s.state) else is_done s.state)
+is_misplaced s =
+    let n = length s.strategy.steps in nat_lt n s.step
+    || (if s.step == n then not (is_done s.state) else is_done s.state)
 
 abbrev pub is_misnumbered : ℕ → OpenRun → Bool
 is_misnumbered count r = r.number == 0 || nat_lt count r.number
@@ -55,7 +63,8 @@ has_wrong_tallies s r = is_unfit (metrics_at s.strategy r.step) r.tallies
 
 abbrev pub is_elsewhere : Stand → Option ℕ → Bool
 is_elsewhere s None = false
-is_elsewhere s (Some i) = not (i == s.step) || (is_none (metrics_at s.strategy (Some i)) || is_held s)
+is_elsewhere s (Some i) =
+    not (i == s.step) || (is_none (metrics_at s.strategy (Some i)) || is_held s)
 
 -- a step run elsewhere than at its own analysis step, or while held
 abbrev pub is_astray : Stand → OpenRun → Bool

@@ -12,12 +12,20 @@ use Rattle.canary_release.specs.Parts.{is_broken}
 
 -- parts stay unbroken as time passes
 abbrev pub PassingKeepsParts : Type 0
-PassingKeepsParts = (s : ServiceParts) (t : ℕ) → IsTrue (is_accepted s.stand.strategy) → is_broken s ≡ false → is_broken (kept_after (pass (kept_course s) t)) ≡ false
+PassingKeepsParts =
+    (s : ServiceParts) (t : ℕ) → IsTrue (is_accepted s.stand.strategy) → is_broken s ≡ false
+    → is_broken (kept_after (pass (kept_course s) t)) ≡ false
 
 -- a command that is accepted leads unbroken parts to unbroken parts, with the same strategy
 abbrev pub ActingKeepsParts : Type 0
-ActingKeepsParts = (command : Command) (s : ServiceParts) (now : ℕ) (a : Acted) → IsTrue (is_accepted s.stand.strategy) → is_broken s ≡ false → act_passed command (kept_course s) now ≡ Ok a → (is_broken (kept_after a.course) ≡ false) × (a.course.stand.strategy ≡ s.stand.strategy)
+ActingKeepsParts =
+    (command : Command) (s : ServiceParts) (now : ℕ) (a : Acted)
+    → IsTrue (is_accepted s.stand.strategy) → is_broken s ≡ false
+    → act_passed command (kept_course s) now ≡ Ok a
+    → (is_broken (kept_after a.course) ≡ false) × (a.course.stand.strategy ≡ s.stand.strategy)
 
 -- a new service's parts are unbroken
 abbrev pub NewPartsAreUnbroken : Type 0
-NewPartsAreUnbroken = (known : Templates) (spec : ServiceSpec) (now : ℕ) → is_broken (kept_after (new_service known spec now)) ≡ false
+NewPartsAreUnbroken =
+    (known : Templates) (spec : ServiceSpec) (now : ℕ)
+    → is_broken (kept_after (new_service known spec now)) ≡ false

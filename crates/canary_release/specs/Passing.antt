@@ -21,7 +21,9 @@ leaves_at None entered = None
 
 -- a move at moment e: the next step is entered when the present one leaves
 abbrev pub Moves : Course → ℕ → Course → Type 0
-Moves c e next = IsTrue (is_free c.stand) × (leaves_at (step_of c.stand) c.stand.entered ≡ Some e) × (next ≡ enter c (c.stand.step + 1) e)
+Moves c e next =
+    IsTrue (is_free c.stand) × (leaves_at (step_of c.stand) c.stand.entered ≡ Some e)
+    × (next ≡ enter c (c.stand.step + 1) e)
 
 -- so many moves with moments at most t lead from one to the other
 abbrev pub Chain : ℕ → ℕ → Course → Course → Type 0
@@ -67,9 +69,12 @@ move_at c (Some e) = enter c (c.stand.step + 1) e
 -- at most so many moves with moments at most t
 abbrev pub chain_end : ℕ → ℕ → Course → Course
 chain_end zero t c = c
-chain_end (suc n) t c = elim (is_by t (next_move c.stand)) [ true ↦ chain_end n t (move_at c (next_move c.stand)) | false ↦ c ]
+chain_end (suc n) t c =
+    elim (is_by t (next_move c.stand))
+    [ true ↦ chain_end n t (move_at c (next_move c.stand)) | false ↦ c ]
 
--- the end of the chain of moves up to t; each move raises the step, so there are no more moves than steps
+-- the end of the chain of moves up to t; each move raises the step, so there are no more moves than
+-- steps
 abbrev pub followed : Course → ℕ → Course
 followed c t = chain_end (length c.stand.strategy.steps - c.stand.step) t c
 
@@ -79,9 +84,11 @@ pass c t =
     let at = judged_at c.stand t in
     with_last (followed c at) at
 
--- the law that joins them: there is a longest chain, its end is the computed one, and no other passes
+-- the law that joins them: there is a longest chain, its end is the computed one, and no other
+-- passes
 abbrev pub PassesAsComputed : Type 0
-PassesAsComputed = (c : Course) (t : ℕ) → Passes c t (pass c t) × ((p : Course) → Passes c t p → p ≡ pass c t)
+PassesAsComputed =
+    (c : Course) (t : ℕ) → Passes c t (pass c t) × ((p : Course) → Passes c t p → p ≡ pass c t)
 
 -- the law of time: passing in two steps is passing in one, effects and all
 abbrev pub PassesInSteps : Type 0

@@ -45,7 +45,11 @@ template_text name = codes "{\"code\":\"ok\",\"template\":\"" ++ (name ++ codes 
 
 -- "service":NAME,"status":STATUS,"step":STEP
 abbrev pub place_text : Stand → List ℕ
-place_text s = codes "\"service\":" ++ (quoted s.name ++ (codes ",\"status\":" ++ (quoted (status_text (status s)) ++ (codes ",\"step\":" ++ decimal s.step))))
+place_text s =
+    codes "\"service\":"
+    ++ (quoted s.name
+    ++ (codes ",\"status\":"
+    ++ (quoted (status_text (status s)) ++ (codes ",\"step\":" ++ decimal s.step))))
 
 -- ,"weight":WEIGHT}
 abbrev pub weight_text : Stand → List ℕ
@@ -53,16 +57,27 @@ weight_text s = codes ",\"weight\":" ++ (decimal (weight s) ++ codes "}")
 
 -- {"code":"ok","service":NAME,"status":STATUS,"step":STEP,"weight":WEIGHT}
 abbrev pub service_text : Stand → List ℕ
-service_text s = codes "{\"code\":\"ok\",\"service\":\"" ++ (s.name ++ (codes "\",\"status\":\"" ++ (status_text (status s) ++ (codes "\",\"step\":" ++ (decimal s.step ++ (codes ",\"weight\":" ++ (decimal (weight s) ++ codes "}")))))))
+service_text s =
+    codes "{\"code\":\"ok\",\"service\":\""
+    ++ (s.name
+    ++ (codes "\",\"status\":\""
+    ++ (status_text (status s)
+    ++ (codes "\",\"step\":"
+    ++ (decimal s.step ++ (codes ",\"weight\":" ++ (decimal (weight s) ++ codes "}")))))))
 
 abbrev pub quoted_phase : Phase → List ℕ
 quoted_phase p = quoted (phase_text p)
 
--- {"code":"ok","phases":[..],"run":RUN,"service":NAME,"status":STATUS,"step":STEP,"verdict":PHASE,"weight":WEIGHT}
+--
+-- {"code":"ok","phases":[..],"run":RUN,"service":NAME,"status":STATUS,"step":STEP,
+-- "verdict":PHASE,"weight":WEIGHT}
 abbrev pub report_text : Reported → Stand → List ℕ
 report_text r s =
-    codes "{\"code\":\"ok\",\"phases\":" ++ (bracketed (map quoted_phase r.phases) ++ (codes ",\"run\":" ++ (decimal r.run
-    ++ (codes "," ++ (place_text s ++ (codes ",\"verdict\":" ++ (quoted_phase r.verdict ++ weight_text s)))))))
+    codes "{\"code\":\"ok\",\"phases\":"
+    ++ (bracketed (map quoted_phase r.phases) ++ (codes ",\"run\":" ++ (decimal r.run
+    ++ (codes ","
+    ++ (place_text s
+    ++ (codes ",\"verdict\":" ++ (quoted_phase r.verdict ++ weight_text s)))))))
 
 -- the text that shows a service, with what a report adds
 abbrev pub shown_by : Option Reported → Stand → List ℕ
@@ -75,12 +90,17 @@ code_alone code = codes "{\"code\":" ++ (quoted code ++ codes "}")
 
 -- {"at":AT,"code":CODE}
 abbrev pub code_at : ℕ → List ℕ → List ℕ
-code_at at code = codes "{\"at\":" ++ (decimal at ++ (codes ",\"code\":" ++ (quoted code ++ codes "}")))
+code_at at code =
+    codes "{\"at\":" ++ (decimal at ++ (codes ",\"code\":" ++ (quoted code ++ codes "}")))
 
 -- {"at":AT,"code":CODE,KEY:NUMBER}
 abbrev pub code_at_with : ℕ → List ℕ → List ℕ → ℕ → List ℕ
 code_at_with at code key number =
-    codes "{\"at\":" ++ (decimal at ++ (codes ",\"code\":" ++ (quoted code ++ (codes "," ++ (quoted key ++ (codes ":" ++ (decimal number ++ codes "}")))))))
+    codes "{\"at\":"
+    ++ (decimal at
+    ++ (codes ",\"code\":"
+    ++ (quoted code
+    ++ (codes "," ++ (quoted key ++ (codes ":" ++ (decimal number ++ codes "}")))))))
 
 -- the code, and where a refusal has a place, that too
 abbrev pub refusal_text : Refusal → List ℕ
@@ -88,7 +108,8 @@ refusal_text (UnknownMetric at) = code_at at (codes "unknown-metric")
 refusal_text (RepeatedMetric at) = code_at at (codes "repeated-metric")
 refusal_text (MetricClosed at) = code_at at (codes "metric-closed")
 refusal_text (AlreadyRecorded at) = code_at at (codes "recorded")
-refusal_text (OutOfTurn at expected) = code_at_with at (codes "out-of-turn") (codes "expected") expected
+refusal_text (OutOfTurn at expected) =
+    code_at_with at (codes "out-of-turn") (codes "expected") expected
 refusal_text (Spent at) = code_at at (codes "spent")
 refusal_text (Future at) = code_at at (codes "future")
 refusal_text (TooEarly at due) = code_at_with at (codes "too-early") (codes "due") due

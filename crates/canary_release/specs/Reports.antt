@@ -31,7 +31,9 @@ pub record Place : Type 0 where
 abbrev pub place_from : ℕ → List ℕ → List MetricValue → List Counts → Option Place
 place_from n name [] ts = None
 place_from n name (m ∷ ms) [] = None
-place_from n name (m ∷ ms) (t ∷ ts) = if bytes_eq m.name name then Some (record { place = n; metric = m; tally = t }) else place_from (n + 1) name ms ts
+place_from n name (m ∷ ms) (t ∷ ts) =
+    if bytes_eq m.name name then Some (record { place = n; metric = m; tally = t })
+    else place_from (n + 1) name ms ts
 
 -- where an entry's measurement belongs in its run
 abbrev pub place_of : List MetricValue → OpenRun → Entry → Option Place
@@ -62,9 +64,12 @@ entry_refusal started t before e None = Some (UnknownMetric (length before))
 entry_refusal started t before e (Some p) = entry_refusal_at started t before e p
 
 -- the refusal of the first bad entry, each looked at after those before it
-abbrev pub entries_refusal : List MetricValue → OpenRun → ℕ → List Entry → List Entry → Option Refusal
+abbrev pub entries_refusal : List MetricValue → OpenRun → ℕ → List Entry → List Entry
+    → Option Refusal
 entries_refusal ms r t before [] = None
-entries_refusal ms r t before (e ∷ es) = or_refusal (entry_refusal r.started t before e (place_of ms r e)) (entries_refusal ms r t (before ++ e ∷ []) es)
+entries_refusal ms r t before (e ∷ es) =
+    or_refusal (entry_refusal r.started t before e (place_of ms r e))
+    (entries_refusal ms r t (before ++ e ∷ []) es)
 
 -- there is no run of that number
 abbrev pub is_no_run : Runs → ℕ → Bool
@@ -77,7 +82,15 @@ report_refusal c t run es (Some r) = entries_refusal (run_metrics c.stand.strate
 
 -- an entry as it is recorded, judged by its metric's conditions
 abbrev pub recorded_at : OpenRun → Entry → Place → Recorded
-recorded_at r e p = record { run = r.number; metric = p.place; ordinal = e.ordinal; taken = e.taken; outcome = e.outcome; phase = phase_of p.metric.success p.metric.failure e.outcome }
+recorded_at r e p =
+    record {
+      run = r.number;
+      metric = p.place;
+      ordinal = e.ordinal;
+      taken = e.taken;
+      outcome = e.outcome;
+      phase = phase_of p.metric.success p.metric.failure e.outcome;
+    }
 
 abbrev pub recorded_if : OpenRun → Entry → Option Place → List Recorded
 recorded_if r e None = []
@@ -102,7 +115,9 @@ hold_step c t = tell (with_stand c (record c.stand { step_hold = true })) t (Ste
 
 -- an open step run is ended from outside
 abbrev pub hold_background : Course → ℕ → Course
-hold_background c t = end_open_runs (tell (with_stand c (record c.stand { background_hold = true })) t BackgroundHeld) t
+hold_background c t =
+    end_open_runs
+    (tell (with_stand c (record c.stand { background_hold = true })) t BackgroundHeld) t
 
 -- what the verdict of a step run, or of a background run, brings once it is closed
 abbrev pub consequence : Course → ℕ → Option ℕ → Phase → ℕ → Course
@@ -116,11 +131,13 @@ consequence c run step Pending t = c
 consequence c run step Running t = c
 
 abbrev pub complete : Course → OpenRun → Phase → ℕ → Course
-complete c r v t = consequence (tell (close_run c r t false) t (Completed r.number v)) r.number r.step v t
+complete c r v t =
+    consequence (tell (close_run c r t false) t (Completed r.number v)) r.number r.step v t
 
 -- an open run that is no longer Running is closed, with what follows
 abbrev pub assess_run : Course → OpenRun → ℕ → Course
-assess_run c r t = let v = run_verdict c.stand.strategy false r in if is_completed v then complete c r v t else c
+assess_run c r t =
+    let v = run_verdict c.stand.strategy false r in if is_completed v then complete c r v t else c
 
 abbrev pub assess : Course → Option OpenRun → ℕ → Course
 assess c None t = c
@@ -141,4 +158,8 @@ abbrev pub reported_on : Course → OpenRun → List Entry → Reported
 reported_on c r es =
     let xs = brought (run_metrics c.stand.strategy r.step) r es in
     let all = record_all c xs in
-    record { phases = map (λ (x : Recorded). x.phase) xs; run = r.number; verdict = verdict_if all (open_run_now all r.number) }
+    record {
+      phases = map (λ (x : Recorded). x.phase) xs;
+      run = r.number;
+      verdict = verdict_if all (open_run_now all r.number);
+    }

@@ -60,7 +60,8 @@ weight_set (Analysis names) = None
 abbrev pub weight_as : State → ℕ → List Step → ℕ
 weight_as Aborted step steps = 0
 weight_as Done step steps = 100
-weight_as InProgress step steps = unwrap_or (last_or None (filter_map weight_set (take (suc step) steps))) 0
+weight_as InProgress step steps =
+    unwrap_or (last_or None (filter_map weight_set (take (suc step) steps))) 0
 
 abbrev pub weight : Stand → ℕ
 weight s = weight_as s.state s.step s.strategy.steps

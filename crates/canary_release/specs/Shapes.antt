@@ -42,7 +42,8 @@ kept_after c = record { stand = c.stand; runs = runs_now c }
 
 -- what a service has passed to, as the code says it
 abbrev pub IsPassing : ServiceParts → ℕ → Passed → Type 0
-IsPassing s t p = let c = pass (kept_course s) t in p ≡ record { service = kept_after c; effects = c.effects }
+IsPassing s t p =
+    let c = pass (kept_course s) t in p ≡ record { service = kept_after c; effects = c.effects }
 
 -- a change of the machine, as the code says it
 abbrev pub said : Change → DeskChange
@@ -65,14 +66,16 @@ decided r = record { reply = r.reply; change = said r.change }
 -- the desk with a change that the code says
 abbrev pub changed : Desk → Command → DeskChange → Desk
 changed desk command Nothing = desk
-changed desk command (AddsTemplate t) = record desk { templates = insert desk.templates (subject_of command) t }
+changed desk command (AddsTemplate t) =
+    record desk { templates = insert desk.templates (subject_of command) t }
 changed desk command (Updates s effects) = with_service desk (subject_of command) s.stand effects
 
 -- what is kept of the service of that name, or none
 abbrev pub seen : Desk → List ℕ → Option ServiceParts
 seen desk name = option_map shape (get desk.services name)
 
--- the decision is the machine's step: its change is the command's; the desk with it is the desk after the command; and its reply is the command's
+-- the decision is the machine's step: its change is the command's; the desk with it is the desk
+-- after the command; and its reply is the command's
 pub record IsStep (desk : Desk) (now : ℕ) (command : Command) (d : Decision) : Type 0 where
   pub change : d.change ≡ said (ruling_on desk now command).change
   pub desk_after : changed desk command d.change ≡ (apply desk now command).desk
@@ -84,6 +87,10 @@ kept_by (Updates s effects) = Some s
 kept_by Nothing = None
 kept_by (AddsTemplate t) = None
 
--- the law: the service that a change brings is what is kept of that service of the desk after it, tallies and all
+-- the law: the service that a change brings is what is kept of that service of the desk after it,
+-- tallies and all
 abbrev pub KeepsWhatIsSeen : Type 0
-KeepsWhatIsSeen = (desk : Desk) (now : ℕ) (command : Command) (s : ServiceParts) → kept_by (said (ruling_on desk now command).change) ≡ Some s → seen (apply desk now command).desk (subject_of command) ≡ Some s
+KeepsWhatIsSeen =
+    (desk : Desk) (now : ℕ) (command : Command) (s : ServiceParts)
+    → kept_by (said (ruling_on desk now command).change) ≡ Some s
+    → seen (apply desk now command).desk (subject_of command) ≡ Some s

@@ -1,4 +1,5 @@
--- Soundness: each verdict is that of its run's recorded measurements, each judged by its metric's conditions.
+-- Soundness: each verdict is that of its run's recorded measurements, each judged by its metric's
+-- conditions.
 use Rattle.std.specs.Prelude.{◌≡◌, ℕ, Bool, true, false, List, [], ◌∷◌, map, Option, Some, None}
 use Rattle.std.specs.FinMap.{get}
 use Rattle.std.specs.List.{AllByRecursion}
@@ -27,19 +28,26 @@ AreJudged (m ∷ ms) (list ∷ lists) = AllByRecursion (IsJudgedBy m) list × Ar
 
 -- the verdict of a run's whole lists, ended from outside or not
 abbrev pub verdict_on : ModelService → Run → Bool → Phase
-verdict_on s r outside = verdict (run_metrics s.stand.strategy r.step) (map (map measurement_of) r.lists) outside
+verdict_on s r outside =
+    verdict (run_metrics s.stand.strategy r.step) (map (map measurement_of) r.lists) outside
 
--- a run is closed exactly where its verdict isn't Running: an open run is Running, and a closed one was closed at its verdict, a completed phase
+-- a run is closed exactly where its verdict isn't Running: an open run is Running, and a closed one
+-- was closed at its verdict, a completed phase
 abbrev pub HasVerdict : ModelService → Run → Option Closing → Type 0
 HasVerdict s r None = verdict_on s r false ≡ Running
-HasVerdict s r (Some x) = (x.run ≡ r.number) × (x.verdict ≡ verdict_on s r x.outside) × (is_completed x.verdict ≡ true)
+HasVerdict s r (Some x) =
+    (x.run ≡ r.number) × (x.verdict ≡ verdict_on s r x.outside) × (is_completed x.verdict ≡ true)
 
 abbrev pub IsSoundRun : ModelService → Run → Type 0
 IsSoundRun s r = AreJudged (run_metrics s.stand.strategy r.step) r.lists × HasVerdict s r r.closed
 
 abbrev pub AreSound : Desk → Type 0
-AreSound desk = (name : List ℕ) (s : ModelService) → get desk.services name ≡ Some s → AllByRecursion (IsSoundRun s) s.past.runs
+AreSound desk =
+    (name : List ℕ) (s : ModelService) → get desk.services name ≡ Some s
+    → AllByRecursion (IsSoundRun s) s.past.runs
 
 -- the law: the machine keeps a desk in order sound
 abbrev pub StaySound : Type 0
-StaySound = (desk : Desk) (xs : List (ℕ × Command)) → AreInOrder desk → AreSound desk → AreSound (machine desk xs).desk
+StaySound =
+    (desk : Desk) (xs : List (ℕ × Command)) → AreInOrder desk → AreSound desk
+    → AreSound (machine desk xs).desk

@@ -21,8 +21,8 @@ use std::fmt;
 /// Why parts make no service.
 #[derive(Clone, Copy, Debug, PartialEq, Eq)]
 pub enum PartsFault {
-    /// No service can stand so: its step is out of place, a run is out of place or number, a hold or
-    /// a background run is where there can be none, or something is left undone that is due.
+    /// No service can stand so: its step is out of place, a run is out of place or number, a hold
+    /// or a background run is where there can be none, or something is left undone that is due.
     Broken,
 }
 
@@ -65,7 +65,8 @@ pub fn is_broken(parts: &ServiceParts) -> bool
 fn is_behind(parts: &ServiceParts) -> bool
     ensures { result ≡ (is_misplaced parts.now.stand || (nat_lt parts.now.stand.last parts.now.stand.entered
         || (nat_lt 1000000 parts.now.runs.count
-        || (is_going parts.now.stand.state && nat_lt (1000000 - parts.now.runs.count) (runs_wanted parts.now))))) }
+        || (is_going parts.now.stand.state
+        && nat_lt (1000000 - parts.now.runs.count) (runs_wanted parts.now))))) }
 {
     is_misplaced(&parts.stand)
         || is_entered_late(&parts.stand)
@@ -92,7 +93,8 @@ fn has_stray_run(parts: &ServiceParts) -> bool
     ensures { result ≡ (nat_lt 1 (length (filter is_background_run parts.now.runs.open_runs))
         || (nat_lt 1 (length (filter is_step_run parts.now.runs.open_runs))
         || (list_any (is_astray parts.now.stand) parts.now.runs.open_runs
-        || (has_background_run parts.now && (not parts.now.stand.background || parts.now.stand.background_hold))))) }
+        || (has_background_run parts.now
+        && (not parts.now.stand.background || parts.now.stand.background_hold))))) }
 {
     let runs = parts.runs.open_runs.as_slice();
     repeats_background(runs)
@@ -137,7 +139,8 @@ fn is_entered_late(stand: &Stand) -> bool
 
 // Fewer numbers of runs are left than the present attempt may still take.
 fn lacks_runs(parts: &ServiceParts) -> bool
-    ensures { result ≡ (is_going parts.now.stand.state && nat_lt (1000000 - parts.now.runs.count) (runs_wanted parts.now)) }
+    ensures { result ≡ (is_going parts.now.stand.state
+        && nat_lt (1000000 - parts.now.runs.count) (runs_wanted parts.now)) }
 {
     if parts.stand.state != State::InProgress {
         return false;
@@ -250,7 +253,8 @@ fn is_astray(stand: &Stand, run: &OpenRun) -> bool
 
 // The background run is open that was not begun, or that is held.
 fn has_stray_background(parts: &ServiceParts) -> bool
-    ensures { result ≡ (has_background_run parts.now && (not parts.now.stand.background || parts.now.stand.background_hold)) }
+    ensures { result ≡ (has_background_run parts.now
+        && (not parts.now.stand.background || parts.now.stand.background_hold)) }
 {
     has_background_run(parts.runs.open_runs.as_slice())
         && (!parts.stand.background || parts.stand.background_hold)

@@ -39,7 +39,8 @@ impl ReplyStatus {
     }
 }
 
-/// A reply: what it says of its request or query, and a body of JSON. A command's is Accepted or Refused.
+/// A reply: what it says of its request or query, and a body of JSON. A command's is Accepted or
+/// Refused.
 #[derive(Drop)]
 pub struct Reply {
     pub status: ReplyStatus,

@@ -246,7 +246,8 @@ impl Stand {
     fn entries_refusal(&self, run: &OpenRun, now: Moment, entries: &[Entry]) -> Option<Refusal>
         requires { length entries.now ≤ 32 }
         ensures { result
-            ≡ entries_refusal (run_metrics self.now.strategy run.now.step) run.now now [] entries.now }
+            ≡ entries_refusal (run_metrics self.now.strategy run.now.step) run.now now []
+            entries.now }
     {
         match self.strategy.metrics(run.step) {
             Some(metrics) => entries_refusal(metrics, run, now, entries),

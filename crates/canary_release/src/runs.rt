@@ -124,7 +124,8 @@ fn counted(tally: Tally, recorded: &Recorded) -> Tally
     tally
 }
 
-/// The tallies of a run that is opened with so many metrics, which have measured nothing, or `Memory`.
+/// The tallies of a run that is opened with so many metrics, which have measured nothing, or
+/// `Memory`.
 pub fn new_tallies(alloc: Global, metrics: u32) -> Result<Listed<Tally>, Memory>
     ensures { IfOk result (λ tallies. tallies ≡ replicate metrics (counts [])) }
 {
@@ -199,7 +200,8 @@ impl Runs {
 
     /// One run is no longer open.
     pub(crate) fn closed(self, closing: &Closing) -> Runs
-        ensures { result ≡ record self { open_runs = filter (is_other closing.now.run) self.open_runs } }
+        ensures { result ≡
+            record self { open_runs = filter (is_other closing.now.run) self.open_runs } }
     {
         let Runs { count, open_runs } = self;
         let open_runs = without(open_runs, closing.run);

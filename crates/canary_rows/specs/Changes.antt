@@ -44,7 +44,9 @@ with_line row t = record t { history = t.history ++ row ∷ [] }
 abbrev pub tallies_opened : List ℕ → ℕ → ℕ → ℕ → Tables → Tables
 tallies_opened service run metric zero t = t
 tallies_opened service run metric (suc n) t =
-    tallies_opened service run (suc metric) n (with_tally (record { service = service; run = run; metric = metric; counts = counts [] }) t)
+    tallies_opened service run (suc metric) n
+    (with_tally
+    (record { service = service; run = run; metric = metric; counts = counts [] }) t)
 
 -- UPDATE: the rows that pass a test are changed
 
@@ -53,19 +55,36 @@ change_where test change = map (λ row. if test row then change row else row)
 
 -- so many requests of a caller are settled
 abbrev pub with_settled : List ℕ → ℕ → Tables → Tables
-with_settled name settled t = record t { callers = change_where (is_caller name) (λ (row : CallerRow). record row { settled = settled }) t.callers }
+with_settled name settled t =
+    record t {
+      callers = change_where (is_caller name)
+          (λ (row : CallerRow). record row { settled = settled }) t.callers;
+    }
 
 -- a service stands so
 abbrev pub with_standing : List ℕ → Standing → Tables → Tables
-with_standing name standing t = record t { services = change_where (is_service name) (λ (row : ServiceRow). record row { standing = standing }) t.services }
+with_standing name standing t =
+    record t {
+      services = change_where (is_service name)
+          (λ (row : ServiceRow). record row { standing = standing }) t.services;
+    }
 
 -- a run is closed
 abbrev pub with_ending : List ℕ → ℕ → Ending → Tables → Tables
-with_ending service number ending t = record t { runs = change_where (is_run service number) (λ (row : RunRow). record row { ending = ending }) t.runs }
+with_ending service number ending t =
+    record t {
+      runs = change_where (is_run service number)
+          (λ (row : RunRow). record row { ending = ending }) t.runs;
+    }
 
 -- a metric of a run has one measurement more, of that phase, taken at that moment
 abbrev pub with_counted : List ℕ → ℕ → ℕ → Phase → ℕ → Tables → Tables
-with_counted service run metric phase taken t = record t { tallies = change_where (is_tally service run metric) (λ (row : TallyRow). record row { counts = with_one_more row.counts phase taken }) t.tallies }
+with_counted service run metric phase taken t =
+    record t {
+      tallies = change_where (is_tally service run metric)
+          (λ (row : TallyRow). record row { counts = with_one_more row.counts phase taken })
+          t.tallies;
+    }
 
 -- What an UPDATE asks of the tables.
 

@@ -1,4 +1,5 @@
--- The rows of the desk's tables, each table a list in the order of its rowids, and which rows have a key.
+-- The rows of the desk's tables, each table a list in the order of its rowids, and which rows have
+-- a key.
 use Rattle.std.specs.Prelude.{ℕ, ◌==◌, ◌&&◌, Bool, List, [], is_none}
 use Rattle.std.specs.Str.{bytes_eq}
 use Rattle.canary_rows.specs.declared.rows.CallerRow.{CallerRow}
@@ -22,7 +23,17 @@ pub record Tables : Type 0 where
   pub history : List HistoryRow
 
 abbrev pub no_tables : Tables
-no_tables = record { callers = []; kept = []; templates = []; services = []; runs = []; tallies = []; measurements = []; history = [] }
+no_tables =
+    record {
+      callers = [];
+      kept = [];
+      templates = [];
+      services = [];
+      runs = [];
+      tallies = [];
+      measurements = [];
+      history = [];
+    }
 
 -- Which rows have a key.
 
@@ -45,7 +56,8 @@ abbrev pub is_open_run_of : List ℕ → RunRow → Bool
 is_open_run_of service row = bytes_eq service row.service && is_none row.ending.closed
 
 abbrev pub is_tally : List ℕ → ℕ → ℕ → TallyRow → Bool
-is_tally service run metric row = bytes_eq service row.service && (run == row.run && metric == row.metric)
+is_tally service run metric row =
+    bytes_eq service row.service && (run == row.run && metric == row.metric)
 
 abbrev pub is_tally_of : List ℕ → ℕ → TallyRow → Bool
 is_tally_of service run row = bytes_eq service row.service && run == row.run

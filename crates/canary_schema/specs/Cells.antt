@@ -1,4 +1,5 @@
--- Rows as they stand in a tree: the rowid, and then a value for each column. A column that is the rowid holds Null.
+-- Rows as they stand in a tree: the rowid, and then a value for each column. A column that is the
+-- rowid holds Null.
 use Rattle.std.specs.Prelude.{ℕ, pos, List, [], ◌∷◌, map, drop, Option, Some, None}
 use Rattle.std.specs.List.{filter_map}
 use Rattle.sqlite_value.specs.declared.value.Value.{Value}
@@ -28,7 +29,8 @@ abbrev pub caller_cells : CallerRow → Row
 caller_cells r = Words r.name ∷ whole r.settled ∷ []
 
 abbrev pub kept_cells : KeptRow → Row
-kept_cells r = Words r.caller ∷ whole r.number ∷ Words r.command ∷ whole r.status ∷ Words r.body ∷ []
+kept_cells r =
+    Words r.caller ∷ whole r.number ∷ Words r.command ∷ whole r.status ∷ Words r.body ∷ []
 
 abbrev pub template_cells : TemplateRow → Row
 template_cells r = Words r.name ∷ Words r.spec ∷ []
@@ -36,20 +38,25 @@ template_cells r = Words r.name ∷ Words r.spec ∷ []
 abbrev pub service_cells : ServiceRow → Row
 service_cells r =
     let s = r.standing in
-    Words r.name ∷ Words r.spec ∷ Words s.stable ∷ Words s.version ∷ whole s.state ∷ whole s.step ∷ whole s.entered ∷ whole s.hold ∷ whole s.background ∷ whole s.runs ∷ whole s.last ∷ []
+    Words r.name ∷ Words r.spec ∷ Words s.stable ∷ Words s.version ∷ whole s.state ∷ whole s.step
+    ∷ whole s.entered ∷ whole s.hold ∷ whole s.background ∷ whole s.runs ∷ whole s.last ∷ []
 
 abbrev pub run_cells : RunRow → Row
 run_cells r =
-    Words r.service ∷ whole r.number ∷ whole_or_null r.step ∷ whole r.started ∷ whole_or_null r.ending.closed ∷ whole r.ending.outside ∷ whole r.ending.verdict ∷ []
+    Words r.service ∷ whole r.number ∷ whole_or_null r.step ∷ whole r.started
+    ∷ whole_or_null r.ending.closed ∷ whole r.ending.outside ∷ whole r.ending.verdict ∷ []
 
 abbrev pub tally_cells : TallyRow → Row
 tally_cells r =
     let c = r.counts in
-    Words r.service ∷ whole r.run ∷ whole r.metric ∷ whole c.counted ∷ whole c.failed ∷ whole c.inconclusive ∷ whole c.errors ∷ whole c.consecutive ∷ whole_or_null c.last ∷ []
+    Words r.service ∷ whole r.run ∷ whole r.metric ∷ whole c.counted ∷ whole c.failed
+    ∷ whole c.inconclusive ∷ whole c.errors ∷ whole c.consecutive ∷ whole_or_null c.last ∷ []
 
 -- the first column is the place, which is the rowid
 abbrev pub measurement_cells : MeasurementRow → Row
-measurement_cells r = Null ∷ Words r.service ∷ whole r.run ∷ whole r.metric ∷ whole r.ordinal ∷ whole r.taken ∷ whole r.phase ∷ Words r.outcome ∷ []
+measurement_cells r =
+    Null ∷ Words r.service ∷ whole r.run ∷ whole r.metric ∷ whole r.ordinal ∷ whole r.taken
+    ∷ whole r.phase ∷ Words r.outcome ∷ []
 
 -- the first column is the place, which is the rowid
 abbrev pub history_cells : HistoryRow → Row
@@ -68,7 +75,8 @@ caller_in cells = None
 
 abbrev pub kept_in : Row → Option KeptRow
 kept_in (Words caller ∷ Int (pos number) ∷ Words command ∷ Int (pos status) ∷ Words body ∷ []) =
-    Some (record { caller = caller; number = number; command = command; status = status; body = body })
+    Some (record
+    { caller = caller; number = number; command = command; status = status; body = body })
 kept_in cells = None
 
 abbrev pub template_in : Row → Option TemplateRow
@@ -76,37 +84,86 @@ template_in (Words name ∷ Words spec ∷ []) = Some (record { name = name; spe
 template_in cells = None
 
 abbrev pub service_in : Row → Option ServiceRow
-service_in (Words name ∷ Words spec ∷ Words stable ∷ Words version ∷ Int (pos state) ∷ Int (pos step) ∷ Int (pos entered) ∷ Int (pos hold) ∷ Int (pos background) ∷ Int (pos runs) ∷ Int (pos last) ∷ []) =
-    Some (record { name = name; spec = spec; standing = record { stable = stable; version = version; state = state; step = step; entered = entered; hold = hold; background = background; runs = runs; last = last } })
+service_in
+    (Words name ∷ Words spec ∷ Words stable ∷ Words version ∷ Int (pos state) ∷ Int (pos step)
+    ∷ Int (pos entered) ∷ Int (pos hold) ∷ Int (pos background) ∷ Int (pos runs) ∷ Int (pos last)
+    ∷ []) =
+    Some (record {
+      name = name;
+      spec = spec;
+      standing = record {
+        stable = stable;
+        version = version;
+        state = state;
+        step = step;
+        entered = entered;
+        hold = hold;
+        background = background;
+        runs = runs;
+        last = last;
+      };
+    })
 service_in cells = None
 
 abbrev pub run_with : List ℕ → ℕ → Option (Option ℕ) → ℕ → Option (Option ℕ) → ℕ → ℕ → Option RunRow
 run_with service number (Some step) started (Some closed) outside verdict =
-    Some (record { service = service; number = number; step = step; started = started; ending = record { closed = closed; outside = outside; verdict = verdict } })
+    Some (record {
+      service = service;
+      number = number;
+      step = step;
+      started = started;
+      ending = record { closed = closed; outside = outside; verdict = verdict };
+    })
 run_with service number step started closed outside verdict = None
 
 abbrev pub run_in : Row → Option RunRow
-run_in (Words service ∷ Int (pos number) ∷ step ∷ Int (pos started) ∷ closed ∷ Int (pos outside) ∷ Int (pos verdict) ∷ []) =
+run_in (Words service ∷ Int (pos number) ∷ step ∷ Int (pos started) ∷ closed ∷ Int (pos outside)
+    ∷ Int (pos verdict) ∷ []) =
     run_with service number (number_or_null step) started (number_or_null closed) outside verdict
 run_in cells = None
 
 abbrev pub tally_with : List ℕ → ℕ → ℕ → ℕ → ℕ → ℕ → ℕ → ℕ → Option (Option ℕ) → Option TallyRow
 tally_with service run metric counted failed inconclusive errors consecutive (Some last) =
-    Some (record { service = service; run = run; metric = metric; counts = record { counted = counted; failed = failed; inconclusive = inconclusive; errors = errors; consecutive = consecutive; last = last } })
+    Some (record {
+      service = service;
+      run = run;
+      metric = metric;
+      counts = record {
+        counted = counted;
+        failed = failed;
+        inconclusive = inconclusive;
+        errors = errors;
+        consecutive = consecutive;
+        last = last;
+      };
+    })
 tally_with service run metric counted failed inconclusive errors consecutive None = None
 
 abbrev pub tally_in : Row → Option TallyRow
-tally_in (Words service ∷ Int (pos run) ∷ Int (pos metric) ∷ Int (pos counted) ∷ Int (pos failed) ∷ Int (pos inconclusive) ∷ Int (pos errors) ∷ Int (pos consecutive) ∷ last ∷ []) =
-    tally_with service run metric counted failed inconclusive errors consecutive (number_or_null last)
+tally_in (Words service ∷ Int (pos run) ∷ Int (pos metric) ∷ Int (pos counted) ∷ Int (pos failed)
+    ∷ Int (pos inconclusive) ∷ Int (pos errors) ∷ Int (pos consecutive) ∷ last ∷ []) =
+    tally_with service run metric counted failed inconclusive errors consecutive
+    (number_or_null last)
 tally_in cells = None
 
 abbrev pub measurement_in : Row → Option MeasurementRow
-measurement_in (Null ∷ Words service ∷ Int (pos run) ∷ Int (pos metric) ∷ Int (pos ordinal) ∷ Int (pos taken) ∷ Int (pos phase) ∷ Words outcome ∷ []) =
-    Some (record { service = service; run = run; metric = metric; ordinal = ordinal; taken = taken; phase = phase; outcome = outcome })
+measurement_in
+    (Null ∷ Words service ∷ Int (pos run) ∷ Int (pos metric) ∷ Int (pos ordinal) ∷ Int (pos taken)
+    ∷ Int (pos phase) ∷ Words outcome ∷ []) =
+    Some (record {
+      service = service;
+      run = run;
+      metric = metric;
+      ordinal = ordinal;
+      taken = taken;
+      phase = phase;
+      outcome = outcome;
+    })
 measurement_in cells = None
 
 abbrev pub history_in : Row → Option HistoryRow
-history_in (Null ∷ Words service ∷ Int (pos moment) ∷ Words line ∷ []) = Some (record { service = service; moment = moment; line = line })
+history_in (Null ∷ Words service ∷ Int (pos moment) ∷ Words line ∷ []) =
+    Some (record { service = service; moment = moment; line = line })
 history_in cells = None
 
 -- the cells of a tree's rows, without the rowids
@@ -117,7 +174,8 @@ cells_of = map (drop 1)
 abbrev pub meta_rows : List Row
 meta_rows = (whole 1 ∷ Null ∷ whole 1 ∷ []) ∷ []
 
--- the rows that trees hold, by the desk's schema; a row whose cells are of no such row is passed over
+-- the rows that trees hold, by the desk's schema; a row whose cells are of no such row is passed
+-- over
 abbrev pub tables_in : Trees → Tables
 tables_in trees = record {
   callers = filter_map caller_in (cells_of (trees 1));

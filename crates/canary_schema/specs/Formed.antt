@@ -23,6 +23,8 @@ pub record IsFormed (db : Database) : Type 0 where
 abbrev pub HasRows : Database → Type 0
 HasRows db = (t : Tables) × Holds db.schema db t
 
--- each row of tallies, whose last column may be NULL, has a value for each column: the rowid and nine more. A row that was written before a column was added is shorter, and a query shows NULL for what it lacks.
+-- each row of tallies, whose last column may be NULL, has a value for each column: the rowid and
+-- nine more. A row that was written before a column was added is shorter, and a query shows NULL
+-- for what it lacks.
 abbrev pub HasWholeTallies : Trees → Type 0
 HasWholeTallies trees = AllByRecursion (λ row. length row ≡ 10) (trees 11)

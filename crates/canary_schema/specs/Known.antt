@@ -14,7 +14,15 @@ use Rattle.canary_schema.specs.declared.layout.IndexLayout.TheVariants as index
 use Rattle.canary_schema.specs.Schema.{words, whole, maybe, any_column, meta, caller, kept, template, service, run, tally, measurement, sequence, history}
 
 abbrev pub column_at : List ℕ → Kind → Bool → Bool → Column
-column_at name kind is_strict not_null = record { name = name; kind = kind; is_strict = is_strict; not_null = not_null; default = Null; collation = Binary }
+column_at name kind is_strict not_null =
+    record {
+      name = name;
+      kind = kind;
+      is_strict = is_strict;
+      not_null = not_null;
+      default = Null;
+      collation = Binary;
+    }
 
 abbrev pub column_of : Layout → Column
 column_of (layout.Words name) = words name.now
@@ -28,18 +36,39 @@ columns_of = map column_of
 -- the table, but with this name and tree, this key, and no rules on rows
 abbrev pub formed : Table → List ℕ → ℕ → Option ℕ → List ℕ → Bool → Table
 formed t name tree key primary is_counted =
-    record t { name = name; tree = tree; key = key; primary = primary; checks = []; computed = []; stamps = record { places = []; terms = []; formats = [] }; is_counted = is_counted }
+    record t {
+      name = name;
+      tree = tree;
+      key = key;
+      primary = primary;
+      checks = [];
+      computed = [];
+      stamps = record { places = []; terms = []; formats = [] };
+      is_counted = is_counted;
+    }
 
 -- the tables of a desk, in the order in which they are made
 abbrev pub early_tables : List Table
-early_tables = meta ∷ record caller { tree = 1 } ∷ record kept { tree = 3 } ∷ record template { tree = 5 } ∷ record service { tree = 7 } ∷ []
+early_tables =
+    meta ∷ record caller { tree = 1 } ∷ record kept { tree = 3 } ∷ record template { tree = 5 }
+    ∷ record service { tree = 7 } ∷ []
 
 abbrev pub late_tables : List Table
-late_tables = record run { tree = 9 } ∷ record tally { tree = 11 } ∷ record measurement { tree = 13 } ∷ record sequence { tree = 15 } ∷ record history { tree = 16 } ∷ []
+late_tables =
+    record run { tree = 9 } ∷ record tally { tree = 11 } ∷ record measurement { tree = 13 }
+    ∷ record sequence { tree = 15 } ∷ record history { tree = 16 } ∷ []
 
 -- an index by these columns of a table
 abbrev pub index_at : List ℕ → ℕ → ℕ → List ℕ → Bool → Index
-index_at name tree table columns is_unique = record { name = name; tree = tree; table = table; columns = columns; order = plain; is_unique = is_unique }
+index_at name tree table columns is_unique =
+    record {
+      name = name;
+      tree = tree;
+      table = table;
+      columns = columns;
+      order = plain;
+      is_unique = is_unique;
+    }
 
 -- the indexes that come with the keys
 abbrev pub key_indexes : List Index
@@ -55,7 +84,10 @@ key_indexes =
 
 -- and the desk's own
 abbrev pub added_indexes : List Index
-added_indexes = index_at (codes "run_closed") 17 9 (1 ∷ 5 ∷ []) false ∷ index_at (codes "measurement_service") 18 13 (2 ∷ []) false ∷ index_at (codes "history_service") 19 16 (2 ∷ []) false ∷ []
+added_indexes =
+    index_at (codes "run_closed") 17 9 (1 ∷ 5 ∷ []) false
+    ∷ index_at (codes "measurement_service") 18 13 (2 ∷ []) false
+    ∷ index_at (codes "history_service") 19 16 (2 ∷ []) false ∷ []
 
 abbrev pub index_of : IndexLayout → Index
 index_of (index.Key name tree table columns) = index_at name.now tree table columns.now true

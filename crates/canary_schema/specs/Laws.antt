@@ -8,4 +8,5 @@ use Rattle.canary_schema.specs.Stores.{Holds}
 
 -- rows that a database holds are read back as they are
 abbrev pub OneReading : Type 0
-OneReading = (schema : Schema) (db : Database) (t : Tables) → Holds schema db t → tables_in db.trees ≡ t
+OneReading =
+    (schema : Schema) (db : Database) (t : Tables) → Holds schema db t → tables_in db.trees ≡ t

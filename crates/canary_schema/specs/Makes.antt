@@ -20,7 +20,9 @@ use Rattle.canary_schema.specs.Stores.{Holds}
 
 -- with the table, and the table of counts where it is the first that counts
 abbrev pub made_with : Schema → Table → Schema
-made_with schema table = if lacks_sequence (created schema table) then created (created schema table) sequence else created schema table
+made_with schema table =
+    if lacks_sequence (created schema table) then created (created schema table) sequence
+    else created schema table
 
 -- under the schema the text makes this table
 pub record IsTableText (schema : Schema) (text : List ℕ) (next : Schema) : Type 0 where
@@ -63,8 +65,11 @@ Grows schema next old new result = HasCleanDisk new → IsAt schema old → OnOk
 
 -- the tables are whole, with the row of meta and no other
 abbrev pub IsFilled : {A : Type 0} → Schema → State → State → Result A Error → Type 0
-IsFilled schema old new result = HasCleanDisk new → IsAt schema old → OnOk result (HoldsInside with_history new no_tables)
+IsFilled schema old new result =
+    HasCleanDisk new → IsAt schema old → OnOk result (HoldsInside with_history new no_tables)
 
 -- indexes are added, and all rows stay
 abbrev pub AddsIndexes : {A : Type 0} → Schema → Schema → State → State → Result A Error → Type 0
-AddsIndexes schema next old new result = HasCleanDisk new → (t : Tables) → HoldsInside schema old t → OnOk result (HoldsInside next new t)
+AddsIndexes schema next old new result =
+    HasCleanDisk new → (t : Tables) → HoldsInside schema old t
+    → OnOk result (HoldsInside next new t)

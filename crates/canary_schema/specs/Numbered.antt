@@ -5,7 +5,8 @@ use Rattle.sqlite_trees.specs.View.{View, IsClean}
 use Rattle.canary_schema.specs.Formed.{IsDeskSchema}
 use Rattle.canary_schema.specs.Stores.{AreNumbered, IsUsable}
 
--- the connection was usable before, and shows the same database, whose rows stand in the order of their rowids where it is a desk's
+-- the connection was usable before, and shows the same database, whose rows stand in the order of
+-- their rowids where it is a desk's
 pub record IsOpenedAnew (old new : State) : Type 0 where
   pub was : IsUsable old
   pub same : new.now ≡ old.now

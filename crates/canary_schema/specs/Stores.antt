@@ -23,7 +23,8 @@ IsNumbered = IsShaped shape.Table
 
 -- so in each of the nine tables; SQLite's own table of counts, whose tree is 15, is left out
 abbrev pub AreNumbered : Trees → Type 0
-AreNumbered trees = AllByRecursion (λ k. IsNumbered (trees k)) (0 ∷ 1 ∷ 3 ∷ 5 ∷ 7 ∷ 9 ∷ 11 ∷ 13 ∷ 16 ∷ [])
+AreNumbered trees =
+    AllByRecursion (λ k. IsNumbered (trees k)) (0 ∷ 1 ∷ 3 ∷ 5 ∷ 7 ∷ 9 ∷ 11 ∷ 13 ∷ 16 ∷ [])
 
 -- a database is of this schema, and holds just these rows, in the order of their rowids
 pub record Holds (is : Schema) (db : Database) (t : Tables) : Type 0 where
@@ -56,15 +57,19 @@ pub record IsReady (s : State) (t : Tables) : Type 0 where
 
 -- it changes the rows so
 abbrev pub Wrote : {A E : Type 0} → (Tables → Tables) → State → State → Result A E → Type 0
-Wrote change old new result = HasCleanDisk new → (t : Tables) → IsReady old t → OnOk result (IsReady new (change t))
+Wrote change old new result =
+    HasCleanDisk new → (t : Tables) → IsReady old t → OnOk result (IsReady new (change t))
 
 -- it changes the rows so, where they are as it asks
-abbrev pub WroteIf : {A E : Type 0} → (Tables → Type 0) → (Tables → Tables) → State → State → Result A E → Type 0
-WroteIf asks change old new result = HasCleanDisk new → (t : Tables) → IsReady old t → asks t → OnOk result (IsReady new (change t))
+abbrev pub WroteIf : {A E : Type 0} → (Tables → Type 0) → (Tables → Tables) → State → State
+    → Result A E → Type 0
+WroteIf asks change old new result =
+    HasCleanDisk new → (t : Tables) → IsReady old t → asks t → OnOk result (IsReady new (change t))
 
 -- the transaction goes on
 abbrev pub StaysLive : {A E : Type 0} → State → State → Result A E → Type 0
-StaysLive old new result = HasCleanDisk new → IsTrue old.in_transaction → OnOk result (IsTrue new.in_transaction)
+StaysLive old new result =
+    HasCleanDisk new → IsTrue old.in_transaction → OnOk result (IsTrue new.in_transaction)
 
 -- what was committed stays, as long as the transaction goes on
 abbrev pub StaysCommitted : State → State → Type 0

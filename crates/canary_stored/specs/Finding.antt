@@ -21,12 +21,14 @@ abbrev pub first_row : {R : Type 0} → List R → Option R
 first_row rows = slice_get rows 0
 
 -- the row that is there is read, as what is sought
-pub record IsFound {R A : Type 0} (reads : R → Option A) (row : Option R) (sought : Option A) : Type 0 where
+pub record IsFound {R A : Type 0} (reads : R → Option A) (row : Option R)
+    (sought : Option A) : Type 0 where
   pub value : option_and_then reads row ≡ sought
   pub read : option_map reads row ≡ option_map Some sought
 
 -- each row is read, and none is passed over
-pub record AreRead {R A : Type 0} (reads : R → Option A) (rows : List R) (sought : List A) : Type 0 where
+pub record AreRead {R A : Type 0} (reads : R → Option A) (rows : List R)
+    (sought : List A) : Type 0 where
   pub values : filter_map reads rows ≡ sought
   pub each : map reads rows ≡ map Some sought
 
@@ -45,24 +47,42 @@ abbrev pub tallies_of : Contents → List ℕ → ℕ → List Counts
 tallies_of c name number = tallies_told (run_of c name number)
 
 abbrev pub record_closed : RunRow → List Counts → Option Closing → RunRecord
-record_closed row tallies closed = record { number = row.number; step = row.step; started = row.started; closed = closed; tallies = tallies }
+record_closed row tallies closed =
+    record {
+      number = row.number;
+      step = row.step;
+      started = row.started;
+      closed = closed;
+      tallies = tallies;
+    }
 
 -- a run, by its row and its tallies
 abbrev pub record_of_row : List Counts → RunRow → Option RunRecord
-record_of_row tallies row = option_map (record_closed row tallies) (closing_of row.number row.ending)
+record_of_row tallies row =
+    option_map (record_closed row tallies) (closing_of row.number row.ending)
 
 -- an open run, by its row
 abbrev pub open_run_of : Contents → List ℕ → RunRow → OpenRun
-open_run_of c name row = record { number = row.number; step = row.step; started = row.started; tallies = tallies_of c name row.number }
+open_run_of c name row =
+    record {
+      number = row.number;
+      step = row.step;
+      started = row.started;
+      tallies = tallies_of c name row.number;
+    }
 
 -- Services.
 
 abbrev pub parts_standing : ServiceRow → List OpenRun → Stand → ServiceParts
-parts_standing row open_runs stand = record { stand = stand; runs = record { count = row.standing.runs; open_runs = open_runs } }
+parts_standing row open_runs stand =
+    record { stand = stand; runs = record { count = row.standing.runs; open_runs = open_runs } }
 
 abbrev pub parts_made : Templates → List OpenRun → ServiceRow → ServiceSpec → Option ServiceParts
-parts_made known open_runs row made = option_map (parts_standing row open_runs) (stand_of row.name (strategy_of known made) row.standing)
+parts_made known open_runs row made =
+    option_map (parts_standing row open_runs)
+    (stand_of row.name (strategy_of known made) row.standing)
 
 -- what is kept of a service, by its row, the templates and its open runs
 abbrev pub parts_of_row : Templates → List OpenRun → ServiceRow → Option ServiceParts
-parts_of_row known open_runs row = option_and_then (parts_made known open_runs row) (made_from (canonical_in row.spec))
+parts_of_row known open_runs row =
+    option_and_then (parts_made known open_runs row) (made_from (canonical_in row.spec))

@@ -22,7 +22,8 @@ use Rattle.canary_stored.specs.Settling.{request_settled, RequestAsks, IsReadabl
 
 -- tables with the rows of contents are read as these
 abbrev pub ReadsBack : Type 0
-ReadsBack = (t : Tables) (c : Contents) → AreRows t c → IsReadable c → AreContents c → contents_of t ≡ c
+ReadsBack =
+    (t : Tables) (c : Contents) → AreRows t c → IsReadable c → AreContents c → contents_of t ≡ c
 
 -- no rows are those of no contents
 pub record EmptyHoldsNothing : Type 0 where
@@ -31,7 +32,8 @@ pub record EmptyHoldsNothing : Type 0 where
 
 -- the statements of a request find what they ask for
 abbrev pub RequestsFind : Type 0
-RequestsFind = (s : Settlement) (t : Tables) → HoldsContents t → IsSettling (contents_of t) s → RequestAsks s t
+RequestsFind =
+    (s : Settlement) (t : Tables) → HoldsContents t → IsSettling (contents_of t) s → RequestAsks s t
 
 -- after them the tables hold the contents with the request
 pub record Settles (s : Settlement) (t : Tables) : Type 0 where
@@ -39,7 +41,9 @@ pub record Settles (s : Settlement) (t : Tables) : Type 0 where
   pub holds : HoldsContents (request_settled s t)
 
 abbrev pub RequestsSettle : Type 0
-RequestsSettle = (s : Settlement) (t : Tables) → s.number ≤ 1000000000 → HoldsContents t → IsSettling (contents_of t) s → IsReadableSettlement s → Settles s t
+RequestsSettle =
+    (s : Settlement) (t : Tables) → s.number ≤ 1000000000 → HoldsContents t
+    → IsSettling (contents_of t) s → IsReadableSettlement s → Settles s t
 
 -- What is found in tables that hold contents.
 
@@ -50,55 +54,77 @@ pub record HaveKeys (t : Tables) : Type 0 where
   pub templates : (name : List ℕ) → length (filter (is_template name) t.templates) ≤ 1
   pub services : (name : List ℕ) → length (filter (is_service name) t.services) ≤ 1
   pub runs : (name : List ℕ) (number : ℕ) → length (filter (is_run name number) t.runs) ≤ 1
-  pub tallies : (name : List ℕ) (number metric : ℕ) → length (filter (is_tally name number metric) t.tallies) ≤ 1
+  pub tallies : (name : List ℕ) (number metric : ℕ)
+      → length (filter (is_tally name number metric) t.tallies) ≤ 1
 
 abbrev pub KeysAreUnique : Type 0
 KeysAreUnique = (t : Tables) → HoldsContents t → HaveKeys t
 
 -- a caller's row says how many of its requests are settled
 abbrev pub CountsAreFound : Type 0
-CountsAreFound = (t : Tables) → HoldsContents t → (name : List ℕ) → settled_by (first_row (filter (is_caller name) t.callers)) ≡ count_of (contents_of t) name
+CountsAreFound =
+    (t : Tables) → HoldsContents t → (name : List ℕ)
+    → settled_by (first_row (filter (is_caller name) t.callers)) ≡ count_of (contents_of t) name
 
 -- a kept row is a receipt; numbers count from 1
 abbrev pub ReceiptsAreFound : Type 0
-ReceiptsAreFound = (t : Tables) → HoldsContents t → (caller : List ℕ) (number : ℕ) → 1 ≤ number → IsFound receipt_of_row (first_row (filter (is_kept caller number) t.kept)) (receipt_at (contents_of t) caller number)
+ReceiptsAreFound =
+    (t : Tables) → HoldsContents t → (caller : List ℕ) (number : ℕ) → 1 ≤ number
+    → IsFound receipt_of_row (first_row (filter (is_kept caller number) t.kept))
+    (receipt_at (contents_of t) caller number)
 
 -- its text is canonical
 abbrev pub KeptTextsAreCanonical : Type 0
-KeptTextsAreCanonical = (t : Tables) → HoldsContents t → (caller : List ℕ) (number : ℕ) (row : KeptRow) → first_row (filter (is_kept caller number) t.kept) ≡ Some row → IsCanonical row.command
+KeptTextsAreCanonical =
+    (t : Tables) → HoldsContents t → (caller : List ℕ) (number : ℕ) (row : KeptRow)
+    → first_row (filter (is_kept caller number) t.kept) ≡ Some row → IsCanonical row.command
 
 abbrev pub TemplatesAreFound : Type 0
-TemplatesAreFound = (t : Tables) → HoldsContents t → (name : List ℕ) → IsFound template_of_row (first_row (filter (is_template name) t.templates)) (get (contents_of t).desk.templates name)
+TemplatesAreFound =
+    (t : Tables) → HoldsContents t → (name : List ℕ)
+    → IsFound template_of_row (first_row (filter (is_template name) t.templates))
+    (get (contents_of t).desk.templates name)
 
 abbrev pub HistoriesAreFound : Type 0
-HistoriesAreFound = (t : Tables) → HoldsContents t → (name : List ℕ) → AreRead line_of_row (filter (is_line_of name) t.history) (history_of (contents_of t) name)
+HistoriesAreFound =
+    (t : Tables) → HoldsContents t → (name : List ℕ)
+    → AreRead line_of_row (filter (is_line_of name) t.history) (history_of (contents_of t) name)
 
 -- the rows of a page are its measurements
 abbrev pub MeasurementsAreFound : Type 0
 MeasurementsAreFound =
     (t : Tables) → HoldsContents t → (name : List ℕ) (from most : ℕ)
-    → AreRead measurement_of_row (take most (drop from (filter (is_measurement_of name) t.measurements))) (measurements_of (contents_of t) name from most)
+    → AreRead measurement_of_row
+    (take most (drop from (filter (is_measurement_of name) t.measurements)))
+    (measurements_of (contents_of t) name from most)
 
 -- the tallies of a run stand in order of its metrics
 abbrev pub TalliesAreFound : Type 0
 TalliesAreFound =
-    (t : Tables) → HoldsContents t → (name : List ℕ) (run : ℕ) (rows : List TallyRow) → IsPermutation (filter (is_tally_of name run) t.tallies) rows → AscendByMetric rows
+    (t : Tables) → HoldsContents t → (name : List ℕ) (run : ℕ) (rows : List TallyRow)
+    → IsPermutation (filter (is_tally_of name run) t.tallies) rows → AscendByMetric rows
     → map (λ (row : TallyRow). row.counts) rows ≡ tallies_of (contents_of t) name run
 
 -- a run's row, with its tallies
 abbrev pub RunsAreFound : Type 0
 RunsAreFound =
     (t : Tables) → HoldsContents t → (name : List ℕ) (number : ℕ)
-    → IsFound (record_of_row (tallies_of (contents_of t) name number)) (first_row (filter (is_run name number) t.runs)) (run_of (contents_of t) name number)
+    → IsFound (record_of_row (tallies_of (contents_of t) name number))
+    (first_row (filter (is_run name number) t.runs)) (run_of (contents_of t) name number)
 
 -- the open runs of a service stand in order of their numbers
 abbrev pub OpenRunsAreFound : Type 0
 OpenRunsAreFound =
-    (t : Tables) → HoldsContents t → (name : List ℕ) (rows : List RunRow) → IsPermutation (filter (is_open_run_of name) t.runs) rows → AscendByNumber rows
-    → map (open_run_of (contents_of t) name) rows ≡ (watched (past_of (contents_of t) name)).open_runs
+    (t : Tables) → HoldsContents t → (name : List ℕ) (rows : List RunRow)
+    → IsPermutation (filter (is_open_run_of name) t.runs) rows → AscendByNumber rows
+    → map (open_run_of (contents_of t) name) rows
+    ≡ (watched (past_of (contents_of t) name)).open_runs
 
 -- a service's row, with the templates and its open runs
 abbrev pub ServicesAreFound : Type 0
 ServicesAreFound =
     (t : Tables) → HoldsContents t → (name : List ℕ)
-    → IsFound (parts_of_row (get (contents_of t).desk.templates) (watched (past_of (contents_of t) name)).open_runs) (first_row (filter (is_service name) t.services)) (seen (contents_of t).desk name)
+    → IsFound
+    (parts_of_row (get (contents_of t).desk.templates)
+    (watched (past_of (contents_of t) name)).open_runs)
+    (first_row (filter (is_service name) t.services)) (seen (contents_of t).desk name)

@@ -13,7 +13,9 @@ state_number Aborted = 1
 state_number Done = 2
 
 abbrev pub state_of : ℕ → Option State
-state_of n = if n == 0 then Some InProgress else (if n == 1 then Some Aborted else (if n == 2 then Some Done else None))
+state_of n =
+    if n == 0 then Some InProgress
+    else (if n == 1 then Some Aborted else (if n == 2 then Some Done else None))
 
 abbrev pub bit : Bool → ℕ
 bit false = 0

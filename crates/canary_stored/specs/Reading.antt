@@ -1,4 +1,5 @@
--- The contents that tables hold, as a function of any tables: a row that stands for nothing is passed over.
+-- The contents that tables hold, as a function of any tables: a row that stands for nothing is
+-- passed over.
 use Rattle.std.specs.Prelude.{ℕ, zero, suc, List, [], ◌∷◌, ◌++◌, filter, Option, Some, None, option_and_then}
 use Rattle.std.specs.List.{filter_map}
 use Rattle.std.specs.Ordering.{nat_cmp}
@@ -31,19 +32,23 @@ use Rattle.canary_stored.specs.Tables.{AreRows, IsReadable}
 -- a caller's receipts under the numbers 1 to n
 abbrev pub receipts_to : List KeptRow → List ℕ → ℕ → List Receipt
 receipts_to kept caller zero = []
-receipts_to kept caller (suc n) = receipts_to kept caller n ++ filter_map receipt_of_row (filter (is_kept caller (suc n)) kept)
+receipts_to kept caller (suc n) =
+    receipts_to kept caller n ++ filter_map receipt_of_row (filter (is_kept caller (suc n)) kept)
 
 abbrev pub callers_of : List KeptRow → List CallerRow → CallerMap
 callers_of kept [] = empty
-callers_of kept (row ∷ rows) = insert (callers_of kept rows) row.name (receipts_to kept row.name row.settled)
+callers_of kept (row ∷ rows) =
+    insert (callers_of kept rows) row.name (receipts_to kept row.name row.settled)
 
 -- the map of values by the names of their rows
 
-abbrev pub put_some : {A : Type 0} → FinMap (slice_cmp nat_cmp) A → List ℕ → Option A → FinMap (slice_cmp nat_cmp) A
+abbrev pub put_some : {A : Type 0} → FinMap (slice_cmp nat_cmp) A → List ℕ → Option A
+    → FinMap (slice_cmp nat_cmp) A
 put_some m name None = m
 put_some m name (Some x) = insert m name x
 
-abbrev pub map_of : {R A : Type 0} → (R → List ℕ) → (R → Option A) → List R → FinMap (slice_cmp nat_cmp) A
+abbrev pub map_of : {R A : Type 0} → (R → List ℕ) → (R → Option A) → List R
+    → FinMap (slice_cmp nat_cmp) A
 map_of name value [] = empty
 map_of name value (row ∷ rows) = put_some (map_of name value rows) (name row) (value row)
 
@@ -62,24 +67,35 @@ history_in rows name = filter_map line_of_row (filter (is_line_of name) rows)
 abbrev pub runs_to : CheckedStrategy → List Recorded → List RunRow → List ℕ → ℕ → List Run
 runs_to strategy measurements rows name zero = []
 runs_to strategy measurements rows name (suc n) =
-    runs_to strategy measurements rows name n ++ filter_map (run_of_row strategy measurements) (filter (is_run name (suc n)) rows)
+    runs_to strategy measurements rows name n
+    ++ filter_map (run_of_row strategy measurements) (filter (is_run name (suc n)) rows)
 
 abbrev pub past_in : Tables → List ℕ → CheckedStrategy → ℕ → Past
 past_in t name strategy runs =
     let measurements = measurements_in t.measurements name in
-    record { runs = runs_to strategy measurements t.runs name runs; measurements = measurements; history = history_in t.history name }
+    record {
+      runs = runs_to strategy measurements t.runs name runs;
+      measurements = measurements;
+      history = history_in t.history name;
+    }
 
 -- services
 
-abbrev pub service_from : Tables → ServiceRow → ServiceSpec → CheckedStrategy → Option Stand → Option ModelService
+abbrev pub service_from : Tables → ServiceRow → ServiceSpec → CheckedStrategy → Option Stand
+    → Option ModelService
 service_from t row made strategy None = None
-service_from t row made strategy (Some stand) = Some (record { made = made; stand = stand; past = past_in t row.name strategy row.standing.runs })
+service_from t row made strategy (Some stand) =
+    Some (record
+    { made = made; stand = stand; past = past_in t row.name strategy row.standing.runs })
 
 abbrev pub service_made : Templates → Tables → ServiceRow → ServiceSpec → Option ModelService
-service_made known t row made = let strategy = strategy_of known made in service_from t row made strategy (stand_of row.name strategy row.standing)
+service_made known t row made =
+    let strategy = strategy_of known made in service_from t row made strategy
+    (stand_of row.name strategy row.standing)
 
 abbrev pub service_of_row : Templates → Tables → ServiceRow → Option ModelService
-service_of_row known t row = option_and_then (service_made known t row) (made_from (canonical_in row.spec))
+service_of_row known t row =
+    option_and_then (service_made known t row) (made_from (canonical_in row.spec))
 
 abbrev pub services_of : Templates → Tables → FinMap (slice_cmp nat_cmp) ModelService
 services_of known t = map_of (λ (row : ServiceRow). row.name) (service_of_row known t) t.services
@@ -87,9 +103,13 @@ services_of known t = map_of (λ (row : ServiceRow). row.name) (service_of_row k
 abbrev pub contents_of : Tables → Contents
 contents_of t =
     let templates = templates_of t.templates in
-    record { callers = callers_of t.kept t.callers; desk = record { templates = templates; services = services_of (get templates) t } }
+    record {
+      callers = callers_of t.kept t.callers;
+      desk = record { templates = templates; services = services_of (get templates) t };
+    }
 
--- tables hold contents: their rows are those of what they are read as, all of which is read back, and what holds of all contents holds of it
+-- tables hold contents: their rows are those of what they are read as, all of which is read back,
+-- and what holds of all contents holds of it
 pub record HoldsContents (t : Tables) : Type 0 where
   pub rows : AreRows t (contents_of t)
   pub readable : IsReadable (contents_of t)

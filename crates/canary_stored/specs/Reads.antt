@@ -22,7 +22,8 @@ IsRowRead value (Err Memory) = Unit {0}
 
 -- a template is read that a command adds, where nothing refuses it
 abbrev pub IsTemplateRead : Option Command → Result Template RowFault → Type 0
-IsTemplateRead (Some (command.Template spec)) (Ok template) = (template_refusal spec ≡ None) × (template ≡ template_of spec)
+IsTemplateRead (Some (command.Template spec)) (Ok template) =
+    (template_refusal spec ≡ None) × (template ≡ template_of spec)
 IsTemplateRead (Some (command.Template spec)) (Err Broken) = template_refusal spec ≢ None
 IsTemplateRead other (Ok template) = ⊥
 IsTemplateRead other (Err Broken) = Unit {0}

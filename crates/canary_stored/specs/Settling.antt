@@ -19,17 +19,27 @@ use Rattle.canary_stored.specs.Tables.{IsReadableCommand, IsReadableMeasurement,
 
 -- so many requests of the caller are settled now
 abbrev pub caller_settled : List ℕ → ℕ → Tables → Tables
-caller_settled name number t = if number == 1 then with_caller (caller_row name 1) t else with_settled name number t
+caller_settled name number t =
+    if number == 1 then with_caller (caller_row name 1) t else with_settled name number t
 
 abbrev pub run_opened : List ℕ → Opening → Tables → Tables
 run_opened name x t =
-    tallies_opened name x.run 0 x.metrics (with_run (record { service = name; number = x.run; step = x.step; started = x.started; ending = ending_of None }) t)
+    tallies_opened name x.run 0 x.metrics
+    (with_run
+    (record {
+      service = name;
+      number = x.run;
+      step = x.step;
+      started = x.started;
+      ending = ending_of None;
+    }) t)
 
 -- one thing happens to the service of that name
 abbrev pub happened : List ℕ → Effect → Tables → Tables
 happened name (Told line) t = with_line (history_row name line) t
 happened name (Opened x) t = run_opened name x t
-happened name (Measured x) t = with_counted name x.run x.metric x.phase x.taken (with_measurement (measurement_row name x) t)
+happened name (Measured x) t =
+    with_counted name x.run x.metric x.phase x.taken (with_measurement (measurement_row name x) t)
 happened name (Closed x tallies) t = with_ending name x.run (ending_of (Some x)) t
 
 abbrev pub all_happened : List ℕ → List Effect → Tables → Tables
@@ -50,12 +60,16 @@ service_put command s t =
 -- what a command changes of the desk
 abbrev pub desk_changed : Command → DeskChange → Tables → Tables
 desk_changed command Nothing t = t
-desk_changed command (AddsTemplate template) t = with_template (record { name = template.spec.name; spec = command_text command }) t
-desk_changed command (Updates s effects) t = all_happened s.stand.name effects (service_put command s t)
+desk_changed command (AddsTemplate template) t =
+    with_template (record { name = template.spec.name; spec = command_text command }) t
+desk_changed command (Updates s effects) t =
+    all_happened s.stand.name effects (service_put command s t)
 
 -- the tables after a settled request
 abbrev pub request_settled : Settlement → Tables → Tables
-request_settled s t = desk_changed s.receipt.command s.change (with_kept (kept_row s.caller s.number s.receipt) (caller_settled s.caller s.number t))
+request_settled s t =
+    desk_changed s.receipt.command s.change
+    (with_kept (kept_row s.caller s.number s.receipt) (caller_settled s.caller s.number t))
 
 -- What the statements ask of the tables that they come to.
 
@@ -72,7 +86,8 @@ AllAsk name (x ∷ xs) t = Asks name x t × AllAsk name xs (happened name x t)
 abbrev pub CallerAsks : List ℕ → ℕ → Tables → Type 0
 CallerAsks name number t = (number == 1) ≡ false → HasCaller name t
 
-pub record ServiceAsks (command : Command) (s : ServiceParts) (effects : List Effect) (t : Tables) : Type 0 where
+pub record ServiceAsks (command : Command) (s : ServiceParts) (effects : List Effect)
+    (t : Tables) : Type 0 where
   pub service : has_service s.stand.name t ≡ true → HasService s.stand.name t
   pub effects_ask : AllAsk s.stand.name effects (service_put command s t)
 
@@ -83,7 +98,8 @@ DeskAsks command (Updates s effects) t = ServiceAsks command s effects t
 
 pub record RequestAsks (s : Settlement) (t : Tables) : Type 0 where
   pub caller : CallerAsks s.caller s.number t
-  pub desk : DeskAsks s.receipt.command s.change (with_kept (kept_row s.caller s.number s.receipt) (caller_settled s.caller s.number t))
+  pub desk : DeskAsks s.receipt.command s.change
+      (with_kept (kept_row s.caller s.number s.receipt) (caller_settled s.caller s.number t))
 
 -- What of a request must be read back.
 

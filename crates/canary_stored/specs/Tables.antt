@@ -36,7 +36,8 @@ row_if row (Some x) = row x ∷ []
 -- numbers count from 1
 abbrev pub kept_rows : List ℕ → ℕ → List Receipt → List KeptRow
 kept_rows caller zero receipts = []
-kept_rows caller (suc place) receipts = row_if (kept_row caller (suc place)) (slice_get receipts place)
+kept_rows caller (suc place) receipts =
+    row_if (kept_row caller (suc place)) (slice_get receipts place)
 
 -- the run of that number, in a list in order of their numbers
 abbrev pub run_at : ℕ → List Run → Option Run
@@ -48,23 +49,38 @@ run_rows name number runs = row_if (run_row name) (run_at number runs)
 
 abbrev pub tally_rows_of : List ℕ → ℕ → ℕ → Option Run → List TallyRow
 tally_rows_of name number metric None = []
-tally_rows_of name number metric (Some r) = row_if (λ list. tally_row name number metric (counts_of list)) (slice_get r.lists metric)
+tally_rows_of name number metric (Some r) =
+    row_if (λ list. tally_row name number metric (counts_of list)) (slice_get r.lists metric)
 
 abbrev pub tally_rows : List ℕ → ℕ → ℕ → List Run → List TallyRow
 tally_rows name number metric runs = tally_rows_of name number metric (run_at number runs)
 
--- under each key the tables have the rows of the contents, each once, and no others; a service's measurements and lines stand in order
+-- under each key the tables have the rows of the contents, each once, and no others; a service's
+-- measurements and lines stand in order
 pub record AreRows (t : Tables) (c : Contents) : Type 0 where
-  pub callers : (name : List ℕ) → filter (is_caller name) t.callers ≡ row_if (λ receipts. caller_row name (length receipts)) (get c.callers name)
-  pub kept : (caller : List ℕ) (number : ℕ) → filter (is_kept caller number) t.kept ≡ kept_rows caller number (receipts_of c caller)
-  pub templates : (name : List ℕ) → filter (is_template name) t.templates ≡ row_if (template_row name) (get c.desk.templates name)
-  pub services : (name : List ℕ) → filter (is_service name) t.services ≡ row_if (service_row name) (get c.desk.services name)
-  pub runs : (name : List ℕ) (number : ℕ) → filter (is_run name number) t.runs ≡ run_rows name number (past_of c name).runs
-  pub tallies : (name : List ℕ) (number metric : ℕ) → filter (is_tally name number metric) t.tallies ≡ tally_rows name number metric (past_of c name).runs
-  pub measurements : (name : List ℕ) → filter (is_measurement_of name) t.measurements ≡ map (measurement_row name) (past_of c name).measurements
-  pub history : (name : List ℕ) → filter (is_line_of name) t.history ≡ map (history_row name) (past_of c name).history
+  pub callers : (name : List ℕ)
+      → filter (is_caller name) t.callers
+      ≡ row_if (λ receipts. caller_row name (length receipts)) (get c.callers name)
+  pub kept : (caller : List ℕ) (number : ℕ)
+      → filter (is_kept caller number) t.kept ≡ kept_rows caller number (receipts_of c caller)
+  pub templates : (name : List ℕ)
+      → filter (is_template name) t.templates
+      ≡ row_if (template_row name) (get c.desk.templates name)
+  pub services : (name : List ℕ)
+      → filter (is_service name) t.services ≡ row_if (service_row name) (get c.desk.services name)
+  pub runs : (name : List ℕ) (number : ℕ)
+      → filter (is_run name number) t.runs ≡ run_rows name number (past_of c name).runs
+  pub tallies : (name : List ℕ) (number metric : ℕ)
+      → filter (is_tally name number metric) t.tallies
+      ≡ tally_rows name number metric (past_of c name).runs
+  pub measurements : (name : List ℕ)
+      → filter (is_measurement_of name) t.measurements
+      ≡ map (measurement_row name) (past_of c name).measurements
+  pub history : (name : List ℕ)
+      → filter (is_line_of name) t.history ≡ map (history_row name) (past_of c name).history
 
--- What is read back: values whose texts and numbers are read as these values. All that a program keeps is; a command with a name of any bytes is not.
+-- What is read back: values whose texts and numbers are read as these values. All that a program
+-- keeps is; a command with a name of any bytes is not.
 
 abbrev pub IsReadableCommand : Command → Type 0
 IsReadableCommand c = canonical_in (command_text c) ≡ Some c
@@ -79,7 +95,8 @@ IsReadableLine line = event_of (words line.event) ≡ Some line.event
 -- it is of that run, and its verdict is a phase that is kept
 abbrev pub IsReadableClosing : ℕ → Option Closing → Type 0
 IsReadableClosing number None = Unit {0}
-IsReadableClosing number (Some x) = (x.run ≡ number) × (phase_of_number (phase_column x.verdict) ≡ Some x.verdict)
+IsReadableClosing number (Some x) =
+    (x.run ≡ number) × (phase_of_number (phase_column x.verdict) ≡ Some x.verdict)
 
 abbrev pub IsReadableRun : Run → Type 0
 IsReadableRun r = IsReadableClosing r.number r.closed
@@ -90,7 +107,10 @@ pub record IsReadablePast (p : Past) : Type 0 where
   pub history : AllByRecursion IsReadableLine p.history
 
 pub record IsReadable (c : Contents) : Type 0 where
-  pub receipts : (caller : List ℕ) (number : ℕ) (receipt : Receipt) → receipt_at c caller number ≡ Some receipt → IsReadableCommand receipt.command
-  pub templates : (name : List ℕ) (t : Template) → get c.desk.templates name ≡ Some t → IsReadableCommand (command.Template t.spec)
-  pub made : (name : List ℕ) (m : ModelService) → get c.desk.services name ≡ Some m → IsReadableCommand (command.Service m.made)
+  pub receipts : (caller : List ℕ) (number : ℕ) (receipt : Receipt)
+      → receipt_at c caller number ≡ Some receipt → IsReadableCommand receipt.command
+  pub templates : (name : List ℕ) (t : Template) → get c.desk.templates name ≡ Some t
+      → IsReadableCommand (command.Template t.spec)
+  pub made : (name : List ℕ) (m : ModelService) → get c.desk.services name ≡ Some m
+      → IsReadableCommand (command.Service m.made)
   pub pasts : (name : List ℕ) → IsReadablePast (past_of c name)

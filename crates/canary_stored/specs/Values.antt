@@ -45,12 +45,19 @@ caller_row name settled = record { name = name; settled = settled }
 
 abbrev pub kept_row : List ℕ → ℕ → Receipt → KeptRow
 kept_row caller number receipt =
-    record { caller = caller; number = number; command = command_text receipt.command; status = status_code receipt.reply.status; body = receipt.reply.body }
+    record {
+      caller = caller;
+      number = number;
+      command = command_text receipt.command;
+      status = status_code receipt.reply.status;
+      body = receipt.reply.body;
+    }
 
 -- a template and a service are kept by the command that made them
 
 abbrev pub template_row : List ℕ → Template → TemplateRow
-template_row name template = record { name = name; spec = command_text (command.Template template.spec) }
+template_row name template =
+    record { name = name; spec = command_text (command.Template template.spec) }
 
 abbrev pub standing_of : Stand → ℕ → Standing
 standing_of s runs = record {
@@ -66,21 +73,43 @@ standing_of s runs = record {
 }
 
 abbrev pub service_row : List ℕ → ModelService → ServiceRow
-service_row name m = record { name = name; spec = command_text (command.Service m.made); standing = standing_of m.stand (length m.past.runs) }
+service_row name m =
+    record {
+      name = name;
+      spec = command_text (command.Service m.made);
+      standing = standing_of m.stand (length m.past.runs);
+    }
 
 abbrev pub ending_of : Option Closing → Ending
 ending_of None = record { closed = None; outside = 0; verdict = 0 }
-ending_of (Some x) = record { closed = Some x.at; outside = bit x.outside; verdict = phase_column x.verdict }
+ending_of (Some x) =
+    record { closed = Some x.at; outside = bit x.outside; verdict = phase_column x.verdict }
 
 abbrev pub run_row : List ℕ → Run → RunRow
-run_row name r = record { service = name; number = r.number; step = r.step; started = r.started; ending = ending_of r.closed }
+run_row name r =
+    record {
+      service = name;
+      number = r.number;
+      step = r.step;
+      started = r.started;
+      ending = ending_of r.closed;
+    }
 
 abbrev pub tally_row : List ℕ → ℕ → ℕ → Counts → TallyRow
-tally_row name run metric counts = record { service = name; run = run; metric = metric; counts = counts }
+tally_row name run metric counts =
+    record { service = name; run = run; metric = metric; counts = counts }
 
 abbrev pub measurement_row : List ℕ → Recorded → MeasurementRow
 measurement_row name x =
-    record { service = name; run = x.run; metric = x.metric; ordinal = x.ordinal; taken = x.taken; phase = phase_column x.phase; outcome = outcome_text x.outcome }
+    record {
+      service = name;
+      run = x.run;
+      metric = x.metric;
+      ordinal = x.ordinal;
+      taken = x.taken;
+      phase = phase_column x.phase;
+      outcome = outcome_text x.outcome;
+    }
 
 abbrev pub history_row : List ℕ → Line → HistoryRow
 history_row name line = record { service = name; moment = line.moment; line = words line.event }
@@ -88,7 +117,8 @@ history_row name line = record { service = name; moment = line.moment; line = wo
 -- The value of a row, if its texts and numbers are those of one.
 
 abbrev pub receipt_from : KeptRow → Option Command → Option ReplyStatus → Option Receipt
-receipt_from row (Some command) (Some status) = Some (record { command = command; reply = record { status = status; body = row.body } })
+receipt_from row (Some command) (Some status) =
+    Some (record { command = command; reply = record { status = status; body = row.body } })
 receipt_from row command status = None
 
 abbrev pub receipt_of_row : KeptRow → Option Receipt
@@ -105,7 +135,8 @@ abbrev pub made_from : Option Command → Option ServiceSpec
 made_from (Some (command.Service spec)) = Some spec
 made_from command = None
 
-abbrev pub stand_from : List ℕ → CheckedStrategy → Standing → Option State → Option (Bool × Bool) → Option Bool → Option Stand
+abbrev pub stand_from : List ℕ → CheckedStrategy → Standing → Option State → Option (Bool × Bool)
+    → Option Bool → Option Stand
 stand_from name strategy s (Some state) (Some hold) (Some background) = Some (record {
   name = name;
   strategy = strategy;
@@ -123,15 +154,19 @@ stand_from name strategy s state hold background = None
 
 -- a service of that name and strategy that stands so
 abbrev pub stand_of : List ℕ → CheckedStrategy → Standing → Option Stand
-stand_of name strategy s = stand_from name strategy s (state_of s.state) (hold_of s.hold) (truth_of s.background)
+stand_of name strategy s =
+    stand_from name strategy s (state_of s.state) (hold_of s.hold) (truth_of s.background)
 
 abbrev pub closing_from : ℕ → ℕ → Option Bool → Option Phase → Option (Option Closing)
-closing_from number at (Some outside) (Some verdict) = Some (Some (record { run = number; at = at; outside = outside; verdict = verdict }))
+closing_from number at (Some outside) (Some verdict) =
+    Some (Some (record { run = number; at = at; outside = outside; verdict = verdict }))
 closing_from number at outside verdict = None
 
 abbrev pub closing_at : ℕ → Option ℕ → ℕ → ℕ → Option (Option Closing)
-closing_at number None outside verdict = if (outside == 0) && (verdict == 0) then Some None else None
-closing_at number (Some at) outside verdict = closing_from number at (truth_of outside) (phase_of_number verdict)
+closing_at number None outside verdict =
+    if (outside == 0) && (verdict == 0) then Some None else None
+closing_at number (Some at) outside verdict =
+    closing_from number at (truth_of outside) (phase_of_number verdict)
 
 -- how the run of that number was closed, if it was
 abbrev pub closing_of : ℕ → Ending → Option (Option Closing)
@@ -140,11 +175,18 @@ closing_of number ending = closing_at number ending.closed ending.outside ending
 -- a run's lists, from this metric on, so many of them
 abbrev pub lists_in : List Recorded → ℕ → ℕ → ℕ → List (List Recorded)
 lists_in measurements run metric zero = []
-lists_in measurements run metric (suc n) = filter (is_of run metric) measurements ∷ lists_in measurements run (suc metric) n
+lists_in measurements run metric (suc n) =
+    filter (is_of run metric) measurements ∷ lists_in measurements run (suc metric) n
 
 abbrev pub run_from : List Recorded → ℕ → RunRow → Option (Option Closing) → Option Run
 run_from measurements metrics row (Some closed) =
-    Some (record { number = row.number; step = row.step; started = row.started; closed = closed; lists = lists_in measurements row.number 0 metrics })
+    Some (record {
+      number = row.number;
+      step = row.step;
+      started = row.started;
+      closed = closed;
+      lists = lists_in measurements row.number 0 metrics;
+    })
 run_from measurements metrics row None = None
 
 -- how many metrics a run has
@@ -153,11 +195,19 @@ metric_count strategy step = length (unwrap_or (metrics_at strategy step) [])
 
 -- a run of a service of that strategy, which has had these measurements
 abbrev pub run_of_row : CheckedStrategy → List Recorded → RunRow → Option Run
-run_of_row strategy measurements row = run_from measurements (metric_count strategy row.step) row (closing_of row.number row.ending)
+run_of_row strategy measurements row =
+    run_from measurements (metric_count strategy row.step) row (closing_of row.number row.ending)
 
 abbrev pub measurement_from : MeasurementRow → Option Phase → Option Outcome → Option Recorded
 measurement_from row (Some phase) (Some outcome) =
-    Some (record { run = row.run; metric = row.metric; ordinal = row.ordinal; taken = row.taken; outcome = outcome; phase = phase })
+    Some (record {
+      run = row.run;
+      metric = row.metric;
+      ordinal = row.ordinal;
+      taken = row.taken;
+      outcome = outcome;
+      phase = phase;
+    })
 measurement_from row phase outcome = None
 
 abbrev pub measurement_of_row : MeasurementRow → Option Recorded

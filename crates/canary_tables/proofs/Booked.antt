@@ -49,7 +49,7 @@ module _ {S : Type 0} (g : Ghosts S) where
   pub finds : {A : Type 0} (value : Contents → A) (old new : Held S) (r : Result A BookFault) → IsBook g old → IsSame (state g old) (state g new)
       → (IsUsable (state g new) → IfOk r (λ x. x ≡ value (contents_in (state g old)))) → Finds value (book_state g old) (book_state g new) r
   finds value old new r book same found = record {
-    intact = λ usable. (same usable).0;
+    honest = λ usable. (same usable).0;
     in_memory = λ h. (h.0, h.0 new);
     lawful = λ usable. (book.desk (same usable).0).holds.lawful;
     same = λ usable. contents_stay old new (same usable).1;
@@ -65,7 +65,7 @@ module _ {S : Type 0} (g : Ghosts S) where
   settled_so law s old new few book settling held desk settled =
       let keeps = λ (usable : IsUsable (state g new)). law (contents_in (state g old)) s few (settling (held usable)) (book.desk (held usable)).holds.lawful in
       record {
-        intact = held;
+        honest = held;
         in_memory = λ h. (h.0, h.0 new);
         lawful = λ usable. (desk usable).holds.lawful;
         sound = λ usable sound. subst AreSoundContents (sym (settled usable)) ((keeps usable).sound sound);
@@ -82,7 +82,7 @@ module _ {S : Type 0} (g : Ghosts S) where
   failed_so s old new fault book held same =
       let stay = λ (usable : IsUsable (state g new)). contents_stay old new (same usable) in
       record {
-        intact = held;
+        honest = held;
         in_memory = λ h. (h.0, h.0 new);
         lawful = λ usable. subst AreContents (sym (stay usable)) (book.desk (held usable)).holds.lawful;
         sound = λ usable sound. subst AreSoundContents (sym (stay usable)) sound;

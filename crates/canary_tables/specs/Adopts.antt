@@ -31,7 +31,8 @@ HasSoundRowsWithin db = (t : Tables) × (Holds db.schema db t × (AreWithin t ×
 abbrev pub HaveSameRows : Database → Database → Type 0
 HaveSameRows old new = (t : Tables) → Holds old.schema old t ↔ Holds new.schema new t
 
--- a desk's database, whose rows are those of sound contents, has been given the indexes that it lacked
+-- a desk's database, whose rows are those of sound contents, has been given the indexes that it
+-- lacked
 pub record IsBelieved (old : Database) (new : State) : Type 0 where
   pub formed : IsFormed old
   pub rows : Tables
@@ -55,7 +56,8 @@ TellsTables g (left.Store store) = Unit {0}
 
 -- the rows are as they were; so are all trees of a store alone, which is clean and open
 abbrev pub LeavesRows : {S : Type 0} → Ghosts S → State → Left S → Type 0
-LeavesRows g old (left.Connection conn) = IsUsable (state g conn) → IsUsable old × HaveSameRows old.now (state g conn).now
+LeavesRows g old (left.Connection conn) =
+    IsUsable (state g conn) → IsUsable old × HaveSameRows old.now (state g conn).now
 LeavesRows g old (left.Store store) = IsLeft old (g.view store)
 
 -- a connection stands outside a transaction; a store alone has none

@@ -24,7 +24,13 @@ IsMemory {S} g = (h : Held S) → IsUsable (state g h)
 
 -- how a book over a connection stands: its store is honest where the connection is usable
 abbrev pub book_state : {S : Type 0} → Ghosts S → Held S → BookState
-book_state g h = record { contents = contents_in (state g h); is_intact = IsUsable (state g h); is_in_memory = IsMemory g; is_sure = false }
+book_state g h =
+    record {
+      contents = contents_in (state g h);
+      is_honest = IsUsable (state g h);
+      is_in_memory = IsMemory g;
+      is_sure = false;
+    }
 
 -- a book's connection stands outside a transaction, over a desk's database
 pub record IsBook {S : Type 0} (g : Ghosts S) (h : Held S) : Type 0 where

@@ -1,5 +1,5 @@
-//! Stories, sent row by row to a book over tables in memory and to a book in memory. Each test holds
-//! as well where any one allocation is refused: what was answered 503 is sent again.
+//! Stories, sent row by row to a book over tables in memory and to a book in memory. Each test
+//! holds as well where any one allocation is refused: what was answered 503 is sent again.
 
 use crate::asked::event;
 use canary_adopting::progress::Untold;

@@ -6,7 +6,8 @@
 //! seconds after B and an outcome that is a result or `!` and a failure's text:
 //!
 //! - `template NAME METRIC.. dryRun:NAME..`
-//! - `service VERSION STEP.. background:TEMPLATE`, each step `setWeight:N`, `pause`, `pause:SECONDS`
+//! - `service VERSION STEP.. background:TEMPLATE`, each step `setWeight:N`, `pause`,
+//! `pause:SECONDS`
 //!   or `analysis:TEMPLATE`, or `N*` in front of one that stands so many times
 //! - `start VERSION`, `promote`, `promoteFull`, `abort`, `retry`, `tick`
 //! - `report RUN ENTRY..`

@@ -1,6 +1,6 @@
-//! Conditions and the texts of results: which fault a text has and where, copies, and what is written
-//! and read back. Which texts are conditions, and the phases of results, is told by the program
-//! (tests/stories).
+//! Conditions and the texts of results: which fault a text has and where, copies, and what is
+//! written and read back. Which texts are conditions, and the phases of results, is told by the
+//! program (tests/stories).
 use canary_base::error::Memory;
 use canary_base::lists::Text;
 use canary_condition::condition::{Condition, ConditionFault, Verdict3};

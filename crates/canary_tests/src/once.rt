@@ -1,7 +1,7 @@
-//! The register over a book in memory: what no program answers (moments that fall, copies, a clock).
-//! The stories that requests make are told to the program (tests/stories). Each test holds as well
-//! where any one allocation is refused: what was answered 503 changed nothing, no more than one
-//! request is answered so, and it is sent again.
+//! The register over a book in memory: what no program answers (moments that fall, copies, a
+//! clock). The stories that requests make are told to the program (tests/stories). Each test holds
+//! as well where any one allocation is refused: what was answered 503 changed nothing, no more than
+//! one request is answered so, and it is sent again.
 
 use crate::sending::{
     NO_MEMORY, UNKNOWN, again, count_told, ops, promotions, request, send_story, settled,
@@ -33,8 +33,8 @@ ops 3 1 promote => [web Healthy 1 100]";
 
 const ADDED: &str = "service v1 setWeight:20 pause";
 
-/// The moments of the service web: the last that it has seen, and that at which it entered its step;
-/// none where memory was refused.
+/// The moments of the service web: the last that it has seen, and that at which it entered its
+/// step; none where memory was refused.
 fn moments(book: &mut MemoryBook) -> Option<(u64, u64)> {
     let web = Name::read("web".as_bytes())?;
     let service = book.service(&web).ok()??;

@@ -1,6 +1,6 @@
-//! Queries: pages of measurements, copies, and what a book in memory has of a service. What is shown
-//! of services, histories and runs is told by the program (tests/stories). Each test holds as well
-//! where any one allocation is refused.
+//! Queries: pages of measurements, copies, and what a book in memory has of a service. What is
+//! shown of services, histories and runs is told by the program (tests/stories). Each test holds as
+//! well where any one allocation is refused.
 
 use crate::sending::{UNKNOWN, again, event, send, send_story};
 use canary_base::error::Memory;

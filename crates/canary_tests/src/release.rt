@@ -1,6 +1,6 @@
-//! Releases: copies of what commands decide and leave, services that pass, and services of parts. The
-//! histories of whole releases are told by the program (tests/stories). A test ends with an error
-//! where memory was refused.
+//! Releases: copies of what commands decide and leave, services that pass, and services of parts.
+//! The histories of whole releases are told by the program (tests/stories). A test ends with an
+//! error where memory was refused.
 //!
 //! A row is the seconds after B and what is asked, what the body of the reply stands for, and the
 //! lines that are told, each with its seconds after B.

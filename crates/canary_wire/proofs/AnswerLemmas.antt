@@ -11,7 +11,7 @@ use Rattle.canary_wire.specs.Exchanges.{Handling, rejected, IsHandling, Books}
 
 -- the book was not asked
 pub books_rejected : (b : BookState) (r : Rejection) → Books b b (rejected r)
-books_rejected b r = record { intact = λ h. h; sure = (refl, tt); sound = λ h sound. sound; handled = λ h. refl; receipts = λ h caller number receipt e. e }
+books_rejected b r = record { honest = λ h. h; sure = (refl, tt); sound = λ h sound. sound; handled = λ h. refl; receipts = λ h caller number receipt e. e }
 
 pub handling_as : (method method' target target' body body' : List ℕ) (moment : ℕ) (o : Handling) → method ≡ method' → target ≡ target' → body ≡ body'
     → IsHandling method target body moment o → IsHandling method' target' body' moment o

@@ -1,4 +1,5 @@
--- How a stream is cut into messages, over the grammar of a request's head that `httparse` reads (RFC 9112).
+-- How a stream is cut into messages, over the grammar of a request's head that `httparse` reads
+-- (RFC 9112).
 use Rattle.std.specs.Prelude.{◌≡◌, ℕ, ◌<◌, ◌≤◌, ◌⊎◌, Bool, true, false, ◌||◌, ◌==◌, List, [], ◌∷◌, ◌++◌, length, drop, if◌then◌else◌, flat_map, slice_range}
 use Rattle.std.specs.List.{list_all, AllByRecursion}
 use Rattle.httparse.specs.Grammar.{RequestHead, print_request, IsRequestHead, ReadsRequest, HasNoRequest, NeverHasRequest, EndsInTarget, MayBecomeRequest}
@@ -66,12 +67,14 @@ pub data Hopeless (bytes : List ℕ) : Type 0 where
 -- the bytes begin with what is rejected so; the reply is its head alone, or not
 pub data IsRejected (bytes : List ℕ) : Rejection → Bool → Type 0 where
   malformed : NeverHasHead bytes → Hopeless bytes → IsRejected bytes Malformed false
-  framed : (h : RequestHead) (after : List ℕ) (r : Rejection) → HasHead bytes h after → head_framing h ≡ Rejected r → IsRejected bytes r (is_bare h)
+  framed : (h : RequestHead) (after : List ℕ) (r : Rejection) → HasHead bytes h after
+      → head_framing h ≡ Rejected r → IsRejected bytes r (is_bare h)
 
 -- no whole message, and more bytes may make one
 pub data IsUnfinished (bytes : List ℕ) : Type 0 where
   head : HasNoRequest bytes → length bytes < 16384 → MayBecomeRequest bytes → IsUnfinished bytes
-  body : (h : RequestHead) (after : List ℕ) (n : ℕ) → HasHead bytes h after → head_framing h ≡ Body n → n ≤ 65536 → length after < n → IsUnfinished bytes
+  body : (h : RequestHead) (after : List ℕ) (n : ℕ) → HasHead bytes h after
+      → head_framing h ≡ Body n → n ≤ 65536 → length after < n → IsUnfinished bytes
 
 -- ---- a whole stream
 
@@ -79,7 +82,8 @@ pub data IsUnfinished (bytes : List ℕ) : Type 0 where
 abbrev pub is_newline : ℕ → Bool
 is_newline b = b == 13 || b == 10
 
--- how the cutting ends: with nothing left but line ends, in the midst of a message, after a message that closes the stream, or at a rejection
+-- how the cutting ends: with nothing left but line ends, in the midst of a message, after a message
+-- that closes the stream, or at a rejection
 pub data Ending : Type 0 where
   idle cut_off closing : Ending
   rejecting : Rejection → Bool → Ending
@@ -93,21 +97,25 @@ pub record Begins (bytes : List ℕ) (ms : List Message) (rest : List ℕ) : Typ
 pub data IsCut (bytes : List ℕ) : List Message → Ending → Type 0 where
   unfinished : (ms : List Message) (rest : List ℕ) → Begins bytes ms rest → IsUnfinished rest
       → IsCut bytes ms (if list_all is_newline rest then idle else cut_off)
-  closed : (ms : List Message) (last : Message) (rest : List ℕ) → Begins bytes ms (message_bytes last ++ rest) → IsMessage last → closes last.head ≡ true
+  closed : (ms : List Message) (last : Message) (rest : List ℕ)
+      → Begins bytes ms (message_bytes last ++ rest) → IsMessage last → closes last.head ≡ true
       → IsCut bytes (ms ++ last ∷ []) closing
-  rejected : (ms : List Message) (rest : List ℕ) (r : Rejection) (bare : Bool) → Begins bytes ms rest → IsRejected rest r bare
+  rejected : (ms : List Message) (rest : List ℕ) (r : Rejection) (bare : Bool)
+      → Begins bytes ms rest → IsRejected rest r bare
       → IsCut bytes ms (rejecting r bare)
 
 -- bytes that end inside the target of a request or behind the 64th header line
 abbrev pub IsInDoubt : List ℕ → Type 0
 IsInDoubt rest = EndsInTarget rest ⊎ RequestExceeds 64 rest
 
--- two ends of one stream behind these messages are the same, but where what is left is in doubt, it may be cut off or rejected
+-- two ends of one stream behind these messages are the same, but where what is left is in doubt, it
+-- may be cut off or rejected
 abbrev pub SameEnding : List ℕ → List Message → Ending → Ending → Type 0
 SameEnding bytes ms e f =
     (e ≡ f)
     ⊎ (((rest : List ℕ) × Begins bytes ms rest × IsInDoubt rest)
-    × (((e ≡ cut_off) × (f ≡ rejecting Malformed false)) ⊎ ((f ≡ cut_off) × (e ≡ rejecting Malformed false))))
+    × (((e ≡ cut_off) × (f ≡ rejecting Malformed false))
+    ⊎ ((f ≡ cut_off) × (e ≡ rejecting Malformed false))))
 
 -- ---- what the code finds first
 

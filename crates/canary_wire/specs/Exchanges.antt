@@ -27,7 +27,8 @@ use Rattle.canary_wire.specs.Routes.{IsAsked}
 
 -- ---- what comes of a message
 
--- it is rejected, or memory ran out as its command was read, or it is a request to the register, which answered, or a query at a moment, which the register answered
+-- it is rejected, or memory ran out as its command was read, or it is a request to the register,
+-- which answered, or a query at a moment, which the register answered
 pub data Handling : Type 0 where
   rejected : Rejection → Handling
   no_memory : Handling
@@ -51,13 +52,18 @@ IsUnread body _ = ⊥
 abbrev pub IsRequest : List ℕ → List ℕ → Address → Type 0
 IsRequest method target a = IsAsked method target (Ok (asked.Request a))
 
--- what comes of a method, a target and a body at a moment: the first rejection that holds, or the request that they are, or the query, of which the body says nothing
+-- what comes of a method, a target and a body at a moment: the first rejection that holds, or the
+-- request that they are, or the query, of which the body says nothing
 abbrev pub IsHandling : List ℕ → List ℕ → List ℕ → ℕ → Handling → Type 0
-IsHandling method target body moment (rejected r) = IsAsked method target (Err r) ⊎ ((a : Address) × IsRequest method target a × IsUnread body r)
+IsHandling method target body moment (rejected r) =
+    IsAsked method target (Err r) ⊎ ((a : Address) × IsRequest method target a × IsUnread body r)
 IsHandling method target body moment no_memory = (a : Address) × IsRequest method target a
 IsHandling method target body moment (posted request answer) =
-    (a : Address) × (command : Command) × IsRequest method target a × (body_reading body ≡ readable command) × (request ≡ request_of moment a.caller a.number command)
-IsHandling method target body moment (viewed at query answer) = IsAsked method target (Ok (asked.Query query)) × (at ≡ moment)
+    (a : Address) × (command : Command) × IsRequest method target a
+    × (body_reading body ≡ readable command)
+    × (request ≡ request_of moment a.caller a.number command)
+IsHandling method target body moment (viewed at query answer) =
+    IsAsked method target (Ok (asked.Query query)) × (at ≡ moment)
 
 -- only over a book that is not sure a request or a query is answered 503 for its store
 abbrev pub IsSureHandling : Bool → Handling → Type 0
@@ -75,7 +81,8 @@ pub record Exchange : Type 0 where
   pub handling : Handling
 
 abbrev pub IsExchange : Exchange → Type 0
-IsExchange x = IsHandling x.message.head.method x.message.head.target x.message.body x.moment x.handling
+IsExchange x =
+    IsHandling x.message.head.method x.message.head.target x.message.body x.moment x.handling
 
 abbrev pub reply_bytes : Exchange → List ℕ
 reply_bytes x = reply_text (response_of x.handling) (closes x.message.head) (is_bare x.message.head)
@@ -119,16 +126,24 @@ point clock book = record { clock = clock; book = book }
 abbrev pub AreFirst : (ℕ → ℕ) → List ℕ → Type 0
 AreFirst moment_at moments = (k : ℕ) → k < length moments → slice_index moments k ≡ moment_at k
 
--- from one point to another these exchanges were held, in order: the k-th message has the clock's k-th moment, and of the events answered otherwise than by 503 the answers, and the contents afterwards, are those of the small machine, which stay sound
+-- from one point to another these exchanges were held, in order: the k-th message has the clock's
+-- k-th moment, and of the events answered otherwise than by 503 the answers, and the contents
+-- afterwards, are those of the small machine, which stay sound
 pub record Holds (old new : Point) (xs : List Exchange) : Type 0 where
   pub each : AllByRecursion IsExchange xs
-  pub moments : (moment_at : ℕ → ℕ) → old.clock moment_at → AreFirst moment_at (moments_of xs) × new.clock (λ k. moment_at (k + length xs))
-  pub intact : new.book.is_intact → old.book.is_intact
-  pub sure : (new.book.is_sure ≡ old.book.is_sure) × AllByRecursion (λ x. IsSureHandling old.book.is_sure x.handling) xs
-  pub sound : new.book.is_intact → AreSoundContents old.book.contents → AreSoundContents new.book.contents
-  pub answers : new.book.is_intact → replies_in (answers_in xs) ≡ answers_of old.book.contents (heard (events_of xs) (answers_in xs))
-  pub contents : new.book.is_intact → new.book.contents ≡ after old.book.contents (heard (events_of xs) (answers_in xs))
-  pub receipts : new.book.is_intact → KeepsReceipts old.book.contents new.book.contents
+  pub moments : (moment_at : ℕ → ℕ) → old.clock moment_at
+      → AreFirst moment_at (moments_of xs) × new.clock (λ k. moment_at (k + length xs))
+  pub honest : new.book.is_honest → old.book.is_honest
+  pub sure : (new.book.is_sure ≡ old.book.is_sure)
+      × AllByRecursion (λ x. IsSureHandling old.book.is_sure x.handling) xs
+  pub sound : new.book.is_honest → AreSoundContents old.book.contents
+      → AreSoundContents new.book.contents
+  pub answers : new.book.is_honest
+      → replies_in (answers_in xs)
+      ≡ answers_of old.book.contents (heard (events_of xs) (answers_in xs))
+  pub contents : new.book.is_honest
+      → new.book.contents ≡ after old.book.contents (heard (events_of xs) (answers_in xs))
+  pub receipts : new.book.is_honest → KeepsReceipts old.book.contents new.book.contents
 
 -- ---- step by step
 
@@ -146,24 +161,28 @@ AreHandled c (x ∷ xs) new = (mid : Contents) × IsHandled c x.handling mid × 
 
 -- what the book did as one message was handled
 pub record Books (old new : BookState) (h : Handling) : Type 0 where
-  pub intact : new.is_intact → old.is_intact
+  pub honest : new.is_honest → old.is_honest
   pub sure : (new.is_sure ≡ old.is_sure) × IsSureHandling old.is_sure h
-  pub sound : new.is_intact → AreSoundContents old.contents → AreSoundContents new.contents
-  pub handled : new.is_intact → IsHandled old.contents h new.contents
-  pub receipts : new.is_intact → KeepsReceipts old.contents new.contents
+  pub sound : new.is_honest → AreSoundContents old.contents → AreSoundContents new.contents
+  pub handled : new.is_honest → IsHandled old.contents h new.contents
+  pub receipts : new.is_honest → KeepsReceipts old.contents new.contents
 
 -- one message is answered
 pub record Exchanges (old new : Point) (x : Exchange) : Type 0 where
   pub is : IsExchange x
-  pub moment : (moment_at : ℕ → ℕ) → old.clock moment_at → (x.moment ≡ moment_at 0) × new.clock (λ k. moment_at (k + 1))
+  pub moment : (moment_at : ℕ → ℕ) → old.clock moment_at
+      → (x.moment ≡ moment_at 0) × new.clock (λ k. moment_at (k + 1))
   pub books : Books old.book new.book x.handling
 
 -- messages are answered, one after another
 pub record Went (old new : Point) (xs : List Exchange) : Type 0 where
   pub each : AllByRecursion IsExchange xs
-  pub moments : (moment_at : ℕ → ℕ) → old.clock moment_at → AreFirst moment_at (moments_of xs) × new.clock (λ k. moment_at (k + length xs))
-  pub intact : new.book.is_intact → old.book.is_intact
-  pub sure : (new.book.is_sure ≡ old.book.is_sure) × AllByRecursion (λ x. IsSureHandling old.book.is_sure x.handling) xs
-  pub sound : new.book.is_intact → AreSoundContents old.book.contents → AreSoundContents new.book.contents
-  pub handled : new.book.is_intact → AreHandled old.book.contents xs new.book.contents
-  pub receipts : new.book.is_intact → KeepsReceipts old.book.contents new.book.contents
+  pub moments : (moment_at : ℕ → ℕ) → old.clock moment_at
+      → AreFirst moment_at (moments_of xs) × new.clock (λ k. moment_at (k + length xs))
+  pub honest : new.book.is_honest → old.book.is_honest
+  pub sure : (new.book.is_sure ≡ old.book.is_sure)
+      × AllByRecursion (λ x. IsSureHandling old.book.is_sure x.handling) xs
+  pub sound : new.book.is_honest → AreSoundContents old.book.contents
+      → AreSoundContents new.book.contents
+  pub handled : new.book.is_honest → AreHandled old.book.contents xs new.book.contents
+  pub receipts : new.book.is_honest → KeepsReceipts old.book.contents new.book.contents

@@ -6,7 +6,8 @@ use Rattle.canary_wire.specs.declared.framing.Named.TheVariants.{Zero, One, Many
 
 abbrev pub Shows : List ℕ → Named → List (List ℕ) → Type 0
 Shows buf Zero values = values ≡ []
-Shows buf (One s) values = (values ≡ span_bytes buf s ∷ []) × (s.start ≤ s.end) × (s.end ≤ length buf)
+Shows buf (One s) values =
+    (values ≡ span_bytes buf s ∷ []) × (s.start ≤ s.end) × (s.end ≤ length buf)
 Shows buf Many values = 1 < length values
 
 -- a span that is there lies in the buffer

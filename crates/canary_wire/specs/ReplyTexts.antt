@@ -87,11 +87,13 @@ line_if false line = []
 unfoldable pub head_text : ℕ → ℕ → List ℕ → Bool → List ℕ
 head_text status size allow close =
     codes "HTTP/1.1 " ++ code_digits status ++ codes " " ++ reason_of status
-    ++ codes "\r\nContent-Type: application/json\r\nContent-Length: " ++ decimal size ++ codes "\r\n"
+    ++ codes "\r\nContent-Type: application/json\r\nContent-Length: " ++ decimal size
+    ++ codes "\r\n"
     ++ allow ++ line_if close (codes "Connection: close\r\n") ++ codes "\r\n"
 
 -- the head, and the body unless the head stands alone; the stream ends after it, or not
 unfoldable pub reply_text : Response → Bool → Bool → List ℕ
 reply_text response close bare =
-    head_text (response_status response) (length (response_body response)) (allow_line response) close
+    head_text (response_status response) (length (response_body response))
+    (allow_line response) close
     ++ (if bare then [] else response_body response)

@@ -24,7 +24,8 @@ use Rattle.canary_wire.specs.ReplyTexts.{method_name}
 abbrev pub path_of : List ℕ → List ℕ
 path_of target = before_first (λ b. b == 63) target
 
--- what a path leads to, with the parts of the path: a caller and a number, a service, or a service and a run's number
+-- what a path leads to, with the parts of the path: a caller and a number, a service, or a service
+-- and a run's number
 pub data Target : Type 0 where
   request : List ℕ → List ℕ → Target
   service : List ℕ → Target
@@ -90,10 +91,13 @@ name_in (run name number) = name
 
 -- the parts are read so
 abbrev pub IsReadAs : Target → Asked → Type 0
-IsReadAs t (asked.Request a) = (digits : List ℕ) × (t ≡ request a.caller digits) × IsTrue (is_name a.caller) × SpellsNumber digits a.number
+IsReadAs t (asked.Request a) =
+    (digits : List ℕ) × (t ≡ request a.caller digits) × IsTrue (is_name a.caller)
+    × SpellsNumber digits a.number
 IsReadAs t (asked.Query (query.Service name)) = (t ≡ service name) × IsTrue (is_name name)
 IsReadAs t (asked.Query (query.History name)) = (t ≡ history name) × IsTrue (is_name name)
-IsReadAs t (asked.Query (query.Run name number)) = (digits : List ℕ) × (t ≡ run name digits) × IsTrue (is_name name) × SpellsNumber digits number
+IsReadAs t (asked.Query (query.Run name number)) =
+    (digits : List ℕ) × (t ≡ run name digits) × IsTrue (is_name name) × SpellsNumber digits number
 
 -- a part that is to be a number spells none
 abbrev pub HasBadNumber : Target → Type 0
@@ -103,19 +107,22 @@ HasBadNumber (history name) = ⊥
 HasBadNumber (run name digits) = (n : ℕ) → ¬ (SpellsNumber digits n)
 
 -- the parts are read so, or the first rejection that holds of them
-abbrev pub IsRead : Target → Result Asked Rejection → Type 0
-IsRead t (Ok a) = IsReadAs t a
-IsRead t (Err BadName) = ¬ (IsTrue (is_name (name_in t)))
-IsRead t (Err BadNumber) = IsTrue (is_name (name_in t)) × HasBadNumber t
-IsRead t (Err _) = ⊥
+abbrev pub IsTargetRead : Target → Result Asked Rejection → Type 0
+IsTargetRead t (Ok a) = IsReadAs t a
+IsTargetRead t (Err BadName) = ¬ (IsTrue (is_name (name_in t)))
+IsTargetRead t (Err BadNumber) = IsTrue (is_name (name_in t)) × HasBadNumber t
+IsTargetRead t (Err _) = ⊥
 
 -- what a method and a target ask for, or the first rejection that holds
 abbrev pub IsAsked : List ℕ → List ℕ → Result Asked Rejection → Type 0
 IsAsked method target (Ok a) = (t : Target) × LeadsTo method target t × IsReadAs t a
 IsAsked method target (Err NoRoute) = HasNoRoute (path_of target)
-IsAsked method target (Err (Method allowed)) = (t : Target) × IsPathOf (path_of target) t × (method ≢ method_of t) × (allowed ≡ allowed_on t)
-IsAsked method target (Err BadName) = (t : Target) × LeadsTo method target t × ¬ (IsTrue (is_name (name_in t)))
-IsAsked method target (Err BadNumber) = (t : Target) × LeadsTo method target t × IsTrue (is_name (name_in t)) × HasBadNumber t
+IsAsked method target (Err (Method allowed)) =
+    (t : Target) × IsPathOf (path_of target) t × (method ≢ method_of t) × (allowed ≡ allowed_on t)
+IsAsked method target (Err BadName) =
+    (t : Target) × LeadsTo method target t × ¬ (IsTrue (is_name (name_in t)))
+IsAsked method target (Err BadNumber) =
+    (t : Target) × LeadsTo method target t × IsTrue (is_name (name_in t)) × HasBadNumber t
 IsAsked method target (Err _) = ⊥
 
 -- ---- step by step
@@ -160,16 +167,48 @@ abbrev pub run_pattern : List ℕ
 run_pattern = codes "/services/" ++ param_token ∷ codes "/runs/" ++ param_token ∷ []
 
 abbrev pub request_row : List ℕ × RouteOf Route
-request_row = (request_pattern, record { pattern = request_pattern; text = codes "/callers/{caller}/requests/{number}"; names = (10, 16) ∷ (28, 34) ∷ []; value = route.Request })
+request_row = (
+  request_pattern,
+  record {
+    pattern = request_pattern;
+    text = codes "/callers/{caller}/requests/{number}";
+    names = (10, 16) ∷ (28, 34) ∷ [];
+    value = route.Request;
+  },
+)
 
 abbrev pub service_row : List ℕ × RouteOf Route
-service_row = (service_pattern, record { pattern = service_pattern; text = codes "/services/{service}"; names = (11, 18) ∷ []; value = route.Service })
+service_row = (
+  service_pattern,
+  record {
+    pattern = service_pattern;
+    text = codes "/services/{service}";
+    names = (11, 18) ∷ [];
+    value = route.Service;
+  },
+)
 
 abbrev pub history_row : List ℕ × RouteOf Route
-history_row = (history_pattern, record { pattern = history_pattern; text = codes "/services/{service}/history"; names = (11, 18) ∷ []; value = route.History })
+history_row = (
+  history_pattern,
+  record {
+    pattern = history_pattern;
+    text = codes "/services/{service}/history";
+    names = (11, 18) ∷ [];
+    value = route.History;
+  },
+)
 
 abbrev pub run_row : List ℕ × RouteOf Route
-run_row = (run_pattern, record { pattern = run_pattern; text = codes "/services/{service}/runs/{run}"; names = (11, 18) ∷ (26, 29) ∷ []; value = route.Run })
+run_row = (
+  run_pattern,
+  record {
+    pattern = run_pattern;
+    text = codes "/services/{service}/runs/{run}";
+    names = (11, 18) ∷ (26, 29) ∷ [];
+    value = route.Run;
+  },
+)
 
 -- the routes, as the rows of their router
 unfoldable pub the_rows : RowsOf (RouteOf Route)

@@ -41,7 +41,8 @@ IsShut cut_off = ⊥
 IsShut closing = Unit {0}
 IsShut (rejecting r bare) = Unit {0}
 
--- how the serving ended, by how the cutting of the bytes that were read ended, and what the reader has left
+-- how the serving ended, by how the cutting of the bytes that were read ended, and what the reader
+-- has left
 abbrev pub EndsAs : List ℕ → Ending → Known → Ended → Type 0
 EndsAs bytes end left EndOfInput = (end ≡ idle) × IsAtEnd left
 EndsAs bytes end left Truncated = (end ≡ cut_off) × IsAtEnd left
@@ -49,8 +50,10 @@ EndsAs bytes end left Closed = IsShut end
 EndsAs bytes end left TurnsSpent = IsOpen end × (1000000000 ≤ length bytes)
 
 -- (here `r` is what the reader has left, `w` what the writer holds)
--- the bytes that were read are cut into messages, and the bytes that were written are the replies to these, in order, and then that of the rejection that ends the stream
-pub record Serves (r new_r w new_w : Known) (old new : Point) (bytes : List ℕ) (end : Ending) : Type 0 where
+-- the bytes that were read are cut into messages, and the bytes that were written are the replies
+-- to these, in order, and then that of the rejection that ends the stream
+pub record Serves (r new_r w new_w : Known) (old new : Point) (bytes : List ℕ)
+    (end : Ending) : Type 0 where
   pub exchanges : List Exchange
   pub read : Consumes r new_r bytes
   pub cut : IsCut bytes (messages_of exchanges) end
@@ -59,7 +62,8 @@ pub record Serves (r new_r w new_w : Known) (old new : Point) (bytes : List ℕ)
 
 abbrev pub ServesTo : Known → Known → Known → Known → Point → Point → Ended → Type 0
 ServesTo r new_r w new_w old new ended =
-    (bytes : List ℕ) × (end : Ending) × EndsAs bytes end new_r ended × Serves r new_r w new_w old new bytes end
+    (bytes : List ℕ) × (end : Ending) × EndsAs bytes end new_r ended
+    × Serves r new_r w new_w old new bytes end
 
 -- all that was read was answered, up to where more bytes might have gone on
 abbrev pub ServesSome : Known → Known → Known → Known → Point → Point → Type 0
@@ -72,14 +76,20 @@ pub record IsProperPrefix (text front : List ℕ) : Type 0 where
   pub parts : text ≡ front ++ back
   pub short : 0 < length back
 
--- these exchanges were held, and in the midst of the last one's reply, or of the rejection's behind it, the writer failed
+-- these exchanges were held, and in the midst of the last one's reply, or of the rejection's behind
+-- it, the writer failed
 pub data IsCutShort (bytes text : List ℕ) : List Exchange → Type 0 where
-  in_reply : (xs : List Exchange) (last : Exchange) (rest front : List ℕ) → Begins bytes (messages_of xs) (message_bytes last.message ++ rest) → IsMessage last.message
-      → IsProperPrefix (reply_bytes last) front → text ≡ flat_map reply_bytes xs ++ front → IsCutShort bytes text (xs ++ last ∷ [])
-  in_rejection : (xs : List Exchange) (rest front : List ℕ) (r : Rejection) (bare : Bool) → Begins bytes (messages_of xs) rest → IsRejected rest r bare
-      → IsProperPrefix (last_reply (rejecting r bare)) front → text ≡ flat_map reply_bytes xs ++ front → IsCutShort bytes text xs
+  in_reply : (xs : List Exchange) (last : Exchange) (rest front : List ℕ)
+      → Begins bytes (messages_of xs) (message_bytes last.message ++ rest) → IsMessage last.message
+      → IsProperPrefix (reply_bytes last) front → text ≡ flat_map reply_bytes xs ++ front
+      → IsCutShort bytes text (xs ++ last ∷ [])
+  in_rejection : (xs : List Exchange) (rest front : List ℕ) (r : Rejection) (bare : Bool)
+      → Begins bytes (messages_of xs) rest → IsRejected rest r bare
+      → IsProperPrefix (last_reply (rejecting r bare)) front
+      → text ≡ flat_map reply_bytes xs ++ front → IsCutShort bytes text xs
 
--- the writer failed: what went out are the first bytes of the replies, and the last message is the one whose reply did not go out whole
+-- the writer failed: what went out are the first bytes of the replies, and the last message is the
+-- one whose reply did not go out whole
 pub record ServesUntil (r new_r w new_w : Known) (old new : Point) : Type 0 where
   pub bytes : List ℕ
   pub text : List ℕ
@@ -97,7 +107,8 @@ TurnsTo r new_r w new_w old new (Err Write) = ServesUntil r new_r w new_w old ne
 -- ---- step by step
 
 -- bytes were answered as far as these that are held
-pub record IsSoFar (r now_r w now_w : Known) (old now : Point) (turns : ℕ) (held : List ℕ) : Type 0 where
+pub record IsSoFar (r now_r w now_w : Known) (old now : Point) (turns : ℕ)
+    (held : List ℕ) : Type 0 where
   pub bytes : List ℕ
   pub exchanges : List Exchange
   pub read : Consumes r now_r bytes
@@ -132,8 +143,10 @@ pub record AnswersUntil (w new_w : Known) (old new : Point) (bytes : List ℕ) :
   pub written : Appends w new_w text
 
 -- what became of held bytes
-abbrev pub AnswersHeld : Known → Known → Point → Point → List ℕ → List ℕ → Result Turn WriteFault → Type 0
-AnswersHeld w new_w old new held rest (Ok Continues) = Answers w new_w old new held rest × IsUnfinished rest
+abbrev pub AnswersHeld : Known → Known → Point → Point → List ℕ → List ℕ → Result Turn WriteFault
+    → Type 0
+AnswersHeld w new_w old new held rest (Ok Continues) =
+    Answers w new_w old new held rest × IsUnfinished rest
 AnswersHeld w new_w old new held rest (Ok Ends) = AnswersAll w new_w old new held
 AnswersHeld w new_w old new held rest (Err fault) = AnswersUntil w new_w old new held
 
@@ -141,4 +154,5 @@ AnswersHeld w new_w old new held rest (Err fault) = AnswersUntil w new_w old new
 abbrev pub RejectsAll : Known → Known → List ℕ → Result Turn WriteFault → Type 0
 RejectsAll w new_w text (Ok Continues) = ⊥
 RejectsAll w new_w text (Ok Ends) = Appends w new_w text
-RejectsAll w new_w text (Err fault) = (front : List ℕ) × IsProperPrefix text front × Appends w new_w front
+RejectsAll w new_w text (Err fault) =
+    (front : List ℕ) × IsProperPrefix text front × Appends w new_w front

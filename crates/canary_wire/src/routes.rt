@@ -6,7 +6,7 @@ ghost use Rattle.canary_base.specs.Names.{is_name};
 ghost use Rattle.canary_base.specs.Numbers.{SpellsNumber};
 ghost use Rattle.canary_wire.specs.Routes.{the_rows, Target, request, service, history, run};
 ghost use Rattle.canary_wire.specs.Routes.{IsPart, IsSplit, IsPathOf, HasNoRoute, StandsBehind};
-ghost use Rattle.canary_wire.specs.Routes.{target_of, route_to, allowed_on, IsRead, IsAsked};
+ghost use Rattle.canary_wire.specs.Routes.{target_of, route_to, allowed_on, IsTargetRead, IsAsked};
 
 use crate::rejection::{Allowed, Rejection};
 use canary_base::names::Name;
@@ -118,7 +118,7 @@ impl PathParts<'_> {
 
     // What they say, or `BadName` before `BadNumber`.
     fn read(self) -> Result<Asked, Rejection>
-        ensures { IsRead (target_of self.entry) result }
+        ensures { IsTargetRead (target_of self.entry) result }
     {
         match self {
             PathParts::Request(caller, number) => {

@@ -95,9 +95,9 @@ pub fn serve<R: Read, W: Write, C: Clock, B: Book>(
         (point (C.tells clock.new) (B.state book.new)) }
     ensures memory { result ≡ Err ServeFault.Memory → (reader.new ≡ reader.old)
         × (writer.new ≡ writer.old) × (clock.new ≡ clock.old) × (book.new ≡ book.old) }
-    ensures intact { (B.state book.new).is_intact → (B.state book.old).is_intact }
+    ensures honest { (B.state book.new).is_honest → (B.state book.old).is_honest }
     ensures sure { (B.state book.new).is_sure ≡ (B.state book.old).is_sure }
-    ensures receipts { (B.state book.new).is_intact
+    ensures receipts { (B.state book.new).is_honest
         → KeepsReceipts (B.state book.old).contents (B.state book.new).contents }
 {
     let Ok(mut buffer) = Buffer::new(alloc) else {

@@ -12,6 +12,6 @@ invariant-loop-i g l =
     let name = name_of l.source.strategy (past_of old.contents l.source.service) in
     Stays old now
     × IsLatest now l.source.service l.latest
-    × (now.is_intact
+    × (now.is_honest
     → l.records ++ rows_text l.source.caller l.source.service name (l.from + l.i) (drop l.i l.page)
     ≡ rows_text l.source.caller l.source.service name l.from l.page)

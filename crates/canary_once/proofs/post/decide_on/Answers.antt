@@ -6,7 +6,7 @@ pub returns : goal.returns
 returns g c =
     let known : Known = (g.B.Book.state c.args.book.now).contents.desk.templates in
     record {
-      intact = search rules;
+      honest = search rules;
       in_memory = search rules;
       lawful = search rules;
       same = search rules;

@@ -10,7 +10,7 @@ returns-in-Ok g c =
     let asked : Request = request_of c.args.moment c.args.caller c.args.number c.args.command.now in
     let r = c.in-Ok.ensures in
     record {
-      intact = r.intact;
+      honest = r.honest;
       in_memory = r.in_memory;
       sound = λ i. one_sound c.soundness.ensures.kept _ _ asked (r.lawful i) (r.ok i).1;
       step = λ i. ((r.ok i).0 ∙ reply_first _ asked, (r.ok i).1 ∙ after_first _ asked);

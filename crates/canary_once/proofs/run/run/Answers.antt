@@ -26,14 +26,14 @@ loop-event-preserved g c =
     let o = c.in_ok-push.ensures in
     let below : c.loop-event.event-index < length c.args.events.now = omega arith in
     record {
-      intact = λ x. i.intact (p.intact x);
+      honest = λ x. i.honest (p.honest x);
       in_memory = λ m. p.in_memory (i.in_memory m);
-      sound = λ x s. p.sound x (i.sound (p.intact x) s);
+      sound = λ x s. p.sound x (i.sound (p.honest x) s);
       sure = p.sure ∙ i.sure;
       count = o.len ∙ ap (λ n. n + 1) i.count;
       len = longer _ _ _ _ o.items i.len;
       room = omega (arith, i.room, o.capacity);
       faults = one_fault _ _ _ _ _ i.faults o.items i.sure p.fault;
-      receipts = λ x q n k e. p.receipts x q n k (i.receipts (p.intact x) q n k e);
-      run = λ x. one_more _ _ _ _ _ _ _ _ _ below i.len o.items c.event-item.is (i.run (p.intact x)) (p.step x);
+      receipts = λ x q n k e. p.receipts x q n k (i.receipts (p.honest x) q n k e);
+      run = λ x. one_more _ _ _ _ _ _ _ _ _ below i.len o.items c.event-item.is (i.run (p.honest x)) (p.step x);
     }

@@ -12,14 +12,14 @@ invariant-loop-event g l =
     let old = g.B.Book.state l.fn.book in
     let now = g.B.Book.state l.book in
     record {
-      intact : now.is_intact → old.is_intact;
+      honest : now.is_honest → old.is_honest;
       in_memory : StaysInMemory old now;
-      sound : now.is_intact → AreSoundContents old.contents → AreSoundContents now.contents;
+      sound : now.is_honest → AreSoundContents old.contents → AreSoundContents now.contents;
       sure : now.is_sure ≡ old.is_sure;
       count : vec_len l.answers ≡ l.event-index;
       len : length l.answers.items ≡ l.event-index;
       room : length l.events ≤ vec_capacity l.answers;
       faults : All (IsFaultOf old.is_sure) l.answers.items;
-      receipts : now.is_intact → KeepsReceipts old.contents now.contents;
-      run : now.is_intact → IsRun old.contents (take l.event-index l.events) l.answers.items now.contents;
+      receipts : now.is_honest → KeepsReceipts old.contents now.contents;
+      run : now.is_honest → IsRun old.contents (take l.event-index l.events) l.answers.items now.contents;
     }

@@ -12,12 +12,12 @@ returns-in_ok-passed-in-Some g c =
     let mid : Contents = (g.B.Book.state c.service-2.new.self).contents in
     let new : Contents = (g.B.Book.state c.show.new.book).contents in
     record {
-      intact = λ i. f.intact (s.intact i);
+      honest = λ i. f.honest (s.honest i);
       in_memory = λ m. s.in_memory (f.in_memory m);
-      lawful = λ i. f.lawful (s.intact i);
+      lawful = λ i. f.lawful (s.honest i);
       ok =
           λ i. looked c.watching.ensures c.changes.ensures c.time.ensures c.quiet.ensures old mid new c.args.moment c.args.query.now c.in-Some.service c.in_ok-passed-in-Some.passed c.show.result
-          (sym c.in-Some.is ∙ c.in_ok-service.ensures.value_of_old (s.intact i) ∙ ap (seen old.desk) c.service.ensures) c.in_ok-passed-in-Some.ensures (f.same (s.intact i)) (s.same i) (s.ok i);
+          (sym c.in-Some.is ∙ c.in_ok-service.ensures.value_of_old (s.honest i) ∙ ap (seen old.desk) c.service.ensures) c.in_ok-passed-in-Some.ensures (f.same (s.honest i)) (s.same i) (s.ok i);
       err = search rules;
       sure = s.sure ∙ f.sure;
       fault = search rules;

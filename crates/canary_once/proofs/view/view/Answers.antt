@@ -8,7 +8,7 @@ pub returns-in-Ok : goal.returns-in-Ok
 returns-in-Ok g c =
     let r = c.in-Ok.ensures in
     record {
-      intact = r.intact;
+      honest = r.honest;
       in_memory = r.in_memory;
       sound = λ i. subst AreSoundContents (sym (r.ok i).1);
       step = λ i. r.ok i;

@@ -7,5 +7,5 @@ returns g c = λ method target body a. (
   viewed c.args.moment c.args.query.now c.view.result,
   search rules,
   (a, refl),
-  (let p = c.view.ensures in record { intact = p.intact; sure = (p.sure, p.fault); sound = p.sound; handled = p.step; receipts = p.receipts }),
+  (let p = c.view.ensures in record { honest = p.honest; sure = (p.sure, p.fault); sound = p.sound; handled = p.step; receipts = p.receipts }),
 )

@@ -10,7 +10,7 @@ returns-in-Ok g c = λ method target a. (
   posted (request_of c.args.moment c.args.address.caller c.args.address.number c.in-Ok.command) c.post-answer.result,
   search rules,
   (c.args.address, c.in-Ok.command, a, c.in-Ok.ensures, refl),
-  (let p = c.post-answer.ensures in record { intact = p.intact; sure = (p.sure, p.fault); sound = p.sound; handled = p.step; receipts = p.receipts }),
+  (let p = c.post-answer.ensures in record { honest = p.honest; sure = (p.sure, p.fault); sound = p.sound; handled = p.step; receipts = p.receipts }),
 )
 
 pub returns-in-Err-Unsupported : goal.returns-in-Err-Unsupported

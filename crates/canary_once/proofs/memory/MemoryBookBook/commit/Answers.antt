@@ -27,7 +27,7 @@ returns c =
     let settled : new ≡ with_settlement now s = settled_is old s c.settle.new.callers c.settle.new.desk c.in_ok-settle.ensures.receipt c.in_ok-settle.ensures.desk ∙ ap (λ (k : Contents). with_settlement k s) c.self.view_is in
     let are : AreContents now = subst AreContents c.self.view_is c.self.invariant in
     record {
-      intact = λ x. x;
+      honest = λ x. x;
       in_memory = λ _. (tt, tt);
       lawful = λ _. subst AreContents (sym settled) (keeps_contents c.in_order.ensures.keeping c.refusals.ensures now s c.settle.ensures.few (c.requires tt) are);
       sound = λ _ sound. subst AreSoundContents (sym settled) (keeps_soundness c.sound.ensures.keeping now s (c.requires tt) are sound);

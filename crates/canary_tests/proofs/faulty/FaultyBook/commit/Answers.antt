@@ -17,7 +17,7 @@ returns-in-Ok c =
     let reached = c.reach.ensures in
     let done = c.commit.ensures in
     record {
-      intact = λ x. x;
+      honest = λ x. x;
       in_memory = λ x. x;
       lawful = done.lawful;
       sound = λ i sound. done.sound i (subst AreSoundContents (sym reached) sound);
