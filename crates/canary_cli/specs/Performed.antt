@@ -79,8 +79,8 @@ IsCheckShown taken w new_w (Ok Findings) =
 IsCheckShown taken w new_w (Err f) = (f ≡ fault.Memory) ⊎ (f ≡ fault.Write)
 
 -- where a check found nothing, it wrote `ok`
-abbrev pub IsCheckShown : Known → Known → Result Outcome Fault → Type 0
-IsCheckShown w new_w done = done ≡ Ok Done → Appends w new_w (codes "ok\n")
+abbrev pub IsChecked : Known → Known → Result Outcome Fault → Type 0
+IsChecked w new_w done = done ≡ Ok Done → Appends w new_w (codes "ok\n")
 
 -- the program was run so; `pipe` and `import` alone read the input
 abbrev pub IsRun : Known → Known → Known → Known → Program → Result Outcome Fault → Type 0
@@ -94,7 +94,7 @@ IsRun r new_r w new_w (History db service) done = new_r ≡ r
 IsRun r new_r w new_w (Export db caller service) done = new_r ≡ r
 IsRun r new_r w new_w (Status db watch) done = new_r ≡ r
 IsRun r new_r w new_w (Backup db copy) done = new_r ≡ r
-IsRun r new_r w new_w (Check file) done = (new_r ≡ r) × IsCheckShown w new_w done
+IsRun r new_r w new_w (Check file) done = (new_r ≡ r) × IsChecked w new_w done
 
 -- `pipe` in memory ended with this exit status
 abbrev pub IsPipedTo : Known → Known → Known → Known → ℕ → ℕ → ℕ → Type 0
