@@ -138,13 +138,9 @@ fn run<R: Read, W: Write, F: Write>(
 {
     let shows = terminals.errors;
     match program {
-        Program::Pipe { at, step, db } => match db {
-            None => done(pipe(rt.alloc(), at, step, input, output)),
-            Some(db) => {
-                let db = db.as_str();
-                done(pipe::pipe(rt, at, step, db, input, output, errors, shows))
-            }
-        },
+        Program::Pipe { at, step, db } => {
+            run_pipe(rt, at, step, db, input, output, errors, shows)
+        }
         Program::Serve {
             listen,
             db,
@@ -173,12 +169,41 @@ fn run<R: Read, W: Write, F: Write>(
             done(export(rt, db, caller, service, output, errors, shows))
         }
         Program::Status { db, watch } => {
-            let drawing = Drawing {
-                every: watch,
-                is_terminal: terminals.output,
-            };
+            let drawing = drawing(watch, terminals);
             done(status(rt, db.as_str(), drawing, output, errors, shows))
         }
+    }
+}
+
+// Answers a stream, over the desk in a file where there is one.
+fn run_pipe<R: Read, W: Write, F: Write>(
+    rt: &HostRuntime,
+    at: Moment,
+    step: Moment,
+    db: Option<Text>,
+    input: &mut R,
+    output: &mut W,
+    errors: &mut F,
+    shows: bool,
+) -> Result<Outcome, Fault>
+    ensures ran { IsRun (R.remaining input.old) (R.remaining input.new)
+        (W.contents output.old) (W.contents output.new) (Program.Pipe at step db) result }
+    ensures quiet { (MayTell (Program.Pipe at step db) → ⊥) → errors.new ≡ errors.old }
+{
+    match db {
+        None => done(pipe(rt.alloc(), at, step, input, output)),
+        Some(db) => {
+            let db = db.as_str();
+            done(pipe::pipe(rt, at, step, db, input, output, errors, shows))
+        }
+    }
+}
+
+// How often a status is printed, and whether on a terminal.
+fn drawing(every: Option<u64>, terminals: Terminals) -> Drawing {
+    Drawing {
+        every,
+        is_terminal: terminals.output,
     }
 }
 
