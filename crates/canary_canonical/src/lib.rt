@@ -1,8 +1,16 @@
 //! The canonical texts of commands, in JSON, by which a store keeps them.
 //!
 //! Callers may rest on this: a command's text is read as the command, and no other text is, so two
-//! commands have one text exactly where they are equal; and a `CanonicalCommand` is seen as the
-//! command, and holds its text.
+//! commands have one text exactly where they are equal. Contracts see a `CanonicalCommand` as the
+//! command, and it holds its text. Writing fails by `Memory` alone; reading answers `Unreadable`
+//! only where the text is no command's.
+//!
+//! In use (canary_stored, src/reading.rt):
+//!
+//!     match from_canonical(alloc, spec)? {
+//!         Command::Service(spec) => Ok(spec),
+//!         _ => Err(RowFault::Broken),
+//!     }
 #![tactic(auto)]
 
 pub mod command;

@@ -1,9 +1,19 @@
 //! What release engineers and metric agents ask for: analysis templates, the steps of a canary
 //! strategy, the commands, the lines of a history, and why a command is refused.
 //!
-//! Callers may rest on this: a `Template` that was bound has the conditions that its texts spell; a
-//! `Strategy` is one that was checked, with the metrics of its analyses; the first refusal that
-//! holds is answered; and two commands are told to be the same exactly where they are equal.
+//! Callers may rest on this: `Template::bind` gives the conditions that a template's texts spell,
+//! and `Strategy::check` a strategy with the metrics of its analyses, each exactly where nothing
+//! refuses it; else the first refusal that holds is answered (`Memory` aside). Each `Strategy` was
+//! checked. Two commands are told to be the same exactly where they are equal. The words of a line
+//! are read as its event, and as no other.
+//!
+//! In use (canary_check, src/alone.rt):
+//!
+//!     match Template::bind(alloc, spec) {
+//!         Ok(_) => Ok(None),
+//!         Err(BindFault::Refused(refusal)) => Ok(Some(refusal)),
+//!         Err(BindFault::Memory) => Err(Memory),
+//!     }
 #![tactic(auto)]
 
 pub mod analysis;
