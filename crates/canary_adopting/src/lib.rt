@@ -1,10 +1,16 @@
 //! Adopting tables: a desk's tables are judged row by row, by reads, before they are believed.
 //!
-//! Callers may rest on this: `judge` is Ok exactly where the rows are those of sound contents, and
-//! `Broken` only where they are not; it changes nothing. `Progress` is told how many rows there
-//! are, and of each as it is judged.
+//! Callers may rest on this: `judge` is Ok only where the rows are judged, which by canary_judging
+//! are those of sound contents, and `Broken` only where they are not, or a program cannot hold one
+//! of them; it changes nothing. `Progress` is told how many rows there are, and of each as it is
+//! judged; of that no contract speaks.
 //!
-//!     judge(&mut conn, alloc, &mut Untold)?;
+//! In use (canary_tables, src/adopt.rt):
+//!
+//!     has_rows(conn, is_whole)?;
+//!     index(conn)?;
+//!     judge(conn, alloc, progress)?;
+//!     Ok(())
 #![tactic(auto)]
 
 mod alone;

@@ -4,6 +4,17 @@
 //! Callers may rest on this: where the words are those of `pipe` in memory, what is written is what
 //! it comes to on what was read, and the exit status says how it ended; where they are no
 //! program's, the input is not read. What the others take from sockets and files no contract says.
+//!
+//! In use (canary_desk, src/main.rt):
+//!
+//!     Ok(words) => perform(
+//!         &rt,
+//!         words.as_slice(),
+//!         &mut rt.stdin(),
+//!         &mut output,
+//!         &mut errors,
+//!         terminals,
+//!     ),
 #![tactic(auto)]
 
 mod check;

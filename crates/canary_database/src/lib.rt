@@ -1,8 +1,17 @@
 //! What the programs do that work on a desk in a file, or listen.
 //!
-//! Callers may rest on this: what `write_history`, `import_rows`, `export_rows`, `answer` and
-//! `serve_clients` do with any book, and that each fault has one word. What the file of a name
-//! holds no contract says.
+//! Callers may rest on this, over any book: `write_history`, `export_rows` and `text_of_book` leave
+//! it unchanged, and the first two write what one whose store is honest tells of a service;
+//! `export_rows`, `import_rows`, `answer` and `serve_clients` do what canary_files, canary_wire and
+//! canary_listen say of theirs. Each fault has its line. What the file of a name holds no contract
+//! says.
+//!
+//! In use (canary_cli, src/perform.rt):
+//!
+//!     Program::History { db, service } => {
+//!         let (db, service) = (db.as_str(), service.as_str());
+//!         done(history(rt, db, service, output, errors, shows))
+//!     }
 #![tactic(auto)]
 
 pub mod backup;

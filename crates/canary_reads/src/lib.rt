@@ -2,9 +2,13 @@
 //!
 //! Callers may rest on this: a read answers exactly the rows that it asks for, in order, and at
 //! most as many as it is told; it changes nothing and leaves no transaction open. `Broken` is
-//! answered where a row's cells are none that a desk writes; `typed` looks at all rows for that.
+//! answered only where some row of the table is none that a program can hold. `typed` is Ok only
+//! where all rows are those of tables, and `Broken` only where they are not.
 //!
-//!     let settled = settled(&mut conn, &caller)?.unwrap_or(0);
+//! In use (canary_tables, src/found.rt):
+//!
+//!     let settled = callers::settled(conn, caller)?;
+//!     Ok(settled.unwrap_or(0))
 #![tactic(auto)]
 
 pub mod callers;

@@ -1,12 +1,17 @@
 //! The schema of the desk's database, and when a database stores rows.
 //!
-//! Callers may rest on this: `create` and `add_indexes` do all in one transaction or nothing, and
-//! leave the connection outside of one. `is_known`, `is_bare` and `is_empty` tell exactly what a
-//! schema is: a desk's nine tables with or without their indexes, or none at all. `open_anew` reads
-//! the schema from the store itself. A fault of SQLite is `Memory` or `Storage` (`fault_of`).
+//! Callers may rest on this: outside of a transaction `create`, on an empty database, and
+//! `add_indexes`, on a desk's without its indexes, do all in one transaction or nothing, and stay
+//! outside of one. `is_known`, `is_desk`, `is_bare` and `is_empty` tell exactly what a schema is: a
+//! desk's with or without its indexes, with them, without them, or none. `open_anew` keeps the
+//! database; the rows of a desk's are then known to stand in the order of their rowids. A fault of
+//! SQLite is `Memory` or `Storage`.
 //!
-//!     if is_empty(conn.schema()) {
-//!         create(&mut conn)?; // the tables, the indexes, and the row of meta
+//! In use (canary_tables, src/create.rt):
+//!
+//!     match create::create(&mut conn) {
+//!         Ok(()) => Ok(TableBook { alloc, conn }),
+//!         Err(fault) => Err((fault.into(), conn)),
 //!     }
 #![tactic(auto)]
 

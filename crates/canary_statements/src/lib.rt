@@ -1,13 +1,18 @@
 //! The statements over the desk's tables: one function a statement. Each says what it makes of the
 //! rows that the tables store.
 //!
-//! Callers may rest on this: inside a transaction each writes the one row that it names, or answers
-//! the error of SQLite, and says how many rows it wrote; what the transaction comes to is for
-//! whoever commits it.
+//! Callers may rest on this: inside a transaction each inserts its rows behind the others, or
+//! changes the one row of its key, where there is one; or it answers the error of SQLite, and
+//! nothing is said of the tables in the transaction. What was committed before stays; what the
+//! transaction comes to is for whoever commits it.
 //!
-//!     let mut tx = conn.transaction();
-//!     insert_caller(&mut tx, &name)?;
-//!     tx.commit()
+//! In use (canary_commits, src/commit.rt):
+//!
+//!     if number == 1 {
+//!         insert_caller(tx, caller)
+//!     } else {
+//!         update_caller(tx, caller, number)
+//!     }
 #![tactic(auto)]
 
 mod cells;

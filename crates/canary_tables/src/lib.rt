@@ -3,11 +3,17 @@
 //!
 //! Callers may rest on this: the book is a `Book`, so all that is proved of one holds of it.
 //! `create` takes an empty database alone, and `adopt` one whose rows are those of sound contents
-//! alone; a fault hands back the connection, with the same rows. What `open` opens no contract
-//! says.
+//! alone; a fault hands back the connection or its store, with the same rows. What `open` opens no
+//! contract says.
 //!
-//!     let mut book = TableBook::open(rt, "desk.db", &mut Untold)?;
-//!     let answer = post(&mut book, moment, caller, number, &command);
+//! In use (canary_database, src/open.rt):
+//!
+//!     let opened = TableBook::open(rt, file, &mut shown);
+//!     shown.end();
+//!     match opened {
+//!         Ok(book) => Ok(book),
+//!         Err(fault) => Err(fault.into()),
+//!     }
 #![tactic(auto)]
 
 pub mod adopt;

@@ -2,9 +2,15 @@
 //!
 //! Callers may rest on this: over any reader, writer, clock and book `serve` cuts the bytes that it
 //! reads into messages, in one way only, and writes their replies in order: each is a rejection
-//! that the rules fix, a 503, or the register's answer at the clock's next moment. Of a
-//! `Conversation` with one client all its turns say the same, whatever other clients are answered
-//! between them.
+//! that the rules fix, a 503, or, where the store is honest, the register's answer at the clock's
+//! next moment. Of a `Conversation` with one client all its turns say the same, whatever other
+//! clients are answered between them.
+//!
+//! In use (canary_cli, src/perform.rt):
+//!
+//!     let mut clock = StepClock::new(at, step);
+//!     let mut book = MemoryBook::new(alloc);
+//!     done_of(canary_wire::serve::serve(alloc, input, output, &mut clock, &mut book))
 #![tactic(auto)]
 
 mod answer;

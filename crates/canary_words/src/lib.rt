@@ -2,8 +2,16 @@
 //! they ask for.
 //!
 //! Callers may rest on this: words in which clap finds no fault are read as the one program that
-//! they spell, help is answered only where it is asked for, and what is wrong with words only
-//! where something is. The texts themselves no contract says.
+//! they spell, help is answered only where it is asked for, and what is wrong with words only where
+//! something is (`Memory` aside). The texts themselves, and what `words_of` gives, no contract
+//! says.
+//!
+//! In use (canary_cli, src/perform.rt):
+//!
+//!     match read_words(rt.alloc(), words) {
+//!         Ok(program) => finish(run(rt, program, input, output, errors, terminals), errors),
+//!         Err(fault) => turn_away(&fault, output, errors),
+//!     }
 #![tactic(auto)]
 
 mod commands;
