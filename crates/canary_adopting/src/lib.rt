@@ -2,8 +2,8 @@
 //!
 //! Callers may rest on this: `judge` is Ok only where the rows are judged, which by canary_judging
 //! are those of sound contents, and `Broken` only where they are not, or a program cannot hold one
-//! of them; it changes nothing. `Progress` is told how many rows there are, and of each as it is
-//! judged; of that no contract speaks.
+//! of them, and it changes nothing, where the connection is usable then (canary_schema). `Progress`
+//! is told how many rows there are, and of each as it is judged; of that no contract speaks.
 //!
 //! In use (canary_tables, src/adopt.rt):
 //!

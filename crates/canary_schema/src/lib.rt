@@ -4,8 +4,8 @@
 //! `add_indexes`, on a desk's without its indexes, do all in one transaction or nothing, and stay
 //! outside of one. `is_known`, `is_desk`, `is_bare` and `is_empty` tell exactly what a schema is: a
 //! desk's with or without its indexes, with them, without them, or none. `open_anew` keeps the
-//! database; the rows of a desk's are then known to stand in the order of their rowids. A fault of
-//! SQLite is `Memory` or `Storage`.
+//! database; the rows of a desk's are then known to stand in the order of their rowids. All this
+//! where the connection is usable then: its disk did not fail.
 //!
 //! In use (canary_tables, src/create.rt):
 //!

@@ -3,8 +3,8 @@
 //!
 //! Callers may rest on this: inside a transaction each inserts its rows behind the others, or
 //! changes the one row of its key, where there is one; or it answers the error of SQLite, and
-//! nothing is said of the tables in the transaction. What was committed before stays; what the
-//! transaction comes to is for whoever commits it.
+//! nothing is said of the tables in the transaction. What was committed before stays. All this
+//! while the disk does not fail; what the transaction comes to is for whoever commits it.
 //!
 //! In use (canary_commits, src/commit.rt):
 //!
