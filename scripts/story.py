@@ -209,11 +209,29 @@ def told_phases(program, rows):
     return len(rows)
 
 
+def told_stops(program, rows):
+    """Texts that are no condition, each with the byte where `canary check` says that it stops being
+    one, and what it expects there."""
+    file = os.path.join(program.folder, "manifest")
+    for row in rows:
+        text, told = row.split(" => ")
+        byte, expected = told.split(" ", 1)
+        metric = {"name": "m", "successCondition": expanded(text).decode()}
+        spec = {"metadata": {"name": "t"}, "spec": {"metrics": [metric]}}
+        with open(file, "w", encoding="utf-8") as manifest:
+            json.dump({"kind": "AnalysisTemplate", **spec}, manifest)
+        wanted = f'spec.metrics[0].successCondition (metric "m"), byte {byte}: expected {expected}\n'
+        expect(row, program.run(["check", file], status=1).decode(), wanted)
+    return len(rows)
+
+
 def told_conditions(program, block):
-    """Conditions: which there are, and the phases of results."""
+    """Conditions: which there are, where other texts stop being one, and the phases of results."""
     head, *rows = block
     if head == "phases":
         return told_phases(program, rows)
+    if head == "stops":
+        return told_stops(program, rows)
     if head == "instead":
         forms, others = zip(*(row.split(" => ") for row in rows))
         told_readings(program, rows, forms, False)

@@ -1,4 +1,4 @@
-bodies 210
+bodies 212
 
 # Bodies; other members and kinds; names and labels; and at the end what is unsupported before it is
 # unreadable, which holds in a body of one member alone. Then bytes: blanks round a body, blanks
@@ -256,3 +256,13 @@ same
     "failureLimit":0}],"args":[{"name":"x"}]},"metadata":{"namespace":"shop","name":"t"}}}
 {"promote":{"service":"web"}} = {"promote":{"service":"a b","service":"web"}}
 {"promote":{"service":"web"}} = {"promote":{"service":"w\u0065b"}}
+{"service":{"version":"v1","manifest":{"metadata":{"name":"web"},"spec":{"strategy":{"canary":{
+    "steps":[{"setWeight":20},{"pause":{"duration":"5m"}},{"pause":{}},
+    {"analysis":{"templates":[{"templateName":"t"}]}}]}}}}}}
+     = {"service":{"manifest":{"kind":"Rollout","spec":{"paused":false,"strategy":{"canary":{
+    "analysis":null,"steps":[{"setWeight":20,"pause":null},{"pause":{"duration":300}},
+    {"pause":{"duration":null}},{"analysis":{"dryRun":[],"templates":[{"templateName":"t",
+    "clusterScope":false}]}}]}}},"metadata":{"name":"web"}},"version":"v1"}}
+{"report":{"service":"web","run":1,"entries":[{"metric":"m","ordinal":1,"taken":0,"result":[1,0]}]}}
+     = {"report":{"entries":[{"result":[ 1, 0 ],"taken":0,"ordinal":1,"metric":"m"}],"run":1,
+    "service":"web"}}

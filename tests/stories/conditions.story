@@ -1,4 +1,4 @@
-conditions 119
+conditions 152
 
 # Conditions of success and failure, a result and its phase.
 phases
@@ -43,6 +43,8 @@ result > 0 && result[0] > 0 =>  => 0 => Failed
 result[0] > 0 && result > 0 =>  => 0 => Error
 result > 0 || result[0] > 0 && result > 0 =>  => 1 => Successful
 <<x:09>>result<<x:0d0a>><= 5  =>  => 5 => Successful
+<<1021*!>>0<1 =>  => 5 => Failed
+<<101*result>0||>>result >= 0000 =>  => 0 => Successful
 
 # Texts that are no condition.
 refused
@@ -58,6 +60,43 @@ result > 9223372036854775808 @
 result > 9223372036854775808
 result > -9223372036854775809
 9223372036854775808
+
+# Texts that are no condition, the byte where each stops being one, and what is expected there.
+stops
+  => 1 result, a whole number, ( or !
+result > => 8 result or a whole number
+result >   => 10 result or a whole number
+result > 0.5 => 10 result, a whole number, a bracket, a comparison, &&, || or !
+(result > 1 => 11 &&, || or )
+result => 6 [, ==, !=, <, <=, > or >=
+result > 1 1 => 11 &&, || or the end
+result[x] > 1 => 7 result, a whole number, a bracket, a comparison, &&, || or !
+result[result] > 1 => 7 the digits of a place in the list
+result[1 > 1 => 9 ]
+result 1 => 7 [, ==, !=, <, <=, > or >=
+1 => 1 ==, !=, <, <=, > or >=
+1 > result > => 11 [, &&, || or the end
+(1 > result => 11 [, &&, || or )
+(1 > result[0] => 14 &&, || or )
+result > 1) => 10 &&, || or the end
+not => 3 result, a whole number, ( or !
+result > 1 and ) => 15 result, a whole number, ( or !
+<<32*(>>result><<32*)>> => 39 result or a whole number
+
+# Which fault comes first: too long, no token, a number out of range, too deep, and all others.
+stops
+<<1025* >> => 1024 at most 1,024 bytes
+<<1024* >> => 1024 result, a whole number, ( or !
+<<1022*!>>0<1 => 1024 at most 1,024 bytes
+result > 9223372036854775808 @ => 29 result, a whole number, a bracket, a comparison, &&, || or !
+result > 1 || 2 @ => 16 result, a whole number, a bracket, a comparison, &&, || or !
+result 1 > 9223372036854775808 => 11 a number of 64 bits with a sign
+<<33*(>>result > 9223372036854775808<<33*)>> => 42 a number of 64 bits with a sign
+result > -9223372036854775809 => 9 a number of 64 bits with a sign
+9223372036854775808 => 0 a number of 64 bits with a sign
+<<33*(>>result>0<<33*)>> => 32 at most 32 open brackets
+<<33*(>>result > => 32 at most 32 open brackets
+)))<<32*(>>result>0<<32*)>> => 0 result, a whole number, ( or !
 
 # Texts that are conditions, of at most 1,024 bytes.
 accepted

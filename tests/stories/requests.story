@@ -1,4 +1,4 @@
-desk 204
+desk 229
 
 # A doubled promotion acts once, a number ahead and another command under an old number change
 # nothing, and each kept reply comes again.
@@ -253,3 +253,36 @@ ops 1 0 promote => 422 unknown-service
 ops 1 0 abort => 409 reused
 ops 2 0 service v1 => [web Healthy 0 100]
 ops 1 0 promote => 422 unknown-service
+
+
+# Each kind of command, and then each again, and others under the same numbers: the moments fall, so
+# that a book in a file is opened anew between them.
+ops 1 0 template t m,interval=60,success=result==0 n dryRun:n => [t]
+ops 2 1 service v1 setWeight:20 pause:300 pause background:t => [web Healthy 3 100]
+ops 3 2 start v2 => [web Paused 1 20]
+ops 4 3 report 1 m:1:2:[1;-2] n:1:2:!no"news => [web Paused 1 20 | 1 Error Error | Running]
+ops 5 4 promote => [web Paused 2 20]
+ops 6 5 abort => [web Degraded 2 0]
+ops 7 6 retry => [web Paused 1 20]
+ops 8 7 tick => [web Paused 1 20]
+ops 9 8 promoteFull => [web Healthy 3 100]
+ops 1 0 template t m,interval=60,success=result==0 n dryRun:n => [t]
+ops 2 0 service v1 setWeight:20 pause:300 pause background:t => [web Healthy 3 100]
+ops 3 0 start v2 => [web Paused 1 20]
+ops 4 0 report 1 m:1:2:[1;-2] n:1:2:!no"news => [web Paused 1 20 | 1 Error Error | Running]
+ops 5 0 promote => [web Paused 2 20]
+ops 6 0 abort => [web Degraded 2 0]
+ops 7 0 retry => [web Paused 1 20]
+ops 8 0 tick => [web Paused 1 20]
+ops 9 0 promoteFull => [web Healthy 3 100]
+ops 1 0 template t m,interval=60,success=result==0 n dryRun:m => 409 reused
+ops 2 0 service v1 setWeight:20 pause:300 pause => 409 reused
+ops 3 0 start v3 => 409 reused
+ops 4 0 report 1 m:1:2:[1;-2] n:1:2:!news => 409 reused
+ops 5 0 promoteFull => 409 reused
+
+
+# A clock that has come to the greatest moment stands still.
+ops 1 251603539198 service v1 pause => [web Healthy 1 100]
+? 251603539203 service web => {"code":"ok","hold":"none","moment":253370764799,"open":[],"runs":0,
+    "service":"web","stable":"v1","status":"Healthy","step":1,"version":"v1","weight":100}

@@ -3,13 +3,12 @@
 //! refused.
 ghost use Rattle.std.specs.Prelude.{◌≡◌};
 
-use crate::sending::{
-    NO_MEMORY, STORAGE, UNKNOWN, again, answer, count_told, promotions, send, send_story, settled,
-};
+use crate::sending::{answer, event, name, send, settled};
 use canary_base::lists::Listed;
 use canary_base::names::Name;
 use canary_base::numbers::Number;
 use canary_once::book::{Book, BookFault, Receipt, Settlement};
+use canary_once::event::{Answer, Event};
 use canary_once::memory::MemoryBook;
 use canary_once::record::RunRecord;
 use canary_once::run::run;
@@ -17,35 +16,37 @@ use canary_plan::line::Line;
 use canary_plan::templates::Templates;
 use canary_release::effect::Recorded;
 use canary_release::service::Service;
-use canary_testing::rows::{split, unfolded};
 use std::alloc::Global;
 use std::process::Abort;
 use std::test::Fail;
 
-/// The first request and its answer.
-const FIRST: &str = "ops 1 0 service v1 setWeight:20 pause => [web Healthy 2 100]";
+const UNKNOWN: &str = r#"{"code":"unknown-service"}"#;
 
-const ASKED: &str = "ops 1 0 service v1 setWeight:20 pause";
+const NO_MEMORY: &str = r#"{"code":"no-memory"}"#;
 
-/// A release with a run that is closed.
-const RELEASED: &str = "ops 1 0 template t m => [t]
-analysis
-agent 1 0 report 1 m:1:0:5 => [web Paused 3 60 | 1 Successful | Successful]";
+const STORAGE: &str = r#"{"code":"storage"}"#;
 
-const SHOWN: &str = r#"? 0 service web => {"code":"ok","hold":"none","moment":1767225600,
-    "open":[],"runs":1,"service":"web","stable":"v1","status":"Paused","step":3,"version":"v2",
-    "weight":60}"#;
+/// Rows, each with the call of the book at which it fails first.
+const FAILING: &str = "settled 200 ops 1 0 template t m
+templates 200 ops 2 0 service v1 setWeight:10 analysis:t setWeight:60 pause
+service 200 ops 3 0 start v2
+commit 200 ops 4 0 report 1 m:1:0:5
+receipt 200 ops 4 0 report 1 m:1:0:5
+service 200 ? 0 service web
+service 200 ? 0 history web
+history 200 ? 0 history web
+service 200 ? 0 run web 1
+run 200 ? 0 run web 1";
 
-const TOLD: &str = r#"? 0 history web => {"code":"ok","lines":[
-    "2026-01-01T00:00:00Z created v1","2026-01-01T00:00:00Z start v2",
-    "2026-01-01T00:00:00Z step 0 setWeight 10","2026-01-01T00:00:00Z step 1 analysis run 1",
-    "2026-01-01T00:00:00Z run 1 Successful","2026-01-01T00:00:00Z step 2 setWeight 60",
-    "2026-01-01T00:00:00Z step 3 pause"],"service":"web"}"#;
-
-const JUDGED: &str = r#"? 0 run web 1 => {"closed":1767225600,"code":"ok","metrics":[
-    {"consecutive":0,"counted":1,"dryRun":false,"due":null,"errors":0,"failed":0,
-    "inconclusive":0,"measurements":1,"name":"m","phase":"Successful"}],
-    "run":1,"service":"web","started":1767225600,"step":1,"verdict":"Successful"}"#;
+/// Asks again where memory was refused.
+macro_rules! again {
+    ($call:expr) => {
+        match $call {
+            Ok(value) => value,
+            Err(_) => $call?,
+        }
+    };
+}
 
 /// A call of a book.
 #[derive(Clone, Copy, PartialEq, Eq)]
@@ -143,8 +144,28 @@ impl Book for Faulty {
     }
 }
 
+/// The first promotions of three callers, which know of no service.
+fn promotions(alloc: Global) -> Option<Vec<Event>> {
+    let mut events = Vec::with_capacity(alloc, 3).ok()?;
+    for asked in ["ann 1 0 promote", "bob 1 0 promote", "eve 1 0 promote"] {
+        events.push(event(alloc, asked)?).ok()?;
+    }
+    Some(events)
+}
+
+/// How many of the answers have that body.
+fn count_told(answers: &[Answer], body: &str) -> usize {
+    let mut count = 0usize;
+    for answer in answers {
+        if answer.body() == body {
+            count = count.saturating_add(1);
+        }
+    }
+    count
+}
+
 #[test]
-fn a_failed_commit_is_answered_once(rt: HostRuntime) -> Result<(), Fail> {
+fn one_failure_is_answered_once(rt: HostRuntime) -> Result<(), Fail> {
     let alloc = rt.alloc();
     let events = again!(promotions(alloc).ok_or("events"));
     let mut book = Faulty {
@@ -173,6 +194,31 @@ fn says_storage(alloc: Global, book: &mut Faulty, asked: &str) -> bool {
     }
 }
 
+fn call_of(word: &str) -> Option<Call> {
+    match word {
+        "settled" => Some(Call::Settled),
+        "receipt" => Some(Call::Receipt),
+        "templates" => Some(Call::Templates),
+        "service" => Some(Call::Service),
+        "history" => Some(Call::History),
+        "run" => Some(Call::Run),
+        "commit" => Some(Call::Commit),
+        _ => None,
+    }
+}
+
+/// Sends what a row asks to a book whose store fails at its call, and then the row.
+fn send_twice(rt: &impl Abort, alloc: Global, book: &mut Faulty, row: &str) -> Result<(), Fail> {
+    let (word, row) = row.split_once(' ').ok_or("a call")?;
+    let (_, asked) = row.split_once(' ').ok_or("a status")?;
+    let call = call_of(word).ok_or("a call")?;
+    let before = settled(book);
+    assert!(rt; is_refused(alloc, book, call, asked));
+    assert!(rt; settled(book) == before);
+    send(rt, alloc, book, row)?;
+    Ok(())
+}
+
 #[test]
 fn a_store_that_fails(rt: HostRuntime) -> Result<(), Fail> {
     let alloc = rt.alloc();
@@ -180,49 +226,16 @@ fn a_store_that_fails(rt: HostRuntime) -> Result<(), Fail> {
         book: MemoryBook::new(alloc),
         fails: None,
     };
-    for call in [Call::Settled, Call::Templates, Call::Service, Call::Commit] {
-        assert!(rt; is_refused(alloc, &mut book, call, ASKED));
-        assert!(rt; settled(&mut book) == Some(0));
+    for row in FAILING.lines() {
+        send_twice(&rt, alloc, &mut book, row)?;
     }
-    send(&rt, alloc, &mut book, FIRST)?;
-    assert!(rt; is_refused(alloc, &mut book, Call::Receipt, ASKED));
-    send(&rt, alloc, &mut book, FIRST)?;
-    Ok(())
-}
-
-/// Sends a row to a book whose store fails at that call, and then once more. How many times more
-/// than that it was sent.
-fn send_twice(
-    rt: &impl Abort,
-    alloc: Global,
-    book: &mut Faulty,
-    call: Call,
-    row: &str,
-) -> Result<u32, Fail> {
-    let row = again!(unfolded(alloc, row));
-    let (asked, _) = split(row.as_str())?;
-    assert!(rt; is_refused(alloc, book, call, asked));
-    send(rt, alloc, book, row.as_str())
-}
-
-#[test]
-fn a_store_that_fails_queries(rt: HostRuntime) -> Result<(), Fail> {
-    let alloc = rt.alloc();
-    let mut book = Faulty {
-        book: send_story(&rt, alloc, RELEASED)?,
-        fails: None,
-    };
-    send_twice(&rt, alloc, &mut book, Call::Service, SHOWN)?;
-    send_twice(&rt, alloc, &mut book, Call::Service, TOLD)?;
-    send_twice(&rt, alloc, &mut book, Call::History, TOLD)?;
-    send_twice(&rt, alloc, &mut book, Call::Service, JUDGED)?;
-    send_twice(&rt, alloc, &mut book, Call::Run, JUDGED)?;
+    assert!(rt; settled(&mut book) == Some(4));
     Ok(())
 }
 
 /// Whether a page of measurements fails with the store; none where memory was refused.
 fn page_fails(book: &mut Faulty) -> Option<bool> {
-    let web = Name::read("web".as_bytes())?;
+    let web = name("web")?;
     book.fails = Some(Call::Measurements);
     match book.measurements(&web, 0, 1) {
         Ok(_) => Some(false),

@@ -1,53 +1,24 @@
-//! Requests and queries in rows, sent to a book, and the stories that rows make. What was answered
-//! 503 changed nothing, and is sent again.
+//! Requests and queries in rows, sent to a book. What was answered 503 changed nothing, and is sent
+//! again. The bodies of answers are told by the program (tests/stories).
 //!
-//! A row is what is sent, ` => `, and the answer: its status (200 where none stands) and what its
-//! body stands for (`asked::body`). What is sent is one of these, with the seconds after B:
+//! A row is the status of its answer, and what is sent, with the seconds after B:
 //!
 //! - a request: the caller, its number, the seconds, and the command (`asked::command`)
 //! - a query: `?`, the seconds, and `service NAME`, `history NAME` or `run NAME NUMBER`
-//!
-//! A story is rows for one new book; a line `analysis` stands for the two rows below.
 
-use canary_base::error::Memory;
-use canary_base::moments::Moment;
 use canary_base::names::Name;
 use canary_base::numbers::Number;
 use canary_once::book::Book;
 use canary_once::event::{Answer, Event, Query, Request};
 use canary_once::memory::MemoryBook;
 use canary_once::run::run;
-use canary_testing::asked::{B, body, command, moment};
-use canary_testing::rows::split;
+use canary_testing::asked::{command, moment};
 use std::alloc::Global;
 use std::process::Abort;
 use std::test::Fail;
 
-/// Asks again where memory was refused.
-macro_rules! again {
-    ($call:expr) => {
-        match $call {
-            Ok(value) => value,
-            Err(_) => $call?,
-        }
-    };
-}
-
-pub(crate) use again;
-
-pub(crate) const UNKNOWN: &str = r#"{"code":"unknown-service"}"#;
-
-pub(crate) const NO_MEMORY: &str = r#"{"code":"no-memory"}"#;
-
-pub(crate) const STORAGE: &str = r#"{"code":"storage"}"#;
-
-/// A service with an analysis of the template t as its second step, and its release.
-const WITH_ANALYSIS: &str =
-    "ops 2 0 service v1 setWeight:10 analysis:t setWeight:60 pause => [web Healthy 4 100]
-ops 3 0 start v2 => [web Progressing 1 10]";
-
-pub(crate) fn ops() -> Option<Name> {
-    Name::read("ops".as_bytes())
+pub(crate) fn name(text: &str) -> Option<Name> {
+    Name::read(text.as_bytes())
 }
 
 pub(crate) fn request(alloc: Global, asked: &str) -> Option<Request> {
@@ -56,7 +27,7 @@ pub(crate) fn request(alloc: Global, asked: &str) -> Option<Request> {
     let (after, asked) = asked.split_once(' ')?;
     Some(Request {
         moment: moment(after)?,
-        caller: Name::read(caller.as_bytes())?,
+        caller: name(caller)?,
         number: Number::read(number.as_bytes())?,
         command: command(alloc, asked)?,
     })
@@ -66,15 +37,13 @@ fn query(asked: &str) -> Option<Query> {
     let (kind, of) = asked.split_once(' ')?;
     if kind == "run" {
         let (service, number) = of.split_once(' ')?;
-        let number = Number::read(number.as_bytes())?;
-        return Some(Query::Run(Name::read(service.as_bytes())?, number));
+        return Some(Query::Run(name(service)?, Number::read(number.as_bytes())?));
     }
-    let service = Name::read(of.as_bytes())?;
     if kind == "history" {
-        return Some(Query::History(service));
+        return Some(Query::History(name(of)?));
     }
     if kind == "service" {
-        return Some(Query::Service(service));
+        return Some(Query::Service(name(of)?));
     }
     None
 }
@@ -95,36 +64,24 @@ pub(crate) fn event(alloc: Global, asked: &str) -> Option<Event> {
     }
 }
 
-/// The answer to a row, or none where memory was refused before it.
+/// The answer to a copy of what is asked, or none where memory was refused before it.
 pub(crate) fn answer<B: Book>(alloc: Global, book: &mut B, asked: &str) -> Option<Answer> {
-    let event = event(alloc, asked)?;
+    let event = event(alloc, asked)?.copy(alloc).ok()?;
     run(alloc, book, &[event]).ok()?.pop()
 }
 
 /// How many requests of the caller ops are settled.
 pub(crate) fn settled<B: Book>(book: &mut B) -> Option<u32> {
-    book.settled(&ops()?).ok()
+    book.settled(&name("ops")?).ok()
 }
 
-/// The status of an answer and what its body stands for.
-fn told_of(told: &str) -> Result<(u16, &str), Fail> {
-    if told.starts_with("[") || told.starts_with("{") {
-        return Ok((200, told));
-    }
-    let (status, body) = told.split_once(' ').ok_or("a status")?;
-    Ok((status.parse()?, body))
-}
-
-/// Whether the answer to a row is that of the row; none where it was answered 503 or not at all,
-/// for want of memory.
+/// Whether the answer to a row has its status; none where it was answered 503 or not at all, for
+/// want of memory.
 fn is_answered<B: Book>(alloc: Global, book: &mut B, row: &str) -> Result<Option<bool>, Fail> {
-    let (asked, told) = split(row)?;
-    let (status, told) = told_of(told)?;
-    let body = body(alloc, told).ok_or(Memory)?;
+    let (status, asked) = row.split_once(' ').ok_or("a row")?;
+    let status: u16 = status.parse()?;
     match answer(alloc, book, asked) {
-        Some(answer) if answer.status() != 503 => {
-            Ok(Some(answer.status() == status && answer.body() == body.as_str()))
-        }
+        Some(answer) if answer.status() != 503 => Ok(Some(answer.status() == status)),
         _ => Ok(None),
     }
 }
@@ -147,73 +104,14 @@ pub(crate) fn send<B: Book>(
     Ok(1)
 }
 
-/// Sends rows in order. How many times more than once they were sent.
-fn send_all<B: Book>(
-    rt: &impl Abort,
-    alloc: Global,
-    book: &mut B,
-    rows: &str,
-) -> Result<u32, Fail> {
-    let mut again = 0u32;
-    for row in rows.lines() {
-        again = again.saturating_add(send(rt, alloc, book, row)?);
-    }
-    Ok(again)
-}
-
-/// The rows that a line of a story stands for.
-fn rows_of(line: &str) -> &str {
-    if line == "analysis" {
-        return WITH_ANALYSIS;
-    }
-    line
-}
-
-/// Sends what the lines of a story stand for to a new book. No more than one allocation is refused,
-/// so no more than one row is sent twice.
+/// Sends the rows of a story to a new book. No more than one allocation is refused, so no more than
+/// one row is sent twice.
 pub(crate) fn send_story(rt: &impl Abort, alloc: Global, story: &str) -> Result<MemoryBook, Fail> {
     let mut book = MemoryBook::new(alloc);
-    let again = send_lines(rt, alloc, &mut book, story)?;
+    let mut again = 0u32;
+    for row in story.lines() {
+        again = again.saturating_add(send(rt, alloc, &mut book, row)?);
+    }
     assert!(rt; again <= 1, "{story}");
     Ok(book)
-}
-
-/// Sends what the lines of a story stand for. How many times more than once rows were sent.
-fn send_lines(
-    rt: &impl Abort,
-    alloc: Global,
-    book: &mut MemoryBook,
-    story: &str,
-) -> Result<u32, Fail> {
-    let mut again = 0u32;
-    for line in story.lines() {
-        again = again.saturating_add(send_all(rt, alloc, book, rows_of(line))?);
-    }
-    Ok(again)
-}
-
-/// The first promotions of three callers, which know of no service.
-pub(crate) fn promotions(alloc: Global) -> Option<Vec<Event>> {
-    let mut events = Vec::with_capacity(alloc, 3).ok()?;
-    for caller in ["ann", "bob", "eve"] {
-        let request = Request {
-            moment: Moment::new(B)?,
-            caller: Name::read(caller.as_bytes())?,
-            number: Number::new(1)?,
-            command: command(alloc, "promote")?,
-        };
-        events.push(Event::Request(request)).ok()?;
-    }
-    Some(events)
-}
-
-/// How many of the answers have that body.
-pub(crate) fn count_told(answers: &[Answer], body: &str) -> usize {
-    let mut count = 0usize;
-    for answer in answers {
-        if answer.body() == body {
-            count = count.saturating_add(1);
-        }
-    }
-    count
 }
