@@ -11,19 +11,11 @@ import tempfile
 
 sys.dont_write_bytecode = True
 from story_words import (  # noqa: E402
-    B, LINES, REASONS, answer, body, command, event, expanded, get, put, query, reply,
+    B, LINES, Wrong, answer, blocks, body, command, event, expanded, expect, get, message,
+    put, query, reply, wire,
 )
 
 NOWHERE = get("/nowhere")
-
-
-class Wrong(Exception):
-    """A row is not answered as it says."""
-
-
-def expect(row, found, wanted):
-    if found != wanted:
-        raise Wrong(f"{row}\n  wanted {wanted!r}\n  and got {found!r}")
 
 
 def replies(stream):
@@ -239,22 +231,6 @@ def told_conditions(program, block):
     return told_readings(program, rows, rows, {"accepted": True, "refused": False}[head])
 
 
-def wire(text):
-    """The bytes of a text, with an end of line for each bar."""
-    return expanded(text.replace("|", "\r\n"))
-
-
-def message(row):
-    """A row of a conversation: what is sent, and the bytes that answer it."""
-    parts = row.split(" => ")
-    if len(parts) == 4:
-        caller, number = parts[0].split("/")
-        sent = put(caller, number, parts[1].encode())
-    else:
-        sent = get(parts[0])
-    return sent, reply(parts[-2], parts[-1].encode())
-
-
 class Streams:
     """Streams of bytes, and the bytes that answer them. The first conversation is the release."""
 
@@ -341,14 +317,6 @@ def told_manifests(program, block):
         else:
             expect(row, found, wanted + b"\n")
     return len(rows)
-
-
-def blocks(text):
-    """The blocks of a file, each a list of rows; a line that begins with four spaces goes on with
-    the row before it."""
-    lines = [line for line in text.split("\n") if not line.startswith("#")]
-    for block in re.split(r"\n{2,}", "\n".join(lines).strip("\n")):
-        yield block.replace("\n    ", "").split("\n")
 
 
 def tell_file(program, file):

@@ -183,3 +183,36 @@ def answer(told):
     if told[0] not in "[{":
         status, told = told.split(" ", 1)
     return reply(f"{int(status)} {REASONS[int(status)]}", body(told))
+
+
+class Wrong(Exception):
+    """A row is not answered as it says."""
+
+
+def expect(row, found, wanted):
+    if found != wanted:
+        raise Wrong(f"{row}\n  wanted {wanted!r}\n  and got {found!r}")
+
+
+def wire(text):
+    """The bytes of a text, with an end of line for each bar."""
+    return expanded(text.replace("|", "\r\n"))
+
+
+def message(row):
+    """A row of a conversation: what is sent, and the bytes that answer it."""
+    parts = row.split(" => ")
+    if len(parts) == 4:
+        caller, number = parts[0].split("/")
+        sent = put(caller, number, parts[1].encode())
+    else:
+        sent = get(parts[0])
+    return sent, reply(parts[-2], parts[-1].encode())
+
+
+def blocks(text):
+    """The blocks of a file, each a list of rows; a line that begins with four spaces goes on with
+    the row before it."""
+    lines = [line for line in text.split("\n") if not line.startswith("#")]
+    for block in re.split(r"\n{2,}", "\n".join(lines).strip("\n")):
+        yield block.replace("\n    ", "").split("\n")
