@@ -1,6 +1,6 @@
-"""Runs a program on command lines: program.py PROGRAM FOLDER [PART..]. FOLDER/cases has the cases of
-tests/cases and of tests/examples, and the rows of tests/lines say what each line of words comes to;
-the streams are those of program_streams.py. tests/program says what is tried."""
+"""Runs a program on command lines: program.py PROGRAM FOLDER [PART..]. FOLDER/cases has the cases
+of tests/cases and of tests/examples, and the rows of tests/lines say what each line of words comes
+to; the streams are those of program_streams.py. tests/program says what is tried."""
 import fcntl
 import os
 import re
