@@ -292,7 +292,7 @@ def main():
             continue
         try:
             rows += part(program, folder)
-        except Wrong as fault:
+        except (Wrong, subprocess.TimeoutExpired) as fault:
             print(f"program: {part.__name__}: {fault}", file=sys.stderr)
             wrong += 1
     print(f"program: {rows} rows did as they must, {wrong} parts did not", file=sys.stderr)
