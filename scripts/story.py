@@ -12,22 +12,10 @@ import tempfile
 sys.dont_write_bytecode = True
 from story_words import (  # noqa: E402
     B, LINES, Wrong, answer, blocks, body, command, event, expanded, expect, get, message,
-    put, query, reply, wire,
+    put, query, replies, reply, wire,
 )
 
 NOWHERE = get("/nowhere")
-
-
-def replies(stream):
-    """The status, the body and the bytes of each reply of a stream."""
-    at, found = 0, []
-    while at < len(stream):
-        end = stream.index(b"\r\n\r\n", at) + 4
-        status = int(stream[at + 9:at + 12])
-        length = int(re.search(rb"Content-Length: (\d+)\r\n", stream[at:end])[1])
-        found.append((status, stream[end:end + length], stream[at:end + length]))
-        at = end + length
-    return found
 
 
 def run_of_moments(events):

@@ -55,6 +55,18 @@ def reply(status, body, fields=""):
     return f"{head}{fields}\r\n".encode() + body
 
 
+def replies(stream):
+    """The status, the body and the bytes of each reply of a stream."""
+    at, found = 0, []
+    while at < len(stream):
+        end = stream.index(b"\r\n\r\n", at) + 4
+        status = int(stream[at + 9:at + 12])
+        length = int(re.search(rb"Content-Length: (\d+)\r\n", stream[at:end])[1])
+        found.append((status, stream[end:end + length], stream[at:end + length]))
+        at = end + length
+    return found
+
+
 def metric(word):
     """A metric by its compact word, as a manifest has it."""
     name, *members = word.split(",")
