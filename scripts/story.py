@@ -5,6 +5,7 @@ import json
 import math
 import os
 import re
+import shutil
 import subprocess
 import sys
 import tempfile
@@ -63,6 +64,13 @@ class Program:
             raise Wrong(f"{words}: status {ran.returncode}: {ran.stderr.decode()}")
         return ran.stdout
 
+    def fault(self, words, stream):
+        """What the program tells on standard error as it ends with status 1 and writes nothing."""
+        ran = subprocess.run([self.path, *words], input=stream, capture_output=True, timeout=60)
+        if ran.returncode != 1 or ran.stdout:
+            raise Wrong(f"{words}: status {ran.returncode}: {ran.stdout.decode()}")
+        return ran.stderr.decode()
+
     def pipe(self, stream, at=B, step=1, status=0, book=()):
         return self.run(["pipe", "--at", str(at), "--step", str(step), *book], stream, status)
 
@@ -75,9 +83,12 @@ class Program:
         stream, kept, at, step = spaced(first)
         return asked_of(replies(self.pipe(stream, at, step)), kept)
 
-    def in_file(self, events):
+    def new_file(self):
+        """The path of a file that is not there yet."""
+        return os.path.join(self.folder, f"book{next(self.files)}")
+
+    def in_file(self, events, file):
         """The replies by a book in a file, which is opened anew where the pauses change."""
-        file = os.path.join(self.folder, f"book{next(self.files)}")
         found, rest = [], events
         while rest:
             first, rest = run_of_moments(rest)
@@ -89,7 +100,7 @@ class Program:
     def told(self, events):
         """The replies to events at their moments."""
         found = self.in_memory(events)
-        return self.in_file(events) if found is None else found
+        return self.in_file(events, self.new_file()) if found is None else found
 
 
 def tell(program, rows, events, wanted):
@@ -200,7 +211,8 @@ def told_stops(program, rows):
         spec = {"metadata": {"name": "t"}, "spec": {"metrics": [metric]}}
         with open(file, "w", encoding="utf-8") as manifest:
             json.dump({"kind": "AnalysisTemplate", **spec}, manifest)
-        wanted = f'spec.metrics[0].successCondition (metric "m"), byte {byte}: expected {expected}\n'
+        where = 'spec.metrics[0].successCondition (metric "m"), byte'
+        wanted = f"{where} {byte}: expected {expected}\n"
         expect(row, program.run(["check", file], status=1).decode(), wanted)
     return len(rows)
 
@@ -307,6 +319,77 @@ def told_manifests(program, block):
     return len(rows)
 
 
+HEADER = "caller,number,service,run,metric,ordinal,taken,result,failure"
+
+# Behind these run 1 of web is open: that of its background, with a metric due every minute.
+WATCHED = ["ops 1 0 template errs m,interval=60 => [errs]", *LINES["background"]]
+
+
+def book_of(program, rows):
+    """The file of a new book, in which requests are settled as these rows say."""
+    file = program.new_file()
+    asked, told = zip(*(row.split(" => ") for row in rows))
+    found = program.in_file([event(text) for text in asked], file)
+    for row, (_, _, stream), want in zip(rows, found, told, strict=True):
+        expect(row, stream, answer(want))
+    return file
+
+
+def copied(program, file):
+    """A copy of a book's file, with its log."""
+    copy = program.new_file()
+    for end in ("", "-wal"):
+        if os.path.exists(file + end):
+            shutil.copy(file + end, copy + end)
+    return copy
+
+
+def import_line(number, told):
+    """The line of a row: a phase alone stands for that of an accepted report."""
+    if " " not in told:
+        told = f"200 [web Paused 1 20 | 1 {told} | Running]"
+    status, told = told.split(" ", 1)
+    return f"{number} {status} ".encode() + body(told) + b"\n"
+
+
+def tell_import(program, row, told, file, book):
+    """A measurement file that is imported into a book, and the lines that this writes."""
+    wanted = b"".join(import_line(number, text) for number, text in enumerate(told, 1))
+    expect(row, program.run(["import", "--db", book, "-"], file), wanted)
+
+
+def told_imports(program, block):
+    """Rows of one measurement file, or files, with either end of line; or an export."""
+    head, *rows = block
+    if head == "export":
+        return told_export(program, rows)
+    book = book_of(program, WATCHED)
+    texts, answers = rows, []
+    if head == "rows":
+        parts = [row.split(" => ") for row in rows]
+        texts = ["|".join([HEADER, *(text for text, _ in parts)])]
+        answers = [told for _, told in parts]
+    for text, end in itertools.product(texts, (b"\n", b"\r\n")):
+        file = expanded(text).replace(b"|", end)
+        if end not in file and end != b"\n":
+            continue
+        if head == "other headers":
+            found = program.fault(["import", "--db", book, "-"], file)
+            expect(text, found, "canary: header\n")
+        else:
+            tell_import(program, text, answers, file, copied(program, book))
+    return len(rows)
+
+
+def told_export(program, rows):
+    """Requests to a new book, and what is exported of web under the caller copy."""
+    *asked, file = rows
+    book = book_of(program, asked)
+    wanted = expanded(f"{HEADER}|{file}").replace(b"|", b"\n")
+    expect(file, program.run(["export", "--db", book, "--caller", "copy", "web"]), wanted)
+    return len(rows)
+
+
 def tell_file(program, file):
     with open(file, encoding="utf-8") as opened:
         head, text = opened.read().split("\n", 1)
@@ -314,6 +397,7 @@ def tell_file(program, file):
     told = {
         "desk": told_desk, "histories": told_histories, "conditions": told_conditions,
         "streams": Streams().told, "bodies": told_bodies, "manifests": told_manifests,
+        "imports": told_imports,
     }[kind]
     rows = sum(told(program, block) for block in blocks(text))
     if rows != int(count):

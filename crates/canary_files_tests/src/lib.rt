@@ -1,14 +1,7 @@
-//! The tests of measurement files (`canary_files`): rows and oddly made files with the lines that
-//! answer them, files that are imported again, exports that are read again, readers and writers
-//! that fail in midstream, and printed words. What a contract says is not tested again. A test
-//! holds as well where any one allocation is refused, or ends since memory ran out.
+//! The tests of measurement files (`canary_files`): readers and writers that fail in midstream, and
+//! printed words. Rows, odd files and exports are told by the program (tests/stories, tests/files).
+//! A test holds as well where any one allocation is refused, or ends since memory ran out.
 #![tactic(auto)]
 
 #[cfg(test)]
-mod exporting;
-#[cfg(test)]
 mod failing;
-#[cfg(test)]
-mod files;
-#[cfg(test)]
-mod importing;

@@ -1,10 +1,8 @@
-//! The tests of the book over tables (`canary_tables`): stories sent to it and to a book in memory,
-//! which have to answer alike.
+//! The tests of the book over tables (`canary_tables`): stories sent to it, and its tables adopted
+//! anew between their parts, also where an allocation is refused.
 #![tactic(auto)]
 
 #[cfg(test)]
 mod asked;
-#[cfg(test)]
-mod pages;
 #[cfg(test)]
 mod stories;

@@ -1,12 +1,12 @@
-//! Stories, sent row by row to a book over tables in memory and to a book in memory. Each test
-//! holds as well where any one allocation is refused: what was answered 503 is sent again.
+//! Stories, sent row by row to a book over tables in memory. Each test holds as well where any one
+//! allocation is refused: what was answered 503 is sent again. The bodies of answers, and pages of
+//! measurements, are told by the program (tests/tables, tests/files, tests/stories).
 
-use crate::asked::event;
+use crate::asked::{event, name};
 use canary_adopting::progress::Untold;
 use canary_base::error::Memory;
 use canary_once::book::Book;
 use canary_once::event::Answer;
-use canary_once::memory::MemoryBook;
 use canary_once::run::run;
 use canary_tables::book::TableBook;
 use canary_tables::fault::Left;
@@ -17,7 +17,7 @@ use std::test::Fail;
 
 /// A row is the status that answers it, and what is sent. Between two parts the tables are adopted
 /// anew.
-pub(crate) const RELEASE: &str = "404 ? 0 service web
+const RELEASE: &str = "404 ? 0 service web
 200 ops 1 0 template errs m,interval=60
 200 ops 2 0 template t a,success=result>10,failure=result<5 b dryRun:b
 422 ops 3 0 template t m
@@ -89,59 +89,40 @@ const JUDGED: &str = "200 ops 1 0 template t m,interval=10,count=3,success=resul
 200 ? 60 run web 2
 200 ? 60 history web";
 
-#[derive(Drop)]
-pub(crate) struct Books {
-    pub memory: MemoryBook,
-    pub tables: TableBook<MemStore>,
-}
-
 /// A book over new tables in memory; none where memory was refused.
 fn tables(alloc: Global) -> Option<TableBook<MemStore>> {
     let conn = Connection::open_in_memory(alloc).ok()?;
     TableBook::create(alloc, conn).ok()
 }
 
-/// Two new books.
-fn new_books(alloc: Global) -> Result<Books, Fail> {
-    Ok(Books {
-        memory: MemoryBook::new(alloc),
-        tables: tables(alloc).or(tables(alloc)).ok_or("tables")?,
-    })
-}
-
-/// The answer of a book; none where memory was refused.
-fn asked<B: Book>(alloc: Global, book: &mut B, row: &str) -> Option<Answer> {
-    let answer = run(alloc, book, &[event(alloc, row)?]).ok()?.pop()?;
+/// The answer to a row; none where it was answered 503, or not at all, for want of memory.
+fn answer(alloc: Global, tables: &mut TableBook<MemStore>, asked: &str) -> Option<Answer> {
+    let answer = run(alloc, tables, &[event(alloc, asked)?]).ok()?.pop()?;
     if answer.status() == 503 {
         return None;
     }
     Some(answer)
 }
 
-/// The answer of a book, which is asked again where memory was refused.
-fn answer<B: Book>(alloc: Global, book: &mut B, row: &str) -> Result<Answer, Fail> {
-    match asked(alloc, book, row) {
-        Some(answer) => Ok(answer),
-        None => Ok(asked(alloc, book, row).ok_or("an answer")?),
+/// The status of the answer to a row, which is sent again where memory was refused.
+fn status(alloc: Global, tables: &mut TableBook<MemStore>, asked: &str) -> Result<u16, Fail> {
+    match answer(alloc, tables, asked) {
+        Some(answer) => Ok(answer.status()),
+        None => Ok(answer(alloc, tables, asked).ok_or("an answer")?.status()),
     }
 }
 
-/// Sends a row to both books.
-fn send(rt: &impl Abort, alloc: Global, books: &mut Books, row: &str) -> Result<(), Fail> {
-    let (status, row) = row.split_once(' ').ok_or("a row")?;
-    let told = answer(alloc, &mut books.memory, row)?;
-    let found = answer(alloc, &mut books.tables, row)?;
-    let status: u16 = status.parse()?;
-    assert!(rt; told.status() == status, "{row}");
-    assert!(rt; found.status() == status, "{row}");
-    assert!(rt; found.body() == told.body(), "{row}");
-    Ok(())
-}
-
-/// Sends a part of a story to both books.
-fn send_all(rt: &impl Abort, alloc: Global, books: &mut Books, part: &str) -> Result<(), Fail> {
+/// Sends the rows of a part of a story.
+fn send_all(
+    rt: &impl Abort,
+    alloc: Global,
+    tables: &mut TableBook<MemStore>,
+    part: &str,
+) -> Result<(), Fail> {
     for row in part.lines() {
-        send(rt, alloc, books, row)?;
+        let (told, asked) = row.split_once(' ').ok_or("a row")?;
+        let told: u16 = told.parse()?;
+        assert!(rt; status(alloc, tables, asked)? == told, "{row}");
     }
     Ok(())
 }
@@ -161,21 +142,27 @@ fn adopted(alloc: Global, tables: TableBook<MemStore>) -> Result<TableBook<MemSt
     }
 }
 
-/// The two books after a story.
-pub(crate) fn told(rt: &impl Abort, alloc: Global, story: &str) -> Result<Books, Fail> {
-    let mut books = new_books(alloc)?;
+/// A book after a story.
+fn told(rt: &impl Abort, alloc: Global, story: &str) -> Result<TableBook<MemStore>, Fail> {
+    let mut book = tables(alloc).or(tables(alloc)).ok_or("tables")?;
     for part in story.split("\n\n") {
-        send_all(rt, alloc, &mut books, part)?;
-        let Books { memory, tables } = books;
-        let tables = adopted(alloc, tables)?;
-        books = Books { memory, tables };
+        send_all(rt, alloc, &mut book, part)?;
+        book = adopted(alloc, book)?;
     }
-    Ok(books)
+    Ok(book)
+}
+
+/// How many measurements stand in a page of web; none where memory was refused.
+fn measured(tables: &mut TableBook<MemStore>, from: u64, most: u32) -> Option<usize> {
+    let page = tables.measurements(&name("web")?, from, most).ok()?;
+    Some(page.as_slice().len())
 }
 
 #[test]
 fn a_release_in_tables(rt: HostRuntime) -> Result<(), Fail> {
-    told(&rt, rt.alloc(), RELEASE)?;
+    let mut book = told(&rt, rt.alloc(), RELEASE)?;
+    assert!(rt; measured(&mut book, 0, 256).or(measured(&mut book, 0, 256)) == Some(5));
+    assert!(rt; measured(&mut book, 3, 1).or(measured(&mut book, 3, 1)) == Some(1));
     Ok(())
 }
 
