@@ -1,0 +1,5 @@
+pub mod Lists
+pub mod Receipts
+pub mod Drawn
+pub mod Replies
+pub mod Last

@@ -1,0 +1,23 @@
+//! Laws over all senders.
+ghost use Rattle.canary_once.specs.Contents.{no_contents};
+ghost use Rattle.canary_senders.specs.Senders.{NobodyHasSettled, SettleFirstParts};
+ghost use Rattle.canary_senders.specs.Senders.{NoneIsReused, LastSettlesAll};
+
+use canary_once::laws;
+use canary_plan::laws as plans;
+use canary_release::laws as releases;
+
+/// Whatever copies come, with gaps and in any order, of the requests that callers draw from their
+/// scripts: what is settled are interleaved first parts of the scripts, no reply says that a number
+/// was reused, and a script whose last request is answered as settled is settled whole. So it is
+/// over contents in which nobody has settled a request, empty ones among them.
+pub fn senders()
+    ensures none { NobodyHasSettled no_contents }
+    ensures first_parts { SettleFirstParts }
+    ensures not_reused { NoneIsReused }
+    ensures last { LastSettlesAll }
+{
+    plans::same_commands();
+    releases::refusals();
+    laws::statuses();
+}
