@@ -3,3 +3,5 @@ pub mod Receipts
 pub mod Drawn
 pub mod Replies
 pub mod Last
+pub mod Named
+pub mod Arriving

@@ -1,8 +1,10 @@
 -- Senders: each caller has a script, and sends its commands under their numbers, any of them again
 -- and again, with gaps and in any order. Queries come between them.
-use Rattle.std.specs.Prelude.{◌≡◌, ◌≢◌, ℕ, ◌-◌, ◌≤◌, List, ◌∷◌, ◌++◌, length, map, filter, take, Some, slice_get}
+use Rattle.std.specs.Prelude.{◌≡◌, ◌≢◌, ℕ, ◌-◌, ◌≤◌, List, ◌∷◌, ◌++◌, length, map, filter, take, Some, false, slice_get}
 use Rattle.std.specs.List.{AllByRecursion}
 use Rattle.canary_plan.specs.declared.command.Command.{Command}
+use Rattle.canary_plan.specs.Commands.{subject_of}
+use Rattle.canary_release.specs.Laws.{is_template}
 use Rattle.canary_once.specs.declared.event.Request.{Request}
 use Rattle.canary_once.specs.declared.event.Event.{Event}
 use Rattle.canary_once.specs.declared.event.Event.TheVariants as event
@@ -52,3 +54,28 @@ LastSettlesAll =
     → r.number ≡ length (scripts r.caller)
     → IsSettledStatus (answer c before (event.Request r)).status
     → count_of (after c (before ++ event.Request r ∷ rest)) r.caller ≡ length (scripts r.caller)
+
+-- Orders of arrival.
+
+-- no script has a Template, and no two scripts name one service
+pub record AreApart (scripts : Scripts) : Type 0 where
+  pub no_template : (caller : List ℕ) (place : ℕ) (command : Command)
+      → slice_get (scripts caller) place ≡ Some command → is_template command ≡ false
+  pub services : (one other : List ℕ) (i j : ℕ) (x y : Command)
+      → slice_get (scripts one) i ≡ Some x → slice_get (scripts other) j ≡ Some y
+      → subject_of x ≡ subject_of y → one ≡ other
+
+-- requests that are drawn from the scripts come all at one moment, and settle every script whole
+pub record SettleAllAt (moment : ℕ) (scripts : Scripts) (c : Contents) (es : List Event)
+    : Type 0 where
+  pub drawn : AreDrawn scripts es
+  pub at_once : AllByRecursion (λ (r : Request). r.moment ≡ moment) (requests_of es)
+  pub whole : (caller : List ℕ) → count_of (after c es) caller ≡ length (scripts caller)
+
+-- in whatever order they arrive, and with whatever copies, the contents after them are the same
+abbrev pub OrderDoesNotMatter : Type 0
+OrderDoesNotMatter =
+    (scripts : Scripts) (c : Contents) (moment : ℕ) (es other : List Event)
+    → NobodyHasSettled c → AreApart scripts
+    → SettleAllAt moment scripts c es → SettleAllAt moment scripts c other
+    → after c es ≡ after c other

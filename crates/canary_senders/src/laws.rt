@@ -1,7 +1,7 @@
 //! Laws over all senders.
 ghost use Rattle.canary_once.specs.Contents.{no_contents};
 ghost use Rattle.canary_senders.specs.Senders.{NobodyHasSettled, SettleFirstParts};
-ghost use Rattle.canary_senders.specs.Senders.{NoneIsReused, LastSettlesAll};
+ghost use Rattle.canary_senders.specs.Senders.{NoneIsReused, LastSettlesAll, OrderDoesNotMatter};
 
 use canary_once::laws;
 use canary_plan::laws as plans;
@@ -20,4 +20,14 @@ pub fn senders()
     plans::same_commands();
     releases::refusals();
     laws::statuses();
+}
+
+/// The order of arrival does not matter between scripts that name no service in common and have no
+/// Template: where all requests come at one moment and every script is settled whole, the contents
+/// are the same, receipts and services and all, in whatever order and with whatever copies the
+/// requests came.
+pub fn arrivals()
+    ensures { OrderDoesNotMatter }
+{
+    releases::independence();
 }
