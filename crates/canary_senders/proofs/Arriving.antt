@@ -1,5 +1,5 @@
 -- Requests at one moment, of scripts that are apart, lead to the same contents in any order.
-use Rattle.std.proofs.Common.{◌≡◌, inl, inr, ℕ, ◌-◌, List, [], ◌∷◌, length, drop, Bool, true, false, Some, refl, sym, ap, ◌∙◌, arith}
+use Rattle.std.proofs.Common.{◌≡◌, inl, inr, ℕ, List, [], ◌∷◌, length, drop, Bool, true, false, Some, refl, sym, ap, ◌∙◌, arith}
 use Rattle.std.specs.Prelude.{map, filter, cond, slice_get}
 use Rattle.std.specs.List.{AllByRecursion}
 use Rattle.std.specs.Ordering.{nat_cmp}
@@ -15,11 +15,11 @@ use Rattle.canary_release.specs.Desks.{Desk, machine}
 use Rattle.canary_release.specs.Laws.{is_on, concerning, is_reply_on, replies_on, AgreeOn, AreIndependent}
 use Rattle.canary_once.specs.declared.event.Request.{Request}
 use Rattle.canary_once.specs.declared.event.Event.{Event}
-use Rattle.canary_once.specs.Contents.{Contents, count_of}
+use Rattle.canary_once.specs.Contents.{Contents}
 use Rattle.canary_once.specs.Answers.{requests_of, is_of, news_of, bare, settled_requests, after}
-use Rattle.canary_senders.specs.Senders.{Scripts, IsDrawn, NobodyHasSettled, commands_of, AreApart, SettleAllAt, OrderDoesNotMatter}
+use Rattle.canary_senders.specs.Senders.{Scripts, IsDrawn, commands_of, AreApart, SettleAllAt, OrderDoesNotMatter}
 use Rattle.canary_senders.proofs.Receipts.{own, receipt_for, more, got_all, replies_after, replies_long, own_bare}
-use Rattle.canary_senders.proofs.Drawn.{settle_first_parts}
+use Rattle.canary_senders.proofs.Drawn.{settles_first}
 use Rattle.canary_senders.proofs.Named.{news_all, on_its_own, Names, all_alone, concerning_mine, replies_mine, look, none_concerning}
 
 -- What a caller settles is its script, at that moment.
@@ -33,33 +33,34 @@ bare_at : (t : ℕ) (caller : List ℕ) (news : List Request) → AllByRecursion
 bare_at t caller [] all = refl
 bare_at t caller (r ∷ rs) all = one_at t r (filter (is_of caller) rs) (is_of caller r) all.0 (bare_at t caller rs all.1)
 
-settles : (t : ℕ) (scripts : Scripts) (c : Contents) (es : List Event) (caller : List ℕ) → NobodyHasSettled c → SettleAllAt t scripts c es
+settles : (t : ℕ) (scripts : Scripts) (c : Contents) (es : List Event) (caller : List ℕ) → SettleAllAt t scripts c es
     → map bare (filter (is_of caller) (news_of c es)) ≡ map (λ x. (t, x)) (scripts caller)
-settles t scripts c es caller nobody all =
+settles t scripts c es caller all =
+    let first = settles_first scripts c es caller all.drawn in
+    let count = first.count in
     let whole = all.whole caller in
     bare_at t caller (news_of c es) (news_all (λ (r : Request). r.moment ≡ t) c [] (requests_of es) tt all.at_once)
     ∙ ap (map (λ x. (t, x)))
-    ((settle_first_parts scripts c es caller nobody all.drawn).1
-    ∙ take_all (count_of (after c es) caller) (scripts caller) (omega (arith, whole)))
+    (first.commands ∙ take_all (length (filter (is_of caller) (news_of c es))) (scripts caller) (omega (arith, count, whole)))
 
-drawn_news : (t : ℕ) (scripts : Scripts) (c : Contents) (es : List Event) → SettleAllAt t scripts c es → AllByRecursion (IsDrawn scripts) (news_of c es)
-drawn_news t scripts c es all = news_all (IsDrawn scripts) c [] (requests_of es) tt all.drawn
+drawn_news : (t : ℕ) (scripts : Scripts) (c : Contents) (es : List Event) → SettleAllAt t scripts c es → AllByRecursion (IsDrawn scripts c) (news_of c es)
+drawn_news t scripts c es all = news_all (IsDrawn scripts c) c [] (requests_of es) tt all.drawn
 
 -- The settled requests that concern one service.
 
-of_script : (t : ℕ) (scripts : Scripts) (c : Contents) (es : List Event) (caller name : List ℕ) → NobodyHasSettled c → AreApart scripts → SettleAllAt t scripts c es → Names scripts caller name
+of_script : (t : ℕ) (scripts : Scripts) (c : Contents) (es : List Event) (caller name : List ℕ) → AreApart scripts → SettleAllAt t scripts c es → Names scripts caller name
     → concerning name (settled_requests c es) ≡ concerning name (map (λ x. (t, x)) (scripts caller))
-of_script t scripts c es caller name nobody apart all named =
-    concerning_mine caller name (news_of c es) (all_alone scripts caller name (news_of c es) apart named (drawn_news t scripts c es all))
-    ∙ ap (concerning name) (settles t scripts c es caller nobody all)
+of_script t scripts c es caller name apart all named =
+    concerning_mine caller name (news_of c es) (all_alone scripts c caller name (news_of c es) apart named (drawn_news t scripts c es all))
+    ∙ ap (concerning name) (settles t scripts c es caller all)
 
-same_concerning : (t : ℕ) (scripts : Scripts) (c : Contents) (es other : List Event) (name : List ℕ) → NobodyHasSettled c → AreApart scripts → SettleAllAt t scripts c es → SettleAllAt t scripts c other
+same_concerning : (t : ℕ) (scripts : Scripts) (c : Contents) (es other : List Event) (name : List ℕ) → AreApart scripts → SettleAllAt t scripts c es → SettleAllAt t scripts c other
     → concerning name (settled_requests c es) ≡ concerning name (settled_requests c other)
-same_concerning t scripts c es other name nobody apart one two =
-    elim (look scripts name (news_of c es) apart (drawn_news t scripts c es one)) [
-      | inr found ↦ of_script t scripts c es found.0 name nobody apart one found.1 ∙ sym (of_script t scripts c other found.0 name nobody apart two found.1)
-      | inl none ↦ elim (look scripts name (news_of c other) apart (drawn_news t scripts c other two)) [
-        | inr found ↦ of_script t scripts c es found.0 name nobody apart one found.1 ∙ sym (of_script t scripts c other found.0 name nobody apart two found.1)
+same_concerning t scripts c es other name apart one two =
+    elim (look scripts c name (news_of c es) apart (drawn_news t scripts c es one)) [
+      | inr found ↦ of_script t scripts c es found.0 name apart one found.1 ∙ sym (of_script t scripts c other found.0 name apart two found.1)
+      | inl none ↦ elim (look scripts c name (news_of c other) apart (drawn_news t scripts c other two)) [
+        | inr found ↦ of_script t scripts c es found.0 name apart one found.1 ∙ sym (of_script t scripts c other found.0 name apart two found.1)
         | inl neither ↦ none_concerning name (news_of c es) none ∙ sym (none_concerning name (news_of c other) neither)
       ]
     ]
@@ -104,56 +105,56 @@ same_answered P (z ∷ zs) (w ∷ ws) keys all same =
 
 -- A caller's answered requests.
 
-one_on : (scripts : Scripts) (caller : List ℕ) (r : Request) (x : Reply) (zs : List Answered) (mine : Bool) → AreApart scripts → is_of caller r ≡ mine → IsDrawn scripts r → AreOn (Names scripts caller) zs
+one_on : (scripts : Scripts) (c : Contents) (caller : List ℕ) (r : Request) (x : Reply) (zs : List Answered) (mine : Bool) → AreApart scripts → is_of caller r ≡ mine → IsDrawn scripts c r → AreOn (Names scripts caller) zs
     → AreOn (Names scripts caller) (cond mine ((bare r, x) ∷ zs) zs)
-one_on scripts caller r x zs true apart e drawn all =
-    let there : slice_get (scripts caller) (r.number - 1) ≡ Some r.command = ap (λ (n : List ℕ). slice_get (scripts n) (r.number - 1)) ((bytes_eq-Decides caller r.caller).0 e) ∙ drawn.command in
-    ((on_its_own r.command (apart.no_template caller (r.number - 1) r.command there), (r.number - 1, r.command, there, refl)), all)
-one_on scripts caller r x zs false apart e drawn all = all
+one_on scripts c caller r x zs true apart e drawn all =
+    let there : slice_get (scripts caller) drawn.place ≡ Some r.command = ap (λ (n : List ℕ). slice_get (scripts n) drawn.place) ((bytes_eq-Decides caller r.caller).0 e) ∙ drawn.command in
+    ((on_its_own r.command (apart.no_template caller drawn.place r.command there), (drawn.place, r.command, there, refl)), all)
+one_on scripts c caller r x zs false apart e drawn all = all
 
-own_on : (scripts : Scripts) (caller : List ℕ) (news : List Request) (xs : List Reply) → AreApart scripts → AllByRecursion (IsDrawn scripts) news → AreOn (Names scripts caller) (own caller news xs)
-own_on scripts caller [] xs apart all = tt
-own_on scripts caller (r ∷ rs) [] apart all = tt
-own_on scripts caller (r ∷ rs) (x ∷ xs) apart all = one_on scripts caller r x (own caller rs xs) (is_of caller r) apart refl all.0 (own_on scripts caller rs xs apart all.1)
+own_on : (scripts : Scripts) (c : Contents) (caller : List ℕ) (news : List Request) (xs : List Reply) → AreApart scripts → AllByRecursion (IsDrawn scripts c) news → AreOn (Names scripts caller) (own caller news xs)
+own_on scripts c caller [] xs apart all = tt
+own_on scripts c caller (r ∷ rs) [] apart all = tt
+own_on scripts c caller (r ∷ rs) (x ∷ xs) apart all = one_on scripts c caller r x (own caller rs xs) (is_of caller r) apart refl all.0 (own_on scripts c caller rs xs apart all.1)
 
 -- The law.
 
 -- the machine over both lists of settled requests
-agreed : AreIndependent → (t : ℕ) (scripts : Scripts) (c : Contents) (es other : List Event) (name : List ℕ) → NobodyHasSettled c → AreApart scripts → SettleAllAt t scripts c es → SettleAllAt t scripts c other
+agreed : AreIndependent → (t : ℕ) (scripts : Scripts) (c : Contents) (es other : List Event) (name : List ℕ) → AreApart scripts → SettleAllAt t scripts c es → SettleAllAt t scripts c other
     → AgreeOn name (machine c.desk (settled_requests c es)).desk (machine c.desk (settled_requests c other)).desk
     × (replies_on name c.desk (settled_requests c es) ≡ replies_on name c.desk (settled_requests c other))
-agreed independent t scripts c es other name nobody apart one two =
-    independent name c.desk c.desk (settled_requests c es) (settled_requests c other) (record { templates = λ template. refl; service = refl }) (same_concerning t scripts c es other name nobody apart one two)
+agreed independent t scripts c es other name apart one two =
+    independent name c.desk c.desk (settled_requests c es) (settled_requests c other) (record { templates = λ template. refl; service = refl }) (same_concerning t scripts c es other name apart one two)
 
-same_own : AreIndependent → (t : ℕ) (scripts : Scripts) (c : Contents) (es other : List Event) (caller : List ℕ) → NobodyHasSettled c → AreApart scripts → SettleAllAt t scripts c es → SettleAllAt t scripts c other
+same_own : AreIndependent → (t : ℕ) (scripts : Scripts) (c : Contents) (es other : List Event) (caller : List ℕ) → AreApart scripts → SettleAllAt t scripts c es → SettleAllAt t scripts c other
     → own caller (news_of c es) (replies_after c es) ≡ own caller (news_of c other) (replies_after c other)
-same_own independent t scripts c es other caller nobody apart one two =
+same_own independent t scripts c es other caller apart one two =
     let keys : map (λ (z : Answered). z.0) (own caller (news_of c es) (replies_after c es)) ≡ map (λ (z : Answered). z.0) (own caller (news_of c other) (replies_after c other)) =
     own_bare caller (news_of c es) (replies_after c es) (replies_long c.desk (news_of c es))
-    ∙ settles t scripts c es caller nobody one
-    ∙ sym (settles t scripts c other caller nobody two)
+    ∙ settles t scripts c es caller one
+    ∙ sym (settles t scripts c other caller two)
     ∙ sym (own_bare caller (news_of c other) (replies_after c other) (replies_long c.desk (news_of c other))) in
     same_answered (Names scripts caller) (own caller (news_of c es) (replies_after c es)) (own caller (news_of c other) (replies_after c other)) keys
-    (own_on scripts caller (news_of c es) (replies_after c es) apart (drawn_news t scripts c es one))
+    (own_on scripts c caller (news_of c es) (replies_after c es) apart (drawn_news t scripts c es one))
     (λ name named.
-    sym (replies_mine caller name (news_of c es) (replies_after c es) (all_alone scripts caller name (news_of c es) apart named (drawn_news t scripts c es one)))
-    ∙ (agreed independent t scripts c es other name nobody apart one two).1
-    ∙ replies_mine caller name (news_of c other) (replies_after c other) (all_alone scripts caller name (news_of c other) apart named (drawn_news t scripts c other two)))
+    sym (replies_mine caller name (news_of c es) (replies_after c es) (all_alone scripts c caller name (news_of c es) apart named (drawn_news t scripts c es one)))
+    ∙ (agreed independent t scripts c es other name apart one two).1
+    ∙ replies_mine caller name (news_of c other) (replies_after c other) (all_alone scripts c caller name (news_of c other) apart named (drawn_news t scripts c other two)))
 
 names_are_told_apart : IsAntisymmetric (slice_cmp nat_cmp)
 names_are_told_apart = slice_cmp-IsAntisymmetric nat_cmp-IsAntisymmetric
 
 pub order_does_not_matter : AreIndependent → OrderDoesNotMatter
-order_does_not_matter independent scripts c t es other nobody apart one two =
+order_does_not_matter independent scripts c t es other apart one two =
     let desk : Desk = (machine c.desk (settled_requests c es)).desk in
     let desk2 : Desk = (machine c.desk (settled_requests c other)).desk in
     let callers : (after c es).callers ≡ (after c other).callers =
     same_map nat_list_cmp_total names_are_told_apart (after c es).callers (after c other).callers (λ caller.
     got_all c.callers (news_of c es) (replies_after c es) caller
-    ∙ ap (λ zs. more (get c.callers caller) (map receipt_for zs)) (same_own independent t scripts c es other caller nobody apart one two)
+    ∙ ap (λ zs. more (get c.callers caller) (map receipt_for zs)) (same_own independent t scripts c es other caller apart one two)
     ∙ sym (got_all c.callers (news_of c other) (replies_after c other) caller)) in
     let templates : desk.templates ≡ desk2.templates =
-    same_map nat_list_cmp_total names_are_told_apart desk.templates desk2.templates (agreed independent t scripts c es other [] nobody apart one two).0.templates in
+    same_map nat_list_cmp_total names_are_told_apart desk.templates desk2.templates (agreed independent t scripts c es other [] apart one two).0.templates in
     let services : desk.services ≡ desk2.services =
-    same_map nat_list_cmp_total names_are_told_apart desk.services desk2.services (λ name. (agreed independent t scripts c es other name nobody apart one two).0.service) in
+    same_map nat_list_cmp_total names_are_told_apart desk.services desk2.services (λ name. (agreed independent t scripts c es other name apart one two).0.service) in
     λ i. record { callers = callers i; desk = record { templates = templates i; services = services i } }

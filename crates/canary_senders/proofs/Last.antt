@@ -14,8 +14,7 @@ use Rattle.canary_once.specs.declared.event.Event.TheVariants as event
 use Rattle.canary_once.specs.Contents.{Contents, count_of, receipt_at, IsSettledStatus}
 use Rattle.canary_once.specs.Answers.{requests_of, is_of, is_new, next_number, news_after, news_of, settled_requests, after, ahead_reply, repeat_reply}
 use Rattle.canary_senders.specs.Senders.{LastSettlesAll}
-use Rattle.canary_senders.proofs.Receipts.{count_after}
-use Rattle.canary_senders.proofs.Drawn.{requests_append, news_append, filter_one, settle_first_parts}
+use Rattle.canary_senders.proofs.Drawn.{requests_append, news_append, filter_one, settles_first}
 
 -- A caller's new requests do not become fewer.
 
@@ -47,7 +46,7 @@ reached c news r false false said kept e o s =
     elim s [ inl accepted ↦ let no_way : Conflict ≡ Accepted = accepted in cc no_way | inr refused ↦ let no_way : Conflict ≡ Refused = refused in cc no_way ]
 
 pub last_settles_all : LastSettlesAll
-last_settles_all scripts c before rest r nobody all is s =
+last_settles_all scripts c before rest r all is s =
     let es : List Event = before ++ event.Request r ∷ rest in
     let news : List Request = (if is_new c (news_of c before) r then news_of c before ++ r ∷ [] else news_of c before) in
     let here : r.number ≤ count_of c r.caller + length (filter (is_of r.caller) news) =
@@ -57,6 +56,7 @@ last_settles_all scripts c before rest r nobody all is s =
     let whole : news_of c es ≡ news_after c news (requests_of rest) =
     ap (news_after c []) (requests_append before (event.Request r ∷ rest)) ∙ news_append c [] (requests_of before) (r ∷ requests_of rest) in
     let long = ap (λ (rs : List Request). length (filter (is_of r.caller) rs)) whole in
-    let counted = count_after c es r.caller in
-    let short = (settle_first_parts scripts c es r.caller nobody all).0 in
-    omega (arith, here, on, long, counted, short, is)
+    let settled = settles_first scripts c es r.caller all in
+    let count = settled.count in
+    let within = settled.within in
+    omega (arith, here, on, long, count, within, is)

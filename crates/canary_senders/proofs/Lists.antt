@@ -1,5 +1,5 @@
 -- First parts of lists, and elements by their places.
-use Rattle.std.proofs.Common.{◌≡◌, ℕ, zero, suc, ◌≤◌, ◌<◌, List, [], ◌∷◌, ◌++◌, length, Some, refl, sym, ap, arith}
+use Rattle.std.proofs.Common.{◌≡◌, ℕ, zero, suc, ◌+◌, ◌≤◌, ◌<◌, List, [], ◌∷◌, ◌++◌, length, Some, refl, sym, ap, ◌∙◌, arith}
 use Rattle.std.specs.Prelude.{take, slice_get}
 
 -- with the element behind it, a first part is one longer
@@ -23,3 +23,10 @@ pub some_there : {A : Type 0} (l : List A) (i : ℕ) → i < length l → (x : A
 some_there [] i h = absurd (omega (arith, h))
 some_there (x ∷ l) zero h = (x, refl)
 some_there (x ∷ l) (suc i) h = some_there l i (omega (arith, h))
+
+-- an element behind other ones
+pub behind : {A : Type 0} (l m : List A) (i : ℕ) → slice_get (l ++ m) (length l + i) ≡ slice_get m i
+behind [] m i = let none : 0 + i ≡ i = omega arith in ap (slice_get m) none
+behind (x ∷ l) m i =
+    let one : length (x ∷ l) + i ≡ suc (length l + i) = omega arith in
+    ap (slice_get (x ∷ (l ++ m))) one ∙ behind l m i

@@ -1,5 +1,5 @@
 -- New requests that name a service which only one script names are of that script's caller.
-use Rattle.std.proofs.Common.{◌≡◌, ◌⊎◌, inl, inr, ℕ, ◌-◌, List, [], ◌∷◌, ◌++◌, Bool, true, false, Some, refl, sym, ap, ◌∙◌}
+use Rattle.std.proofs.Common.{◌≡◌, ◌⊎◌, inl, inr, ℕ, List, [], ◌∷◌, ◌++◌, Bool, true, false, Some, refl, sym, ap, ◌∙◌}
 use Rattle.std.specs.Prelude.{if◌then◌else◌, map, filter, cond, slice_get}
 use Rattle.std.specs.List.{AllByRecursion, zip}
 use Rattle.std.specs.Str.{bytes_eq}
@@ -65,10 +65,10 @@ on_its_own (Report report) e = itself report.service
 abbrev pub Names : Scripts → List ℕ → List ℕ → Type 0
 Names scripts caller name = (place : ℕ) × (x : Command) × (slice_get (scripts caller) place ≡ Some x) × (subject_of x ≡ name)
 
-concerned : (scripts : Scripts) (name : List ℕ) (r : Request) → AreApart scripts → IsDrawn scripts r → concerns name (bare r) ≡ true → is_on name r.command ≡ true
-concerned scripts name r apart drawn e =
+concerned : (scripts : Scripts) (c : Contents) (name : List ℕ) (r : Request) → AreApart scripts → IsDrawn scripts c r → concerns name (bare r) ≡ true → is_on name r.command ≡ true
+concerned scripts c name r apart drawn e =
     elim (or_cases (is_template r.command) (is_on name r.command) e) [
-      | inl template ↦ absurd (both_ways (is_template r.command) (apart.no_template r.caller (r.number - 1) r.command drawn.command) template)
+      | inl template ↦ absurd (both_ways (is_template r.command) (apart.no_template r.caller drawn.place r.command drawn.command) template)
       | inr on ↦ on
     ]
 
@@ -76,16 +76,16 @@ concerned scripts name r apart drawn e =
 abbrev pub IsAlone : List ℕ → List ℕ → Request → Type 0
 IsAlone caller name r = is_of caller r ≡ false → concerns name (bare r) ≡ false
 
-alone : (scripts : Scripts) (caller name : List ℕ) (r : Request) → AreApart scripts → Names scripts caller name → IsDrawn scripts r → IsAlone caller name r
-alone scripts caller name r apart named drawn other =
+alone : (scripts : Scripts) (c : Contents) (caller name : List ℕ) (r : Request) → AreApart scripts → Names scripts caller name → IsDrawn scripts c r → IsAlone caller name r
+alone scripts c caller name r apart named drawn other =
     false_from_ne_true (concerns name (bare r)) (λ e.
-    let subject : subject_of r.command ≡ name = on_subject name r.command (concerned scripts name r apart drawn e) in
-    let same : caller ≡ r.caller = apart.services caller r.caller named.0 (r.number - 1) named.1 r.command named.2 drawn.command (named.3 ∙ sym subject) in
+    let subject : subject_of r.command ≡ name = on_subject name r.command (concerned scripts c name r apart drawn e) in
+    let same : caller ≡ r.caller = apart.services caller r.caller named.0 drawn.place named.1 r.command named.2 drawn.command (named.3 ∙ sym subject) in
     both_ways (is_of caller r) other ((bytes_eq-Decides caller r.caller).1 same))
 
-pub all_alone : (scripts : Scripts) (caller name : List ℕ) (news : List Request) → AreApart scripts → Names scripts caller name → AllByRecursion (IsDrawn scripts) news → AllByRecursion (IsAlone caller name) news
-all_alone scripts caller name [] apart named all = tt
-all_alone scripts caller name (r ∷ rs) apart named all = (alone scripts caller name r apart named all.0, all_alone scripts caller name rs apart named all.1)
+pub all_alone : (scripts : Scripts) (c : Contents) (caller name : List ℕ) (news : List Request) → AreApart scripts → Names scripts caller name → AllByRecursion (IsDrawn scripts c) news → AllByRecursion (IsAlone caller name) news
+all_alone scripts c caller name [] apart named all = tt
+all_alone scripts c caller name (r ∷ rs) apart named all = (alone scripts c caller name r apart named all.0, all_alone scripts c caller name rs apart named all.1)
 
 -- Only one caller's requests concern the service.
 
@@ -115,12 +115,12 @@ replies_mine caller name (r ∷ rs) (x ∷ xs) all =
 abbrev pub AreElsewhere : List ℕ → List Request → Type 0
 AreElsewhere name news = AllByRecursion (λ (r : Request). concerns name (bare r) ≡ false) news
 
-pub look : (scripts : Scripts) (name : List ℕ) (news : List Request) → AreApart scripts → AllByRecursion (IsDrawn scripts) news → AreElsewhere name news ⊎ ((caller : List ℕ) × Names scripts caller name)
-look scripts name [] apart all = inl tt
-look scripts name (r ∷ rs) apart all =
+pub look : (scripts : Scripts) (c : Contents) (name : List ℕ) (news : List Request) → AreApart scripts → AllByRecursion (IsDrawn scripts c) news → AreElsewhere name news ⊎ ((caller : List ℕ) × Names scripts caller name)
+look scripts c name [] apart all = inl tt
+look scripts c name (r ∷ rs) apart all =
     elim (cases_Bool (concerns name (bare r))) [
-      | inl here ↦ inr (r.caller, (r.number - 1, r.command, all.0.command, on_subject name r.command (concerned scripts name r apart all.0 here)))
-      | inr elsewhere ↦ elim (look scripts name rs apart all.1) [ inl rest ↦ inl (elsewhere, rest) | inr found ↦ inr found ]
+      | inl here ↦ inr (r.caller, (all.0.place, r.command, all.0.command, on_subject name r.command (concerned scripts c name r apart all.0 here)))
+      | inr elsewhere ↦ elim (look scripts c name rs apart all.1) [ inl rest ↦ inl (elsewhere, rest) | inr found ↦ inr found ]
     ]
 
 pub none_concerning : (name : List ℕ) (news : List Request) → AreElsewhere name news → concerning name (map bare news) ≡ []

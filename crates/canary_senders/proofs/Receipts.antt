@@ -64,7 +64,7 @@ more_is there (k ∷ ks) = more_is (Some (unwrap_or there [] ++ k ∷ [])) ks �
 abbrev pub replies_after : Contents → List Event → List Reply
 replies_after c es = (machine c.desk (settled_requests c es)).replies
 
-receipts_after : (c : Contents) (es : List Event) (q : List ℕ) → receipts_of (after c es) q ≡ receipts_of c q ++ map receipt_for (own q (news_of c es) (replies_after c es))
+pub receipts_after : (c : Contents) (es : List Event) (q : List ℕ) → receipts_of (after c es) q ≡ receipts_of c q ++ map receipt_for (own q (news_of c es) (replies_after c es))
 receipts_after c es q =
     ap (λ (there : Option (List Receipt)). unwrap_or there []) (got_all c.callers (news_of c es) (replies_after c es) q)
     ∙ more_is (get c.callers q) (map receipt_for (own q (news_of c es) (replies_after c es)))
@@ -92,7 +92,7 @@ bare_command : (rs : List Request) → map (λ (y : ℕ × Command). y.1) (map b
 bare_command [] = refl
 bare_command (r ∷ rs) = ap (λ cs. r.command ∷ cs) (bare_command rs)
 
-own_commands : (c : Contents) (es : List Event) (q : List ℕ) → map (λ (k : Receipt). k.command) (map receipt_for (own q (news_of c es) (replies_after c es))) ≡ commands_of q (news_of c es)
+pub own_commands : (c : Contents) (es : List Event) (q : List ℕ) → map (λ (k : Receipt). k.command) (map receipt_for (own q (news_of c es) (replies_after c es))) ≡ commands_of q (news_of c es)
 own_commands c es q =
     command_in (own q (news_of c es) (replies_after c es))
     ∙ ap (map (λ (y : ℕ × Command). y.1)) (own_bare q (news_of c es) (replies_after c es) (replies_long c.desk (news_of c es)))
@@ -107,17 +107,6 @@ count_after c es q =
     let two : length (commands_of q (news_of c es)) ≡ length (filter (is_of q) (news_of c es)) = length-map (filter (is_of q) (news_of c es)) (λ (r : Request). r.command) in
     let same : length (map (λ (k : Receipt). k.command) mine) ≡ length (commands_of q (news_of c es)) = ap length (own_commands c es q) in
     omega (arith, all, one, two, same)
-
-no_receipts : {A B : Type 0} (f : A → B) (l more : List A) → length l ≡ 0 → map f (l ++ more) ≡ map f more
-no_receipts f [] more n = refl
-no_receipts f (x ∷ l) more n = absurd (omega (arith, n))
-
--- where nobody had settled a request, the receipts have the commands of the new requests
-pub receipt_commands : (c : Contents) (es : List Event) (q : List ℕ) → NobodyHasSettled c → map (λ (k : Receipt). k.command) (receipts_of (after c es) q) ≡ commands_of q (news_of c es)
-receipt_commands c es q nobody =
-    ap (map (λ (k : Receipt). k.command)) (receipts_after c es q)
-    ∙ no_receipts (λ (k : Receipt). k.command) (receipts_of c q) (map receipt_for (own q (news_of c es) (replies_after c es))) (nobody q)
-    ∙ own_commands c es q
 
 pub nobody_yet : NobodyHasSettled no_contents
 nobody_yet q = ap (λ (there : Option (List Receipt)). length (unwrap_or there [])) (get-empty (slice_cmp nat_cmp) q)

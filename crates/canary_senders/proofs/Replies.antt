@@ -1,9 +1,10 @@
 -- No answer says that a number was used for another command.
-use Rattle.std.proofs.Common.{◌≡◌, inl, inr, ℕ, ◌-◌, ◌<◌, List, [], ◌∷◌, ◌++◌, length, Bool, true, false, Some, refl, sym, ap, ◌∙◌, arith}
-use Rattle.std.specs.Prelude.{◌≢◌, ◌⊎◌, ◌==◌, nat_lt, if◌then◌else◌, map, take, Option, option_map, slice_get}
+use Rattle.std.proofs.Common.{◌≡◌, inl, inr, ℕ, ◌+◌, ◌-◌, ◌<◌, List, [], ◌∷◌, ◌++◌, length, Bool, true, false, Some, refl, sym, ap, ◌∙◌, arith}
+use Rattle.std.specs.Prelude.{◌≢◌, ◌⊎◌, ◌==◌, nat_lt, if◌then◌else◌, map, filter, take, Option, option_map, slice_get}
 use Rattle.std.specs.List.{AllByRecursion}
 use Rattle.std.proofs.lemmas.Bool.{ltb-true}
-use Rattle.std.proofs.lemmas.Option.{slice_get-map, slice_get_within, same_Some}
+use Rattle.std.proofs.lemmas.Option.{slice_get-map, same_Some}
+use Rattle.std.proofs.lemmas.List.{length-map}
 use Rattle.canary_plan.specs.declared.command.Command.{Command}
 use Rattle.canary_plan.specs.Commands.{same_command, SameWhereEqual}
 use Rattle.canary_release.specs.declared.reply.Reply.{Reply}
@@ -14,13 +15,13 @@ use Rattle.canary_once.specs.declared.book.Receipt.{Receipt}
 use Rattle.canary_once.specs.declared.event.Request.{Request}
 use Rattle.canary_once.specs.declared.event.Event.{Event}
 use Rattle.canary_once.specs.declared.event.Event.TheVariants as event
-use Rattle.canary_once.specs.Contents.{Contents, receipts_of, receipt_at, IsSettledStatus, KeepsSettled}
-use Rattle.canary_once.specs.Answers.{next_number, news_of, settled_requests, after, reused_reply, ahead_reply, repeat_reply, answer, answers_after}
+use Rattle.canary_once.specs.Contents.{Contents, count_of, receipts_of, receipt_at, IsSettledStatus, KeepsSettled}
+use Rattle.canary_once.specs.Answers.{is_of, next_number, news_of, settled_requests, after, reused_reply, ahead_reply, repeat_reply, answer, answers_after}
 use Rattle.canary_once.specs.Laws.{StaysSettled, QueriesAreAnswered}
-use Rattle.canary_senders.specs.Senders.{Scripts, IsDrawn, AreDrawn, NobodyHasSettled, NoneIsReused}
-use Rattle.canary_senders.proofs.Lists.{there_in_first, some_there}
-use Rattle.canary_senders.proofs.Receipts.{receipt_commands, count_after}
-use Rattle.canary_senders.proofs.Drawn.{drawn_parts, drawn_append, settle_first_parts}
+use Rattle.canary_senders.specs.Senders.{Scripts, IsDrawn, AreDrawn, commands_of, NoneIsReused}
+use Rattle.canary_senders.proofs.Lists.{there_in_first, some_there, behind}
+use Rattle.canary_senders.proofs.Receipts.{own, receipt_for, replies_after, receipts_after, own_commands}
+use Rattle.canary_senders.proofs.Drawn.{drawn_parts, drawn_append, settles_first}
 
 -- Replies that are not it.
 
@@ -46,13 +47,25 @@ new_settled leaves desk moment command = elim (leaves desk moment command) [ inl
 
 -- A repeat has the command of its receipt.
 
-kept_command : (receipts : List Receipt) (script : List Command) (i : ℕ) (command : Command) → map (λ (k : Receipt). k.command) receipts ≡ take (length receipts) script → i < length receipts → slice_get script i ≡ Some command
-    → (k : Receipt) × (slice_get receipts i ≡ Some k) × (k.command ≡ command)
-kept_command receipts script i command first h there =
-    let some = some_there receipts i h in
-    let mapped : slice_get (map (λ (k : Receipt). k.command) receipts) i ≡ Some some.0.command = slice_get-map (λ (k : Receipt). k.command) receipts i ∙ ap (λ o. option_map (λ (k : Receipt). k.command) o) some.1 in
-    let both : Some some.0.command ≡ Some command = sym mapped ∙ ap (λ cs. slice_get cs i) first ∙ there_in_first script (length receipts) i h ∙ there in
+kept_command : (ks : List Receipt) (script : List Command) (i : ℕ) (command : Command) → map (λ (k : Receipt). k.command) ks ≡ take (length ks) script → i < length ks → slice_get script i ≡ Some command
+    → (k : Receipt) × (slice_get ks i ≡ Some k) × (k.command ≡ command)
+kept_command ks script i command first h there =
+    let some = some_there ks i h in
+    let mapped : slice_get (map (λ (k : Receipt). k.command) ks) i ≡ Some some.0.command = slice_get-map (λ (k : Receipt). k.command) ks i ∙ ap (λ o. option_map (λ (k : Receipt). k.command) o) some.1 in
+    let both : Some some.0.command ≡ Some command = sym mapped ∙ ap (λ cs. slice_get cs i) first ∙ there_in_first script (length ks) i h ∙ there in
     (some.0, some.1, same_Some some.0.command command both)
+
+-- the receipts of a caller's new requests
+abbrev receipts_for : Contents → List Event → List ℕ → List Receipt
+receipts_for c es caller = map receipt_for (own caller (news_of c es) (replies_after c es))
+
+-- the receipt under a number behind those that the caller had
+receipt_behind : (c : Contents) (es : List Event) (caller : List ℕ) (number place : ℕ) → number ≡ count_of c caller + place + 1 → receipt_at (after c es) caller number ≡ slice_get (receipts_for c es caller) place
+receipt_behind c es caller number place is =
+    let at : number - 1 ≡ length (receipts_of c caller) + place = omega (arith, is) in
+    ap (slice_get (receipts_of (after c es) caller)) at
+    ∙ ap (λ ks. slice_get ks (length (receipts_of c caller) + place)) (receipts_after c es caller)
+    ∙ behind (receipts_of c caller) (receipts_for c es caller) place
 
 repeat_not : SameWhereEqual → (found : Option Receipt) (k : Receipt) (command : Command) → found ≡ Some k → k.command ≡ command → IsSettledStatus k.reply.status → repeat_reply found command ≢ reused_reply
 repeat_not same found k command is e settled =
@@ -62,46 +75,42 @@ repeat_not same found k command is e settled =
 
 -- The answer to one event, and to all.
 
--- where nobody has settled a request there is no receipt
-nothing_kept : (c : Contents) → NobodyHasSettled c → KeepsSettled c
-nothing_kept c nobody caller number k e =
-    let none : length (receipts_of c caller) ≡ 0 = nobody caller in
-    let within : number - 1 < length (receipts_of c caller) = slice_get_within (receipts_of c caller) (number - 1) k e in
-    absurd (omega (arith, none, within))
-
 request_not : SameWhereEqual → LeavesTheDesk → (scripts : Scripts) (c : Contents) (before : List Event) (r : Request) (new old : Bool)
     → (r.number == next_number c (news_of c before) r.caller) ≡ new → nat_lt r.number (next_number c (news_of c before) r.caller) ≡ old
-    → NobodyHasSettled c → AreDrawn scripts before → IsDrawn scripts r → KeepsSettled (after c before)
+    → AreDrawn scripts c before → IsDrawn scripts c r → KeepsSettled (after c before)
     → (if new then (apply (machine c.desk (settled_requests c before)).desk r.moment r.command).reply
     else (if old then repeat_reply (receipt_at (after c before) r.caller r.number) r.command else ahead_reply (next_number c (news_of c before) r.caller))) ≢ reused_reply
-request_not same leaves scripts c before r true old e o nobody drawn one keeps =
+request_not same leaves scripts c before r true old e o drawn one keeps =
     settled_not _ (new_settled leaves (machine c.desk (settled_requests c before)).desk r.moment r.command)
-request_not same leaves scripts c before r false true e o nobody drawn one keeps =
+request_not same leaves scripts c before r false true e o drawn one keeps =
+    let fs : List Request = filter (is_of r.caller) (news_of c before) in
+    let mine : List Receipt = receipts_for c before r.caller in
     let less : r.number < next_number c (news_of c before) r.caller = ltb-true r.number (next_number c (news_of c before) r.caller) o in
-    let counted = count_after c before r.caller in
-    let from_one = one.from_one in
-    let place : r.number - 1 < length (receipts_of (after c before) r.caller) = omega (arith, less, counted, from_one) in
-    let first : map (λ (k : Receipt). k.command) (receipts_of (after c before) r.caller) ≡ take (length (receipts_of (after c before) r.caller)) (scripts r.caller) =
-    receipt_commands c before r.caller nobody ∙ (settle_first_parts scripts c before r.caller nobody drawn).1 in
-    let kept = kept_command (receipts_of (after c before) r.caller) (scripts r.caller) (r.number - 1) r.command first place one.command in
-    repeat_not same (receipt_at (after c before) r.caller r.number) kept.0 r.command kept.1 kept.2 (keeps r.caller r.number kept.0 kept.1)
-request_not same leaves scripts c before r false false e o nobody drawn one keeps = ahead_not (next_number c (news_of c before) r.caller)
+    let number = one.number in
+    let settled = settles_first scripts c before r.caller drawn in
+    let commands : map (λ (k : Receipt). k.command) mine ≡ commands_of r.caller (news_of c before) = own_commands c before r.caller in
+    let long : length mine ≡ length fs =
+    sym (length-map mine (λ (k : Receipt). k.command)) ∙ ap length commands ∙ length-map fs (λ (x : Request). x.command) in
+    let first : map (λ (k : Receipt). k.command) mine ≡ take (length mine) (scripts r.caller) = commands ∙ settled.commands ∙ ap (λ n. take n (scripts r.caller)) (sym long) in
+    let kept = kept_command mine (scripts r.caller) one.place r.command first (omega (arith, less, number, long)) one.command in
+    let there : receipt_at (after c before) r.caller r.number ≡ Some kept.0 = receipt_behind c before r.caller r.number one.place number ∙ kept.1 in
+    repeat_not same (receipt_at (after c before) r.caller r.number) kept.0 r.command there kept.2 (keeps r.caller r.number kept.0 there)
+request_not same leaves scripts c before r false false e o drawn one keeps = ahead_not (next_number c (news_of c before) r.caller)
 
 answer_not : SameWhereEqual → LeavesTheDesk → StaysSettled → QueriesAreAnswered → (scripts : Scripts) (c : Contents) (before : List Event) (e : Event)
-    → NobodyHasSettled c → AreDrawn scripts before → AreDrawn scripts (e ∷ []) → answer c before e ≢ reused_reply
-answer_not same leaves stays queries scripts c before (event.Request r) nobody drawn one =
-    request_not same leaves scripts c before r (r.number == next_number c (news_of c before) r.caller) (nat_lt r.number (next_number c (news_of c before) r.caller)) refl refl nobody drawn one.0
-    (stays c before (nothing_kept c nobody))
-answer_not same leaves stays queries scripts c before (event.Query moment query) nobody drawn one = shown_not _ (queries (after c before) moment query)
+    → KeepsSettled c → AreDrawn scripts c before → AreDrawn scripts c (e ∷ []) → answer c before e ≢ reused_reply
+answer_not same leaves stays queries scripts c before (event.Request r) keeps drawn one =
+    request_not same leaves scripts c before r (r.number == next_number c (news_of c before) r.caller) (nat_lt r.number (next_number c (news_of c before) r.caller)) refl refl drawn one.0 (stays c before keeps)
+answer_not same leaves stays queries scripts c before (event.Query moment query) keeps drawn one = shown_not _ (queries (after c before) moment query)
 
 answers_not : SameWhereEqual → LeavesTheDesk → StaysSettled → QueriesAreAnswered → (scripts : Scripts) (c : Contents) (before es : List Event)
-    → NobodyHasSettled c → AreDrawn scripts before → AreDrawn scripts es → AllByRecursion (λ reply. reply ≢ reused_reply) (answers_after c before es)
-answers_not same leaves stays queries scripts c before [] nobody drawn rest = tt
-answers_not same leaves stays queries scripts c before (e ∷ es) nobody drawn rest =
-    let parts = drawn_parts scripts (e ∷ []) es rest in (
-      answer_not same leaves stays queries scripts c before e nobody drawn parts.0,
-      answers_not same leaves stays queries scripts c (before ++ e ∷ []) es nobody (drawn_append scripts before (e ∷ []) drawn parts.0) parts.1,
+    → KeepsSettled c → AreDrawn scripts c before → AreDrawn scripts c es → AllByRecursion (λ reply. reply ≢ reused_reply) (answers_after c before es)
+answers_not same leaves stays queries scripts c before [] keeps drawn rest = tt
+answers_not same leaves stays queries scripts c before (e ∷ es) keeps drawn rest =
+    let parts = drawn_parts scripts c (e ∷ []) es rest in (
+      answer_not same leaves stays queries scripts c before e keeps drawn parts.0,
+      answers_not same leaves stays queries scripts c (before ++ e ∷ []) es keeps (drawn_append scripts c before (e ∷ []) drawn parts.0) parts.1,
     )
 
 pub none_is_reused : SameWhereEqual → LeavesTheDesk → StaysSettled → QueriesAreAnswered → NoneIsReused
-none_is_reused same leaves stays queries scripts c es nobody all = answers_not same leaves stays queries scripts c [] es nobody tt all
+none_is_reused same leaves stays queries scripts c es keeps all = answers_not same leaves stays queries scripts c [] es keeps tt all
