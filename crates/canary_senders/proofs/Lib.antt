@@ -5,3 +5,4 @@ pub mod Replies
 pub mod Last
 pub mod Named
 pub mod Arriving
+pub mod Rows

@@ -1,5 +1,5 @@
 -- Senders: each caller has a script, and sends its commands under their numbers, any of them again
--- and again, with gaps and in any order. Queries come between them.
+-- and again, with gaps and in any order. Queries may come between them.
 use Rattle.std.specs.Prelude.{◌≡◌, ◌≢◌, ℕ, ◌+◌, ◌≤◌, List, ◌∷◌, ◌++◌, length, map, filter, take, Some, false, slice_get}
 use Rattle.std.specs.List.{AllByRecursion}
 use Rattle.canary_plan.specs.declared.command.Command.{Command}
@@ -15,14 +15,14 @@ use Rattle.canary_once.specs.Answers.{requests_of, is_of, news_of, reused_reply,
 abbrev pub Scripts : Type 0
 Scripts = List ℕ → List Command
 
--- a request has a command of its caller's script, and that command's number: they are numbered on
--- from the caller's last settled request; where it has none, from 1
+-- a request has a command of its caller's script, and that command's number: a script is numbered
+-- on from its caller's last settled request, and where there is none, from 1
 pub record IsDrawn (scripts : Scripts) (c : Contents) (r : Request) : Type 0 where
   pub place : ℕ
   pub command : slice_get (scripts r.caller) place ≡ Some r.command
   pub number : r.number ≡ count_of c r.caller + place + 1
 
--- each request among events does
+-- so has each request among events
 abbrev pub AreDrawn : Scripts → Contents → List Event → Type 0
 AreDrawn scripts c es = AllByRecursion (IsDrawn scripts c) (requests_of es)
 
@@ -30,14 +30,15 @@ AreDrawn scripts c es = AllByRecursion (IsDrawn scripts c) (requests_of es)
 abbrev pub commands_of : List ℕ → List Request → List Command
 commands_of caller rs = map (λ (r : Request). r.command) (filter (is_of caller) rs)
 
--- a caller has settled so many requests of its script: the first commands, in order
+-- a caller has settled so many requests more, and no more than its script has: their commands are
+-- the first of the script, in order
 pub record SettlesFirst (script : List Command) (c : Contents) (es : List Event)
     (caller : List ℕ) (settled : ℕ) : Type 0 where
   pub count : count_of (after c es) caller ≡ count_of c caller + settled
   pub within : settled ≤ length script
   pub commands : commands_of caller (news_of c es) ≡ take settled script
 
--- what is settled are first parts of the scripts, one of each, interleaved
+-- what is settled is a first part of each script, interleaved
 abbrev pub SettleFirstParts : Type 0
 SettleFirstParts =
     (scripts : Scripts) (c : Contents) (es : List Event) → AreDrawn scripts c es

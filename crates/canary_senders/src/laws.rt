@@ -8,9 +8,9 @@ use canary_plan::laws as plans;
 use canary_release::laws as releases;
 
 /// Whatever copies come, with gaps and in any order, of the requests that callers draw from their
-/// scripts: what is settled are interleaved first parts of the scripts, no reply says that a number
-/// was reused, and a script whose last request is answered as settled is settled whole. So it is
-/// over contents in which nobody has settled a request, empty ones among them.
+/// scripts: what is settled is a first part of each script, interleaved; no reply says that a number
+/// was reused; and a script whose last request is answered as settled is settled whole. A script
+/// goes on from what its caller has settled, which over empty contents is nothing.
 pub fn senders()
     ensures none { NobodyHasSettled no_contents }
     ensures first_parts { SettleFirstParts }
