@@ -20,41 +20,33 @@ use Rattle.canary_words.specs.declared.words.WordsFault.TheVariants.{Help, Usage
 
 -- ---- what the desk takes
 
--- the option `--NAME SECONDS`, which has to be given, with the seconds of a moment
-abbrev pub moment_option : Text → Rule
-moment_option name = record (new_rule name) {
-  long = Some name;
-  action = Some Set;
-  value_names = 1;
-  parser = Some (Unsigned 0 253370764799);
-  required = true;
-}
-
--- the option `--NAME VALUE` with any text, which has to be given if `is_required`
-abbrev pub text_option : Text → Bool → Rule
-text_option name is_required = record (new_rule name) {
-  long = Some name;
+-- what has a value, any text, which has to be given if `is_required`
+abbrev pub with_value : Text → Bool → Rule
+with_value name is_required = record (new_rule name) {
   action = Some Set;
   value_names = 1;
   required = is_required;
 }
 
+-- the word `VALUE`, which has to be given
+abbrev pub text_word : Text → Rule
+text_word name = with_value name true
+
+-- the option `--NAME VALUE`, which has to be given if `is_required`
+abbrev pub text_option : Text → Bool → Rule
+text_option name is_required = record (with_value name is_required) { long = Some name }
+
+-- with whole numbers from `least` to `most` as its values
+abbrev pub with_numbers : Rule → ℕ → ℕ → Rule
+with_numbers rule least most = record rule { parser = Some (Unsigned least most) }
+
+-- the option `--NAME SECONDS`, which has to be given, with the seconds of a moment
+abbrev pub moment_option : Text → Rule
+moment_option name = with_numbers (text_option name true) 0 253370764799
+
 -- the option `--NAME VALUE`, which may be given, with a whole number from 1 to `most`
 abbrev pub number_option : Text → ℕ → Rule
-number_option name most = record (new_rule name) {
-  long = Some name;
-  action = Some Set;
-  value_names = 1;
-  parser = Some (Unsigned 1 most);
-}
-
--- the word `VALUE` with any text, which has to be given
-abbrev pub text_word : Text → Rule
-text_word name = record (new_rule name) {
-  action = Some Set;
-  value_names = 1;
-  required = true;
-}
+number_option name most = with_numbers (text_option name false) 1 most
 
 -- `--db FILE`, which has to be given
 abbrev pub db_option : Rule

@@ -6,7 +6,7 @@ ghost use Rattle.canary_words.specs.CommandLine.{pipe_command, serve_command, im
 ghost use Rattle.canary_words.specs.CommandLine.{history_command, export_command, status_command};
 ghost use Rattle.canary_words.specs.CommandLine.{backup_command, check_command};
 ghost use Rattle.canary_words.specs.CommandLine.{moment_option, number_option, text_option};
-ghost use Rattle.canary_words.specs.CommandLine.{text_word, with_limits};
+ghost use Rattle.canary_words.specs.CommandLine.{text_word, with_limits, with_numbers, with_value};
 
 use crate::help;
 use canary_base::moments::LAST_MOMENT;
@@ -183,32 +183,11 @@ fn moment_option<'a>(alloc: Global, name: &'a str, help: &'a str) -> Arg<'a>
     ensures rule { rule_of result ≡ moment_option name.entry.now }
     ensures local { result.global ≡ false }
 {
-    Arg::new(alloc, name)
-        .long(name)
-        .help(help)
-        .value_name("SECONDS")
-        .required(true)
-        .action(ArgAction::Set)
-        .value_parser(ValueParser::unsigned(0, LAST_MOMENT))
-}
-
-// The option `--NAME VALUE` with any text, which has to be given if `is_required`.
-fn text_option<'a>(
-    alloc: Global,
-    name: &'a str,
-    value: &'a str,
-    is_required: bool,
-    help: &'a str,
-) -> Arg<'a>
-    ensures rule { rule_of result ≡ text_option name.entry.now is_required }
-    ensures local { result.global ≡ false }
-{
-    Arg::new(alloc, name)
-        .long(name)
-        .help(help)
-        .value_name(value)
-        .required(is_required)
-        .action(ArgAction::Set)
+    with_numbers(
+        text_option(alloc, name, "SECONDS", true, help),
+        0,
+        LAST_MOMENT,
+    )
 }
 
 // The option `--NAME VALUE`, which may be given, with a whole number from 1 to `most`.
@@ -222,12 +201,29 @@ fn number_option<'a>(
     ensures rule { rule_of result ≡ number_option name.entry.now most }
     ensures local { result.global ≡ false }
 {
-    Arg::new(alloc, name)
-        .long(name)
-        .help(help)
-        .value_name(value)
-        .action(ArgAction::Set)
-        .value_parser(ValueParser::unsigned(1, most))
+    with_numbers(text_option(alloc, name, value, false, help), 1, most)
+}
+
+// With whole numbers from `least` to `most` as its values.
+fn with_numbers(option: Arg<'_>, least: u64, most: u64) -> Arg<'_>
+    ensures rule { rule_of result ≡ with_numbers (rule_of option.entry) least most }
+    ensures local { result.global ≡ option.entry.global }
+{
+    option.value_parser(ValueParser::unsigned(least, most))
+}
+
+// The option `--NAME VALUE` with any text, which has to be given if `is_required`.
+fn text_option<'a>(
+    alloc: Global,
+    name: &'a str,
+    value: &'a str,
+    is_required: bool,
+    help: &'a str,
+) -> Arg<'a>
+    ensures rule { rule_of result ≡ text_option name.entry.now is_required }
+    ensures local { result.global ≡ false }
+{
+    with_value(alloc, name, value, is_required, help).long(name)
 }
 
 // The word `VALUE` with any text, which has to be given.
@@ -235,9 +231,23 @@ fn text_word<'a>(alloc: Global, name: &'a str, value: &'a str, help: &'a str) ->
     ensures rule { rule_of result ≡ text_word name.entry.now }
     ensures local { result.global ≡ false }
 {
+    with_value(alloc, name, value, true, help)
+}
+
+// What has a value, any text, which has to be given if `is_required`.
+fn with_value<'a>(
+    alloc: Global,
+    name: &'a str,
+    value: &'a str,
+    is_required: bool,
+    help: &'a str,
+) -> Arg<'a>
+    ensures rule { rule_of result ≡ with_value name.entry.now is_required }
+    ensures local { result.global ≡ false }
+{
     Arg::new(alloc, name)
         .help(help)
         .value_name(value)
-        .required(true)
+        .required(is_required)
         .action(ArgAction::Set)
 }
