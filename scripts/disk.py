@@ -285,11 +285,16 @@ def try_read_only(program, folder):
     print("disk: a file that may not be written is told as storage", file=sys.stderr)
 
 
+PARTS = (try_foreign_files, try_read_only, try_cut_files, try_full_disk, try_failing_calls)
+
+
 def main():
-    program, folder, *parts = sys.argv[1:]
-    for part in (try_foreign_files, try_read_only, try_cut_files, try_full_disk,
-                 try_failing_calls):
-        if not parts or part.__name__ in parts:
+    program, folder, *wanted = sys.argv[1:]
+    unknown = set(wanted) - {part.__name__ for part in PARTS}
+    if unknown:
+        fail(f"there is no part {' '.join(sorted(unknown))}")
+    for part in PARTS:
+        if not wanted or part.__name__ in wanted:
             part(program, folder)
 
 

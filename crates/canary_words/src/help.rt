@@ -172,13 +172,18 @@ pub(crate) const STATUS_ABOUT: &str = "Prints how the services stand";
 pub(crate) const WATCH_HELP: &str =
     "Prints it again after so many seconds, 1 to 86400 [default: once]";
 
-pub(crate) const STATUS_HELP: &str = with_records_faults!(
+pub(crate) const STATUS_HELP: &str = concat!(
     "It prints how each service stands. With --watch it goes on until it is stopped or has a\n",
-    "fault.\n\n",
+    "fault. Where a desk has FILE open, a copy is read, which stands beside FILE meanwhile.\n\n",
     "Exit status: 0 when it was printed, 2 for a mistake in the words, and 1 for a fault,\n",
     "which a line on standard error names:\n",
     "  canary: write            the output failed or was closed\n",
-    "  canary: memory           out of memory\n";
+    "  canary: memory           out of memory\n",
+    "  canary: storage          FILE cannot be opened, is no database, or fails\n",
+    "  canary: in-use           FILE changes too fast to be copied\n",
+    "  canary: file             no copy can be made beside FILE\n",
+    "  canary: other-schema     the tables of FILE are not a desk's\n",
+    "  canary: broken-row       FILE has a row that no desk leaves\n",
     "\nExample: canary status --db desk.db --watch 5"
 );
 
@@ -188,11 +193,15 @@ pub(crate) const BACKUP_ABOUT: &str = "Copies the records of a desk to another f
 
 pub(crate) const COPY_HELP: &str = "The file to write the copy to";
 
-pub(crate) const BACKUP_HELP: &str = with_records_faults!(
+pub(crate) const BACKUP_HELP: &str = concat!(
+    "The copy is COPY and its log COPY-wal, which belong together; neither may be there before.\n",
+    "A desk may serve FILE meanwhile. The rows are copied and not judged.\n\n",
     "Exit status: 0 when the copy is whole, 2 for a mistake in the words, and 1 for a fault,\n",
     "which a line on standard error names:\n",
-    "  canary: file             COPY cannot be written\n",
-    "  canary: memory           out of memory\n";
+    "  canary: file       COPY or COPY-wal is there, or a file cannot be read or written\n",
+    "  canary: memory     out of memory\n",
+    "  canary: storage    there is no FILE\n",
+    "  canary: in-use     FILE changes too fast to be copied\n",
     "\nExample: canary backup --db desk.db desk-copy.db"
 );
 
