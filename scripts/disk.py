@@ -4,11 +4,11 @@ it does not. tests/disk says what is tried."""
 import os
 import resource
 import shutil
-import signal
 import sqlite3
 import subprocess
 import sys
 
+from program_streams import limits_writes
 from story_words import B, answer, command, put
 
 STORY = [
@@ -38,12 +38,6 @@ MESSAGES = [(request(told), answer(wanted)) for told, wanted in STORY]
 
 def fail(text):
     sys.exit(f"disk: {text}")
-
-
-def limits_writes(most):
-    """What a process does first that can write files of so many bytes at most: a full disk."""
-    signal.signal(signal.SIGXFSZ, signal.SIG_IGN)
-    resource.setrlimit(resource.RLIMIT_FSIZE, (most, resource.RLIM_INFINITY))
 
 
 class Desk:

@@ -1,6 +1,7 @@
 """Runs a program on command lines: program.py PROGRAM FOLDER [PART..]. FOLDER/cases has the cases
 of tests/cases and of tests/examples, and the rows of tests/lines say what each line of words comes
-to; the streams are those of program_streams.py. tests/program says what is tried."""
+to; the streams are those of program_streams.py, the terminals those of program_terminals.py.
+tests/program says what is tried."""
 import fcntl
 import os
 import re
@@ -14,6 +15,7 @@ import termios
 import time
 
 sys.dont_write_bytecode = True
+import program_terminals  # noqa: E402
 from program_streams import (  # noqa: E402
     AT_B, REQUEST, STREAM_PARTS, limits_writes,
 )
@@ -279,8 +281,13 @@ def try_name(program, folder):
     return 1
 
 
+def try_terminals(program, folder):
+    """What is shown where a stream is a terminal."""
+    return program_terminals.try_terminals(program, lambda: new_place(program, folder))
+
+
 PARTS = (try_cases, try_mistakes, try_help, try_ends, try_faulty_streams, try_programs, try_serving,
-         try_name, *STREAM_PARTS)
+         try_name, try_terminals, *STREAM_PARTS)
 
 
 def main():

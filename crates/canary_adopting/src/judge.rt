@@ -13,8 +13,9 @@ use sqlite::{Alter, Connection};
 use std::alloc::Global;
 
 /// That the tables are those of sound contents: their callers, their templates and their services,
-/// row by row. Nothing is changed. `progress` is told how many rows there are, and how many more of
-/// them were judged.
+/// row by row. Nothing is changed. `progress` is told how many rows there are of receipts, runs,
+/// tallies, measurements and histories, then of each receipt as it is judged, and of a service's
+/// rows all at once.
 ///
 /// # Errors
 /// `Broken` where that is not so, or where a row is none that a program can hold; `Memory` where
@@ -35,7 +36,7 @@ pub fn judge<S: Alter, G: Progress>(
     judge_all(conn, alloc, progress)
 }
 
-// How many rows are judged one by one.
+// How many rows `progress` is told of.
 fn count_rows<S: Alter>(conn: &mut Connection<S>) -> Result<u64, ReadFault>
     requires autocommit { conn.old.in_transaction ≡ false }
     ensures mode { conn.new.in_transaction ≡ false }

@@ -3,7 +3,7 @@
 //! Callers may rest on this: `judge` is Ok only where the rows are judged, which by canary_judging
 //! are those of sound contents, and `Broken` only where they are not, or a program cannot hold one
 //! of them, and it changes nothing, where the connection is usable then (canary_schema). `Progress`
-//! is told how many rows there are, and of each as it is judged; of that no contract speaks.
+//! is told how many rows there are, and how many were judged; of that no contract speaks.
 //!
 //! In use (canary_tables, src/adopt.rt):
 //!

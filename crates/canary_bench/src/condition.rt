@@ -1,10 +1,11 @@
 //! Times the reading and the evaluation of conditions.
 
+use crate::machine::nanos_of;
 use anyhow::{Result, ensure};
 use canary_condition::condition::{Condition, Verdict3};
 use canary_condition::outcome::Value;
 use std::alloc::Global;
-use std::time::{Duration, Instant};
+use std::time::Instant;
 
 // A comparison of 16 bytes that is false at 0.
 const COMPARISON: &str = "result > 1000000";
@@ -24,13 +25,6 @@ fn condition_text(alloc: Global, len: usize) -> Result<String> {
         }
     }
     Ok(text)
-}
-
-fn nanos_of(took: Duration) -> u64 {
-    took.as_secs()
-        .saturating_mul(1_000_000_000)
-        .saturating_add(u64::from(took.subsec_nanos()))
-        .max(1)
 }
 
 fn per_second(rounds: u32, nanos: u64) -> u64 {

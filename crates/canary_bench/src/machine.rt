@@ -11,6 +11,7 @@ use canary_plan::templates::Templates;
 use canary_release::decide::{Decision, DeskChange, decide};
 use canary_release::reply::ReplyStatus;
 use canary_release::service::Service;
+use canary_testing::asked::command;
 use std::alloc::Global;
 use std::time::{Duration, Instant};
 
@@ -100,7 +101,7 @@ fn print_start(
     templates: &Templates,
     service: &Service,
 ) -> Result<()> {
-    let start = plans::start().context(REFUSED)?;
+    let start = command(rt.alloc(), "start v2").context(REFUSED)?;
     print_cell(rt, trial, templates, Some(service), &start)?;
     let started = after(rt.alloc(), trial.now, templates, Some(service), &start);
     let started = started.context(REFUSED)?;
@@ -116,7 +117,7 @@ fn print_started(
 ) -> Result<()> {
     let alloc = rt.alloc();
     let all = trial.size.metrics.max(1);
-    print_given(rt, trial, templates, service, plans::tick())?;
+    print_given(rt, trial, templates, service, command(alloc, "tick"))?;
     print_promote(rt, trial, templates, service)?;
     print_given(rt, trial, templates, service, plans::good_report(alloc, 1))?;
     print_given(
@@ -142,9 +143,10 @@ fn print_promote(
     templates: &Templates,
     service: &Service,
 ) -> Result<()> {
+    let promote = command(rt.alloc(), "promote").context(REFUSED)?;
     match held(rt.alloc(), trial, templates, service) {
-        None => print_given(rt, trial, templates, service, plans::promote()),
-        Some(held) => print_given(rt, trial, templates, &held, plans::promote()),
+        None => print_cell(rt, trial, templates, Some(service), &promote),
+        Some(held) => print_cell(rt, trial, templates, Some(&held), &promote),
     }
 }
 

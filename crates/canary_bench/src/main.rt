@@ -1,12 +1,11 @@
 //! Prints figures of this machine. `canary_bench SUBJECT ROUNDS` measures one subject, so many
-//! times over: `condition`, `metric`, `machine` or `message`. `canary_bench register MOST STREAM`
+//! times over: `condition`, `metric` or `machine`. `canary_bench register MOST STREAM`
 //! measures the book in memory, up to so many settled requests of a stream, and without a stream
 //! it prints the table's head. With no words it prints nothing.
 #![tactic(auto)]
 
 mod condition;
 mod machine;
-mod message;
 mod metric;
 mod plans;
 mod reads;
@@ -32,7 +31,6 @@ fn main(rt: HostRuntime) -> Result<()> {
         "metric" => metric::measure(&rt, rounds),
         "machine" => machine::measure(&rt, rounds),
         "register" => register::measure(&rt, rounds, words.next()),
-        "message" => message::measure(&rt, rounds),
         other => bail!("no such subject: {other}"),
     }
 }

@@ -2,11 +2,12 @@
 
 use crate::plans::{self, Size};
 use canary_base::moments::Moment;
-use canary_base::names::{Label, Name};
+use canary_base::names::Name;
 use canary_base::numbers::Number;
 use canary_once::event::Request;
 use canary_plan::command::Command;
 use canary_release::reply::ReplyStatus;
+use canary_testing::asked::command;
 use std::alloc::Global;
 
 /// Which requests are settled, one after another. But for `Reports`, each service has the usual
@@ -75,7 +76,7 @@ impl Stream {
         let moment = moment_at(place)?;
         let caller = self.caller(alloc, place)?;
         let number = self.number(place)?;
-        let command = self.command(alloc, place, moment)?;
+        let command = self.command(alloc, place)?;
         Some(Request {
             moment,
             caller,
@@ -109,21 +110,26 @@ impl Stream {
         }
     }
 
-    fn command(self, alloc: Global, place: u32, moment: Moment) -> Option<Command> {
+    fn command(self, alloc: Global, place: u32) -> Option<Command> {
         match self {
             Stream::One | Stream::Callers => in_turn(alloc, place),
             Stream::Services => on_many(alloc, place),
             Stream::Names => register(alloc, place),
             Stream::Unknown => promote_unknown(alloc, place),
-            Stream::Reports => reporting(alloc, place, moment),
+            Stream::Reports => reporting(alloc, place),
         }
     }
 }
 
-/// The moment of the request at that place.
-pub fn moment_at(place: u32) -> Option<Moment> {
+// The moment of the request at that place.
+fn moment_at(place: u32) -> Option<Moment> {
     let begin = plans::begin()?;
-    Moment::new(begin.get().saturating_add(STEP * u64::from(place)))
+    Moment::new(begin.get().saturating_add(after(place)))
+}
+
+// So many seconds after the first request comes that at that place.
+fn after(place: u32) -> u64 {
+    STEP * u64::from(place)
 }
 
 // A name that ends with that number.
@@ -139,18 +145,16 @@ fn in_turn(alloc: Global, place: u32) -> Option<Command> {
     }
     match place % 4 {
         1 => start(alloc, place),
-        2 => plans::tick(),
-        _ => plans::promote(),
+        2 => command(alloc, "tick"),
+        _ => command(alloc, "promote"),
     }
 }
 
 // Begins a release of a version that ends with a number above that.
 fn start(alloc: Global, place: u32) -> Option<Command> {
-    let service = plans::web()?;
     let number = place.saturating_add(1);
-    let text = format!(in alloc; "v{number}").ok()?;
-    let version = Label::read(text.as_bytes())?;
-    Some(Command::Start { service, version })
+    let text = format!(in alloc; "start v{number}").ok()?;
+    command(alloc, text.as_str())
 }
 
 // A service is registered, or time passes on one of those that are there.
@@ -171,7 +175,7 @@ fn spread(last: u32) -> u32 {
 
 fn register(alloc: Global, number: u32) -> Option<Command> {
     let name = numbered(alloc, "service", number)?;
-    Some(Command::Service(plans::service_named(alloc, name, USUAL)?))
+    plans::register_named(alloc, name, USUAL)
 }
 
 fn promote_unknown(alloc: Global, place: u32) -> Option<Command> {
@@ -180,11 +184,11 @@ fn promote_unknown(alloc: Global, place: u32) -> Option<Command> {
 }
 
 // The template and the service are registered, the release begins, and its run is measured.
-fn reporting(alloc: Global, place: u32, moment: Moment) -> Option<Command> {
+fn reporting(alloc: Global, place: u32) -> Option<Command> {
     match place {
-        0 => Some(Command::Template(plans::template(alloc, 1, 1_000_000)?)),
+        0 => plans::register_template(alloc, 1, 1_000_000),
         1 => plans::register(alloc, ONE_ANALYSIS),
-        2 => plans::start(),
-        _ => plans::report_of_one(alloc, (place - BEFORE_REPORTS).saturating_add(1), moment),
+        2 => command(alloc, "start v2"),
+        _ => plans::report_of_one(alloc, place - BEFORE_REPORTS + 1, after(place)),
     }
 }

@@ -1,5 +1,5 @@
 -- What a command line comes to: what is read, what is written, and the exit status.
-use Rattle.std.specs.Prelude.{◌≡◌, ◌≢◌, ◌⊎◌, ℕ, Bool, true, false, List, [], Option, Some, None, Result, Ok, Err, codes, string_bytes}
+use Rattle.std.specs.Prelude.{◌≡◌, ◌≢◌, ◌⊎◌, ℕ, Bool, true, false, List, [], Option, Some, None, Result, Ok, Err, codes, string_bytes, unwrap_or}
 use Rattle.std.specs.Io.KnownBytes.{Appends}
 use Rattle.clap.specs.Words.{Kinds, Text}
 use Rattle.canary_once.specs.Contents.{Contents, no_contents}
@@ -15,6 +15,8 @@ use Rattle.canary_database.specs.declared.fault.Fault.TheVariants as fault
 use Rattle.canary_database.specs.Faults.{done_of}
 use Rattle.canary_cli.specs.declared.perform.Outcome.{Outcome}
 use Rattle.canary_cli.specs.declared.perform.Outcome.TheVariants.{Done, Findings}
+use Rattle.canary_listen.specs.declared.limits.Limits.{Limits}
+use Rattle.canary_words.specs.declared.words.AskedLimits.{AskedLimits}
 use Rattle.canary_words.specs.declared.words.Program.{Program}
 use Rattle.canary_words.specs.declared.words.Program.TheVariants.{Pipe, Serve, Import, History, Export, Status, Backup, Check}
 use Rattle.canary_words.specs.declared.words.WordsFault.{WordsFault}
@@ -23,7 +25,7 @@ use Rattle.canary_words.specs.CommandLine.{IsFor, faults_of, program_of}
 
 -- ---- faults and statuses
 
--- what comes of a program that finds nothing
+-- what comes of a program that is no check
 abbrev pub outcome_of : Result (Unit {0}) Fault → Result Outcome Fault
 outcome_of (Ok _) = Ok Done
 outcome_of (Err f) = Err f
@@ -33,6 +35,17 @@ abbrev pub status_of : Result Outcome Fault → ℕ
 status_of (Ok Done) = 0
 status_of (Ok Findings) = 1
 status_of (Err f) = 1
+
+-- ---- what `serve` is given
+
+-- the limits of a listener: those that were asked for, and the others as by default
+abbrev pub limits_of : AskedLimits → Limits
+limits_of asked = record {
+  message_seconds = unwrap_or asked.message_seconds 10;
+  idle_seconds = unwrap_or asked.idle_seconds 60;
+  clients = unwrap_or asked.clients 1000;
+  owed_bytes = unwrap_or asked.owed_bytes 65536;
+}
 
 -- ---- what `pipe` does
 
@@ -101,8 +114,8 @@ abbrev pub IsPipedTo : Known → Known → Known → Known → ℕ → ℕ → �
 IsPipedTo r new_r w new_w at step status = (piped : Result (Unit {0}) Fault)
     × (status ≡ status_of (outcome_of piped)) × IsPiped r new_r w new_w at step piped
 
--- it may write on the error stream though it is done: how connections ended, or, on a terminal, how
--- far it has come
+-- it may write on the error stream though it is done: what a desk in memory says of itself, how
+-- connections ended, or how far it has come
 abbrev pub MayTell : Program → Type 0
 MayTell (Pipe at step None) = ⊥
 MayTell (Backup db copy) = ⊥

@@ -6,7 +6,7 @@ ghost use Rattle.std.specs.Io.KnownBytes.{Appends};
 ghost use Rattle.canary_words.specs.CommandLine.{faults_of, program_of};
 ghost use Rattle.canary_cli.specs.Performed.{outcome_of, status_of};
 ghost use Rattle.canary_cli.specs.Performed.{IsPiped, IsPipedTo, IsRun, IsTold, IsTurnedAway};
-ghost use Rattle.canary_cli.specs.Performed.{MayTell, AsksForOneThatTells};
+ghost use Rattle.canary_cli.specs.Performed.{MayTell, AsksForOneThatTells, limits_of};
 
 use crate::check::check;
 use canary_base::lists::Text;
@@ -21,7 +21,7 @@ use canary_database::{pipe, serve};
 use canary_listen::limits::Limits;
 use canary_once::clock::StepClock;
 use canary_once::memory::MemoryBook;
-use canary_words::words::{Program, WordsFault, read_words};
+use canary_words::words::{AskedLimits, Program, WordsFault, read_words};
 use std::alloc::Global;
 use std::io::{self, ErrorKind, Read, Write};
 
@@ -148,6 +148,7 @@ fn run<R: Read, W: Write, F: Write>(
             limits,
         } => {
             let place = Place { listen, db };
+            let limits = limits_of(limits);
             done(serve(rt, &place, connections, limits, output, errors, shows))
         }
         Program::Import { db, csv } => {
@@ -204,6 +205,19 @@ fn drawing(every: Option<u64>, terminals: Terminals) -> Drawing {
     Drawing {
         every,
         is_terminal: terminals.output,
+    }
+}
+
+// The limits of a listener: those that were asked for, and the others as by default.
+fn limits_of(asked: AskedLimits) -> Limits
+    ensures { result ≡ limits_of asked }
+{
+    let standard = Limits::DEFAULT;
+    Limits {
+        message_seconds: asked.message_seconds.unwrap_or(standard.message_seconds),
+        idle_seconds: asked.idle_seconds.unwrap_or(standard.idle_seconds),
+        clients: asked.clients.unwrap_or(standard.clients),
+        owed_bytes: asked.owed_bytes.unwrap_or(standard.owed_bytes),
     }
 }
 

@@ -30,7 +30,7 @@ abbrev pub IsNamed : List ℕ → Result (List ℕ) Fault → Type 0
 IsNamed word (Ok name) = IsTrue (is_name word) × (name ≡ word)
 IsNamed word (Err f) = (IsTrue (is_name word) → ⊥) × (f ≡ fault.BadName)
 
--- no fault of a file says that a word is no name
+-- a fault is one of the tables', so that none says that a word is no name
 abbrev pub IsOfTables : Fault → Type 0
 IsOfTables f = (cause : TableFault) × (f ≡ of_tables cause)
 

@@ -50,17 +50,12 @@ impl Pair {
         }
     }
 
-    /// The files of a copy that stands beside the database of this name while a process reads it.
-    pub(crate) fn beside(rt: &HostRuntime, name: &str) -> Result<Pair, Fault> {
+    /// The files of this process that stand beside those of this name: `name`.WORD-PROCESS, and its
+    /// log.
+    pub(crate) fn beside(rt: &HostRuntime, name: &str, word: &str) -> Result<Pair, Fault> {
         let process = process::id(rt.process());
-        let copy = format!(in rt.alloc(); "{name}.status-copy-{process}")?;
-        Pair::of(rt.alloc(), copy.as_str())
-    }
-
-    // The files of a copy of this name before it is whole.
-    fn part(alloc: Global, copy: &str) -> Result<Pair, Fault> {
-        let name = format!(in alloc; "{copy}.part")?;
-        Pair::of(alloc, name.as_str())
+        let other = format!(in rt.alloc(); "{name}.{word}-{process}")?;
+        Pair::of(rt.alloc(), other.as_str())
     }
 
     /// The name of the database's own file.
@@ -85,10 +80,14 @@ impl Pair {
         sync(rt, self.log.as_str())
     }
 
-    // Gives both the names of another database, that of its own file last.
+    // Gives both the names of another database, that of its own file last; or neither.
     fn rename(&self, rt: &HostRuntime, other: &Pair) -> io::Result<()> {
         fs::rename(rt, self.log.as_str(), other.log.as_str())?;
-        fs::rename(rt, self.database.as_str(), other.database.as_str())
+        let renamed = fs::rename(rt, self.database.as_str(), other.database.as_str());
+        if renamed.is_err() {
+            let _ = fs::remove_file(rt, other.log.as_str());
+        }
+        renamed
     }
 }
 
@@ -105,12 +104,12 @@ fn sync(rt: &HostRuntime, name: &str) -> io::Result<()> {
 
 /// Copies a desk's file of SQLite, with its log, to `copy` and `copy`-wal, also while a desk serves
 /// it: the copy has each request that was settled before, and of those that are settled meanwhile
-/// the first ones. It is made under the names `copy`.part and `copy`.part-wal, and has its own once
-/// it is whole and on the disk.
+/// the first ones. It is made under the names `copy`.part-PROCESS and `copy`.part-PROCESS-wal, and
+/// has its own once it is whole and on the disk.
 ///
 /// # Errors
-/// `File` where `copy` or its log is there already, or a file cannot be read or written; `Storage`
-/// where there is no such file of a desk; `InUse` where the log was begun anew each time while the
+/// `File` where a file of these four names is there already, or a file cannot be read or written;
+/// `Storage` where there is no such file; `InUse` where the log was begun anew each time while the
 /// file was copied; `Memory` where an allocation was refused. There is no copy then.
 pub fn backup(rt: &HostRuntime, file: &str, copy: &str) -> Result<(), Fault> {
     let from = Pair::found(rt, file)?;
@@ -119,22 +118,23 @@ pub fn backup(rt: &HostRuntime, file: &str, copy: &str) -> Result<(), Fault> {
 
 fn backup_found(rt: &HostRuntime, from: &Pair, copy: &str) -> Result<(), Fault> {
     let to = Pair::of(rt.alloc(), copy)?;
-    if to.is_free(rt) {
-        backup_to(rt, from, copy, &to)
+    let part = Pair::beside(rt, copy, "part")?;
+    if to.is_free(rt) && part.is_free(rt) {
+        backup_by_part(rt, from, &part, &to)
     } else {
         Err(Fault::File)
     }
 }
 
-fn backup_to(rt: &HostRuntime, from: &Pair, copy: &str, to: &Pair) -> Result<(), Fault> {
-    let part = Pair::part(rt.alloc(), copy)?;
-    let made = make(rt, from, &part, to);
+fn backup_by_part(rt: &HostRuntime, from: &Pair, part: &Pair, to: &Pair) -> Result<(), Fault> {
+    let made = make(rt, from, part, to);
     if made.is_err() {
         part.remove(rt);
     }
     made
 }
 
+// Makes the copy under the first names, and gives it the others.
 fn make(rt: &HostRuntime, from: &Pair, part: &Pair, to: &Pair) -> Result<(), Fault> {
     copy_pair(rt, from, part)?;
     match part.sync(rt).and_then(|()| part.rename(rt, to)) {

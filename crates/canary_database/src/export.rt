@@ -1,5 +1,6 @@
 //! `export`: a service's measurements as a file.
-ghost use Rattle.std.specs.Prelude.{◌≡◌, ◌≤◌, length, Err, IfOk, IfErr};
+ghost use Rattle.std.specs.Prelude.{◌≡◌, ◌≢◌, ◌≤◌, length, Err, IfOk, IfErr, IsTrue};
+ghost use Rattle.canary_base.specs.Names.{is_name};
 ghost use Rattle.canary_files.specs.Exporting.{file_in, recorded_of, Stays, Puts};
 ghost use Rattle.canary_database.specs.declared.fault.Fault.TheVariants as fault;
 ghost use Rattle.canary_database.specs.Programs.{TellsExport};
@@ -26,7 +27,14 @@ pub fn export<W: Write, F: Write>(
     output: &mut W,
     errors: &mut F,
     is_terminal: bool,
-) -> Result<(), Fault> {
+) -> Result<(), Fault>
+    ensures bad_caller { (IsTrue (is_name caller.now) → ⊥)
+        → (result ≡ Err fault.BadName) × (output.new ≡ output.old) }
+    ensures bad_service { (IsTrue (is_name service.now) → ⊥)
+        → (result ≡ Err fault.BadName) × (output.new ≡ output.old) }
+    ensures names { IsTrue (is_name caller.now) → IsTrue (is_name service.now)
+        → result ≢ Err fault.BadName }
+{
     let (caller, service) = (name_of(caller)?, name_of(service)?);
     let mut book = open(rt, file, errors, is_terminal)?;
     export_rows(rt.alloc(), &mut book, service, caller, output)?;
@@ -56,6 +64,7 @@ pub fn export_rows<W: Write, B: Book>(
         → IfErr result (TellsExport (B.state book.old).contents service) }
     ensures unknown { (B.state book.new).is_honest → result ≡ Err fault.UnknownService
         → out.new ≡ out.old }
+    ensures name { result ≢ Err fault.BadName }
 {
     match canary_files::export::export(alloc, book, service, caller, out) {
         Ok(rows) => Ok(rows),

@@ -24,7 +24,7 @@ pub enum Fault {
     OtherSchema,
     /// A row of the database is none that a desk leaves.
     BrokenRow,
-    /// Another program has the database open.
+    /// Another program has the database open, or writes it faster than it can be copied.
     InUse,
     /// The input failed.
     Read,
@@ -46,7 +46,7 @@ pub enum Fault {
     BadName,
     /// The address is none, or cannot be listened on.
     Listen,
-    /// The system gives no more connections.
+    /// Waiting for clients failed.
     Accept,
     /// A file cannot be read or written, is too long, or is there already.
     File,
@@ -70,7 +70,7 @@ impl fmt::Display for Fault {
             Fault::UnknownService => "there is no such service",
             Fault::BadName => "a word is no name",
             Fault::Listen => "the address is none, or cannot be listened on",
-            Fault::Accept => "the system gives no more connections",
+            Fault::Accept => "waiting for clients failed",
             Fault::File => "a file cannot be read or written, is too long, or is there already",
         })
     }
@@ -200,7 +200,10 @@ impl From<ListenFault> for Fault {
     }
 }
 
-/// Whether a stream that was served so was served to its end, or the fault.
+/// Whether a stream that was served so was served to its end.
+///
+/// # Errors
+/// `Truncated` and `TurnsSpent` where it ended so; `Read`, `Write` and `Memory` for the same faults.
 pub fn done_of(served: Result<Ended, ServeFault>) -> Result<(), Fault>
     ensures { result ≡ done_of served }
 {

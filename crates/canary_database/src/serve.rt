@@ -28,7 +28,7 @@ const NOTICE: &str = "canary: what this desk holds is in memory, and ends with i
 /// # Errors
 /// `Listen` where `listen` is no address, before anything is opened; then what `open` answers; then
 /// `Listen` where the address cannot be listened on; `Memory` where an allocation was refused;
-/// `Write` where the output failed; `Accept` where the system gives no more connections; `Storage`
+/// `Write` where the output failed; `Accept` where waiting for clients failed; `Storage`
 /// where the file fails as it is closed.
 pub fn serve<W: Write, F: Write>(
     rt: &HostRuntime,

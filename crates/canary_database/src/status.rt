@@ -39,13 +39,13 @@ const CLEARED: &str = "\x1b[H\x1b[2J";
 pub struct Drawing {
     /// The seconds from one drawing to the next; none where it is drawn once.
     pub every: Option<u64>,
-    /// The output is a terminal, which each further drawing erases first.
+    /// The output is a terminal: it is erased before each drawing where there are more than one.
     pub is_terminal: bool,
 }
 
-/// Draws a table of the services in a file, and of their open runs: as they are stored, passed to
-/// the present moment. Nothing is written to the file. Where a desk has it open, a copy is read,
-/// which stands beside the file meanwhile.
+/// Draws a table of the services in a file, and of their open runs, as they stand at the present
+/// moment. The file is opened as `open` does it, and no row of it is changed. Where a desk has it
+/// open, a copy is read, which stands beside the file meanwhile.
 ///
 /// # Errors
 /// What `open` answers, but `InUse` only where the file changes too fast to be copied. `File` where
@@ -103,7 +103,7 @@ fn text_of_copy<F: Write>(
     errors: &mut F,
     is_terminal: bool,
 ) -> Result<String, Fault> {
-    let copy = Pair::beside(rt, file)?;
+    let copy = Pair::beside(rt, file, "status-copy")?;
     let text = text_behind_copy(rt, file, &copy, errors, is_terminal);
     copy.remove(rt);
     text

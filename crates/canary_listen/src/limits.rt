@@ -1,18 +1,11 @@
 //! What one client may take of a listener, and how many there may be.
 
-/// The most seconds of a limit: a day.
-pub const MOST_SECONDS: u64 = 86_400;
-/// The most clients at a time.
-pub const MOST_CLIENTS: u64 = 65_536;
-/// The most bytes that may be owed to a client before it is answered no more: a gibibyte.
-pub const MOST_OWED: u64 = 1_073_741_824;
-
 /// How long a client may take, how much may be owed to it, and how many there may be at a time.
 #[derive(Clone, Copy, Debug, PartialEq, Eq)]
 pub struct Limits {
     /// The most seconds from the first byte of a message to its last, from 1 on.
     pub message_seconds: u64,
-    /// The most seconds in which a client has nothing answered and does not take all that it is
+    /// The most seconds in which a client has nothing answered, or does not take all that it is
     /// owed, from 1 on.
     pub idle_seconds: u64,
     /// The most clients at a time, from 1 on; further ones wait to be accepted.

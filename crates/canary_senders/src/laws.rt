@@ -8,9 +8,10 @@ use canary_plan::laws as plans;
 use canary_release::laws as releases;
 
 /// Whatever copies come, with gaps and in any order, of the requests that callers draw from their
-/// scripts: what is settled is a first part of each script, interleaved; no reply says that a number
-/// was reused; and a script whose last request is answered as settled is settled whole. A script
-/// goes on from what its caller has settled, which over empty contents is nothing.
+/// scripts: what is settled is a first part of each script, interleaved; over contents that keep no
+/// receipt of a conflict no reply says that a number was reused; and a script whose last request is
+/// answered as settled is settled whole. A script goes on from what its caller has settled, which
+/// over empty contents is nothing.
 pub fn senders()
     ensures none { NobodyHasSettled no_contents }
     ensures first_parts { SettleFirstParts }

@@ -1,5 +1,5 @@
 //! A book over a database that has a desk's tables.
-ghost use Rattle.std.specs.Prelude.{◌≡◌, ◌↔◌, false, IsTrue, IfOk, IfErr, OnOk, OnErr, Err};
+ghost use Rattle.std.specs.Prelude.{◌≡◌, ◌≢◌, ◌↔◌, false, IsTrue, IfOk, IfErr, OnOk, OnErr, Err};
 ghost use Rattle.sqlite.specs.Held.{state};
 ghost use Rattle.canary_rows.specs.Tables.{Tables};
 ghost use Rattle.canary_schema.specs.Formed.{IsDeskSchema, IsFormed, HasRows, HasWholeTallies};
@@ -42,6 +42,7 @@ fn has_rows<S: Alter>(conn: &mut Connection<S>, is_whole: bool) -> Result<(), Ta
         → ¬ HasDeskTables (state S.Store conn.old).now }
     ensures broken { IsUsable (state S.Store conn.new) → result ≡ Err fault.BrokenRow
         → IsFormed (state S.Store conn.old).now × ¬ HasRows (state S.Store conn.old).now }
+    ensures opened { result ≢ Err fault.InUse }
 {
     if !has_meta(conn)? {
         return Err(TableFault::OtherSchema);
@@ -96,6 +97,7 @@ fn believe<S: Alter, G: Progress>(
     ensures broken { IsUsable (state S.Store conn.new) → result ≡ Err fault.BrokenRow
         → IsFormed (state S.Store conn.old).now
         × ¬ HasSoundRowsWithin (state S.Store conn.old).now }
+    ensures opened { result ≢ Err fault.InUse }
 {
     judging_laws::judging();
     schema_laws::one_reading();
@@ -109,7 +111,7 @@ impl<S: Alter + Drop> TableBook<S> {
     /// Makes a book of a database that has a desk's tables, which contains what their rows stand
     /// for. The store is opened anew, and each row is read and judged before it is believed. Where
     /// the desk's three indexes are missing, they are added; no row is changed. `progress` is told
-    /// how many rows there are to be judged, and as they are.
+    /// how many rows there are, and how many were judged.
     ///
     /// # Errors
     ///
@@ -132,6 +134,7 @@ impl<S: Alter + Drop> TableBook<S> {
         ensures left { IfErr result (λ e. LeavesRows S.Store (state S.Store conn) e.1) }
         ensures mode { IfErr result
             (λ e. conn.in_transaction ≡ false → IsOutside e.1) }
+        ensures opened { IfErr result (λ e. e.0 ≢ fault.InUse) }
     {
         schema_laws::one_reading();
         if !conn.is_autocommit() {

@@ -37,6 +37,7 @@ impl<S: Alter> TableBook<S> {
         ensures other { IfErr result
             (λ e. e.0 ≡ fault.OtherSchema → (state S.Store conn).now.schema ≢ no_schema) }
         ensures unread { IfErr result (λ e. e.0 ≢ fault.BrokenRow) }
+        ensures opened { IfErr result (λ e. e.0 ≢ fault.InUse) }
         ensures same { IfErr result (λ e. IsUsable (state S.Store e.1)
             → IsUsable (state S.Store conn)
             × ((state S.Store e.1).now ≡ (state S.Store conn).now)) }

@@ -16,7 +16,7 @@ use sqlite::{Alter, Connection};
 use std::alloc::Global;
 
 impl<S: Alter> TableBook<S> {
-    /// The names of all services, in the order in which they were added. Nothing changes.
+    /// The names of all services, in the order of their rows. Nothing changes.
     ///
     /// # Errors
     /// `Memory` where an allocation was refused, `Storage` where the store failed.

@@ -1,5 +1,5 @@
 //! What tests are written in: rows of a text, and commands and replies in short forms. It is a
-//! library of tests alone, which no program rests on.
+//! library of tests and benchmarks alone, which no program rests on.
 #![tactic(auto)]
 
 pub mod asked;

@@ -1,6 +1,6 @@
 -- The command lines that the desk takes, by clap's definition of a simple command.
 use Rattle.std.specs.Prelude.{◌≡◌, ◌≢◌, ◌⊎◌, ℕ, Bool, true, false, List, Option, Some, None, codes}
-use Rattle.std.specs.Prelude.{option_map, option_and_then, unwrap_or, IfSome, if◌then◌else◌}
+use Rattle.std.specs.Prelude.{option_map, option_and_then, IfSome, if◌then◌else◌}
 use Rattle.std.specs.Str.{bytes_eq}
 use Rattle.std.specs.Str.Parse.{digits_value, without_leading_plus}
 use Rattle.clap.specs.Words.{App, Kinds, IsAmong, IsUnsignedIn, Row, Rule, Text, fault_of, new_app}
@@ -11,7 +11,7 @@ use Rattle.clap.specs.declared.builder.action.ArgAction.TheVariants.{Set}
 use Rattle.clap.specs.declared.builder.value_parser.ValueParser.TheVariants.{Unsigned}
 use Rattle.clap.specs.declared.error.kind.ErrorKind.{ErrorKind}
 use Rattle.clap.specs.declared.error.kind.ErrorKind.TheVariants.{DisplayHelp, DisplayVersion}
-use Rattle.canary_listen.specs.declared.limits.Limits.{Limits}
+use Rattle.canary_words.specs.declared.words.AskedLimits.{AskedLimits}
 use Rattle.canary_words.specs.declared.words.Program.{Program}
 use Rattle.canary_words.specs.declared.words.Program.TheVariants.{Pipe, Serve, Import, History}
 use Rattle.canary_words.specs.declared.words.Program.TheVariants.{Export, Status, Backup, Check}
@@ -145,13 +145,13 @@ abbrev pub pipe_of : List Row → Option Program
 pipe_of rows = piped (number_given (codes "at") rows) (number_given (codes "step") rows)
     (text_given (codes "db") rows)
 
--- the limits of a listener: those that were given, and the others as by default
-abbrev pub limits_of : List Row → Limits
+-- the limits of a listener that were given
+abbrev pub limits_of : List Row → AskedLimits
 limits_of rows = record {
-  message_seconds = unwrap_or (number_given (codes "message") rows) 10;
-  idle_seconds = unwrap_or (number_given (codes "idle") rows) 60;
-  clients = unwrap_or (number_given (codes "clients") rows) 1000;
-  owed_bytes = unwrap_or (number_given (codes "owed") rows) 65536;
+  message_seconds = number_given (codes "message") rows;
+  idle_seconds = number_given (codes "idle") rows;
+  clients = number_given (codes "clients") rows;
+  owed_bytes = number_given (codes "owed") rows;
 }
 
 abbrev pub serve_of : List Row → Option Program

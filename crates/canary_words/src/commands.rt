@@ -10,13 +10,21 @@ ghost use Rattle.canary_words.specs.CommandLine.{text_word, with_limits, with_nu
 
 use crate::help;
 use canary_base::moments::LAST_MOMENT;
-use canary_listen::limits::{MOST_CLIENTS, MOST_OWED, MOST_SECONDS};
 use clap::builder::ValueParser;
 use clap::{Arg, ArgAction, Command};
 use std::alloc::{AllocError, Global};
 
 /// The most connections that can be asked for.
 pub const MOST_CONNECTIONS: u64 = 1_000_000;
+
+/// The most seconds that a client may be given: a day.
+pub const MOST_SECONDS: u64 = 86_400;
+
+/// The most clients at a time.
+pub const MOST_CLIENTS: u64 = 65_536;
+
+/// The most bytes that may be owed to a client before it is answered no more: a gibibyte.
+pub const MOST_OWED: u64 = 1_073_741_824;
 
 /// The most seconds between two looks at a desk: a day.
 pub const MOST_WATCH: u64 = 86_400;
@@ -122,7 +130,7 @@ fn with_history<'a>(alloc: Global, desk: Command<'a>) -> Result<Command<'a>, All
     let history = Command::new(alloc, "history")
         .about(help::HISTORY_ABOUT)
         .after_help(help::HISTORY_HELP)
-        .arg(text_option(alloc, "db", "FILE", true, help::DB_HELP))?
+        .arg(text_option(alloc, "db", "FILE", true, help::DB_OR_MADE_HELP))?
         .arg(text_word(alloc, "service", "SERVICE", help::SERVICE_HELP))?;
     desk.subcommand(history)
 }
@@ -131,7 +139,7 @@ fn with_history<'a>(alloc: Global, desk: Command<'a>) -> Result<Command<'a>, All
 fn with_export<'a>(alloc: Global, desk: Command<'a>) -> Result<Command<'a>, AllocError>
     ensures { IfOk result (λ c. app_of c ≡ with_subcommand (app_of desk.entry) export_command.top) }
 {
-    let db = text_option(alloc, "db", "FILE", true, help::DB_HELP);
+    let db = text_option(alloc, "db", "FILE", true, help::DB_OR_MADE_HELP);
     let caller = text_option(alloc, "caller", "NAME", true, help::CALLER_HELP);
     let service = text_word(alloc, "service", "SERVICE", help::SERVICE_HELP);
     let export = Command::new(alloc, "export")
@@ -150,7 +158,7 @@ fn with_status<'a>(alloc: Global, desk: Command<'a>) -> Result<Command<'a>, Allo
     let status = Command::new(alloc, "status")
         .about(help::STATUS_ABOUT)
         .after_help(help::STATUS_HELP)
-        .arg(text_option(alloc, "db", "FILE", true, help::DB_HELP))?
+        .arg(text_option(alloc, "db", "FILE", true, help::DB_OR_MADE_HELP))?
         .arg(number_option(alloc, "watch", "SECONDS", MOST_WATCH, help::WATCH_HELP))?;
     desk.subcommand(status)
 }

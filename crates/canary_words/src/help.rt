@@ -6,7 +6,7 @@ macro_rules! with_records_faults {
         concat!(
             $($before,)+
             "  canary: storage          FILE cannot be opened, is no database, or fails\n",
-            "  canary: in-use           another desk has FILE open\n",
+            "  canary: in-use           another program has FILE open\n",
             "  canary: other-schema     the tables of FILE are not a desk's\n",
             "  canary: broken-row       FILE has a row that no desk leaves\n",
             $($after),+
@@ -96,7 +96,7 @@ pub(crate) const SERVE_HELP: &str = with_records_faults!(
     "Exit status: 0 after so many connections, 2 for a mistake in the words, and 1 for a fault,\n",
     "which a line on standard error names:\n",
     "  canary: listen           ADDRESS is no IP:PORT, or cannot be listened on\n",
-    "  canary: accept           the system gives no more connections\n",
+    "  canary: accept           waiting for clients failed\n",
     "  canary: write            the line on standard output could not be written\n",
     "  canary: memory           out of memory before the first connection\n";
     "\nExample: canary serve --listen 127.0.0.1:8080 --db desk.db"
@@ -200,7 +200,7 @@ pub(crate) const BACKUP_HELP: &str = concat!(
     "which a line on standard error names:\n",
     "  canary: file       COPY or COPY-wal is there, or a file cannot be read or written\n",
     "  canary: memory     out of memory\n",
-    "  canary: storage    there is no FILE\n",
+    "  canary: storage    FILE is not there, or cannot be reached\n",
     "  canary: in-use     FILE changes too fast to be copied\n",
     "\nExample: canary backup --db desk.db desk-copy.db"
 );
@@ -216,7 +216,7 @@ pub(crate) const FILE_HELP: &str =
 pub(crate) const CHECK_HELP: &str = concat!(
     "It prints 'ok', or each thing that the desk would refuse or could not read, one a line,\n",
     "with where it stands and what was expected. No desk is needed: whether the templates that a\n",
-    "Rollout names are registered is not looked at.\n\n",
+    "Rollout names are registered is not looked at, nor that a desk takes 65536 bytes at most.\n\n",
     "Exit status: 0 where it printed 'ok', 2 for a mistake in the words, and 1 where it printed\n",
     "anything else, or for a fault, which a line on standard error names:\n",
     "  canary: file    FILE cannot be read, or is longer than 16 MiB\n",

@@ -14,11 +14,24 @@ ghost use Rattle.canary_words.specs.CommandLine.{HasTexts, HasExport, HasStatus}
 use crate::commands::desk_command;
 use canary_base::lists::Text;
 use canary_base::moments::Moment;
-use canary_listen::limits::Limits;
 use clap::error::ErrorKind;
 use clap::{ArgMatches, Error};
 use std::alloc::{AllocError, Global};
 use std::fmt;
+
+/// The limits for the clients of a listener that a command line gives; none where it has no such
+/// option.
+#[derive(Clone, Copy, Debug, PartialEq, Eq)]
+pub struct AskedLimits {
+    /// The most seconds in which a whole message has to come.
+    pub message_seconds: Option<u64>,
+    /// The most seconds for which a client may be idle.
+    pub idle_seconds: Option<u64>,
+    /// The most clients at a time.
+    pub clients: Option<u64>,
+    /// The bytes from which on a client that is owed them waits for answers.
+    pub owed_bytes: Option<u64>,
+}
 
 /// What a command line asks for. Where it has a `db`, that is the name of the file with the desk's
 /// records; without one they are in memory.
@@ -37,7 +50,7 @@ pub enum Program {
         listen: Text,
         db: Option<Text>,
         connections: Option<u64>,
-        limits: Limits,
+        limits: AskedLimits,
     },
     /// The measurements of the CSV file of this name, or of standard input where it is `-`.
     Import {
@@ -223,17 +236,16 @@ fn check_of(alloc: Global, check: &ArgMatches<'_>) -> Result<Program, AllocError
     Ok(Program::Check { file })
 }
 
-// The limits that were given, each as by default where it was not.
-fn limits_of(serve: &ArgMatches<'_>) -> Limits
+// The limits that were given.
+fn limits_of(serve: &ArgMatches<'_>) -> AskedLimits
     requires { HasLimits (rows_of (found_of serve.now)) }
     ensures { result ≡ limits_of (rows_of (found_of serve.now)) }
 {
-    let standard = Limits::DEFAULT;
-    Limits {
-        message_seconds: number_given(serve, "message").unwrap_or(standard.message_seconds),
-        idle_seconds: number_given(serve, "idle").unwrap_or(standard.idle_seconds),
-        clients: number_given(serve, "clients").unwrap_or(standard.clients),
-        owed_bytes: number_given(serve, "owed").unwrap_or(standard.owed_bytes),
+    AskedLimits {
+        message_seconds: number_given(serve, "message"),
+        idle_seconds: number_given(serve, "idle"),
+        clients: number_given(serve, "clients"),
+        owed_bytes: number_given(serve, "owed"),
     }
 }
 
