@@ -1,6 +1,6 @@
 """Judges command lines that were run with an allocation refused: `refused.py cases FOLDER` writes
-them, as cases of `rt try --cases`, and `refused.py judge FOLDER OUTPUT TOLD` reads what that wrote on
-standard output and on standard error. A command line does as it must, or ends with status 1 and
+them, as cases of `rt try --cases`, and `refused.py judge FOLDER OUTPUT TOLD` reads what that wrote
+on standard output and on standard error. A command line does as it must, or ends with status 1 and
 `canary: memory`; a stream may also be answered 503 `no-memory`, by whole replies all the same."""
 import os
 import re
@@ -16,8 +16,8 @@ MISTAKE = b"error: unexpected argument '-5' found"
 
 
 def cases():
-    """The name of each, its words, its input, and what it comes to: the exit status, the output, and
-    the first line of standard error."""
+    """The name of each, its words, its input, and what it comes to: the exit status, the output,
+    and the first line of standard error."""
     stream, want = joined(release())
     with open(HELP, "rb") as shown:
         text = shown.read()

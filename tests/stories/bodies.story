@@ -1,4 +1,4 @@
-bodies 212
+bodies 222
 
 # Bodies; other members and kinds; names and labels; and at the end what is unsupported before it is
 # unreadable, which holds in a body of one member alone. Then bytes: blanks round a body, blanks
@@ -37,6 +37,10 @@ unreadable <<x:efbbbf>>{"promote":{"service":"web"}}
 reads {"promote":{"service":"w<<x:65>>b"}}
 unreadable {"promote":{"service":"w<<x:ff>>b"}}
 unsupported {"template":{"spec":{"measurementRetention":[{"metricName":"a"}]}}}
+reads {"promote":{"service":"2"}}
+unreadable {"promote":{"service":"we_b"}}
+reads {"start":{"service":"web","version":"<<63*v>>"}}
+unreadable {"start":{"service":"web","version":"<<64*v>>"}}
 
 # Commands that have a service alone, each with it, and with one member more.
 between ...
@@ -73,6 +77,7 @@ reads "spec":{"metrics":[{"name":"m"}<<31*,{"name":"m"}>>]}
 unreadable "spec":{"metrics":[{"name":"m"}<<32*,{"name":"m"}>>]}
 reads "spec":{"metrics":[{"name":"m"}],"dryRun":[{"metricName":"<<63*a>>"}]}
 unreadable "spec":{"metrics":[{"name":"m"}],"dryRun":[{"metricName":"<<64*a>>"}]}
+unreadable "spec":{"metrics":[{"name":"m"}],"dryRun":[{"metricName":"<<32*é>>"}]}
 
 # Those of a metric.
 between {"template":{"metadata":{"name":"t"},"spec":{"metrics":[{"name":"success-rate", ... }]}}}
@@ -103,6 +108,8 @@ unreadable "inconclusiveLimit":-1
 unreadable "successCondition":true
 reads "failureCondition":""
 unsupported "consecutiveSuccessLimit":1
+unsupported "consecutiveSuccessLimit":0
+unreadable "failureLimit":-1.5
 reads "consecutiveSuccessLimit":null
 unreadable "name":"success rate"
 reads "name":"Success_rate.p99"
@@ -148,6 +155,8 @@ unreadable "failure":null
 unreadable "failure":5
 reads "failure":"<<200*a>>"
 unreadable "failure":"<<201*a>>"
+reads "failure":"<<100*é>>"
+unreadable "failure":"<<101*é>>"
 
 # Reports, up to 32 entries.
 between {"report":{"service":"web", ... }}
@@ -254,6 +263,9 @@ same
 {"template":{"metadata":{"name":"t"},"spec":{"metrics":[{"name":"m","interval":"60s","count":2}]}}}
      = {"template":{"spec":{"metrics":[{"provider":{},"count":"2","interval":"1m","name":"m",
     "failureLimit":0}],"args":[{"name":"x"}]},"metadata":{"namespace":"shop","name":"t"}}}
+{"template":{"metadata":{"name":"t"},"spec":{"metrics":[{"name":"m","interval":"2m"}]}}}
+     = {"template":{"metadata":{"name":"t"},"spec":{"metrics":[{"name":"m","interval":"1m1m",
+    "initialDelay":""}]}}}
 {"promote":{"service":"web"}} = {"promote":{"service":"a b","service":"web"}}
 {"promote":{"service":"web"}} = {"promote":{"service":"w\u0065b"}}
 {"service":{"version":"v1","manifest":{"metadata":{"name":"web"},"spec":{"strategy":{"canary":{

@@ -1,4 +1,4 @@
-conditions 152
+conditions 160
 
 # Conditions of success and failure, a result and its phase.
 phases
@@ -45,6 +45,11 @@ result > 0 || result[0] > 0 && result > 0 =>  => 1 => Successful
 <<x:09>>result<<x:0d0a>><= 5  =>  => 5 => Successful
 <<1021*!>>0<1 =>  => 5 => Failed
 <<101*result>0||>>result >= 0000 =>  => 0 => Successful
+result < 5 =>  => 5 => Failed
+result[0] > 0 || result[9] > 0 =>  => [0] => Error
+result > 0 && result[0] > 0 =>  => 1 => Error
+0 < result =>  => [1] => Error
+result [ 01 ] == 2 =>  => [1;2] => Successful
 
 # Texts that are no condition.
 refused
@@ -60,6 +65,9 @@ result > 9223372036854775808 @
 result > 9223372036854775808
 result > -9223372036854775809
 9223372036854775808
+result<<x:0c>>> 1
+Result > 1
+result > 1 AND result < 5
 
 # Texts that are no condition, the byte where each stops being one, and what is expected there.
 stops

@@ -1,4 +1,4 @@
-histories 41
+histories 46
 
 # Each reply, and the lines that its request adds to the history of web. The last promotion of the
 # first comes with an earlier moment.
@@ -14,6 +14,12 @@ histories 41
 4 retry => not-aborted => nothing
 4 abort => [web Degraded 1 0] => 4 abort;
 5 start v1 => [web Healthy 2 100] => 5 start v1;5 done v1;
+
+0 service v1 setWeight:20 pause => [web Healthy 2 100] => 0 created v1;
+1 start v2 => [web Paused 1 20] => 1 start v2;1 step 0 setWeight 20;1 step 1 pause;
+2 abort => [web Degraded 1 0] => 2 abort;
+3 start v2 => [web Paused 1 20] => 3 start v2;3 step 0 setWeight 20;3 step 1 pause;
+4 start v2 => in-progress => nothing
 
 0 service v1 pause:300 pause => [web Healthy 2 100] => 0 created v1;
 0 start v2 => [web Paused 0 0] => 0 start v2;0 step 0 pause 300s;

@@ -1,4 +1,4 @@
-imports 65
+imports 76
 
 # Rows that are no request, all in one file.
 rows
@@ -27,6 +27,20 @@ agent,1,web,1,m,1,1767225600,[1; 2], => 400 unreadable
 agent,1,web,1,m,1,1767225600,9223372036854775808, => 400 unreadable
 agent, 1,web,1,m,1,1767225600,5, => 400 bad-number
 caller,number,service,run,metric,ordinal,taken,result,failure => 400 bad-number
+
+# Limits of a row's fields. A row that reads is ahead.
+rows
+agent,1,web,01,m,1,1767225600,5, => 400 unreadable
+agent,1,web,1000000001,m,1,1767225600,5, => 400 unreadable
+agent,1,web,1,m,1000000001,1767225600,5, => 400 unreadable
+agent,1,web,1,m,1,01767225600,5, => 400 unreadable
+agent,1,web,1,m,1,,5, => 400 unreadable
+agent,1,web,1,m,1,1767225600,[1<<16*;1>>], => 400 unreadable
+agent,2,web,1,m,1,1767225600,[1<<15*;1>>], => 409 {"code":"ahead","expected":1}
+agent,1,web,1,m,1,1767225600,,<<201*a>> => 400 unreadable
+agent,2,web,1,m,1,1767225600,,<<200*a>> => 409 {"code":"ahead","expected":1}
+agent,1,web,1,m,1,1767225600,,<<101*é>> => 400 unreadable
+agent,1,web,1,m,1,1767225600,,a<<x:ff>> => 400 unreadable
 
 # Rows that are one: in quotes, with quotes and ends of line in a failure, with empty lines between
 # them, ahead, again, and refused; and at the end a quote that nothing closes.

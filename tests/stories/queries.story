@@ -1,4 +1,4 @@
-desk 97
+desk 102
 
 # A service that is not there, that is new, and that is released; and what is not there.
 ? 0 service web => 404 unknown-service
@@ -174,6 +174,19 @@ ops 3 0 start v2 => [web Paused 0 0]
 ? 9 run web 1 => 404 unknown-run
 agent 1 9 report 1 a:1:9:1 => 422 unknown-run
 agent 2 10 report 1 a:1:10:1 => [web Progressing 1 0 | 1 Successful | Running]
+
+
+# The metrics of a run, in the order in which its templates are named.
+ops 1 0 template t a => [t]
+ops 2 0 template u b => [u]
+ops 3 0 service v1 analysis:u+t => [web Healthy 1 100]
+ops 4 0 start v2 => [web Progressing 0 0]
+? 0 run web 1 => {"closed":null,"code":"ok","metrics":[
+    {"consecutive":0,"counted":0,"dryRun":false,"due":1767225600,"errors":0,"failed":0,
+    "inconclusive":0,"measurements":0,"name":"b","phase":"Pending"},
+    {"consecutive":0,"counted":0,"dryRun":false,"due":1767225600,"errors":0,"failed":0,
+    "inconclusive":0,"measurements":0,"name":"a","phase":"Pending"}
+    ],"run":1,"service":"web","started":1767225600,"step":0,"verdict":"Running"}
 
 
 # Holds: of a step, of the background, and of both, with the open runs that are left.

@@ -1,4 +1,4 @@
-desk 229
+desk 266
 
 # A doubled promotion acts once, a number ahead and another command under an old number change
 # nothing, and each kept reply comes again.
@@ -103,6 +103,58 @@ ops 4 0 promote => 422 not-paused
 ops 5 0 promoteFull => [web Healthy 4 100]
 agent 1 0 report 1 m:1:0:7 => 422 run-closed
 agent 2 0 report 2 m:1:0:7 => 422 unknown-run
+
+
+# Inconclusive measurements have a limit of their own, and are counted.
+ops 1 0 template t m,success=result>10,failure=result<5,count=3,interval=10,inconclusiveLimit=1 => [t]
+analysis
+agent 1 0 report 1 m:1:0:7 => [web Progressing 1 10 | 1 Inconclusive | Running]
+agent 2 10 report 1 m:2:10:7 => [web Paused 1 10 | 1 Inconclusive | Inconclusive]
+
+ops 1 0 template t m,success=result>10,failure=result<5,count=3,interval=10,failureLimit=1 => [t]
+analysis
+agent 1 0 report 1 m:1:0:7 => [web Paused 1 10 | 1 Inconclusive | Inconclusive]
+
+ops 1 0 template t m,success=result>10,failure=result<5,count=2,interval=10,inconclusiveLimit=2 => [t]
+analysis
+agent 1 0 report 1 m:1:0:7 => [web Progressing 1 10 | 1 Inconclusive | Running]
+agent 2 10 report 1 m:2:10:11 => [web Paused 3 60 | 1 Successful | Successful]
+
+
+# One bad metric closes a run, whatever the others wait for.
+ops 1 0 template t a,success=result>10,failure=result<5 b => [t]
+analysis
+agent 1 5 report 1 a:1:5:7 => [web Paused 1 10 | 1 Inconclusive | Inconclusive]
+? 5 run web 1 => {"closed":1767225605,"code":"ok","metrics":[
+    {"consecutive":0,"counted":1,"dryRun":false,"due":null,"errors":0,"failed":0,
+    "inconclusive":1,"measurements":1,"name":"a","phase":"Inconclusive"},
+    {"consecutive":0,"counted":0,"dryRun":false,"due":null,"errors":0,"failed":0,
+    "inconclusive":0,"measurements":0,"name":"b","phase":"Successful"}
+    ],"run":1,"service":"web","started":1767225600,"step":1,"verdict":"Inconclusive"}
+
+ops 1 0 template t a,consecutiveErrorLimit=0 b => [t]
+analysis
+agent 1 0 report 1 a:1:0:!down => [web Degraded 1 0 | 1 Error | Error]
+agent 2 0 report 1 b:1:0:5 => 422 run-closed
+
+
+# An interval of no seconds is one.
+ops 1 0 template t m,interval=0,count=2 => [t]
+analysis
+agent 1 0 report 1 m:1:0:5 => [web Progressing 1 10 | 1 Successful | Running]
+agent 2 0 report 1 m:2:0:5 => [web Paused 3 60 | 1 Successful | Successful]
+
+ops 1 0 template t m,interval=0 => [t]
+ops 2 0 service v1 analysis:t => 422 endless-metric
+ops 3 0 service v1 background:t => [web Healthy 0 100]
+
+
+# `.*` marks the metrics of its own template alone.
+ops 1 0 template t m,success=result==0 => [t]
+ops 2 0 template u n dryRun:.* => [u]
+ops 3 0 service v1 analysis:t+u => [web Healthy 1 100]
+ops 4 0 start v2 => [web Progressing 0 0]
+agent 1 0 report 1 m:1:0:1 => [web Degraded 0 0 | 1 Failed | Failed]
 
 
 # Releases without a run: pauses that end by themselves, aborts, refusals, and moments that fall.

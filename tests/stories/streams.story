@@ -1,4 +1,4 @@
-streams 72
+streams 88
 
 # A doubled promotion, a number ahead, another command under an old number, the start in other
 # words, and on to the end.
@@ -74,6 +74,12 @@ ops/1 => {"template":{"metadata":{"name":"t"},"spec":{"args":[{"name":"host"}],"
     {"name":"m","interval":"2m","provider":{"web":{"url":"https://a"}}}]}}}
      => 409 Conflict => {"code":"reused"}
 
+# A body that is no command is rejected under a settled number, too.
+messages
+ops/1 => {"tick":{"service":"web"}} => 422 Unprocessable Content => {"code":"unknown-service"}
+ops/1 => {} => 400 Bad Request => {"code":"unreadable"}
+ops/1 => {"tick":{"service":"web"}} => 422 Unprocessable Content => {"code":"unknown-service"}
+
 # Streams that end before their first message, and within one.
 unanswered 0
 <<x:>>
@@ -98,6 +104,16 @@ GET /nope HTTP/1.1|connection: Keep-Alive, CLOSE||GET /nope HTTP/1.1||
      => 404 Not Found => {"code":"no-route"}
 GET /nope HTTP/1.1<<65*|a: b>>|| => 400 Bad Request => {"code":"malformed"}
 GET /nope HTTP/1.1|a:<<16359*a>>|| => 400 Bad Request => {"code":"malformed"}
+GET /nope HTTP/1.1|Content-Length:|| => 400 Bad Request => {"code":"malformed"}
+GET /nope HTTP/1.1|Content-Length: 0, 0|| => 400 Bad Request => {"code":"malformed"}
+GET /nope HTTP/1.1|Content-Length: x|Transfer-Encoding: chunked||
+     => 400 Bad Request => {"code":"malformed"}
+GET /nope HTTP/1.1|Content-Length: 99999999999999999999||
+     => 413 Content Too Large => {"code":"too-long"}
+GET /nope HTTP/1.1|Connection: keep-alive|Connection: close||GET /nope HTTP/1.1||
+     => 404 Not Found => {"code":"no-route"}
+GET /nope HTTP/1.0|Connection: keep-alive||GET /nope HTTP/1.1||
+     => 404 Not Found => {"code":"no-route"}
 
 # What is answered, and the stream goes on. Behind the refusals: 64 fields, a head of 16,384 bytes,
 # and a body of 65,536.
@@ -128,6 +144,10 @@ GET /nope HTTP/1.1<<64*|a: b>>|| => 404 Not Found => {"code":"no-route"}
 GET /nope HTTP/1.1|a:<<16358*a>>|| => 404 Not Found => {"code":"no-route"}
 PUT /callers/ops/requests/1 HTTP/1.1|Content-Length: 65536||<<65536*a>>
      => 400 Bad Request => {"code":"unreadable"}
+GET /nope HTTP/1.1|Content-Length: 002||hi => 404 Not Found => {"code":"no-route"}
+DELETE /nope HTTP/1.1|| => 404 Not Found => {"code":"no-route"}
+GET /services/w%65b HTTP/1.1|| => 400 Bad Request => {"code":"bad-name"}
+GET http://127.0.0.1/services/web HTTP/1.1|| => 404 Not Found => {"code":"no-route"}
 
 # Other methods.
 answered with Allow: PUT
@@ -151,3 +171,6 @@ GET /nope HTTP/1.1|| => HTTP/1.1 404 Not Found|Content-Type: application/json|Co
 GET /services/web HTTP/1.1|Content-Length: 2||{}GET /nope HTTP/1.1|| =>
      HTTP/1.1 404 Not Found|Content-Type: application/json|Content-Length: 26||{"code":"unknown-service"}
     HTTP/1.1 404 Not Found|Content-Type: application/json|Content-Length: 19||{"code":"no-route"}
+HEAD /nope HTTP/1.1|| => HTTP/1.1 404 Not Found|Content-Type: application/json|Content-Length: 19||
+HEAD /services/web HTTP/1.1|Content-Length: x|| => HTTP/1.1 400 Bad Request|Content-Type: application/json|Content-Length: 20|Connection: close||
+PUT /callers/ops/requests/1 HTTP/1.1|Expect: 100-continue|Content-Length: 2||{} => HTTP/1.1 400 Bad Request|Content-Type: application/json|Content-Length: 21||{"code":"unreadable"}
