@@ -1,7 +1,8 @@
 //! The command that a canonical text is.
 ghost use Rattle.std.specs.Prelude.{◌≡◌};
 ghost use Rattle.serde_json.specs.View.{view};
-ghost use Rattle.canary_canonical.specs.Readings.{command_of_kind, command_in, spelt_in, canonical_in};
+ghost use Rattle.canary_canonical.specs.Readings.{command_of_kind, command_in};
+ghost use Rattle.canary_canonical.specs.Readings.{spelt_in, canonical_in};
 ghost use Rattle.canary_canonical.specs.Reads.{IsRead};
 
 use crate::form::{FormFault, only_member};

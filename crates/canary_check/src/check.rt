@@ -1,5 +1,5 @@
 //! The check of a manifest without a desk.
-ghost use Rattle.std.specs.Prelude.{◌≡◌, ◌≢◌, ◌++◌, false, IfOk, IsTrue, codes};
+ghost use Rattle.std.specs.Prelude.{◌≡◌, ◌<◌, ◌++◌, false, IfOk, IsTrue, codes, length};
 ghost use Rattle.serde_json.specs.View.{view};
 ghost use Rattle.canary_manifest.specs.Commands.{body_reading};
 ghost use Rattle.canary_check.specs.Taken.{is_taken, is_manifest_taken, is_reading_taken};
@@ -43,7 +43,7 @@ impl Findings {
     /// The lines, each ended by a line feed: `ok`, or a finding a line.
     pub fn text(&self) -> &str
         ensures ok { IsTrue self.now → result.now ≡ codes "ok\n" }
-        ensures found { self.now ≡ false → result.now ≢ codes "ok\n" }
+        ensures found { self.now ≡ false → 3 < length result.now }
     {
         match &self.lines {
             Some(lines) => lines.as_str(),

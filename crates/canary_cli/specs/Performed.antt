@@ -1,5 +1,5 @@
 -- What a command line comes to: what is read, what is written, and the exit status.
-use Rattle.std.specs.Prelude.{◌≡◌, ◌≢◌, ◌⊎◌, ℕ, Bool, true, false, List, [], Option, Some, None, Result, Ok, Err, codes, string_bytes, unwrap_or}
+use Rattle.std.specs.Prelude.{◌≡◌, ◌⊎◌, ℕ, ◌<◌, length, Bool, true, false, List, [], Option, Some, None, Result, Ok, Err, codes, string_bytes, unwrap_or}
 use Rattle.std.specs.Io.KnownBytes.{Appends}
 use Rattle.clap.specs.Words.{Kinds, Text}
 use Rattle.canary_once.specs.Contents.{Contents, no_contents}
@@ -83,12 +83,12 @@ IsPiped r new_r w new_w at step done = (served : Result Ended ServeFault)
     × (done ≡ done_of served) × IsServed r new_r w new_w (fresh at step) served
 
 -- (here the `Bool` is whether the desk takes the manifest)
--- a manifest was judged so: `ok` was written where the desk takes it, and something else where it
--- does not; or memory ran out, or the output failed
+-- a manifest was judged so: `ok` was written where the desk takes it, and something longer where
+-- it does not; or memory ran out, or the output failed
 abbrev pub IsCheckShown : Bool → Known → Known → Result Outcome Fault → Type 0
 IsCheckShown taken w new_w (Ok Done) = (taken ≡ true) × Appends w new_w (codes "ok\n")
 IsCheckShown taken w new_w (Ok Findings) =
-    (taken ≡ false) × (text : List ℕ) × (text ≢ codes "ok\n") × Appends w new_w text
+    (taken ≡ false) × (text : List ℕ) × (3 < length text) × Appends w new_w text
 IsCheckShown taken w new_w (Err f) = (f ≡ fault.Memory) ⊎ (f ≡ fault.Write)
 
 -- where a check found nothing, it wrote `ok`

@@ -41,7 +41,8 @@ impl Pair {
     /// The files of the database that is there under this name, where all links lead.
     ///
     /// # Errors
-    /// `Storage` where there is no such file, and `Memory` where an allocation was refused.
+    /// `Storage` where there is no such file, or it cannot be reached, and `Memory` where an
+    /// allocation was refused.
     pub(crate) fn found(rt: &HostRuntime, name: &str) -> Result<Pair, Fault> {
         match fs::canonicalize(rt, name) {
             Ok(real) => Pair::of(rt.alloc(), real.as_str()),
@@ -109,8 +110,9 @@ fn sync(rt: &HostRuntime, name: &str) -> io::Result<()> {
 ///
 /// # Errors
 /// `File` where a file of these four names is there already, or a file cannot be read or written;
-/// `Storage` where there is no such file; `InUse` where the log was begun anew each time while the
-/// file was copied; `Memory` where an allocation was refused. There is no copy then.
+/// `Storage` where there is no such file, or it cannot be reached; `InUse` where the log was begun
+/// anew each time while the file was copied; `Memory` where an allocation was refused. There is no
+/// copy then.
 pub fn backup(rt: &HostRuntime, file: &str, copy: &str) -> Result<(), Fault> {
     let from = Pair::found(rt, file)?;
     backup_found(rt, &from, copy)

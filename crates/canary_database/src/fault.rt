@@ -203,7 +203,8 @@ impl From<ListenFault> for Fault {
 /// Whether a stream that was served so was served to its end.
 ///
 /// # Errors
-/// `Truncated` and `TurnsSpent` where it ended so; `Read`, `Write` and `Memory` for the same faults.
+/// `Truncated` and `TurnsSpent` where it ended so; `Read`, `Write` and `Memory` for the same
+/// faults.
 pub fn done_of(served: Result<Ended, ServeFault>) -> Result<(), Fault>
     ensures { result ≡ done_of served }
 {

@@ -2,9 +2,9 @@
 //!
 //! Callers may rest on this, over any book: `write_history`, `export_rows` and `text_of_book` leave
 //! it unchanged, and the first two write what one whose store is honest tells of a service;
-//! `export_rows`, `import_rows` and `answer` do what canary_files and canary_wire say of theirs, and
-//! `serve_clients` gets from the desk before to the desk after as canary_listen says. Each fault has
-//! its line. What the file of a name holds no contract says.
+//! `export_rows`, `import_rows` and `answer` do what canary_files and canary_wire say of theirs,
+//! and `serve_clients` gets from the desk before to the desk after as canary_listen says. Each
+//! fault has its line. What the file of a name holds no contract says.
 //!
 //! In use (canary_cli, src/perform.rt):
 //!

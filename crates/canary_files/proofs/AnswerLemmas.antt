@@ -6,4 +6,4 @@ use Rattle.canary_files.specs.RowExchanges.{refused, Books}
 
 -- the book was not asked
 pub books_refused : (b : BookState) (r : Refusal) → Books b b (refused r)
-books_refused b r = record { honest = λ h. h; sure = (refl, tt); sound = λ h sound. sound; handled = λ h. refl; receipts = λ h caller number receipt e. e }
+books_refused b r = record { honest = λ h. h; in_memory = λ m. m; sure = (refl, tt); sound = λ h sound. sound; handled = λ h. refl; receipts = λ h caller number receipt e. e }

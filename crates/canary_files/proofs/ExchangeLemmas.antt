@@ -72,6 +72,7 @@ went_none p = record {
   each = tt;
   moments = λ says h. (λ k inside. absurd (omega arith), subst p.clock (first_is says) h);
   honest = λ h. h;
+  in_memory = λ m. m;
   sure = (refl, tt);
   sound = λ h sound. sound;
   handled = λ h. refl;
@@ -84,6 +85,7 @@ went_one p q x e = record {
   each = (e.is, tt);
   moments = λ says h. (let m = e.moment says h in (λ k inside. first_one says x.moment m.0 k inside, m.1));
   honest = e.books.honest;
+  in_memory = e.books.in_memory;
   sure = (e.books.sure.0, (e.books.sure.1, tt));
   sound = e.books.sound;
   handled = λ h. (q.book.contents, e.books.handled h, refl);
@@ -102,6 +104,7 @@ went_then p q r xs ys a b = record {
         subst r.clock (later_is says (length xs) (length ys) (length (xs ++ ys)) (len_is xs ys)) n.1,
       );
   honest = λ h. a.honest (b.honest h);
+  in_memory = λ m. b.in_memory (a.in_memory m);
   sure = (b.sure.0 ∙ a.sure.0, all-append (λ x. IsSureHandling p.book.is_sure x.handling) xs ys a.sure.1 (sure_as q.book.is_sure p.book.is_sure ys a.sure.0 b.sure.1));
   sound = λ h sound. b.sound h (a.sound (b.honest h) sound);
   handled = λ h. handled-append p.book.contents q.book.contents r.book.contents xs ys (a.handled (b.honest h)) (b.handled h);

@@ -28,7 +28,7 @@ lines_more k n (y ∷ ys) x e =
 -- ---- the book
 
 pub keeps_of : (p q : Point) (xs : List Exchange) → Went p q xs → KeepsBook p.book q.book
-keeps_of p q xs went = record { honest = went.honest; sure = went.sure.0; sound = went.sound; receipts = went.receipts }
+keeps_of p q xs went = record { honest = went.honest; in_memory = went.in_memory; sure = went.sure.0; sound = went.sound; receipts = went.receipts }
 
 pub answers_of_went : RunsOn → (w w1 : Known) (p q : Point) (xs : List Exchange) → Went p q xs → Appends w w1 (lines xs) → Answers w w1 p q (rows_of xs)
 answers_of_went goes w w1 p q xs went written = record { exchanges = xs; are = refl; holds = holds_of goes p q xs went; written = written }

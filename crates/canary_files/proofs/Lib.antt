@@ -10,3 +10,4 @@ pub mod ReadBack
 pub mod ImportLemmas
 pub mod HeaderLemmas
 pub mod AgainLemmas
+pub mod FileBack

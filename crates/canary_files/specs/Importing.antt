@@ -8,7 +8,7 @@ use Rattle.csv.specs.declared.parser.State.TheVariants as st
 use Rattle.csv.specs.Reading.{default_config, strip_bom, source_of, reader_config, reader_state, reader_trim, Ready, Reached, AreRecords}
 use Rattle.canary_once.specs.Contents.{KeepsReceipts}
 use Rattle.canary_once.specs.Sound.{AreSoundContents}
-use Rattle.canary_once.specs.Books.{BookState}
+use Rattle.canary_once.specs.Books.{BookState, StaysInMemory}
 use Rattle.canary_files.specs.declared.import.ImportFault.{ImportFault}
 use Rattle.canary_files.specs.declared.import.ImportFault.TheVariants as fault
 use Rattle.canary_files.specs.Writes.{Known}
@@ -94,6 +94,7 @@ ImportsTo file w new_w old new (Err fault.RowsSpent) = ImportsTooMany file w new
 -- what an import leaves of a book, however it ended
 pub record KeepsBook (old new : BookState) : Type 0 where
   pub honest : new.is_honest → old.is_honest
+  pub in_memory : StaysInMemory old new
   pub sure : new.is_sure ≡ old.is_sure
   pub sound : new.is_honest → AreSoundContents old.contents → AreSoundContents new.contents
   pub receipts : new.is_honest → KeepsReceipts old.contents new.contents

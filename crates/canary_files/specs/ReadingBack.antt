@@ -1,5 +1,5 @@
 -- Rows that were written are read back.
-use Rattle.std.specs.Prelude.{◌≡◌, ℕ, ◌≤◌, IsTrue, List, [], ◌∷◌, length, Some, Ok}
+use Rattle.std.specs.Prelude.{◌≡◌, ℕ, suc, ◌≤◌, IsTrue, List, [], ◌∷◌, length, Some, Ok}
 use Rattle.std.specs.Str.{is_utf8}
 use Rattle.canary_base.specs.Names.{is_name, is_label}
 use Rattle.canary_condition.specs.Results.{words_of}
@@ -10,8 +10,9 @@ use Rattle.canary_plan.specs.declared.report.Entry.{Entry}
 use Rattle.canary_plan.specs.declared.report.Report.{Report}
 use Rattle.canary_plan.specs.Limits.{is_ordinal, are_report_limits}
 use Rattle.canary_release.specs.declared.effect.Recorded.{Recorded}
-use Rattle.canary_files.specs.Rows.{row_of}
-use Rattle.canary_files.specs.Written.{row_fields}
+use Rattle.canary_files.specs.Rows.{header, row_of}
+use Rattle.canary_files.specs.Written.{row_fields, file_of}
+use Rattle.canary_files.specs.Importing.{Fields, HasRecords}
 
 -- an outcome as there are: a result whose text is read back, as that of any is, or a failure of 1
 -- to 200 bytes of text
@@ -50,3 +51,17 @@ AreReadBack =
     → IsTrue (is_ordinal number)
     → row_of (row_fields caller number service x metric)
     ≡ Ok (record { caller = caller; number = number; report = report_for service metric x is })
+
+-- the fields of the rows of measurements in order, behind so many others
+abbrev pub rows_fields : List ℕ → List ℕ → (Recorded → List ℕ) → ℕ → List Recorded → List Fields
+rows_fields caller service name n [] = []
+rows_fields caller service name n (x ∷ xs) =
+    row_fields caller (suc n) service x (name x) ∷ rows_fields caller service name (suc n) xs
+
+-- the law: the records that are read of the file of a list of measurements are the header and
+-- their rows
+abbrev pub AreFilesReadBack : Type 0
+AreFilesReadBack =
+    (caller service : List ℕ) (name : Recorded → List ℕ) (xs : List Recorded)
+    → HasRecords (Some (file_of caller service name xs))
+    (header ∷ rows_fields caller service name 0 xs)

@@ -8,7 +8,7 @@ use Rattle.canary_once.specs.declared.event.Event.TheVariants as event
 use Rattle.canary_once.specs.declared.event.Answer.{Answer}
 use Rattle.canary_once.specs.Contents.{Contents, KeepsReceipts}
 use Rattle.canary_once.specs.Sound.{AreSoundContents}
-use Rattle.canary_once.specs.Books.{BookState}
+use Rattle.canary_once.specs.Books.{BookState, StaysInMemory}
 use Rattle.canary_once.specs.Answers.{replies_in, heard, answers_of, after}
 use Rattle.canary_once.specs.Single.{request_of, IsAnswer, IsFaultOf}
 use Rattle.canary_files.specs.declared.row.Refusal.{Refusal}
@@ -144,6 +144,7 @@ AreHandled c (x ∷ xs) new = (mid : Contents) × IsHandled c x.handling mid × 
 -- what the book did as one row was handled
 pub record Books (old new : BookState) (h : Handling) : Type 0 where
   pub honest : new.is_honest → old.is_honest
+  pub in_memory : StaysInMemory old new
   pub sure : (new.is_sure ≡ old.is_sure) × IsSureHandling old.is_sure h
   pub sound : new.is_honest → AreSoundContents old.contents → AreSoundContents new.contents
   pub handled : new.is_honest → IsHandled old.contents h new.contents
@@ -162,6 +163,7 @@ pub record Went (old new : Point) (xs : List Exchange) : Type 0 where
   pub moments : (moment_at : ℕ → ℕ) → old.clock moment_at
       → AreFirst moment_at (moments_of xs) × new.clock (λ k. moment_at (k + length xs))
   pub honest : new.book.is_honest → old.book.is_honest
+  pub in_memory : StaysInMemory old.book new.book
   pub sure : (new.book.is_sure ≡ old.book.is_sure)
       × AllByRecursion (λ x. IsSureHandling old.book.is_sure x.handling) xs
   pub sound : new.book.is_honest → AreSoundContents old.book.contents

@@ -3,7 +3,7 @@
 use std::io;
 use std::io::{ErrorKind, Read};
 
-// How many bytes of a file are read at most.
+// Once so many bytes of a file were read, no more are asked for.
 pub(crate) const MOST_BYTES: u64 = 1_000_000_000;
 
 // A reader that fails where so many bytes were read and more are asked for, so that a record that

@@ -59,7 +59,7 @@ pub enum ImportFault {
 /// the next record, and `RowsSpent` where a row follows the 1,000,000th: all rows before are
 /// answered, and their lines written. `Write` where the writer failed or took no byte: what was
 /// written are the lines of the rows that were answered, up to the midst of the last one; if that
-/// row was a new request, it is settled.
+/// row was a new request, and not answered 503, it is settled.
 pub fn import<R: Read, W: Write, C: Clock, B: Book>(
     alloc: Global,
     input: &mut R,

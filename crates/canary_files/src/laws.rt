@@ -1,5 +1,5 @@
 //! Laws over the definitions alone.
-ghost use Rattle.canary_files.specs.ReadingBack.{AreReadBack};
+ghost use Rattle.canary_files.specs.ReadingBack.{AreReadBack, AreFilesReadBack};
 ghost use Rattle.canary_files.specs.RowExchanges.{point};
 ghost use Rattle.canary_files.specs.Again.{TellsAfterwards, TellsSettled, ImportsAgain};
 
@@ -11,6 +11,12 @@ use canary_plan::laws::same_commands;
 /// The row that stands for a measurement is read as the request that reports it.
 pub fn rows_read_back()
     ensures { AreReadBack }
+{}
+
+/// The records that are read of a file of measurements are the header and the rows that were
+/// written, field by field.
+pub fn files_read_back()
+    ensures { AreFilesReadBack }
 {}
 
 /// A file that is imported again: a row that was neither ahead of its turn nor answered 503 has

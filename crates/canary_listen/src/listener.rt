@@ -92,6 +92,9 @@ impl Listener {
     }
 
     /// The address on which it listens, with the port that the system chose.
+    ///
+    /// # Errors
+    /// What the system answers where it does not tell it.
     pub fn address(&self) -> io::Result<SocketAddr> {
         self.attendant.socket.local_addr()
     }

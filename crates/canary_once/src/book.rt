@@ -25,7 +25,7 @@ pub struct Receipt {
 }
 
 impl Receipt {
-    /// A copy of it.
+    /// A copy of it, or `Memory`.
     pub fn copy(&self, alloc: Global) -> Result<Receipt, Memory>
         ensures { IfOk result (λ copy. copy ≡ self.now) }
     {
@@ -47,7 +47,7 @@ pub struct Settlement {
 }
 
 impl Settlement {
-    /// A copy of it.
+    /// A copy of it, or `Memory`.
     pub fn copy(&self, alloc: Global) -> Result<Settlement, Memory>
         ensures { IfOk result (λ copy. copy ≡ self.now) }
     {

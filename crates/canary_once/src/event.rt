@@ -22,7 +22,7 @@ pub struct Request {
 }
 
 impl Request {
-    /// A copy of it.
+    /// A copy of it, or `Memory`.
     pub fn copy(&self, alloc: Global) -> Result<Request, Memory>
         ensures { IfOk result (λ copy. copy ≡ self.now) }
     {
@@ -67,7 +67,7 @@ pub enum Event {
 }
 
 impl Event {
-    /// A copy of it.
+    /// A copy of it, or `Memory`.
     pub fn copy(&self, alloc: Global) -> Result<Event, Memory>
         ensures { IfOk result (λ copy. copy ≡ self.now) }
     {
@@ -93,7 +93,7 @@ pub enum Answer {
 }
 
 impl Answer {
-    /// A copy of it.
+    /// A copy of it, or `Memory`.
     pub fn copy(&self, alloc: Global) -> Result<Answer, Memory>
         ensures { IfOk result (λ copy. copy ≡ self.now) }
     {

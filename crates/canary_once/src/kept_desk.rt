@@ -63,7 +63,8 @@ impl KeptDesk {
     pub(crate) fn change(&mut self, alloc: Global, change: DeskChange) -> Result<(), Memory>
         requires named { IsChange self.old (name_in change) change }
         requires kept { IsKept self.old (name_in change) change }
-        ensures ok { OnOk result ((command : Command) → IsChange self.old (subject_of command) change
+        ensures ok { OnOk result ((command : Command)
+            → IsChange self.old (subject_of command) change
             → self.new ≡ changed self.old command change) }
         ensures err { OnErr result (self.new ≡ self.old) }
     {

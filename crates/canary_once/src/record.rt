@@ -21,7 +21,7 @@ pub struct RunRecord {
 }
 
 impl RunRecord {
-    /// A copy of it.
+    /// A copy of it, or `Memory`.
     pub fn copy(&self, alloc: Global) -> Result<RunRecord, Memory>
         ensures { IfOk result (λ copy. copy ≡ self.now) }
     {

@@ -5,7 +5,8 @@ ghost use Rattle.std.specs.FinMap.{get};
 ghost use Rattle.canary_metric.specs.Metrics.{MetricValue, effective_count};
 ghost use Rattle.canary_plan.specs.Plans.{metrics_in, metrics_named, are_metrics_of_run};
 ghost use Rattle.canary_plan.specs.PlanRefusals.{names_of_step, step_analyses, analyses};
-ghost use Rattle.canary_plan.specs.PlanRefusals.{repeats_metric, has_unknown, is_endless, is_misfit};
+ghost use Rattle.canary_plan.specs.PlanRefusals.{repeats_metric, has_unknown};
+ghost use Rattle.canary_plan.specs.PlanRefusals.{is_endless, is_misfit};
 
 use crate::labels::has_duplicate;
 use crate::service::{Background, ServiceSpec};

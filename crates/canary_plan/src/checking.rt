@@ -5,7 +5,8 @@ ghost use Rattle.std.specs.FinMap.{get};
 ghost use Rattle.canary_plan.specs.Plans.{has_weight_in_range, step_metrics, background_metrics};
 ghost use Rattle.canary_plan.specs.Plans.{strategy_of, have_counts};
 ghost use Rattle.canary_plan.specs.PlanRefusals.{step_analyses, analyses, strategy_refusal};
-ghost use Rattle.canary_plan.specs.PlanRefusals.{repeats_metric, has_unknown, is_endless, is_misfit};
+ghost use Rattle.canary_plan.specs.PlanRefusals.{repeats_metric, has_unknown};
+ghost use Rattle.canary_plan.specs.PlanRefusals.{is_endless, is_misfit};
 ghost use Rattle.canary_plan.specs.PlanRefusals.{is_bad_strategy};
 
 use crate::analysis::{self, metrics_named};

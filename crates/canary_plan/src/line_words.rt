@@ -1,6 +1,7 @@
 //! The words of a history's lines, written and read.
 ghost use Rattle.arrayvec.specs.ArrayString.{array_string_len};
-ghost use Rattle.std.specs.Prelude.{◌≡◌, ◌+◌, ◌≤◌, ◌++◌, List, ℕ, length, Some, None, MatchOption, IsTrue};
+ghost use Rattle.std.specs.Prelude.{◌≡◌, ◌+◌, ◌≤◌, ◌++◌, List};
+ghost use Rattle.std.specs.Prelude.{ℕ, length, Some, None, MatchOption, IsTrue};
 ghost use Rattle.std.specs.Prelude.{codes, decimal};
 ghost use Rattle.canary_base.specs.Names.{is_label};
 ghost use Rattle.canary_plan.specs.Lines.{words, IsLineEvent};

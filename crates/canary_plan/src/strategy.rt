@@ -1,5 +1,6 @@
 //! Strategies that have been checked.
-ghost use Rattle.std.specs.Prelude.{◌≡◌, ◌≤◌, Some, None, IsTrue, IfOk, IfSome, length, option_copied};
+ghost use Rattle.std.specs.Prelude.{◌≡◌, ◌≤◌, Some, None};
+ghost use Rattle.std.specs.Prelude.{IsTrue, IfOk, IfSome, length, option_copied};
 ghost use Rattle.std.specs.FinMap.{get};
 ghost use Rattle.canary_plan.specs.Plans.{is_accepted, metrics_at};
 ghost use Rattle.canary_plan.specs.Checking.{IsChecked};

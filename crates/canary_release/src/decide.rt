@@ -51,7 +51,7 @@ pub enum DeskChange {
 }
 
 impl DeskChange {
-    /// A copy of it.
+    /// A copy of it, or `Memory`.
     pub fn copy(&self, alloc: Global) -> Result<DeskChange, Memory>
         ensures { IfOk result (λ copy. copy ≡ self.now) }
     {
@@ -74,7 +74,7 @@ pub struct Decision {
 }
 
 impl Decision {
-    /// A copy of it.
+    /// A copy of it, or `Memory`.
     pub fn copy(&self, alloc: Global) -> Result<Decision, Memory>
         ensures { IfOk result (λ copy. copy ≡ self.now) }
     {

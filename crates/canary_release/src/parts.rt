@@ -63,7 +63,8 @@ pub fn is_broken(parts: &ServiceParts) -> bool
 
 // A step or an entry out of place, or runs beyond their limit.
 fn is_behind(parts: &ServiceParts) -> bool
-    ensures { result ≡ (is_misplaced parts.now.stand || (nat_lt parts.now.stand.last parts.now.stand.entered
+    ensures { result ≡ (is_misplaced parts.now.stand
+        || (nat_lt parts.now.stand.last parts.now.stand.entered
         || (nat_lt 1000000 parts.now.runs.count
         || (is_going parts.now.stand.state
         && nat_lt (1000000 - parts.now.runs.count) (runs_wanted parts.now))))) }

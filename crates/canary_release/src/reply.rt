@@ -48,7 +48,7 @@ pub struct Reply {
 }
 
 impl Reply {
-    /// A copy of it.
+    /// A copy of it, or `Memory`.
     pub fn copy(&self, alloc: Global) -> Result<Reply, Memory>
         ensures { IfOk result (λ copy. copy ≡ self.now) }
     {

@@ -35,7 +35,7 @@ pub struct OpenRun {
 }
 
 impl OpenRun {
-    /// A copy of it.
+    /// A copy of it, or `Memory`.
     pub fn copy(&self, alloc: Global) -> Result<OpenRun, Memory>
         ensures { IfOk result (λ copy. copy ≡ self.now) }
     {
@@ -155,7 +155,7 @@ impl Runs {
         }
     }
 
-    /// A copy of them.
+    /// A copy of them, or `Memory`.
     pub fn copy(&self, alloc: Global) -> Result<Runs, Memory>
         ensures { IfOk result (λ copy. copy ≡ self.now) }
     {

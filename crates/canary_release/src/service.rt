@@ -28,7 +28,7 @@ pub struct ServiceParts {
 }
 
 impl ServiceParts {
-    /// A copy of them.
+    /// A copy of them, or `Memory`.
     pub fn copy(&self, alloc: Global) -> Result<ServiceParts, Memory>
         ensures { IfOk result (λ copy. copy ≡ self.now) }
     {
@@ -124,7 +124,7 @@ impl Service {
         })
     }
 
-    /// A copy of it.
+    /// A copy of it, or `Memory`.
     pub fn copy(&self, alloc: Global) -> Result<Service, Memory>
         ensures { IfOk result (λ copy. copy ≡ self.now) }
     {
@@ -249,7 +249,7 @@ pub struct Passed {
 }
 
 impl Passed {
-    /// A copy of it.
+    /// A copy of it, or `Memory`.
     pub fn copy(&self, alloc: Global) -> Result<Passed, Memory>
         ensures { IfOk result (λ copy. copy ≡ self.now) }
     {

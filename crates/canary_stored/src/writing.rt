@@ -2,13 +2,12 @@
 ghost use Rattle.std.specs.Prelude.{◌≡◌, Some, IfSome};
 ghost use Rattle.canary_condition.specs.PhaseTexts.{phase_of_number};
 ghost use Rattle.canary_stored.specs.Numbers.{state_number, hold_number, bit, phase_column};
-ghost use Rattle.canary_stored.specs.Values.{standing_of, ending_of};
+ghost use Rattle.canary_stored.specs.Values.{standing_of};
 
 use canary_condition::outcome::Phase;
-use canary_release::effect::Closing;
 use canary_release::service::ServiceParts;
 use canary_release::stand::State;
-use canary_rows::rows::{Ending, Standing};
+use canary_rows::rows::Standing;
 
 /// How a service stands, as a row tells it.
 pub fn standing(parts: &ServiceParts) -> Standing
@@ -55,17 +54,4 @@ pub fn phase_number(phase: Phase) -> Option<u32>
     ensures read { IfSome result (λ number. phase_of_number number ≡ Some phase) }
 {
     phase.number().map(u32::from)
-}
-
-/// How a run was closed, as a row tells it; none for a verdict that is `Pending`, which is none.
-pub fn ending(closing: &Closing) -> Option<Ending>
-    ensures value { IfSome result (λ ending. ending ≡ ending_of (Some closing.now)) }
-    ensures read { IfSome result (λ _.
-        phase_of_number (phase_column closing.now.verdict) ≡ Some closing.now.verdict) }
-{
-    Some(Ending {
-        closed: Some(closing.at),
-        outside: u32::from(closing.outside),
-        verdict: phase_number(closing.verdict)?,
-    })
 }

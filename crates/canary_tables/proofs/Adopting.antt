@@ -1,5 +1,5 @@
 -- Rows of a database that is adopted.
-use Rattle.std.proofs.Common.{◌≡◌, ℕ, List, [], ◌∷◌, length, map, drop, refl, sym, ap, subst, ◌∙◌, arith}
+use Rattle.std.proofs.Common.{◌≡◌, ◌⊎◌, inl, ℕ, List, [], ◌∷◌, length, map, drop, refl, sym, ap, subst, ◌∙◌, arith}
 use Rattle.std.specs.List.{AllByRecursion}
 use Rattle.sqlite.specs.Effect.{Database}
 use Rattle.sqlite.specs.State.{State}
@@ -14,7 +14,7 @@ use Rattle.canary_schema.specs.Laws.{OneReading}
 use Rattle.canary_schema.specs.Schema.{desk_schema}
 use Rattle.canary_schema.specs.Stores.{IsUsable, Holds}
 use Rattle.canary_stored.specs.Reading.{contents_of, HoldsContents}
-use Rattle.canary_tables.specs.Adopts.{HaveSameRows, HasSoundRowsWithin, IsBelieved, IsAdopted}
+use Rattle.canary_tables.specs.Adopts.{HaveSameRows, KeepsRows, HasSoundRowsWithin, IsBelieved, IsAdopted}
 use Rattle.canary_tables.specs.Desk.{IsDesk}
 
 -- Rows of tallies have ten values.
@@ -107,12 +107,12 @@ is_desk one old new b =
       holds = subst HoldsContents (sym is) b.sound.0;
     }
 
-pub rows_left : (old mid new : State) → (IsUsable mid → IsOpenedAnew old mid) → (IsUsable new → IsUsable mid) → (IsUsable new → HaveSameRows mid.now new.now) → IsUsable new → IsUsable old × HaveSameRows old.now new.now
-rows_left old mid new opened held rows usable =
-    let o = opened (held usable) in (o.was, subst (λ (db : Database). HaveSameRows db new.now) o.same (rows usable))
+pub rows_left : (old mid new : State) → (IsUsable mid → IsOpenedAnew old mid) → (IsUsable new → IsUsable mid) → (IsUsable new → HaveSameRows mid.now new.now) → (IsUsable new → (new.now ≡ mid.now) ⊎ HasRows mid.now) → IsUsable new → IsUsable old × KeepsRows old.now new.now
+rows_left old mid new opened held rows kept usable =
+    let o = opened (held usable) in (o.was, subst (λ (db : Database). KeepsRows db new.now) o.same (rows usable, kept usable))
 
-pub rows_anew : (old mid : State) → (IsUsable mid → IsOpenedAnew old mid) → IsUsable mid → IsUsable old × HaveSameRows old.now mid.now
-rows_anew old mid opened = rows_left old mid mid opened (λ usable. usable) (λ _. same_rows mid.now mid.now refl)
+pub rows_anew : (old mid : State) → (IsUsable mid → IsOpenedAnew old mid) → IsUsable mid → IsUsable old × KeepsRows old.now mid.now
+rows_anew old mid opened = rows_left old mid mid opened (λ usable. usable) (λ _. same_rows mid.now mid.now refl) (λ _. inl refl)
 
 pub broken_before : (old mid new : State) → (IsUsable mid → IsOpenedAnew old mid) → (IsUsable new → IsUsable mid) → (IsUsable new → IsFormed mid.now × ¬ HasSoundRowsWithin mid.now) → IsUsable new → IsFormed old.now × ¬ HasSoundRowsWithin old.now
 broken_before old mid new opened held broken usable = subst (λ (db : Database). IsFormed db × ¬ HasSoundRowsWithin db) (opened (held usable)).same (broken usable)

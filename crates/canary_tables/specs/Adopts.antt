@@ -1,5 +1,5 @@
 -- What adopting a database comes to.
-use Rattle.std.specs.Prelude.{◌≡◌, ◌↔◌, false}
+use Rattle.std.specs.Prelude.{◌≡◌, ◌↔◌, ◌⊎◌, false}
 use Rattle.sqlite.specs.Effect.{Database}
 use Rattle.sqlite.specs.Held.{state}
 use Rattle.sqlite.specs.State.{State}
@@ -7,7 +7,7 @@ use Rattle.sqlite_trees.specs.declared.store.Store.{Ghosts}
 use Rattle.canary_rows.specs.Limits.{AreWithin}
 use Rattle.canary_rows.specs.Tables.{Tables}
 use Rattle.canary_schema.specs.Cells.{meta_rows}
-use Rattle.canary_schema.specs.Formed.{IsDeskSchema, IsFormed}
+use Rattle.canary_schema.specs.Formed.{IsDeskSchema, IsFormed, HasRows}
 use Rattle.canary_schema.specs.Numbered.{IsLeft}
 use Rattle.canary_schema.specs.Stores.{IsUsable, Holds, Stores}
 use Rattle.canary_judging.specs.Soundness.{AreSoundTables}
@@ -15,7 +15,7 @@ use Rattle.canary_tables.specs.declared.fault.Left.{Left}
 use Rattle.canary_tables.specs.declared.fault.Left.TheVariants as left
 use Rattle.canary_tables.specs.Desk.{contents_in}
 
--- a desk's tables are there, with the row of meta
+-- just a desk's tables are there, with the three indexes or without them, and meta has its one row
 abbrev pub HasDeskTables : Database → Type 0
 HasDeskTables db = IsDeskSchema db.schema × (db.trees 0 ≡ meta_rows)
 
@@ -30,6 +30,10 @@ HasSoundRowsWithin db = (t : Tables) × (Holds db.schema db t × (AreWithin t ×
 -- the same rows stand in both, and only the indexes may differ
 abbrev pub HaveSameRows : Database → Database → Type 0
 HaveSameRows old new = (t : Tables) → Holds old.schema old t ↔ Holds new.schema new t
+
+-- so it is, and where no rows of tables stand in the first, nothing at all has changed
+abbrev pub KeepsRows : Database → Database → Type 0
+KeepsRows old new = HaveSameRows old new × ((new ≡ old) ⊎ HasRows old)
 
 -- a desk's database, whose rows are those of sound contents, has been given the indexes that it
 -- lacked
@@ -54,10 +58,11 @@ abbrev pub TellsTables : {S : Type 0} → Ghosts S → Left S → Type 0
 TellsTables g (left.Connection conn) = IsUsable (state g conn)
 TellsTables g (left.Store store) = Unit {0}
 
--- the rows are as they were; so are all trees of a store alone, which is clean and open
+-- the rows are as they were, and a database that has no rows of tables; so are all trees of a
+-- store alone, which is clean and open
 abbrev pub LeavesRows : {S : Type 0} → Ghosts S → State → Left S → Type 0
 LeavesRows g old (left.Connection conn) =
-    IsUsable (state g conn) → IsUsable old × HaveSameRows old.now (state g conn).now
+    IsUsable (state g conn) → IsUsable old × KeepsRows old.now (state g conn).now
 LeavesRows g old (left.Store store) = IsLeft old (g.view store)
 
 -- a connection stands outside a transaction; a store alone has none

@@ -1,5 +1,6 @@
 //! A book over a database that has a desk's tables.
-ghost use Rattle.std.specs.Prelude.{◌≡◌, ◌≢◌, ◌↔◌, false, IsTrue, IfOk, IfErr, OnOk, OnErr, Err};
+ghost use Rattle.std.specs.Prelude.{◌≡◌, ◌≢◌, ◌↔◌, ◌⊎◌, false, IsTrue, IfOk, IfErr};
+ghost use Rattle.std.specs.Prelude.{OnOk, OnErr, Err};
 ghost use Rattle.sqlite.specs.Held.{state};
 ghost use Rattle.canary_rows.specs.Tables.{Tables};
 ghost use Rattle.canary_schema.specs.Formed.{IsDeskSchema, IsFormed, HasRows, HasWholeTallies};
@@ -90,6 +91,9 @@ fn believe<S: Alter, G: Progress>(
     ensures held { IsUsable (state S.Store conn.new) → IsUsable (state S.Store conn.old) }
     ensures rows { IsUsable (state S.Store conn.new)
         → HaveSameRows (state S.Store conn.old).now (state S.Store conn.new).now }
+    ensures kept { IsUsable (state S.Store conn.new)
+        → ((state S.Store conn.new).now ≡ (state S.Store conn.old).now)
+        ⊎ HasRows (state S.Store conn.old).now }
     ensures believed { IsUsable (state S.Store conn.new)
         → OnOk result (IsBelieved (state S.Store conn.old).now (state S.Store conn.new)) }
     ensures other { IsUsable (state S.Store conn.new) → result ≡ Err fault.OtherSchema

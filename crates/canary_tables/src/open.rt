@@ -10,8 +10,8 @@ impl TableBook<FileStore<File>> {
     /// Opens the file of SQLite at a path as a book, or makes it. An empty database, as that of a
     /// new file, becomes a desk's (`create`); any other is read through and adopted (`adopt`), of
     /// which `progress` is told, and no row of it is changed. A log stands beside the file, which
-    /// belongs to it. As long as the book is there, nobody else can open the file as a database; who
-    /// copies both files is not kept from that.
+    /// belongs to it. As long as the book is there, nobody else can open the file as a database;
+    /// who copies both files is not kept from that.
     ///
     /// # Errors
     ///

@@ -17,27 +17,6 @@ pub fn split(row: &str) -> Result<(&str, &str), NoRow>
     row.split_once(" => ").ok_or(NoRow)
 }
 
-/// The text, in which a line that begins with four spaces goes on with the row before it.
-pub fn unfolded(alloc: Global, text: &str) -> Result<String, Memory> {
-    let mut rows = String::new(alloc);
-    for part in text.split("\n    ") {
-        rows.push_str(part)?;
-    }
-    Ok(rows)
-}
-
-/// The text with this end of line for each `|`.
-pub fn lined(alloc: Global, text: &str, end: &str) -> Result<String, Memory> {
-    let mut lined = String::new(alloc);
-    for (at, line) in text.split('|').enumerate() {
-        if at > 0 {
-            lined.push_str(end)?;
-        }
-        lined.push_str(line)?;
-    }
-    Ok(lined)
-}
-
 fn is_printed<T: Display>(alloc: Global, value: &T, words: &str) -> Result<bool, Memory> {
     Ok(format!(in alloc; "{value}")?.as_str() == words)
 }

@@ -73,7 +73,7 @@ pub(crate) enum Turn {
 /// read, written or asked. `Read` where the reader failed, also where it was interrupted: all that
 /// was read before is answered. `Write` where the writer failed or took no byte: what was written
 /// are the replies up to the midst of one; the message of that one is the last that was answered,
-/// and if it was a new request, it is settled.
+/// and if it was a new request, and not answered 503, it is settled.
 pub fn serve<R: Read, W: Write, C: Clock, B: Book>(
     alloc: Global,
     reader: &mut R,

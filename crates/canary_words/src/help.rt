@@ -114,18 +114,18 @@ pub(crate) const IMPORT_HELP: &str = with_records_faults!(
     "and each further one is a row: a request of this caller, under this number, to record one\n",
     "measurement. For each row it prints one line: the number of the row from 1 on, the HTTP\n",
     "status of the answer, and its body. A measurement is not recorded twice: where its row is\n",
-    "imported again, the row has the answer that it had.\n\n",
+    "imported again, the row has the answer that it had, unless that was 409 ahead or 503.\n\n",
     "Exit status: 0 when each row has its line, 2 for a mistake in the words, and 1 for a fault,\n",
     "which a line on standard error names; what was recorded before it stays:\n",
     "  canary: file             CSV cannot be opened\n",
     "  canary: header           the first record is not the header\n",
     "  canary: rows-spent       CSV has more than 1,000,000 rows\n",
-    "  canary: read             reading CSV failed, or it has more than 1,000,000,000 bytes\n",
+    "  canary: read             reading CSV failed, or it has 1,000,000,000 bytes or more\n",
     "  canary: write            the output failed or was closed\n",
     "  canary: memory           out of memory\n";
     "\nExamples:\n",
     "  canary import --db desk.db measurements.csv\n",
-    "  canary export --db old.db --caller copy web | canary import --db desk.db -"
+    "  canary import --db desk.db - < measurements.csv"
 );
 
 // ---- history

@@ -97,6 +97,10 @@ pub enum WordsFault {
 }
 
 /// Reads a command line: the words behind the program's name.
+///
+/// # Errors
+/// `Help` where they ask for help or for the version, and `Usage` where they have a mistake, each
+/// with the text for the user; `Memory` where an allocation was refused.
 pub fn read_words(alloc: Global, words: &[String]) -> Result<Program, WordsFault>
     ensures program { IfOk result (λ p. program_of (map string_bytes words.now) ≡ Some p) }
     ensures taken { IfOk result (λ _. faults_of (map string_bytes words.now) ≡ []) }

@@ -9,5 +9,5 @@ returns g c = λ fields is. (
   posted (request_of c.args.moment c.args.row.caller c.args.row.number (Report c.args.row.report)) c.post.result,
   refl,
   (c.args.row, is, refl),
-  (let p = c.post.ensures in record { honest = p.honest; sure = (p.sure, p.fault); sound = p.sound; handled = p.step; receipts = p.receipts }),
+  (let p = c.post.ensures in record { honest = p.honest; in_memory = p.in_memory; sure = (p.sure, p.fault); sound = p.sound; handled = p.step; receipts = p.receipts }),
 )

@@ -20,4 +20,4 @@ returns-in-Err-believe-clause-broken g c =
 
 pub returns-in-Err-believe-clause-left : goal.returns-in-Err-believe-clause-left
 returns-in-Err-believe-clause-left g c =
-    rows_left (state g.S.Store c.args.conn) (state g.S.Store c.in-Ok.opened.0) (state g.S.Store c.believe.new.conn) (search rules) c.believe.ensures.held c.believe.ensures.rows
+    rows_left (state g.S.Store c.args.conn) (state g.S.Store c.in-Ok.opened.0) (state g.S.Store c.believe.new.conn) (search rules) c.believe.ensures.held c.believe.ensures.rows c.believe.ensures.kept
