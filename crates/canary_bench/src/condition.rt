@@ -1,7 +1,7 @@
 //! Times the reading and the evaluation of conditions.
 
+use crate::fault::Fault;
 use crate::machine::nanos_of;
-use anyhow::{Result, ensure};
 use canary_condition::condition::{Condition, Verdict3};
 use canary_condition::outcome::Value;
 use std::alloc::Global;
@@ -11,7 +11,7 @@ use std::time::Instant;
 const COMPARISON: &str = "result > 1000000";
 
 // A condition of this many bytes, whose every comparison is evaluated at 0.
-fn condition_text(alloc: Global, len: usize) -> Result<String> {
+fn condition_text(alloc: Global, len: usize) -> Result<String, Fault> {
     let mut text = String::from_str(alloc, COMPARISON)?;
     for _ in 0..len / 18 {
         if text.len() < len && len - text.len() >= 18 {
@@ -38,39 +38,39 @@ fn tenths_per_byte(rounds: u32, len: usize, nanos: u64) -> u64 {
 }
 
 // The nanoseconds that reading the text so many times takes.
-fn time_parsing(rt: &HostRuntime, rounds: u32, text: &str) -> Result<u64> {
+fn time_parsing(rt: &HostRuntime, rounds: u32, text: &str) -> Result<u64, Fault> {
     let start = Instant::now(rt)?;
     for _ in 0..rounds {
-        let read = Condition::parse(rt.alloc(), text);
-        ensure!(read.is_ok(), "{text} is no condition");
+        if Condition::parse(rt.alloc(), text).is_err() {
+            return Err(Fault::Unwanted);
+        }
     }
     Ok(nanos_of(start.elapsed(rt)?))
 }
 
 // The nanoseconds that evaluating the condition so many times takes.
-fn time_evaluation(rt: &HostRuntime, rounds: u32, text: &str) -> Result<u64> {
+fn time_evaluation(rt: &HostRuntime, rounds: u32, text: &str) -> Result<u64, Fault> {
     let Ok(condition) = Condition::parse(rt.alloc(), text) else {
         return Ok(0);
     };
     let value = Value::Whole(0);
     let start = Instant::now(rt)?;
     for _ in 0..rounds {
-        ensure!(
-            condition.eval(&value) == Verdict3::False,
-            "{text} holds at 0"
-        );
+        if condition.eval(&value) != Verdict3::False {
+            return Err(Fault::Unwanted);
+        }
     }
     Ok(nanos_of(start.elapsed(rt)?))
 }
 
 // Tenths as a number with one decimal.
-fn with_decimal(alloc: Global, tenths: u64) -> Result<String> {
+fn with_decimal(alloc: Global, tenths: u64) -> Result<String, Fault> {
     let whole = tenths / 10;
     let tenth = tenths % 10;
     Ok(format!(in alloc; "{whole}.{tenth}")?)
 }
 
-fn print_line(rt: &HostRuntime, rounds: u32, len: usize) -> Result<()> {
+fn print_line(rt: &HostRuntime, rounds: u32, len: usize) -> Result<(), Fault> {
     let text = condition_text(rt.alloc(), len)?;
     let len = text.len();
     let parsing = time_parsing(rt, rounds, text.as_str())?;
@@ -84,7 +84,7 @@ fn print_line(rt: &HostRuntime, rounds: u32, len: usize) -> Result<()> {
 }
 
 /// Reads and evaluates conditions of 16, 256 and 1,024 bytes that many times, and prints a table.
-pub fn measure(rt: &HostRuntime, rounds: u32) -> Result<()> {
+pub fn measure(rt: &HostRuntime, rounds: u32) -> Result<(), Fault> {
     println!(rt; "bytes     parsed/s  ns per byte    evaluated/s  ns per byte")?;
     for len in [16, 256, 1024] {
         print_line(rt, rounds, len)?;

@@ -1,8 +1,8 @@
 //! Microseconds that canary_release alone takes to decide a command or a report, by the size of the
 //! service's strategy: no register, and nothing is read or written.
 
+use crate::fault::Fault;
 use crate::plans::{self, Size};
-use anyhow::{Context, Result};
 use canary_base::moments::Moment;
 use canary_plan::command::Command;
 use canary_plan::service::ServiceSpec;
@@ -17,8 +17,6 @@ use std::time::{Duration, Instant};
 
 // The quickest of so many batches counts.
 const BATCHES: u32 = 7;
-
-const REFUSED: &str = "out of memory, or refused";
 
 // How often each is decided, on a strategy of what size, and at which moment.
 #[derive(Clone, Copy)]
@@ -36,7 +34,7 @@ struct Batch {
 }
 
 /// Decides each command that many times over, seven times, and prints a table of the quickest.
-pub fn measure(rt: &HostRuntime, rounds: u32) -> Result<()> {
+pub fn measure(rt: &HostRuntime, rounds: u32) -> Result<(), Fault> {
     println!(rt; "microseconds a call; * is refused")?;
     print!(rt; "steps metrics     check   Service     Start      Tick")?;
     println!(rt; "   Promote  Report 1  Report n   closing")?;
@@ -48,11 +46,11 @@ pub fn measure(rt: &HostRuntime, rounds: u32) -> Result<()> {
     Ok(())
 }
 
-fn print_row(rt: &HostRuntime, rounds: u32, steps: u32, metrics: u32) -> Result<()> {
+fn print_row(rt: &HostRuntime, rounds: u32, steps: u32, metrics: u32) -> Result<(), Fault> {
     let size = Size { steps, metrics };
-    let now = plans::begin().context(REFUSED)?;
+    let now = plans::begin().ok_or(Fault::Refused)?;
     let trial = &Trial { rounds, size, now };
-    let templates = plans::known(rt.alloc(), size).context(REFUSED)?;
+    let templates = plans::known(rt.alloc(), size).ok_or(Fault::Refused)?;
     print!(rt; "{steps:>5} {metrics:>7}")?;
     print_check(rt, trial, &templates)?;
     print_new(rt, trial, &templates)?;
@@ -61,8 +59,8 @@ fn print_row(rt: &HostRuntime, rounds: u32, steps: u32, metrics: u32) -> Result<
 }
 
 // The strategy is checked, which registering the service begins with.
-fn print_check(rt: &HostRuntime, trial: &Trial, templates: &Templates) -> Result<()> {
-    let spec = plans::service(rt.alloc(), trial.size).context(REFUSED)?;
+fn print_check(rt: &HostRuntime, trial: &Trial, templates: &Templates) -> Result<(), Fault> {
+    let spec = plans::service(rt.alloc(), trial.size).ok_or(Fault::Refused)?;
     let rounds = trial.rounds;
     let mut least = u64::MAX;
     let mut accepted = 0;
@@ -87,10 +85,10 @@ fn check_often(alloc: Global, rounds: u32, templates: &Templates, spec: &Service
 }
 
 // Registering the service, and what follows on it.
-fn print_new(rt: &HostRuntime, trial: &Trial, templates: &Templates) -> Result<()> {
-    let register = plans::register(rt.alloc(), trial.size).context(REFUSED)?;
+fn print_new(rt: &HostRuntime, trial: &Trial, templates: &Templates) -> Result<(), Fault> {
+    let register = plans::register(rt.alloc(), trial.size).ok_or(Fault::Refused)?;
     print_cell(rt, trial, templates, None, &register)?;
-    let service = after(rt.alloc(), trial.now, templates, None, &register).context(REFUSED)?;
+    let service = after(rt.alloc(), trial.now, templates, None, &register).ok_or(Fault::Refused)?;
     print_start(rt, trial, templates, &service)
 }
 
@@ -100,11 +98,11 @@ fn print_start(
     trial: &Trial,
     templates: &Templates,
     service: &Service,
-) -> Result<()> {
-    let start = command(rt.alloc(), "start v2").context(REFUSED)?;
+) -> Result<(), Fault> {
+    let start = command(rt.alloc(), "start v2").ok_or(Fault::Refused)?;
     print_cell(rt, trial, templates, Some(service), &start)?;
     let started = after(rt.alloc(), trial.now, templates, Some(service), &start);
-    let started = started.context(REFUSED)?;
+    let started = started.ok_or(Fault::Refused)?;
     print_started(rt, trial, templates, &started)
 }
 
@@ -114,7 +112,7 @@ fn print_started(
     trial: &Trial,
     templates: &Templates,
     service: &Service,
-) -> Result<()> {
+) -> Result<(), Fault> {
     let alloc = rt.alloc();
     let all = trial.size.metrics.max(1);
     print_given(rt, trial, templates, service, command(alloc, "tick"))?;
@@ -142,8 +140,8 @@ fn print_promote(
     trial: &Trial,
     templates: &Templates,
     service: &Service,
-) -> Result<()> {
-    let promote = command(rt.alloc(), "promote").context(REFUSED)?;
+) -> Result<(), Fault> {
+    let promote = command(rt.alloc(), "promote").ok_or(Fault::Refused)?;
     match held(rt.alloc(), trial, templates, service) {
         None => print_cell(rt, trial, templates, Some(service), &promote),
         Some(held) => print_cell(rt, trial, templates, Some(&held), &promote),
@@ -183,8 +181,8 @@ fn print_given(
     templates: &Templates,
     service: &Service,
     command: Option<Command>,
-) -> Result<()> {
-    let command = command.context(REFUSED)?;
+) -> Result<(), Fault> {
+    let command = command.ok_or(Fault::Refused)?;
     print_cell(rt, trial, templates, Some(service), &command)
 }
 
@@ -194,7 +192,7 @@ fn print_cell(
     templates: &Templates,
     service: Option<&Service>,
     command: &Command,
-) -> Result<()> {
+) -> Result<(), Fault> {
     let rounds = trial.rounds;
     let mut least = u64::MAX;
     let mut accepted = 0;
@@ -242,7 +240,7 @@ pub fn nanos_of(took: Duration) -> u64 {
     u64::try_from(took.as_nanos()).unwrap_or(u64::MAX)
 }
 
-fn print_figure(rt: &HostRuntime, rounds: u32, batch: Batch) -> Result<()> {
+fn print_figure(rt: &HostRuntime, rounds: u32, batch: Batch) -> Result<(), Fault> {
     let hundredths = batch.nanos / 10 / u64::from(rounds.max(1));
     let whole = hundredths / 100;
     let part = hundredths % 100;

@@ -5,6 +5,7 @@
 #![tactic(auto)]
 
 mod condition;
+mod fault;
 mod machine;
 mod metric;
 mod plans;
@@ -12,25 +13,46 @@ mod reads;
 mod register;
 mod streams;
 
-use anyhow::{Context, Result, bail};
+use fault::Fault;
 use std::env;
+use std::process::ExitCode;
 
-fn main(rt: HostRuntime) -> Result<()> {
-    let mut words = env::args(&rt)?;
+fn main(rt: HostRuntime) -> ExitCode {
+    match run(&rt) {
+        Ok(()) => ExitCode::SUCCESS,
+        Err(fault) => {
+            let _ = eprintln!(&rt; "canary_bench: {fault}");
+            ExitCode::FAILURE
+        }
+    }
+}
+
+fn run(rt: &HostRuntime) -> Result<(), Fault> {
+    let mut words = env::args(rt)?;
     let _program = words.next();
     let Some(subject) = words.next() else {
         return Ok(());
     };
-    let rounds = words.next().context("ROUNDS is missing")?;
-    let rounds = rounds
-        .as_str()
-        .parse::<u32>()
-        .context("ROUNDS is no number")?;
-    match subject.as_str() {
-        "condition" => condition::measure(&rt, rounds),
-        "metric" => metric::measure(&rt, rounds),
-        "machine" => machine::measure(&rt, rounds),
-        "register" => register::measure(&rt, rounds, words.next()),
-        other => bail!("no such subject: {other}"),
+    let rounds = words.next().ok_or(Fault::Words)?;
+    let rounds = number(rounds.as_str())?;
+    measure(rt, subject.as_str(), rounds, words.next())
+}
+
+fn number(word: &str) -> Result<u32, Fault> {
+    word.parse::<u32>().or(Err(Fault::Words))
+}
+
+fn measure(
+    rt: &HostRuntime,
+    subject: &str,
+    rounds: u32,
+    stream: Option<String>,
+) -> Result<(), Fault> {
+    match subject {
+        "condition" => condition::measure(rt, rounds),
+        "metric" => metric::measure(rt, rounds),
+        "machine" => machine::measure(rt, rounds),
+        "register" => register::measure(rt, rounds, stream),
+        _ => Err(Fault::Words),
     }
 }

@@ -3,7 +3,7 @@
 ghost use Rattle.std.specs.Prelude.{IsTrue};
 ghost use Rattle.canary_metric.specs.Measurements.{is_measured};
 
-use anyhow::Result;
+use crate::fault::Fault;
 use canary_base::durations::Seconds;
 use canary_base::moments::Moment;
 use canary_base::names::Label;
@@ -16,7 +16,7 @@ use std::time::{Duration, Instant};
 const TALLIES: usize = 4;
 
 /// Makes about so many additions and asks so many phases at each size, and prints a table.
-pub fn measure(rt: &HostRuntime, work: u32) -> Result<()> {
+pub fn measure(rt: &HostRuntime, work: u32) -> Result<(), Fault> {
     let Some((metric, begin)) = measured() else {
         return Ok(());
     };

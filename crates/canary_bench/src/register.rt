@@ -1,10 +1,10 @@
 //! Nanoseconds of a request and of a read over the book in memory as it grows, and the memory that
 //! settled requests take.
 
+use crate::fault::Fault;
 use crate::machine::nanos_of;
 use crate::reads::{self, Aim, Probe};
 use crate::streams::Stream;
-use anyhow::{Context, Result, ensure};
 use canary_once::event::Request;
 use canary_once::memory::MemoryBook;
 use canary_once::post::post;
@@ -36,8 +36,6 @@ const LONGEST_NANOS: u64 = 60_000_000_000;
 // The bytes of a page of memory.
 const PAGE: u64 = 4_096;
 
-const REFUSED: &str = "out of memory, or refused";
-
 const PROBES: [Probe; 9] = [
     Probe::Repeat,
     Probe::Ahead,
@@ -52,14 +50,14 @@ const PROBES: [Probe; 9] = [
 
 /// Settles up to so many requests of the stream of that name, and prints a row at each size. With
 /// no name it prints the head of the table.
-pub fn measure(rt: &HostRuntime, most: u32, name: Option<String>) -> Result<()> {
+pub fn measure(rt: &HostRuntime, most: u32, name: Option<String>) -> Result<(), Fault> {
     match name {
         None => print_head(rt),
         Some(name) => measure_named(rt, most, name.as_str()),
     }
 }
 
-fn print_head(rt: &HostRuntime) -> Result<()> {
+fn print_head(rt: &HostRuntime) -> Result<(), Fault> {
     println!(rt; "nanoseconds each, and bytes a settled request; * is nothing found")?;
     print!(rt; "stream    settled     whole      next   bytes")?;
     print!(rt; "    repeat     ahead   settled   receipt templates   service")?;
@@ -67,8 +65,8 @@ fn print_head(rt: &HostRuntime) -> Result<()> {
     Ok(())
 }
 
-fn measure_named(rt: &HostRuntime, most: u32, name: &str) -> Result<()> {
-    let stream = Stream::named(name).context("no such stream")?;
+fn measure_named(rt: &HostRuntime, most: u32, name: &str) -> Result<(), Fault> {
+    let stream = Stream::named(name).ok_or(Fault::Words)?;
     let mut book = MemoryBook::new(rt.alloc());
     // What making a chunk of requests takes is no part of what the book takes.
     make_ready(rt, stream)?;
@@ -92,16 +90,18 @@ fn measure_named(rt: &HostRuntime, most: u32, name: &str) -> Result<()> {
     Ok(())
 }
 
-fn make_ready(rt: &HostRuntime, stream: Stream) -> Result<()> {
-    let requests = stream.requests(rt.alloc(), 0, CHUNK).context(REFUSED)?;
-    ensure!(!requests.is_empty(), "no requests");
+fn make_ready(rt: &HostRuntime, stream: Stream) -> Result<(), Fault> {
+    let requests = stream.requests(rt.alloc(), 0, CHUNK).ok_or(Fault::Refused)?;
+    if requests.is_empty() {
+        return Err(Fault::Refused);
+    }
     Ok(())
 }
 
 // The bytes of memory that this process has.
-fn resident(rt: &HostRuntime) -> Result<u64> {
+fn resident(rt: &HostRuntime) -> Result<u64, Fault> {
     let text = fs::read_to_string(rt, "/proc/self/statm")?;
-    let pages = pages_in(text.as_str()).context("/proc/self/statm has another form")?;
+    let pages = pages_in(text.as_str()).ok_or(Fault::Machine)?;
     Ok(pages.saturating_mul(PAGE))
 }
 
@@ -120,7 +120,7 @@ fn grow(
     stream: Stream,
     from: u32,
     to: u32,
-) -> Result<Option<u64>> {
+) -> Result<Option<u64>, Fault> {
     let mut nanos = 0u64;
     let mut place = from;
     for _ in 0..to.saturating_sub(from).div_ceil(CHUNK) {
@@ -135,7 +135,12 @@ fn grow(
 }
 
 // The nanoseconds each of the next requests, in the quickest batch.
-fn time_next(rt: &HostRuntime, book: &mut MemoryBook, stream: Stream, from: u32) -> Result<u64> {
+fn time_next(
+    rt: &HostRuntime,
+    book: &mut MemoryBook,
+    stream: Stream,
+    from: u32,
+) -> Result<u64, Fault> {
     let mut least = u64::MAX;
     for batch in 0..BATCHES {
         let place = from.saturating_add(batch * NEXT);
@@ -151,14 +156,16 @@ fn settle(
     stream: Stream,
     from: u32,
     count: u32,
-) -> Result<u64> {
-    let requests = stream.requests(rt.alloc(), from, count).context(REFUSED)?;
+) -> Result<u64, Fault> {
+    let requests = stream
+        .requests(rt.alloc(), from, count)
+        .ok_or(Fault::Refused)?;
     let (nanos, as_wanted) = time_posts(rt, book, requests.as_slice(), stream.status())?;
-    ensure!(
-        as_wanted == count,
-        "{as_wanted} of {count} requests from {from} on are answered as wanted"
-    );
-    Ok(nanos)
+    if as_wanted == count {
+        Ok(nanos)
+    } else {
+        Err(Fault::Unwanted)
+    }
 }
 
 // The nanoseconds that the requests take, and how many replies say that.
@@ -167,7 +174,7 @@ fn time_posts(
     book: &mut MemoryBook,
     requests: &[Request],
     status: ReplyStatus,
-) -> Result<(u64, u32)> {
+) -> Result<(u64, u32), Fault> {
     let start = Instant::now(rt)?;
     let as_wanted = post_all(rt.alloc(), book, requests, status);
     Ok((nanos_of(start.elapsed(rt)?), as_wanted))
@@ -206,8 +213,13 @@ fn is_answered(
     reads::has_status(&answer, status)
 }
 
-fn print_reads(rt: &HostRuntime, book: &mut MemoryBook, stream: Stream, size: u32) -> Result<()> {
-    let aim = reads::take_aim(rt.alloc(), stream, size).context(REFUSED)?;
+fn print_reads(
+    rt: &HostRuntime,
+    book: &mut MemoryBook,
+    stream: Stream,
+    size: u32,
+) -> Result<(), Fault> {
+    let aim = reads::take_aim(rt.alloc(), stream, size).ok_or(Fault::Refused)?;
     for probe in PROBES {
         print_read(rt, book, probe, &aim)?;
     }
@@ -216,7 +228,12 @@ fn print_reads(rt: &HostRuntime, book: &mut MemoryBook, stream: Stream, size: u3
 }
 
 // The nanoseconds of one call in the quickest batch.
-fn print_read(rt: &HostRuntime, book: &mut MemoryBook, probe: Probe, aim: &Aim) -> Result<()> {
+fn print_read(
+    rt: &HostRuntime,
+    book: &mut MemoryBook,
+    probe: Probe,
+    aim: &Aim,
+) -> Result<(), Fault> {
     let (once, _found) = time_reads(rt, book, probe, aim, 1)?;
     let rounds = (BATCH_NANOS / once.max(1)).max(1).min(MOST_READS);
     let mut least = u64::MAX;
@@ -238,7 +255,7 @@ fn time_reads(
     probe: Probe,
     aim: &Aim,
     rounds: u64,
-) -> Result<(u64, u64)> {
+) -> Result<(u64, u64), Fault> {
     let start = Instant::now(rt)?;
     let found = read_often(rt.alloc(), book, probe, aim, rounds);
     Ok((nanos_of(start.elapsed(rt)?), found))

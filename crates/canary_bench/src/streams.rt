@@ -28,6 +28,15 @@ pub enum Stream {
     Reports,
 }
 
+const STREAMS: [Stream; 6] = [
+    Stream::One,
+    Stream::Callers,
+    Stream::Services,
+    Stream::Names,
+    Stream::Unknown,
+    Stream::Reports,
+];
+
 // The requests of `Reports` before the first measurement.
 const BEFORE_REPORTS: u32 = 3;
 
@@ -47,14 +56,22 @@ const ONE_ANALYSIS: Size = Size {
 impl Stream {
     /// The stream of that name.
     pub fn named(name: &str) -> Option<Stream> {
-        match name {
-            "one" => Some(Stream::One),
-            "callers" => Some(Stream::Callers),
-            "services" => Some(Stream::Services),
-            "names" => Some(Stream::Names),
-            "unknown" => Some(Stream::Unknown),
-            "reports" => Some(Stream::Reports),
-            _ => None,
+        for stream in STREAMS {
+            if stream.name() == name {
+                return Some(stream);
+            }
+        }
+        None
+    }
+
+    fn name(self) -> &'static str {
+        match self {
+            Stream::One => "one",
+            Stream::Callers => "callers",
+            Stream::Services => "services",
+            Stream::Names => "names",
+            Stream::Unknown => "unknown",
+            Stream::Reports => "reports",
         }
     }
 

@@ -1,0 +1,39 @@
+//! Why a benchmark was not done.
+use std::alloc::AllocError;
+use std::{fmt, io};
+
+/// Why a benchmark was not done.
+#[derive(Clone, Copy, Debug, PartialEq, Eq)]
+pub enum Fault {
+    /// The words name no subject, or lack its number, or name no stream.
+    Words,
+    /// Out of memory, or a command was refused.
+    Refused,
+    /// The output, the clock or a file of the system failed.
+    Machine,
+    /// Something was read or answered that was not wanted.
+    Unwanted,
+}
+
+impl fmt::Display for Fault {
+    fn fmt<W: fmt::Write>(&self, f: &mut fmt::Formatter<W>) -> fmt::Result {
+        f.write_str(match self {
+            Fault::Words => "SUBJECT or its number or stream is missing or unknown",
+            Fault::Refused => "out of memory, or refused",
+            Fault::Machine => "the output, the clock or a file of the system failed",
+            Fault::Unwanted => "something was read or answered that was not wanted",
+        })
+    }
+}
+
+impl From<io::Error> for Fault {
+    fn from(_: io::Error) -> Fault {
+        Fault::Machine
+    }
+}
+
+impl From<AllocError> for Fault {
+    fn from(_: AllocError) -> Fault {
+        Fault::Refused
+    }
+}
