@@ -2,15 +2,14 @@
 
 use canary_base::error::Memory;
 use canary_base::moments::Moment;
-use canary_base::names::Name;
-use canary_base::numbers::Number;
 use canary_files::export::{ExportFault, export};
 use canary_files::import::{ImportFault, import};
 use canary_once::clock::StepClock;
 use canary_once::memory::MemoryBook;
 use canary_once::post::post;
-use canary_testing::asked::{B, command, moment};
+use canary_testing::asked::{B, name};
 use canary_testing::rows::says;
+use canary_testing::sent::request;
 use std::alloc::Global;
 use std::io;
 use std::io::{ErrorKind, Read, Write};
@@ -47,18 +46,11 @@ copy,2,web,1,m,2,1767225660,6,
 copy,3,web,1,m,3,1767225720,,timeout
 ";
 
-fn name(text: &str) -> Option<Name> {
-    Name::read(text.as_bytes())
-}
-
 /// Settles a request, which is to be accepted; none where it is not, or memory was refused.
 fn settle(alloc: Global, book: &mut MemoryBook, row: &str) -> Option<()> {
-    let (caller, row) = row.split_once(' ')?;
-    let (number, row) = row.split_once(' ')?;
-    let (after, asked) = row.split_once(' ')?;
-    let (caller, number) = (name(caller)?, Number::read(number.as_bytes())?);
-    let command = command(alloc, asked)?;
-    let answer = post(alloc, book, moment(after)?, caller, number, &command);
+    let asked = request(alloc, row)?;
+    let (moment, command) = (asked.moment, &asked.command);
+    let answer = post(alloc, book, moment, asked.caller, asked.number, command);
     if answer.status() != 200 {
         return None;
     }

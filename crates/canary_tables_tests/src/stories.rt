@@ -2,7 +2,6 @@
 //! allocation is refused: what was answered 503 is sent again. The bodies of answers, and pages of
 //! measurements, are told by the program (tests/tables, tests/files, tests/stories).
 
-use crate::asked::{event, name};
 use canary_adopting::progress::Untold;
 use canary_base::error::Memory;
 use canary_once::book::Book;
@@ -10,6 +9,8 @@ use canary_once::event::Answer;
 use canary_once::run::run;
 use canary_tables::book::TableBook;
 use canary_tables::fault::Left;
+use canary_testing::asked::name;
+use canary_testing::sent::event;
 use sqlite::{Connection, MemStore};
 use std::alloc::Global;
 use std::process::Abort;

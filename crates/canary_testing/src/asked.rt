@@ -1,5 +1,4 @@
-//! Commands from compact texts, and replies from short forms, by which tables of requests are
-//! written.
+//! Commands from compact texts, by which tables of requests are written.
 //!
 //! A command on the service web is one of these, where METRIC is a name, then its members, as in
 //! `m,interval=60,success=result>10`, and ENTRY is `METRIC:ORDINAL:TAKEN:OUTCOME`, with TAKEN in
@@ -7,8 +6,7 @@
 //!
 //! - `template NAME METRIC.. dryRun:NAME..`
 //! - `service VERSION STEP.. background:TEMPLATE`, each step `setWeight:N`, `pause`,
-//! `pause:SECONDS`
-//!   or `analysis:TEMPLATE`, or `N*` in front of one that stands so many times
+//!   `pause:SECONDS` or `analysis:TEMPLATE`, or `N*` in front of one that stands so many times
 //! - `start VERSION`, `promote`, `promoteFull`, `abort`, `retry`, `tick`
 //! - `report RUN ENTRY..`
 ghost use Rattle.std.specs.Prelude.{◌≡◌, IsTrue, true, nat_lt, length, IfSome, IfOk};
@@ -35,7 +33,8 @@ pub fn moment(after: &str) -> Option<Moment> {
     Moment::new(B.checked_add(after.parse().ok()?)?)
 }
 
-fn name(text: &str) -> Option<Name> {
+/// The name that a text spells.
+pub fn name(text: &str) -> Option<Name> {
     Name::read(text.as_bytes())
 }
 
@@ -288,64 +287,4 @@ pub fn command(alloc: Global, asked: &str) -> Option<Command> {
         return Some(Command::Start { service, version });
     }
     plain(web, kind)
-}
-
-/// What a short form stands for: `[t]` for the reply of a template, `[web Paused 1 20]` for that of
-/// another command, and `[web Paused 1 20 | 1 Error | Running]` for that of a report, with its run,
-/// its phases and its verdict. A body of JSON stands for itself, and a code for a body of it alone.
-pub fn body(alloc: Global, told: &str) -> Option<String> {
-    if told.starts_with("{") {
-        return String::from_str(alloc, told).ok();
-    }
-    let Some(short) = told.strip_prefix("[") else {
-        return format!(in alloc; r#"{{"code":"{told}"}}"#).ok();
-    };
-    let short = short.strip_suffix("]")?;
-    match short.split_once(" | ") {
-        Some((shown, reported)) => report_body(alloc, shown, reported),
-        None => shown_body(alloc, short),
-    }
-}
-
-fn shown_body(alloc: Global, shown: &str) -> Option<String> {
-    let Some((service, rest)) = shown.split_once(' ') else {
-        return format!(in alloc; r#"{{"code":"ok","template":"{shown}"}}"#).ok();
-    };
-    let (status, rest) = rest.split_once(' ')?;
-    let (step, weight) = rest.split_once(' ')?;
-    format!(in alloc;
-        r#"{{"code":"ok","service":"{service}","status":"{status}","step":{step},"weight":{weight}}}"#
-    ).ok()
-}
-
-fn report_body(alloc: Global, shown: &str, reported: &str) -> Option<String> {
-    let (reported, verdict) = reported.split_once(" | ")?;
-    let (run, phases) = reported.split_once(' ')?;
-    let phases = phases_text(alloc, phases).ok()?;
-    let (service, rest) = shown.split_once(' ')?;
-    let (status, rest) = rest.split_once(' ')?;
-    let (step, weight) = rest.split_once(' ')?;
-    let front = format!(in alloc;
-        r#"{{"code":"ok","phases":[{phases}],"run":{run},"service":"{service}","#
-    ).ok()?;
-    let back = format!(in alloc;
-        r#""status":"{status}","step":{step},"verdict":"{verdict}","weight":{weight}}}"#
-    ).ok()?;
-    joined(front, back).ok()
-}
-
-fn joined(mut front: String, back: String) -> Result<String, AllocError> {
-    front.push_str(back.as_str())?;
-    Ok(front)
-}
-
-fn phases_text(alloc: Global, phases: &str) -> Result<String, AllocError> {
-    let mut text = String::new(alloc);
-    for (at, phase) in phases.split(' ').enumerate() {
-        if at > 0 {
-            text.push_str(",")?;
-        }
-        write!(text, "\"{phase}\"")?;
-    }
-    Ok(text)
 }

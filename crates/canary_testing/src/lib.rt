@@ -1,6 +1,7 @@
-//! What tests are written in: rows of a text, and commands and replies in short forms. It is a
-//! library of tests and benchmarks alone, which no program rests on.
+//! What tests are written in: rows of a text, and commands, requests and queries in few words. It is
+//! a library of tests and benchmarks alone, which no program rests on.
 #![tactic(auto)]
 
 pub mod asked;
 pub mod rows;
+pub mod sent;

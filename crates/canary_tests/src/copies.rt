@@ -2,7 +2,7 @@
 //! copied as they are sent. A test ends with an error where memory was refused.
 
 use crate::once::TWO_RUNS;
-use crate::sending::{answer, name, request, send_story};
+use crate::sending::{answer, send_story};
 use canary_base::durations::Seconds;
 use canary_base::error::Memory;
 use canary_base::moments::{LAST_MOMENT, Moment};
@@ -18,8 +18,9 @@ use canary_plan::template::{BadCondition, ConditionKey};
 use canary_plan::templates::Templates;
 use canary_release::decide::{Decision, decide};
 use canary_release::service::Service;
-use canary_testing::asked::{B, body, command};
+use canary_testing::asked::{B, command, name};
 use canary_testing::rows::split;
+use canary_testing::sent::request;
 use std::alloc::Global;
 use std::test::Fail;
 
@@ -28,12 +29,12 @@ const TIMED: &str = "200 ops 1 0 template t m
 200 ops 2 0 service v1 setWeight:20 pause:300 analysis:t background:t
 200 ops 3 0 start v2";
 
-/// What is then asked of copies of its template and its service, and what is replied.
-const COPIED: &str = "ops 4 0 template s m => [s]
-ops 4 0 start v3 => in-progress
-ops 4 300 tick => [web Progressing 2 20]
-ops 4 1 report 1 m:1:0:!down => [web Paused 1 20 | 1 Error | Running]
-ops 4 1 abort => [web Degraded 1 0]";
+/// What is then asked of copies of its template and its service, and the body that is replied.
+const COPIED: &str = r#"ops 4 0 template s m => {"code":"ok","template":"s"}
+ops 4 0 start v3 => {"code":"in-progress"}
+ops 4 300 tick => {"code":"ok","service":"web","status":"Progressing","step":2,"weight":20}
+ops 4 1 report 1 m:1:0:!down => {"code":"ok","phases":["Error"],"run":1,"service":"web","status":"Paused","step":1,"verdict":"Running","weight":20}
+ops 4 1 abort => {"code":"ok","service":"web","status":"Degraded","step":1,"weight":0}"#;
 
 /// The templates and the service that a book has.
 #[derive(Drop)]
@@ -91,9 +92,8 @@ fn settled(alloc: Global, by: (Name, Number), desk: &Desk, asked: &str) -> Optio
 /// Whether a row's command comes to its reply.
 fn is_told(alloc: Global, by: (Name, Number), desk: &Desk, row: &str) -> Result<bool, Fail> {
     let (asked, told) = split(row)?;
-    let told = body(alloc, told).ok_or(Memory)?;
     let settled = settled(alloc, by, desk, asked).ok_or(Memory)?;
-    Ok(settled.receipt.reply.body.as_str() == told.as_str())
+    Ok(settled.receipt.reply.body.as_str() == told)
 }
 
 /// The last moment and the step of a service that passes to the greatest moment; none where memory

@@ -3,7 +3,7 @@
 //! refused.
 ghost use Rattle.std.specs.Prelude.{◌≡◌};
 
-use crate::sending::{answer, event, name, send, settled};
+use crate::sending::{answer, send, settled};
 use canary_base::lists::Listed;
 use canary_base::names::Name;
 use canary_base::numbers::Number;
@@ -16,6 +16,8 @@ use canary_plan::line::Line;
 use canary_plan::templates::Templates;
 use canary_release::effect::Recorded;
 use canary_release::service::Service;
+use canary_testing::asked::name;
+use canary_testing::sent::event;
 use std::alloc::Global;
 use std::process::Abort;
 use std::test::Fail;

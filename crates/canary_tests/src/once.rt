@@ -1,11 +1,11 @@
 //! The book in memory: moments that fall, which no program gives it, and pages of measurements,
 //! which no request or query asks for. Each test holds as well where any one allocation is refused.
 
-use crate::sending::{name, send_story};
+use crate::sending::send_story;
 use canary_once::book::Book;
 use canary_once::memory::MemoryBook;
 use canary_release::effect::Recorded;
-use canary_testing::asked::B;
+use canary_testing::asked::{B, name};
 use std::test::Fail;
 
 const FALLING: &str = "200 ops 1 9 service v1 pause

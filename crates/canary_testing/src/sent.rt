@@ -1,19 +1,15 @@
-//! Requests and queries as rows, with the seconds after B:
+//! Requests and queries from rows, with the seconds after B:
 //!
-//! - a request: the caller, its number, the seconds, and the command (canary_testing's `asked`)
+//! - a request: the caller, its number, the seconds, and the command (`asked::command`)
 //! - a query: `?`, the seconds, and `service NAME`, `history NAME` or `run NAME NUMBER`
 
-use canary_base::names::Name;
+use crate::asked::{command, moment, name};
 use canary_base::numbers::Number;
 use canary_once::event::{Event, Query, Request};
-use canary_testing::asked::{command, moment};
 use std::alloc::Global;
 
-pub(crate) fn name(text: &str) -> Option<Name> {
-    Name::read(text.as_bytes())
-}
-
-fn request(alloc: Global, asked: &str) -> Option<Request> {
+/// The request of a row; none where it has none, or memory was refused.
+pub fn request(alloc: Global, asked: &str) -> Option<Request> {
     let (caller, asked) = asked.split_once(' ')?;
     let (number, asked) = asked.split_once(' ')?;
     let (after, asked) = asked.split_once(' ')?;
@@ -40,14 +36,18 @@ fn query(asked: &str) -> Option<Query> {
     None
 }
 
-/// What a row sends; none where it sends nothing, or memory was refused.
-pub(crate) fn event(alloc: Global, asked: &str) -> Option<Event> {
-    let Some(asked) = asked.strip_prefix("? ") else {
-        return Some(Event::Request(request(alloc, asked)?));
-    };
+// The query behind a `?`, at its moment.
+fn queried(asked: &str) -> Option<Event> {
     let (after, asked) = asked.split_once(' ')?;
-    Some(Event::Query {
-        moment: moment(after)?,
-        query: query(asked)?,
-    })
+    let moment = moment(after)?;
+    let query = query(asked)?;
+    Some(Event::Query { moment, query })
+}
+
+/// What a row sends; none where it sends nothing, or memory was refused.
+pub fn event(alloc: Global, asked: &str) -> Option<Event> {
+    match asked.strip_prefix("? ") {
+        Some(asked) => queried(asked),
+        None => Some(Event::Request(request(alloc, asked)?)),
+    }
 }
