@@ -10,9 +10,9 @@ use Rattle.canary_wire.specs.Writes.{Known}
 use Rattle.canary_wire.specs.declared.serve.Ended.{Ended}
 use Rattle.canary_wire.specs.declared.serve.ServeFault.{ServeFault}
 use Rattle.canary_wire.specs.declared.serve.ServeFault.TheVariants.{Read, Write, Memory}
-use Rattle.canary_database.specs.declared.fault.Fault.{Fault}
-use Rattle.canary_database.specs.declared.fault.Fault.TheVariants as fault
-use Rattle.canary_database.specs.Faults.{done_of}
+use Rattle.canary_programs.specs.declared.fault.Fault.{Fault}
+use Rattle.canary_programs.specs.declared.fault.Fault.TheVariants as fault
+use Rattle.canary_programs.specs.Faults.{done_of}
 use Rattle.canary_cli.specs.declared.perform.Outcome.{Outcome}
 use Rattle.canary_cli.specs.declared.perform.Outcome.TheVariants.{Done, Findings}
 use Rattle.canary_listen.specs.declared.limits.Limits.{Limits}

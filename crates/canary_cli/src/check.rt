@@ -4,8 +4,9 @@ ghost use Rattle.std.specs.Io.KnownBytes.{Appends};
 ghost use Rattle.canary_check.specs.Taken.{is_taken};
 ghost use Rattle.canary_cli.specs.Performed.{IsCheckShown};
 
-use crate::perform::{Outcome, show};
-use canary_database::fault::Fault;
+use crate::perform::Outcome;
+use canary_programs::fault::Fault;
+use canary_programs::show::show;
 use std::alloc::Global;
 use std::fs::{File, Files};
 use std::io::{self, ErrorKind, Read, Write};

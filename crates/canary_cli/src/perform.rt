@@ -1,5 +1,5 @@
 //! Running a command line.
-ghost use Rattle.std.specs.Prelude.{◌≡◌, ◌↔◌, ℕ, List, Some, None, Ok, Err, OnOk, IfErr, [], map};
+ghost use Rattle.std.specs.Prelude.{◌≡◌, ◌↔◌, ℕ, List, Some, None, Ok, Err, [], map};
 ghost use Rattle.std.specs.Prelude.{codes, string_bytes};
 ghost use Rattle.std.specs.IoError.{error_kind};
 ghost use Rattle.std.specs.Io.KnownBytes.{Appends};
@@ -11,16 +11,18 @@ ghost use Rattle.canary_cli.specs.Performed.{MayTell, AsksForOneThatTells, limit
 use crate::check::check;
 use canary_base::lists::Text;
 use canary_base::moments::Moment;
-use canary_database::backup::backup;
 use canary_database::export::export;
-use canary_database::fault::{Fault, done_of};
 use canary_database::history::history;
 use canary_database::import::import;
-use canary_database::status::{Drawing, status};
+use canary_database::status::status;
 use canary_database::{pipe, serve};
 use canary_listen::limits::Limits;
 use canary_once::clock::StepClock;
 use canary_once::memory::MemoryBook;
+use canary_programs::backup::backup;
+use canary_programs::fault::{Fault, done_of};
+use canary_programs::overview::Drawing;
+use canary_programs::show::show;
 use canary_words::words::{AskedLimits, Program, WordsFault, read_words};
 use std::alloc::Global;
 use std::io::{self, ErrorKind, Read, Write};
@@ -63,7 +65,7 @@ pub struct Terminals {
 ///
 /// 0: what was asked was done, or help or the version was asked for, whose text is written to
 /// `output`. 1: a check found something, or a fault, which one line `canary: WORD` on `errors`
-/// names (`canary_database::fault::Fault::line`). 2: the command line is none that the desk takes,
+/// names (`canary_programs::fault::Fault::line`). 2: the command line is none that the desk takes,
 /// and `errors` has the text that says why. A fault of `errors` itself is ignored.
 pub fn perform<R: Read, W: Write, F: Write>(
     rt: &HostRuntime,
@@ -271,17 +273,6 @@ fn pipe<R: Read, W: Write>(
     let mut clock = StepClock::new(at, step);
     let mut book = MemoryBook::new(alloc);
     done_of(canary_wire::serve::serve(alloc, input, output, &mut clock, &mut book))
-}
-
-// Writes a text out.
-pub(crate) fn show<W: Write>(text: &str, output: &mut W) -> Result<(), Fault>
-    ensures ok { OnOk result (Appends (W.contents output.old) (W.contents output.new) text.now) }
-    ensures err { IfErr result (λ fault. fault ≡ Fault.Write) }
-{
-    match output.write_all(text.as_bytes()) {
-        Ok(()) => Ok(()),
-        Err(_) => Err(Fault::Write),
-    }
 }
 
 // The status of what was done, with the line of a fault on `errors`.

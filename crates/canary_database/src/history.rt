@@ -1,19 +1,12 @@
 //! `history`: what a service went through.
 ghost use Rattle.std.specs.Prelude.{◌≡◌, ◌≢◌, Err, IsTrue};
 ghost use Rattle.canary_base.specs.Names.{is_name};
-ghost use Rattle.canary_files.specs.Exporting.{Stays};
-ghost use Rattle.canary_database.specs.Programs.{FindsHistory, TellsHistory};
-ghost use Rattle.canary_database.specs.declared.fault.Fault.TheVariants as fault;
+ghost use Rattle.canary_programs.specs.declared.fault.Fault.TheVariants as fault;
 
-use crate::fault::Fault;
 use crate::open::open;
-use crate::show::{name_of, show};
-use canary_base::lists::Listed;
-use canary_base::names::Name;
-use canary_files::history::history_text;
-use canary_once::book::Book;
-use canary_plan::line::Line;
-use std::alloc::Global;
+use canary_programs::fault::Fault;
+use canary_programs::history::write_history;
+use canary_programs::show::name_of;
 use std::io::Write;
 
 /// Writes the history of a service in a file as it is stored: no time passes.
@@ -37,40 +30,4 @@ pub fn history<W: Write, F: Write>(
     let service = name_of(service)?;
     let mut book = open(rt, file, errors, is_terminal)?;
     write_history(rt.alloc(), &mut book, service, output)
-}
-
-/// Writes the history of a service, which is stored in a book. The book is unchanged.
-///
-/// # Errors
-/// `UnknownService` where there is no such service, `Memory` where an allocation was refused,
-/// `Storage` where the store failed: nothing is written. `Write` where the output failed.
-pub fn write_history<W: Write, B: Book>(
-    alloc: Global,
-    book: &mut B,
-    service: Name,
-    output: &mut W,
-) -> Result<(), Fault>
-    ensures stays { Stays (B.state book.old) (B.state book.new) }
-    ensures told { (B.state book.new).is_honest
-        → TellsHistory (B.state book.old).contents service
-        (W.contents output.old) (W.contents output.new) result }
-    ensures name { result ≢ Err fault.BadName }
-{
-    let lines = lines_of(book, service)?;
-    let mut text = String::new(alloc);
-    history_text(lines.as_slice(), &mut text)?;
-    show(text.as_str(), output)
-}
-
-// The lines of a service's history.
-fn lines_of<B: Book>(book: &mut B, service: Name) -> Result<Listed<Line>, Fault>
-    ensures stays { Stays (B.state book.old) (B.state book.new) }
-    ensures found { (B.state book.new).is_honest
-        → FindsHistory (B.state book.old).contents service result }
-    ensures name { result ≢ Err fault.BadName }
-{
-    if book.service(&service)?.is_none() {
-        return Err(Fault::UnknownService);
-    }
-    Ok(book.history(&service)?)
 }

@@ -1,18 +1,9 @@
 //! `import`: the rows of a measurement file as requests.
-ghost use Rattle.std.specs.Prelude.{◌≡◌, Err};
-ghost use Rattle.canary_files.specs.RowExchanges.{point};
-ghost use Rattle.canary_files.specs.Importing.{KeepsBook};
-ghost use Rattle.canary_database.specs.declared.fault.Fault.TheVariants as fault;
-ghost use Rattle.canary_database.specs.Programs.{ImportsSo, imported};
-
-use crate::fault::Fault;
 use crate::open::{FileBook, close, open};
 use crate::progress::{Counted, Shown};
-use canary_files::import::ImportFault;
 use canary_listen::wall_clock::WallClock;
-use canary_once::book::Book;
-use canary_once::clock::Clock;
-use std::alloc::Global;
+use canary_programs::fault::Fault;
+use canary_programs::import::import_rows;
 use std::fs::{self, OpenFile};
 use std::io::{ErrorKind, Read, Write};
 
@@ -99,37 +90,5 @@ fn file_fault(kind: ErrorKind) -> Fault {
         Fault::Memory
     } else {
         Fault::File
-    }
-}
-
-/// Imports a measurement file into a book, as `canary_files` does.
-///
-/// # Errors
-/// `Header`, `Read`, `Memory`, `RowsSpent` and `Write`, each where `canary_files` answers the same.
-pub fn import_rows<R: Read, W: Write, C: Clock, B: Book>(
-    alloc: Global,
-    input: &mut R,
-    output: &mut W,
-    clock: &mut C,
-    book: &mut B,
-) -> Result<u64, Fault>
-    ensures rows { ImportsSo (R.remaining input.old)
-        (W.contents output.old) (W.contents output.new)
-        (point (C.tells clock.old) (B.state book.old))
-        (point (C.tells clock.new) (B.state book.new)) result }
-    ensures header { result ≡ Err fault.Header → (output.new ≡ output.old)
-        × (clock.new ≡ clock.old) × (book.new ≡ book.old) }
-    ensures kept { KeepsBook (B.state book.old) (B.state book.new) }
-{
-    imported(canary_files::import::import(alloc, input, output, clock, book))
-}
-
-// How many rows were imported so, or the fault.
-fn imported(done: Result<u64, ImportFault>) -> Result<u64, Fault>
-    ensures { result ≡ imported done }
-{
-    match done {
-        Ok(rows) => Ok(rows),
-        Err(fault) => Err(fault.into()),
     }
 }

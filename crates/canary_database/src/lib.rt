@@ -1,10 +1,9 @@
-//! What the programs do that work on a desk in a file, or listen.
+//! What the programs do that work on a desk in a file, or listen: each opens its book, hands it to
+//! canary_programs, and closes it.
 //!
-//! Callers may rest on this, over any book: `write_history`, `export_rows` and `text_of_book` leave
-//! it unchanged, and the first two write what one whose store is honest tells of a service;
-//! `export_rows`, `import_rows` and `answer` do what canary_files and canary_wire say of theirs,
-//! and `serve_clients` gets from the desk before to the desk after as canary_listen says. Each
-//! fault has its line. What the file of a name holds no contract says.
+//! Callers may rest on this: `history` and `export` look at the names that they are given before
+//! they open a file. What the file of a name holds no contract says, so what comes of it else is in
+//! the contracts of canary_tables, and of canary_programs, over any book.
 //!
 //! In use (canary_cli, src/perform.rt):
 //!
@@ -14,15 +13,11 @@
 //!     }
 #![tactic(auto)]
 
-pub mod backup;
 pub mod export;
-pub mod fault;
 pub mod history;
 pub mod import;
 pub mod open;
 pub mod pipe;
 pub mod progress;
 pub mod serve;
-mod show;
 pub mod status;
-mod table;

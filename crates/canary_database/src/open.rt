@@ -1,11 +1,12 @@
 //! Opening the book in a file.
-ghost use Rattle.std.specs.Prelude.{IfErr};
-ghost use Rattle.canary_database.specs.Programs.{IsOfTables};
+ghost use Rattle.std.specs.Prelude.{◌≡◌, IfErr};
+ghost use Rattle.canary_database.specs.Opened.{IsOfTables, of_tables};
 
-use crate::fault::Fault;
 use crate::progress::Shown;
 use canary_base::names::Name;
+use canary_programs::fault::Fault;
 use canary_tables::book::TableBook;
+use canary_tables::fault::TableFault;
 use sqlite::{File, FileStore};
 use std::io::Write;
 
@@ -32,7 +33,20 @@ pub fn open<F: Write>(
     shown.end();
     match opened {
         Ok(book) => Ok(book),
-        Err(fault) => Err(fault.into()),
+        Err(fault) => Err(fault_of(fault)),
+    }
+}
+
+// The fault of the tables, under the name that it has on the command line.
+fn fault_of(fault: TableFault) -> Fault
+    ensures { result ≡ of_tables fault }
+{
+    match fault {
+        TableFault::Memory => Fault::Memory,
+        TableFault::Storage => Fault::Storage,
+        TableFault::InUse => Fault::InUse,
+        TableFault::OtherSchema => Fault::OtherSchema,
+        TableFault::BrokenRow => Fault::BrokenRow,
     }
 }
 

@@ -1,24 +1,9 @@
 //! `serve`: the desk on a socket.
-ghost use Rattle.std.specs.Prelude.{◌≡◌};
-ghost use Rattle.canary_wire.specs.Exchanges.{point};
-ghost use Rattle.canary_listen.specs.Attending.{ServesAll, nobody};
-ghost use Rattle.canary_listen.specs.Crowd.{attendance_of};
-
-use crate::fault::Fault;
 use crate::open::{close, open};
-use crate::show::show;
 use canary_listen::limits::Limits;
-use canary_listen::listener::Listener;
-use canary_listen::wall_clock::WallClock;
-use canary_once::book::Book;
-use canary_once::clock::Clock;
-use canary_once::memory::MemoryBook;
+use canary_programs::fault::Fault;
+use canary_programs::serve::{Listening, serve_book, serve_memory};
 use std::io::Write;
-use std::net::{Net, SocketAddr};
-use std::time;
-
-// What is said of a book in memory.
-const NOTICE: &str = "canary: what this desk holds is in memory, and ends with it\n";
 
 /// Serves clients on the address that `listen` spells, after so many connections no more. The book
 /// is that of a file, which is opened before anybody can connect, or one in memory where none is
@@ -40,26 +25,11 @@ pub fn serve<W: Write, F: Write>(
     errors: &mut F,
     is_terminal: bool,
 ) -> Result<(), Fault> {
-    let Ok(address) = listen.parse::<SocketAddr>() else {
-        return Err(Fault::Listen);
-    };
-    let listening = Listening {
-        address,
-        connections,
-        limits,
-    };
+    let listening = Listening::at(listen, connections, limits)?;
     match file {
         Some(file) => serve_file(rt, listening, file, output, errors, is_terminal),
         None => serve_memory(rt, listening, output, errors),
     }
-}
-
-// Where a desk listens, to how many connections, and within which limits.
-#[derive(Clone, Copy)]
-struct Listening {
-    address: SocketAddr,
-    connections: Option<u64>,
-    limits: Limits,
 }
 
 fn serve_file<W: Write, F: Write>(
@@ -75,94 +45,4 @@ fn serve_file<W: Write, F: Write>(
     let closed = close(book);
     served?;
     closed
-}
-
-fn serve_memory<W: Write, F: Write>(
-    rt: &HostRuntime,
-    listening: Listening,
-    output: &mut W,
-    errors: &mut F,
-) -> Result<(), Fault> {
-    let mut book = MemoryBook::new(rt.alloc());
-    serve_book(rt, listening, NOTICE, &mut book, output, errors)
-}
-
-// Serves clients over a book. The notice is written once the address is listened on.
-fn serve_book<B: Book, W: Write, F: Write>(
-    rt: &HostRuntime,
-    listening: Listening,
-    notice: &str,
-    book: &mut B,
-    output: &mut W,
-    errors: &mut F,
-) -> Result<(), Fault> {
-    let mut listener = bind(rt, listening.address, listening.limits)?;
-    let _ = errors.write_all(notice.as_bytes());
-    announce(rt, &listener, output)?;
-    attend(rt, &mut listener, listening.connections, book, errors)
-}
-
-// A socket at that address.
-fn bind<P: Net + AllocGlobal>(
-    rt: &P,
-    address: SocketAddr,
-    limits: Limits,
-) -> Result<Listener, Fault> {
-    match Listener::bind(rt, address, limits) {
-        Ok(listener) => Ok(listener),
-        Err(fault) => Err(fault.into()),
-    }
-}
-
-// Serves clients over a book, by the machine's clock.
-fn attend<P: time::Clock + AllocGlobal, B: Book, F: Write>(
-    rt: &P,
-    listener: &mut Listener,
-    connections: Option<u64>,
-    book: &mut B,
-    errors: &mut F,
-) -> Result<(), Fault> {
-    let mut clock = WallClock::new(rt);
-    serve_clients(rt, listener, connections, &mut clock, book, errors)
-}
-
-/// Serves so many connections at a socket over a book, or as many as come.
-///
-/// # Errors
-/// `Accept` where the system tells no more of the connections.
-pub fn serve_clients<P: time::Clock + AllocGlobal, C: Clock, B: Book, F: Write>(
-    rt: &P,
-    listener: &mut Listener,
-    connections: Option<u64>,
-    clock: &mut C,
-    book: &mut B,
-    errors: &mut F,
-) -> Result<(), Fault>
-    ensures { attendance_of listener.old ≡ nobody
-        → ServesAll (point (C.tells clock.old) (B.state book.old))
-        (point (C.tells clock.new) (B.state book.new)) }
-{
-    match listener.serve(rt, connections, clock, book, errors) {
-        Ok(()) => Ok(()),
-        Err(fault) => Err(fault.into()),
-    }
-}
-
-// Writes the line that tells the address.
-fn announce<P: AllocGlobal, W: Write>(
-    rt: &P,
-    listener: &Listener,
-    output: &mut W,
-) -> Result<(), Fault> {
-    let Ok(address) = listener.address() else {
-        return Err(Fault::Listen);
-    };
-    let Ok(line) = format!(in rt.alloc(); "listening {address}\n") else {
-        return Err(Fault::Memory);
-    };
-    show(line.as_str(), output)?;
-    match output.flush() {
-        Ok(()) => Ok(()),
-        Err(_) => Err(Fault::Write),
-    }
 }

@@ -5,7 +5,7 @@
 //! `import` makes one request of each row of such a file, in order, and writes a line for each.
 //! `history_text` appends all lines, or, where memory runs out, nothing.
 //!
-//! In use (canary_database, src/export.rt):
+//! In use (canary_programs, src/export.rt):
 //!
 //!     match canary_files::export::export(alloc, book, service, caller, out) {
 //!         Ok(rows) => Ok(rows),

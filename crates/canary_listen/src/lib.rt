@@ -4,7 +4,7 @@
 //! whose store is honest is left as one `run` over the messages that were answered leaves it, and
 //! what each client was sent is in its order. That anybody is served, and when, no contract says.
 //!
-//! In use (canary_database, src/serve.rt):
+//! In use (canary_programs, src/serve.rt):
 //!
 //!     match listener.serve(rt, connections, clock, book, errors) {
 //!         Ok(()) => Ok(()),

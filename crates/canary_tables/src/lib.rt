@@ -12,7 +12,7 @@
 //!     shown.end();
 //!     match opened {
 //!         Ok(book) => Ok(book),
-//!         Err(fault) => Err(fault.into()),
+//!         Err(fault) => Err(fault_of(fault)),
 //!     }
 #![tactic(auto)]
 

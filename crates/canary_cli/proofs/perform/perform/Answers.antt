@@ -1,6 +1,6 @@
 use Rattle.std.proofs.Common.{Err, refl}
 use Rattle.canary_wire.specs.declared.serve.ServeFault.TheVariants.{Memory as NoMemory}
-use Rattle.canary_database.specs.declared.fault.Fault.TheVariants.{Memory}
+use Rattle.canary_programs.specs.declared.fault.Fault.TheVariants.{Memory}
 use Rattle.canary_cli.proofs.TurnedAway.{only_memory}
 use Rattle.canary_cli.proofs.perform.perform.Goals as goal
 

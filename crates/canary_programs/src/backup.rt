@@ -25,14 +25,14 @@ const MOST_TRIES: u32 = 100;
 
 /// The two files of a database: the database's own, and the log beside it.
 #[derive(Drop)]
-pub(crate) struct Pair {
+pub struct Pair {
     database: String,
     log: String,
 }
 
 impl Pair {
     /// The files of the database of this name.
-    pub(crate) fn of(alloc: Global, name: &str) -> Result<Pair, Fault> {
+    pub fn of(alloc: Global, name: &str) -> Result<Pair, Fault> {
         let database = format!(in alloc; "{name}")?;
         let log = format!(in alloc; "{name}-wal")?;
         Ok(Pair { database, log })
@@ -43,7 +43,7 @@ impl Pair {
     /// # Errors
     /// `Storage` where there is no such file, or it cannot be reached, and `Memory` where an
     /// allocation was refused.
-    pub(crate) fn found(rt: &HostRuntime, name: &str) -> Result<Pair, Fault> {
+    pub fn found(rt: &HostRuntime, name: &str) -> Result<Pair, Fault> {
         match fs::canonicalize(rt, name) {
             Ok(real) => Pair::of(rt.alloc(), real.as_str()),
             Err(error) if error.kind() == ErrorKind::OutOfMemory => Err(Fault::Memory),
@@ -53,19 +53,19 @@ impl Pair {
 
     /// The files of this process that stand beside those of this name: `name`.WORD-PROCESS, and its
     /// log.
-    pub(crate) fn beside(rt: &HostRuntime, name: &str, word: &str) -> Result<Pair, Fault> {
+    pub fn beside(rt: &HostRuntime, name: &str, word: &str) -> Result<Pair, Fault> {
         let process = process::id(rt.process());
         let other = format!(in rt.alloc(); "{name}.{word}-{process}")?;
         Pair::of(rt.alloc(), other.as_str())
     }
 
     /// The name of the database's own file.
-    pub(crate) fn database(&self) -> &str {
+    pub fn database(&self) -> &str {
         self.database.as_str()
     }
 
     /// Removes both, where they are there.
-    pub(crate) fn remove(&self, rt: &HostRuntime) {
+    pub fn remove(&self, rt: &HostRuntime) {
         let _ = fs::remove_file(rt, self.database.as_str());
         let _ = fs::remove_file(rt, self.log.as_str());
     }
@@ -145,11 +145,18 @@ fn make(rt: &HostRuntime, from: &Pair, part: &Pair, to: &Pair) -> Result<(), Fau
     }
 }
 
-/// Copies the files of a database as they were at one moment, also while a desk writes them.
+/// Copies the files of the database of this name as they were at one moment, also while a desk
+/// writes them. Files of the copy's names are written over.
 ///
 /// # Errors
-/// As `backup`, but that files of the copy's names are written over.
-pub(crate) fn copy_pair(rt: &HostRuntime, from: &Pair, to: &Pair) -> Result<(), Fault> {
+/// As `backup`, but that none is there already.
+pub fn copy_database(rt: &HostRuntime, file: &str, copy: &Pair) -> Result<(), Fault> {
+    let from = Pair::found(rt, file)?;
+    copy_pair(rt, &from, copy)
+}
+
+// Copies the files of a database as they were at one moment, also while a desk writes them.
+fn copy_pair(rt: &HostRuntime, from: &Pair, to: &Pair) -> Result<(), Fault> {
     for _ in 0..MOST_TRIES {
         if is_copied_at_once(rt, from, to)? {
             return Ok(());

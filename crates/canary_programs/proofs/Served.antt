@@ -8,9 +8,9 @@ use Rattle.canary_wire.specs.declared.serve.Ended.TheVariants.{EndOfInput, Close
 use Rattle.canary_wire.specs.declared.serve.ServeFault.{ServeFault}
 use Rattle.canary_wire.specs.declared.serve.ServeFault.TheVariants.{Read, Write, Memory}
 use Rattle.canary_files.specs.Exporting.{Puts}
-use Rattle.canary_database.specs.Faults.{done_of}
-use Rattle.canary_database.specs.Programs.{IsServed}
-use Rattle.canary_database.specs.declared.fault.Fault.TheVariants as fault
+use Rattle.canary_programs.specs.Faults.{done_of}
+use Rattle.canary_programs.specs.Programs.{IsServed}
+use Rattle.canary_programs.specs.declared.fault.Fault.TheVariants as fault
 
 pub served_so : (r new_r w new_w : Known) (old new : Point) (served : Result Ended ServeFault)
     → IfOk served (λ ended. ServesTo r new_r w new_w old new ended)

@@ -2,8 +2,6 @@
 use Rattle.std.specs.Prelude.{ℕ, List, [], ◌∷◌, ◌++◌, Result, Ok, Err, codes}
 use Rattle.canary_once.specs.declared.book.BookFault.{BookFault}
 use Rattle.canary_once.specs.declared.book.BookFault.TheVariants as book
-use Rattle.canary_tables.specs.declared.fault.TableFault.{TableFault}
-use Rattle.canary_tables.specs.declared.fault.TableFault.TheVariants as tables
 use Rattle.canary_files.specs.declared.import.ImportFault.{ImportFault}
 use Rattle.canary_files.specs.declared.import.ImportFault.TheVariants as importing
 use Rattle.canary_files.specs.declared.export.ExportFault.{ExportFault}
@@ -14,8 +12,8 @@ use Rattle.canary_wire.specs.declared.serve.Ended.{Ended}
 use Rattle.canary_wire.specs.declared.serve.Ended.TheVariants as ended
 use Rattle.canary_wire.specs.declared.serve.ServeFault.{ServeFault}
 use Rattle.canary_wire.specs.declared.serve.ServeFault.TheVariants as serving
-use Rattle.canary_database.specs.declared.fault.Fault.{Fault}
-use Rattle.canary_database.specs.declared.fault.Fault.TheVariants as fault
+use Rattle.canary_programs.specs.declared.fault.Fault.{Fault}
+use Rattle.canary_programs.specs.declared.fault.Fault.TheVariants as fault
 
 abbrev pub word_of : Fault → List ℕ
 word_of fault.Memory = codes "memory"
@@ -45,13 +43,6 @@ line_of f = codes "canary: " ++ word_of f ++ 10 ∷ []
 abbrev pub of_book : BookFault → Fault
 of_book book.Memory = fault.Memory
 of_book book.Storage = fault.Storage
-
-abbrev pub of_tables : TableFault → Fault
-of_tables tables.Memory = fault.Memory
-of_tables tables.Storage = fault.Storage
-of_tables tables.InUse = fault.InUse
-of_tables tables.OtherSchema = fault.OtherSchema
-of_tables tables.BrokenRow = fault.BrokenRow
 
 abbrev pub of_import : ImportFault → Fault
 of_import importing.Read = fault.Read

@@ -1,13 +1,12 @@
 //! Why a program was not done to its end.
 ghost use Rattle.std.specs.Prelude.{◌≡◌};
-ghost use Rattle.canary_database.specs.Faults.{done_of, line_of};
+ghost use Rattle.canary_programs.specs.Faults.{done_of, line_of};
 
 use canary_base::error::Memory;
 use canary_files::export::ExportFault;
 use canary_files::import::ImportFault;
 use canary_listen::listener::ListenFault;
 use canary_once::book::BookFault;
-use canary_tables::fault::TableFault;
 use canary_wire::serve::{Ended, ServeFault};
 use std::alloc::AllocError;
 use std::error::Error;
@@ -106,7 +105,7 @@ impl Fault {
 }
 
 impl From<Memory> for Fault {
-    ghost use Rattle.canary_database.specs.declared.fault.Fault.TheVariants as fault;
+    ghost use Rattle.canary_programs.specs.declared.fault.Fault.TheVariants as fault;
 
     ghost from_gives = { λ _ made. made ≡ fault.Memory };
 
@@ -116,7 +115,7 @@ impl From<Memory> for Fault {
 }
 
 impl From<AllocError> for Fault {
-    ghost use Rattle.canary_database.specs.declared.fault.Fault.TheVariants as fault;
+    ghost use Rattle.canary_programs.specs.declared.fault.Fault.TheVariants as fault;
 
     ghost from_gives = { λ _ made. made ≡ fault.Memory };
 
@@ -126,7 +125,7 @@ impl From<AllocError> for Fault {
 }
 
 impl From<BookFault> for Fault {
-    ghost use Rattle.canary_database.specs.Faults.{of_book};
+    ghost use Rattle.canary_programs.specs.Faults.{of_book};
 
     ghost from_gives = { λ fault made. made ≡ of_book fault };
 
@@ -138,24 +137,8 @@ impl From<BookFault> for Fault {
     }
 }
 
-impl From<TableFault> for Fault {
-    ghost use Rattle.canary_database.specs.Faults.{of_tables};
-
-    ghost from_gives = { λ fault made. made ≡ of_tables fault };
-
-    fn from(fault: TableFault) -> Fault {
-        match fault {
-            TableFault::Memory => Fault::Memory,
-            TableFault::Storage => Fault::Storage,
-            TableFault::InUse => Fault::InUse,
-            TableFault::OtherSchema => Fault::OtherSchema,
-            TableFault::BrokenRow => Fault::BrokenRow,
-        }
-    }
-}
-
 impl From<ImportFault> for Fault {
-    ghost use Rattle.canary_database.specs.Faults.{of_import};
+    ghost use Rattle.canary_programs.specs.Faults.{of_import};
 
     ghost from_gives = { λ fault made. made ≡ of_import fault };
 
@@ -171,7 +154,7 @@ impl From<ImportFault> for Fault {
 }
 
 impl From<ExportFault> for Fault {
-    ghost use Rattle.canary_database.specs.Faults.{of_export};
+    ghost use Rattle.canary_programs.specs.Faults.{of_export};
 
     ghost from_gives = { λ fault made. made ≡ of_export fault };
 
@@ -187,7 +170,7 @@ impl From<ExportFault> for Fault {
 }
 
 impl From<ListenFault> for Fault {
-    ghost use Rattle.canary_database.specs.Faults.{of_listen};
+    ghost use Rattle.canary_programs.specs.Faults.{of_listen};
 
     ghost from_gives = { λ fault made. made ≡ of_listen fault };
 

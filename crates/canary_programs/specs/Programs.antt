@@ -12,16 +12,15 @@ use Rattle.canary_wire.specs.Serving.{ServesTo, ServesSome, ServesUntil}
 use Rattle.canary_wire.specs.declared.serve.Ended.{Ended}
 use Rattle.canary_wire.specs.declared.serve.ServeFault.{ServeFault}
 use Rattle.canary_wire.specs.declared.serve.ServeFault.TheVariants as serving
-use Rattle.canary_tables.specs.declared.fault.TableFault.{TableFault}
 use Rattle.canary_files.specs.declared.export.ExportFault.{ExportFault}
 use Rattle.canary_files.specs.declared.import.ImportFault.{ImportFault}
 use Rattle.canary_files.specs.Writes.{Known}
 use Rattle.canary_files.specs.RowExchanges as rows
 use Rattle.canary_files.specs.Importing.{ImportsTo}
 use Rattle.canary_files.specs.Exporting.{Tells}
-use Rattle.canary_database.specs.declared.fault.Fault.{Fault}
-use Rattle.canary_database.specs.declared.fault.Fault.TheVariants as fault
-use Rattle.canary_database.specs.Faults.{of_tables, of_import, of_export, done_of}
+use Rattle.canary_programs.specs.declared.fault.Fault.{Fault}
+use Rattle.canary_programs.specs.declared.fault.Fault.TheVariants as fault
+use Rattle.canary_programs.specs.Faults.{of_import, of_export, done_of}
 
 -- ---- names
 
@@ -29,10 +28,6 @@ use Rattle.canary_database.specs.Faults.{of_tables, of_import, of_export, done_o
 abbrev pub IsNamed : List ℕ → Result (List ℕ) Fault → Type 0
 IsNamed word (Ok name) = IsTrue (is_name word) × (name ≡ word)
 IsNamed word (Err f) = (IsTrue (is_name word) → ⊥) × (f ≡ fault.BadName)
-
--- a fault is one of the tables', so that none says that a word is no name
-abbrev pub IsOfTables : Fault → Type 0
-IsOfTables f = (cause : TableFault) × (f ≡ of_tables cause)
 
 -- ---- history
 

@@ -1,6 +1,6 @@
 use Rattle.canary_files.specs.Exporting.{file_in}
-use Rattle.canary_database.proofs.Served.{puts_done}
-use Rattle.canary_database.proofs.export.export_rows.Goals as goal
+use Rattle.canary_programs.proofs.Served.{puts_done}
+use Rattle.canary_programs.proofs.export.export_rows.Goals as goal
 
 pub returns-in-Ok-clause-file : goal.returns-in-Ok-clause-file
 returns-in-Ok-clause-file g c h =

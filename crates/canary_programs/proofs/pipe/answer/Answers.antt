@@ -1,7 +1,7 @@
 use Rattle.std.proofs.Common.{◌∙◌, ap, sym}
 use Rattle.canary_wire.specs.Exchanges.{point}
-use Rattle.canary_database.proofs.Served.{served_so, only_memory}
-use Rattle.canary_database.proofs.pipe.answer.Goals as goal
+use Rattle.canary_programs.proofs.Served.{served_so, only_memory}
+use Rattle.canary_programs.proofs.pipe.answer.Goals as goal
 
 pub returns-clause-served : goal.returns-clause-served
 returns-clause-served g c =

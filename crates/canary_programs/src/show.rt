@@ -1,8 +1,8 @@
 //! Writing a text out, and the names that words spell.
-ghost use Rattle.std.specs.Prelude.{◌≡◌, OnOk, IfErr, OnErr};
+ghost use Rattle.std.specs.Prelude.{◌≡◌, OnOk, IfErr};
 ghost use Rattle.std.specs.Io.KnownBytes.{Appends};
-ghost use Rattle.canary_database.specs.declared.fault.Fault.TheVariants as fault;
-ghost use Rattle.canary_database.specs.Programs.{IsNamed};
+ghost use Rattle.canary_programs.specs.declared.fault.Fault.TheVariants as fault;
+ghost use Rattle.canary_programs.specs.Programs.{IsNamed};
 
 use crate::fault::Fault;
 use canary_base::names::Name;
@@ -12,7 +12,7 @@ use std::io::Write;
 ///
 /// # Errors
 /// `Write` where the output failed.
-pub(crate) fn show<W: Write>(text: &str, output: &mut W) -> Result<(), Fault>
+pub fn show<W: Write>(text: &str, output: &mut W) -> Result<(), Fault>
     ensures ok { OnOk result (Appends (W.contents output.old) (W.contents output.new) text.now) }
     ensures err { IfErr result (λ f. f ≡ fault.Write) }
 {
@@ -26,7 +26,7 @@ pub(crate) fn show<W: Write>(text: &str, output: &mut W) -> Result<(), Fault>
 ///
 /// # Errors
 /// `BadName` where it spells none.
-pub(crate) fn name_of(word: &str) -> Result<Name, Fault>
+pub fn name_of(word: &str) -> Result<Name, Fault>
     ensures { IsNamed word.now result }
 {
     match Name::read(word.as_bytes()) {

@@ -1,0 +1,25 @@
+//! What programs do with a desk, whatever book it is kept in: over a book, a reader and a writer.
+//!
+//! Callers may rest on this: `write_history`, `export_rows` and `text_of_book` leave the book
+//! unchanged, and the first two write what one whose store is honest tells of a service;
+//! `export_rows`, `import_rows` and `answer` do what canary_files and canary_wire say of theirs,
+//! and `serve_clients` gets from the desk before to the desk after as canary_listen says. Each
+//! fault has its line. What files hold that `backup` copies no contract says.
+//!
+//! In use (canary_database, src/history.rt):
+//!
+//!     let service = name_of(service)?;
+//!     let mut book = open(rt, file, errors, is_terminal)?;
+//!     write_history(rt.alloc(), &mut book, service, output)
+#![tactic(auto)]
+
+pub mod backup;
+pub mod export;
+pub mod fault;
+pub mod history;
+pub mod import;
+pub mod overview;
+pub mod pipe;
+pub mod serve;
+pub mod show;
+mod table;
