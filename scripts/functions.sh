@@ -36,6 +36,24 @@ end_guarded() {
     exit "$1"
 }
 
+# The hundredths of a second that the host of this machine took from the processors on which this
+# script may run, and all that they have counted (proc(5), /proc/stat).
+processor_times() {
+    python3 -c 'import os
+mine = {f"cpu{number}" for number in os.sched_getaffinity(0)}
+rows = [line.split() for line in open("/proc/stat")]
+times = [[int(time) for time in row[1:9]] for row in rows if row[0] in mine]
+print(sum(row[7] for row in times), sum(map(sum, times)))'
+}
+
+# How many in the hundred the host has taken since `processor_times` told $1.
+taken_since() {
+    local taken all taken_before all_before
+    read -r taken_before all_before <<< "$1"
+    read -r taken all < <(processor_times)
+    echo $(((taken - taken_before) * 100 / (all - all_before + 1)))
+}
+
 program=$root/crates/canary_desk/out/canary_desk
 # The same, built without proofs.
 unproved_program=$root/crates/canary_desk/out/canary_unproved
