@@ -46,7 +46,7 @@ times = [[int(time) for time in row[1:9]] for row in rows if row[0] in mine]
 print(sum(row[7] for row in times), sum(map(sum, times)))'
 }
 
-# How many in the hundred the host has taken since `processor_times` told $1.
+# How many percent the host has taken since `processor_times` told $1.
 taken_since() {
     local taken all taken_before all_before
     read -r taken_before all_before <<< "$1"

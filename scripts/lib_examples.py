@@ -12,7 +12,7 @@ import sys
 # on the laws over all senders.
 NO_LIBRARIES = {
     "canary_bench", "canary_desk", "canary_desk_tests", "canary_files_tests", "canary_senders",
-    "canary_tables_tests", "canary_testing", "canary_tests",
+    "canary_testing", "canary_tests",
 }
 EXAMPLE = re.compile(r"^In use \((\w+), (\S+)\):\n\n((?:    .*\n)+)", re.MULTILINE)
 CODE = re.compile(r"^    ", re.MULTILINE)

@@ -1,5 +1,5 @@
-//! What the programs do that work on a desk in a file, or listen: each opens its book, hands it to
-//! canary_programs, and closes it.
+//! What the programs do that work on a desk in a file, or listen: each opens its book and hands it
+//! to canary_programs. Those that write close it, so that the log is copied into the file.
 //!
 //! Callers may rest on this: `history` and `export` look at the names that they are given before
 //! they open a file. What the file of a name holds no contract says, so what comes of it else is in

@@ -1,8 +1,10 @@
 //! Conversations: the turns of clients whose bytes come in pieces, and who read slowly.
 use canary_base::error::Memory;
 use canary_base::moments::Moment;
+use canary_once::book::Book;
 use canary_once::clock::StepClock;
 use canary_once::memory::MemoryBook;
+use canary_testing::asked::name;
 use canary_wire::conversation::{Cause, Conversation, Routes, Wants};
 use std::alloc::Global;
 use std::io;
@@ -98,6 +100,9 @@ fn writing(alloc: Global, size: usize) -> Outgoing {
     }
 }
 
+// The turns behind which a conversation has no end.
+const MOST_TURNS: u32 = 100_000;
+
 // The most that was owed, and the turns, of a conversation to the end of its input.
 #[derive(Clone, Copy)]
 struct Ran {
@@ -117,14 +122,20 @@ fn run(
     let start = Moment::new(1_767_225_600).unwrap();
     let mut now = StepClock::new(start, Moment::new(1).unwrap());
     let mut owed = 0;
-    for turns in 0..100_000 {
+    for turns in 0..MOST_TURNS {
         let wants = talk.turn(alloc, &routes, reader, writer, &mut now, &mut book);
         owed = owed.max(talk.owes());
+        if wants == Wants::Nothing(Cause::Memory) {
+            return Err(Memory);
+        }
         if wants == Wants::Nothing(Cause::EndOfInput) {
             return Ok(Ran { owed, turns });
         }
     }
-    Err(Memory)
+    Ok(Ran {
+        owed,
+        turns: MOST_TURNS,
+    })
 }
 
 // Whether the stream is answered in these pieces, with no more owed than that and one reply.
@@ -136,7 +147,7 @@ fn is_answered(alloc: Global, size: usize, out: usize, most: usize) -> Result<bo
     };
     let mut writer = writing(alloc, out);
     let ran = run(alloc, &mut reader, &mut writer, most)?;
-    let is_bounded = ran.owed < most.max(1).saturating_add(300);
+    let is_bounded = ran.owed < most.max(1).saturating_add(300) && ran.turns < MOST_TURNS;
     Ok(is_bounded && writer.bytes.as_slice() == REPLIES.as_bytes())
 }
 
@@ -177,5 +188,55 @@ fn answers_many_at_once(rt: HostRuntime) -> Result<(), Fail> {
     }
     let stream = stream.as_slice();
     assert!(rt; is_written_by_turns(alloc, stream)? || is_written_by_turns(alloc, stream)?);
+    Ok(())
+}
+
+// The requests of STREAM that are new, and settled as they come once.
+const NEW: &str = concat!(
+    "PUT /callers/ops/requests/1 HTTP/1.1\r\nContent-Length: 140\r\n\r\n",
+    r#"{"service":{"manifest":{"metadata":{"name":"web"},"spec":{"strategy":{"canary":"#,
+    r#"{"steps":[{"setWeight":20},{"pause":{}}]}}}},"version":"v1"}}"#,
+    "PUT /callers/ops/requests/2 HTTP/1.1\r\nContent-Length: 42\r\n\r\n",
+    r#"{"start":{"service":"web","version":"v2"}}"#
+);
+
+// How many replies begin so; the text has 15 bytes at most.
+fn count_of(replies: &[u8], text: &str) -> usize {
+    replies
+        .windows(15)
+        .filter(|window| window.starts_with(text.as_bytes()))
+        .count()
+}
+
+// Each request has a reply, and is settled where that accepts it, wherever memory is refused.
+#[test]
+fn settles_nothing_unanswered(rt: HostRuntime) -> Result<(), Fail> {
+    let alloc = rt.alloc();
+    let routes = Routes::new(alloc)?;
+    let mut talk = Conversation::new(alloc, 16_384)?;
+    let mut book = MemoryBook::new(alloc);
+    let mut now = StepClock::new(Moment::new(1).unwrap(), Moment::new(1).unwrap());
+    let mut reader = Incoming {
+        rest: NEW.as_bytes(),
+        size: 1000,
+        blocks: true,
+    };
+    let mut writer = writing(alloc, 1_000_000);
+    writer.bytes.reserve(1_000)?;
+    for _ in 0..10 {
+        talk.turn(
+            alloc,
+            &routes,
+            &mut reader,
+            &mut writer,
+            &mut now,
+            &mut book,
+        );
+    }
+    let Ok(settled) = book.settled(&name("ops").ok_or("a name")?) else {
+        return Err("a count".into());
+    };
+    assert!(rt; count_of(&writer.bytes, "HTTP/1.1 ") == 2);
+    assert!(rt; count_of(&writer.bytes, "HTTP/1.1 200 OK") == settled as usize);
     Ok(())
 }

@@ -1,4 +1,4 @@
-//! A store that always fails under a stream, and the printed texts of faults.
+//! A store that fails once under a stream, at each of its calls, and the printed texts of faults.
 use canary_base::error::Memory;
 use canary_base::lists::Listed;
 use canary_base::moments::Moment;
@@ -14,31 +14,46 @@ use canary_release::effect::Recorded;
 use canary_release::service::Service;
 use canary_testing::rows::says;
 use canary_wire::serve::{Ended, ServeFault, serve};
+use std::alloc::Global;
 use std::test::Fail;
 
+// A request that is sent twice.
 const STREAM: &str = concat!(
+    "PUT /callers/ops/requests/1 HTTP/1.1\r\nContent-Length: 29\r\n\r\n",
+    r#"{"promote":{"service":"web"}}"#,
     "PUT /callers/ops/requests/1 HTTP/1.1\r\nContent-Length: 29\r\n\r\n",
     r#"{"promote":{"service":"web"}}"#
 );
 
-const STORAGE: &str = concat!(
+// What answers it where the store fails at first.
+const REPLIES: &str = concat!(
     "HTTP/1.1 503 Service Unavailable\r\nContent-Type: application/json\r\n",
     "Content-Length: 18\r\n\r\n",
-    r#"{"code":"storage"}"#
+    r#"{"code":"storage"}"#,
+    "HTTP/1.1 422 Unprocessable Content\r\nContent-Type: application/json\r\n",
+    "Content-Length: 26\r\n\r\n",
+    r#"{"code":"unknown-service"}"#
 );
 
-// What is answered where an allocation was refused.
-const NO_MEMORY: &str = concat!(
-    "HTTP/1.1 503 Service Unavailable\r\nContent-Type: application/json\r\n",
-    "Content-Length: 20\r\n\r\n",
-    r#"{"code":"no-memory"}"#
-);
-
-// A book whose store always fails.
+// A book with nothing settled, whose store fails once, at the call of this number.
 #[derive(Drop)]
-struct Broken;
+struct Failing {
+    alloc: Global,
+    calls: u32,
+    fails: u32,
+}
 
-impl Book for Broken {
+impl Failing {
+    fn reach(&mut self) -> Result<(), BookFault> {
+        self.calls = self.calls.saturating_add(1);
+        if self.calls == self.fails {
+            return Err(BookFault::Storage);
+        }
+        Ok(())
+    }
+}
+
+impl Book for Failing {
     ghost use Rattle.std.specs.Prelude.{false};
     ghost use Rattle.canary_once.specs.Contents.{no_contents};
 
@@ -50,7 +65,8 @@ impl Book for Broken {
     } };
 
     fn settled(&mut self, _: &Name) -> Result<u32, BookFault> {
-        Err(BookFault::Storage)
+        self.reach()?;
+        Ok(0)
     }
 
     fn receipt(&mut self, _: &Name, _: Number) -> Result<Option<Receipt>, BookFault> {
@@ -58,11 +74,13 @@ impl Book for Broken {
     }
 
     fn templates(&mut self, _: &[Name]) -> Result<Templates, BookFault> {
-        Err(BookFault::Storage)
+        self.reach()?;
+        Ok(Templates::new(self.alloc))
     }
 
     fn service(&mut self, _: &Name) -> Result<Option<Service>, BookFault> {
-        Err(BookFault::Storage)
+        self.reach()?;
+        Ok(None)
     }
 
     fn history(&mut self, _: &Name) -> Result<Listed<Line>, BookFault> {
@@ -78,23 +96,39 @@ impl Book for Broken {
     }
 
     fn commit(&mut self, _: Settlement) -> Result<(), BookFault> {
-        Err(BookFault::Storage)
+        self.reach()
     }
 }
 
-#[test]
-fn tells_of_a_store_that_fails(rt: HostRuntime) -> Result<(), Fail> {
-    let alloc = rt.alloc();
+// Whether a store that fails at this call is told of once, and the request is settled as it comes
+// again.
+fn goes_on(alloc: Global, fails: u32) -> Result<bool, Memory> {
     let mut written = Vec::new(alloc);
     let start = Moment::new(1_767_225_600).unwrap();
     let mut now = StepClock::new(start, Moment::new(1).unwrap());
     let mut stream = STREAM.as_bytes();
-    let ended = serve(alloc, &mut stream, &mut written, &mut now, &mut Broken);
-    if ended == Err(ServeFault::Memory) || written.as_slice() == NO_MEMORY.as_bytes() {
-        return Err(Memory.into());
+    let mut book = Failing {
+        alloc,
+        calls: 0,
+        fails,
+    };
+    let ended = serve(alloc, &mut stream, &mut written, &mut now, &mut book);
+    let tells_of_memory = written
+        .windows(9)
+        .any(|window| window == "no-memory".as_bytes());
+    if ended == Err(ServeFault::Memory) || tells_of_memory {
+        return Err(Memory);
     }
-    assert_eq!(rt; ended, Ok(Ended::EndOfInput));
-    assert_eq!(rt; written.as_slice(), STORAGE.as_bytes());
+    Ok(ended == Ok(Ended::EndOfInput) && written.as_slice() == REPLIES.as_bytes())
+}
+
+// A promotion asks for the count of its caller, the service and the templates, and is settled.
+#[test]
+fn a_store_that_fails_once(rt: HostRuntime) -> Result<(), Fail> {
+    let alloc = rt.alloc();
+    for fails in 1u32..5 {
+        assert!(rt; goes_on(alloc, fails)?, "{fails}");
+    }
     Ok(())
 }
 

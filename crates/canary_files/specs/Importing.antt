@@ -50,14 +50,15 @@ pub record Answers (w new_w : Known) (old new : Point) (rows : List Fields) : Ty
 -- so were all rows of a file
 abbrev pub ImportsAll : Known → Known → Known → Point → Point → ℕ → Type 0
 ImportsAll file w new_w old new count =
-    (records : List Fields) × (rows : List Fields) × HasRecords file records × AreDataRows records rows
+    (records : List Fields) × (rows : List Fields)
+    × HasRecords file records × AreDataRows records rows
     × (count ≡ length rows) × Answers w new_w old new rows
 
 -- so were the first rows of a file
 abbrev pub ImportsSome : Known → Known → Known → Point → Point → Type 0
 ImportsSome file w new_w old new =
-    (records : List Fields) × (rows : List Fields) × BeginsWith file records × AreDataRows records rows
-    × Answers w new_w old new rows
+    (records : List Fields) × (rows : List Fields)
+    × BeginsWith file records × AreDataRows records rows × Answers w new_w old new rows
 
 -- so were the first rows of a file, but that the writer failed in the midst of the last one's line
 pub record ImportsUntil (file w new_w : Known) (old new : Point) : Type 0 where

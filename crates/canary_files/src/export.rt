@@ -1,5 +1,7 @@
 //! A service's measurements as a file.
-ghost use Rattle.std.specs.Prelude.{◌≡◌, ◌≤◌, ◌+◌, ◌++◌, length, Some, Err, IfOk, IfErr, OnOk};
+ghost use Rattle.std.specs.Prelude.{◌≡◌, ◌≢◌, ◌≤◌, ◌+◌, ◌++◌, length, Some, None, Err};
+ghost use Rattle.std.specs.Prelude.{IfOk, IfErr, OnOk};
+ghost use Rattle.std.specs.FinMap.{get};
 ghost use Rattle.canary_plan.specs.Plans.{metrics_at};
 ghost use Rattle.canary_once.specs.Records.{past_of, measurements_of};
 ghost use Rattle.canary_files.specs.Rows.{header};
@@ -110,6 +112,8 @@ pub fn export<W: Write, B: Book>(
         × (rows ≤ MOST_ROWS)) }
     ensures why { (B.state book.new).is_honest
         → IfErr result (Tells (B.state book.old).contents service) }
+    ensures there { (B.state book.new).is_honest
+        → OnOk result (get (B.state book.old).contents.desk.services service ≢ None) }
     ensures unknown { (B.state book.new).is_honest → result ≡ Err ExportFault.UnknownService
         → out.new ≡ out.old }
 {
@@ -122,6 +126,8 @@ fn source_of<B: Book>(book: &mut B, service: Name, caller: Name) -> Result<Sourc
     ensures stays { Stays (B.state book.old) (B.state book.new) }
     ensures source { (B.state book.new).is_honest
         → IfOk result (IsSource (B.state book.old).contents service caller) }
+    ensures there { (B.state book.new).is_honest
+        → OnOk result (get (B.state book.old).contents.desk.services service ≢ None) }
     ensures why { (B.state book.new).is_honest
         → IfErr result (Tells (B.state book.old).contents service) }
 {

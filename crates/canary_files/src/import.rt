@@ -1,5 +1,5 @@
 //! Importing measurement files.
-ghost use Rattle.std.specs.Prelude.{◌≡◌, ◌≢◌, ◌∷◌, [], List, ℕ, Ok, Err, true, false};
+ghost use Rattle.std.specs.Prelude.{◌≡◌, ◌≢◌, ◌≤◌, ◌∷◌, [], List, ℕ, Ok, Err, IfOk, true, false};
 ghost use Rattle.csv.specs.Records.{fields_of};
 ghost use Rattle.canary_files.specs.Writes.{Known};
 ghost use Rattle.canary_files.specs.Rows.{header};
@@ -17,8 +17,8 @@ use std::alloc::Global;
 use std::io::{Read, Write};
 use thiserror::Error;
 
-// The most rows of one file.
-const MOST_ROWS: u64 = 1_000_000;
+/// The most rows of one file.
+pub const MOST_ROWS: u64 = 1_000_000;
 
 /// Why a file was not imported to its end.
 #[derive(Clone, Copy, Debug, PartialEq, Eq, Error)]
@@ -71,6 +71,7 @@ pub fn import<R: Read, W: Write, C: Clock, B: Book>(
         (W.contents output.old) (W.contents output.new)
         (point (C.tells clock.old) (B.state book.old))
         (point (C.tells clock.new) (B.state book.new)) result }
+    ensures limit { IfOk result (λ rows. rows ≤ MOST_ROWS) }
     ensures header { result ≡ Err ImportFault.Header → (output.new ≡ output.old)
         × (clock.new ≡ clock.old) × (book.new ≡ book.old) }
     ensures kept { KeepsBook (B.state book.old) (B.state book.new) }
@@ -116,6 +117,7 @@ fn import_rows<S: Read, W: Write, C: Clock, B: Book>(
         → ImportsTo file (W.contents output.old) (W.contents output.new)
         (point (C.tells clock.old) (B.state book.old))
         (point (C.tells clock.new) (B.state book.new)) result }
+    ensures limit { IfOk result (λ rows. rows ≤ MOST_ROWS) }
     ensures headed { result ≢ Err ImportFault.Header }
     ensures kept { KeepsBook (B.state book.old) (B.state book.new) }
 {

@@ -46,24 +46,26 @@ copy,2,web,1,m,2,1767225660,6,
 copy,3,web,1,m,3,1767225720,,timeout
 ";
 
-/// Settles a request, which is to be accepted; none where it is not, or memory was refused.
-fn settle(alloc: Global, book: &mut MemoryBook, row: &str) -> Option<()> {
-    let asked = request(alloc, row)?;
+/// Whether a request is accepted.
+fn is_accepted(alloc: Global, book: &mut MemoryBook, row: &str) -> Result<bool, Memory> {
+    let asked = request(alloc, row).ok_or(Memory)?;
     let (moment, command) = (asked.moment, &asked.command);
     let answer = post(alloc, book, moment, asked.caller, asked.number, command);
-    if answer.status() != 200 {
-        return None;
+    if answer.status() == 503 {
+        return Err(Memory);
     }
-    Some(())
+    Ok(answer.status() == 200)
 }
 
-/// A book in which these requests are settled.
-fn book_of(alloc: Global, requests: &str) -> Result<MemoryBook, Memory> {
+/// A book in which these requests are settled; none where one of them is not accepted.
+fn book_of(alloc: Global, requests: &str) -> Result<Option<MemoryBook>, Memory> {
     let mut book = MemoryBook::new(alloc);
     for row in requests.lines() {
-        settle(alloc, &mut book, row).ok_or(Memory)?;
+        if !is_accepted(alloc, &mut book, row)? {
+            return Ok(None);
+        }
     }
-    Ok(book)
+    Ok(Some(book))
 }
 
 /// How an import ends whose clock tells one moment for each row, where memory did not run out.
@@ -183,7 +185,9 @@ fn first_lines(text: &[u8], count: usize) -> &[u8] {
 /// have failed, and the whole file, of two rows, is then answered as if it came once.
 fn is_answered_until(alloc: Global, bytes: &[u8]) -> Result<bool, Memory> {
     let (mut file, all) = (FILE.as_bytes(), LINES.as_bytes());
-    let mut book = book_of(alloc, RELEASE)?;
+    let Some(mut book) = book_of(alloc, RELEASE)? else {
+        return Ok(false);
+    };
     let mut source = Source { rest: bytes };
     let first = first_lines(all, count_lines(bytes).saturating_sub(1));
     let fault = Err(ImportFault::Read);
@@ -203,7 +207,7 @@ fn tells_of_a_reader_that_fails(rt: HostRuntime) -> Result<(), Fail> {
     Ok(())
 }
 
-/// Whether only the first lines of an import go out in so many writes, and the next is told to have
+/// Whether the first lines of an import go out in just so many writes, and the next is told to have
 /// failed.
 fn is_cut(alloc: Global, writes: usize, book: &mut MemoryBook) -> Result<bool, Memory> {
     let (mut file, all) = (FILE.as_bytes(), LINES.as_bytes());
@@ -213,12 +217,14 @@ fn is_cut(alloc: Global, writes: usize, book: &mut MemoryBook) -> Result<bool, M
     };
     let ended = imported(alloc, &mut file, &mut sink, 1000, book)?;
     let is_front = all.starts_with(&sink.bytes) && sink.bytes.len() < all.len();
-    Ok(ended == Err(ImportFault::Write) && is_front)
+    Ok(ended == Err(ImportFault::Write) && is_front && sink.writes == 0)
 }
 
 /// Whether it is so, and the file is then answered as if it came once.
 fn is_begun(alloc: Global, count: usize) -> Result<bool, Memory> {
-    let mut book = book_of(alloc, RELEASE)?;
+    let Some(mut book) = book_of(alloc, RELEASE)? else {
+        return Ok(false);
+    };
     if !is_cut(alloc, count, &mut book)? {
         return Ok(false);
     }
@@ -235,7 +241,7 @@ fn tells_of_a_writer_that_fails(rt: HostRuntime) -> Result<(), Fail> {
     Ok(())
 }
 
-/// Whether only the first bytes of an export go out in so many writes, and the next is told to have
+/// Whether the first bytes of an export go out in just so many writes, and the next is told to have
 /// failed.
 fn is_exported_until(alloc: Global, writes: usize, book: &mut MemoryBook) -> Result<bool, Memory> {
     let mut sink = Sink {
@@ -245,13 +251,13 @@ fn is_exported_until(alloc: Global, writes: usize, book: &mut MemoryBook) -> Res
     let ended = exported(alloc, book, &mut sink)?;
     let file = EXPORTED.as_bytes();
     let is_front = file.starts_with(&sink.bytes) && sink.bytes.len() < file.len();
-    Ok(ended == Err(ExportFault::Write) && is_front)
+    Ok(ended == Err(ExportFault::Write) && is_front && sink.writes == 0)
 }
 
 #[test]
 fn tells_of_an_export_that_fails(rt: HostRuntime) -> Result<(), Fail> {
     let alloc = rt.alloc();
-    let mut book = book_of(alloc, MEASURED)?;
+    let mut book = book_of(alloc, MEASURED)?.ok_or("a book")?;
     for count in 0..EXPORTED.len() / 20 {
         assert!(rt; is_exported_until(alloc, count, &mut book)?, "{count}");
     }

@@ -23,7 +23,7 @@ metric_of metric = option_flatten (Some metric_with
     ⊛ in_member_or (codes "inconclusiveLimit") 0 limit_in metric
     ⊛ in_member_or (codes "consecutiveErrorLimit") 4 limit_in metric)
 
--- the name of a metric that is measured without counting, or `.*`
+-- the name of a metric that is dry-run, or `.*`
 abbrev pub dry_run_name : Data → Option (List ℕ)
 dry_run_name = in_member (codes "metricName") short_text
 

@@ -60,13 +60,15 @@ impl From<FormFault> for WireFault {
 /// strategy may have more steps or greater weights than one may have, and a condition may be none.
 ///
 /// # Errors
-/// `Unsupported` where a manifest asks for what the desk does not do, whatever else is wrong with
-/// the body. Of a template: a `kind` other than `AnalysisTemplate`, `templates`,
-/// `measurementRetention`, a `consecutiveSuccessLimit`, or a `failureLimit` below 0. Of a service:
-/// a `kind` other than `Rollout`, `paused`, `blueGreen`, a step of another kind, or in an analysis
-/// a `dryRun`, a `measurementRetention` or a template of the cluster. `Unreadable` for anything
-/// else that is no command, as bytes that are not UTF-8, arrays and objects nested deeper than 127,
-/// a member too many, or a number above its limit. `Memory` at any point.
+/// `Unsupported` where a body of one member has a manifest that asks for what the desk does not do,
+/// whatever else is wrong with it. Of a template: a `kind` other than `AnalysisTemplate`,
+/// `templates` or `measurementRetention` that are neither null nor an empty list, a
+/// `consecutiveSuccessLimit`, or a `failureLimit` below 0. Of a service: a `kind` other than
+/// `Rollout`, `paused` where it is true, `blueGreen`, a step of another kind, or in an analysis a
+/// `dryRun` or a `measurementRetention` that are neither null nor an empty list, or a template of
+/// the cluster. `Unreadable` for anything else that is no command, as bytes that are not UTF-8,
+/// arrays and objects nested deeper than 127, a member too many, or a number above its limit.
+/// `Memory` at any point.
 #[tactic(auto, using(crate::proofs::Bodies::body_is_json, crate::proofs::Bodies::body_is_no_json))]
 pub fn command_from_json(alloc: Global, bytes: &[u8]) -> Result<Command, WireFault>
     ensures { IsReading (body_reading bytes.now) result }

@@ -84,7 +84,7 @@ fn metric_of(alloc: Global, metric: &Value) -> Result<MetricSpec, FormFault>
     .ok_or(FormFault::Unreadable)
 }
 
-// The names of the metrics that are measured without counting; none where the member is absent.
+// The names of the metrics that are dry-run; none where the member is absent.
 fn dry_run_at(alloc: Global, spec: &Value) -> Result<Listed<Text>, FormFault>
     ensures { IsRead (in_member_or (codes "dryRun") [] (list_of dry_run_name) (view spec.now))
         result }
@@ -116,8 +116,7 @@ fn dry_run_in(alloc: Global, list: &Vec<Value>) -> Result<Listed<Text>, FormFaul
     Ok(Listed::of(names))
 }
 
-/// The name of a metric that is measured without counting, or `.*` for all: the `metricName` of an
-/// item of `dryRun`.
+/// The name of a metric that is dry-run, or `.*` for all: the `metricName` of an item of `dryRun`.
 ///
 /// # Errors
 /// `Unreadable` where it is no text of 1 to 63 bytes; `Memory`.

@@ -20,8 +20,8 @@ use canary_release::reply::{Reply, ReplyStatus};
 use std::alloc::Global;
 
 /// Answers one request: a new one is settled, a repeat gets the reply of its receipt, and one ahead
-/// of its turn is refused. Where the book is out of memory or its store failed, the answer is 503
-/// and nothing changed.
+/// of its turn is refused. Where an allocation was refused, the book's or its own, or the book's
+/// store failed, the answer is 503 and nothing changed.
 pub fn post<B: Book>(
     alloc: Global,
     book: &mut B,

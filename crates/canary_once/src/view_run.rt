@@ -189,7 +189,8 @@ fn metric_middle(alloc: Global, tally: &Tally) -> Result<String, Memory>
     let inconclusive = tally.inconclusive();
     let measurements = tally.measurements();
     Ok(format!(in alloc;
-        ",\"errors\":{errors},\"failed\":{failed},\"inconclusive\":{inconclusive},\"measurements\":{measurements}"
+        ",\"errors\":{errors},\"failed\":{failed},\"inconclusive\":{inconclusive},\
+         \"measurements\":{measurements}"
     )?)
 }
 

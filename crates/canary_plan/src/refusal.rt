@@ -22,7 +22,7 @@ pub enum Refusal {
     IntervalNeeded,
     /// Two metrics of the template, or of one analysis, have one name.
     DuplicateMetric,
-    /// A name that is to be measured without counting is no metric of the template.
+    /// A name that is to be dry-run is no metric of the template.
     BadDryRun,
     /// A template of an analysis is not there.
     UnknownTemplate,

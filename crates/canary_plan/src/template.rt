@@ -50,14 +50,13 @@ pub struct Template {
 }
 
 impl Template {
-    /// The template that is asked for, its conditions read and each metric marked that is measured
-    /// without counting.
+    /// The template that is asked for, its conditions read and each metric marked that is dry-run.
     ///
     /// # Errors
     /// `Refused` with the first of these that holds: `BadCondition` where a condition has no
     /// reading; `IntervalNeeded` where a metric has a count above 1 and no interval;
     /// `DuplicateMetric` where two metrics have one name; `BadDryRun` where a name that is to be
-    /// measured without counting is neither a metric's nor `.*`. `Memory` in place of any.
+    /// dry-run is neither a metric's nor `.*`. `Memory` in place of any.
     pub fn bind(alloc: Global, spec: &TemplateSpec) -> Result<Template, BindFault>
         ensures { IsBound spec.now result }
     {
@@ -176,7 +175,7 @@ fn metric_of(settings: MetricSettings) -> Metric
     Metric::new(settings).unwrap()
 }
 
-// Whether these names mark that metric as measured without counting.
+// Whether these names mark that metric as dry-run.
 fn is_marked(dry_run: &[Text], name: Label) -> bool
     ensures { result ≡ is_marked dry_run.now name }
 {

@@ -49,7 +49,7 @@ impl MetricSpec {
 }
 
 /// An analysis template as it is asked for: 1 to 32 metrics, and the names of those that are
-/// measured without counting (`.*` for all).
+/// dry-run: measured as the others, without a say in a run's verdict (`.*` for all).
 #[derive(Drop)]
 pub struct TemplateSpec {
     pub name: Name,

@@ -1,5 +1,6 @@
 //! A service's measurements as a file.
-ghost use Rattle.std.specs.Prelude.{◌≡◌, ◌≢◌, ◌≤◌, length, Err, IfOk, IfErr};
+ghost use Rattle.std.specs.Prelude.{◌≡◌, ◌≢◌, ◌≤◌, length, None, Err, IfOk, IfErr, OnOk};
+ghost use Rattle.std.specs.FinMap.{get};
 ghost use Rattle.canary_files.specs.Exporting.{file_in, recorded_of, Stays, Puts};
 ghost use Rattle.canary_programs.specs.declared.fault.Fault.TheVariants as fault;
 ghost use Rattle.canary_programs.specs.Programs.{TellsExport};
@@ -32,6 +33,8 @@ pub fn export_rows<W: Write, B: Book>(
         × (rows ≤ MOST_ROWS)) }
     ensures why { (B.state book.new).is_honest
         → IfErr result (TellsExport (B.state book.old).contents service) }
+    ensures there { (B.state book.new).is_honest
+        → OnOk result (get (B.state book.old).contents.desk.services service ≢ None) }
     ensures unknown { (B.state book.new).is_honest → result ≡ Err fault.UnknownService
         → out.new ≡ out.old }
     ensures name { result ≢ Err fault.BadName }

@@ -1,12 +1,12 @@
 //! The rows of a measurement file as requests.
-ghost use Rattle.std.specs.Prelude.{◌≡◌, Err};
+ghost use Rattle.std.specs.Prelude.{◌≡◌, ◌≤◌, Err, IfOk};
 ghost use Rattle.canary_files.specs.RowExchanges.{point};
 ghost use Rattle.canary_files.specs.Importing.{KeepsBook};
 ghost use Rattle.canary_programs.specs.declared.fault.Fault.TheVariants as fault;
 ghost use Rattle.canary_programs.specs.Programs.{ImportsSo, imported};
 
 use crate::fault::Fault;
-use canary_files::import::ImportFault;
+use canary_files::import::{ImportFault, MOST_ROWS};
 use canary_once::book::Book;
 use canary_once::clock::Clock;
 use std::alloc::Global;
@@ -27,6 +27,7 @@ pub fn import_rows<R: Read, W: Write, C: Clock, B: Book>(
         (W.contents output.old) (W.contents output.new)
         (point (C.tells clock.old) (B.state book.old))
         (point (C.tells clock.new) (B.state book.new)) result }
+    ensures limit { IfOk result (λ rows. rows ≤ MOST_ROWS) }
     ensures header { result ≡ Err fault.Header → (output.new ≡ output.old)
         × (clock.new ≡ clock.old) × (book.new ≡ book.old) }
     ensures kept { KeepsBook (B.state book.old) (B.state book.new) }

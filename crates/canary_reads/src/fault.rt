@@ -25,10 +25,11 @@ impl From<Memory> for ReadFault {
 }
 
 impl From<StoreFault> for ReadFault {
-    ghost use Rattle.std.specs.Prelude.{◌≢◌};
+    ghost use Rattle.std.specs.Prelude.{◌≡◌, ◌≢◌};
+    ghost use Rattle.canary_reads.specs.Faults.{read_fault};
     ghost use Rattle.canary_reads.specs.declared.fault.ReadFault.TheVariants as fault;
 
-    ghost from_gives = { λ _ made. made ≢ fault.Broken };
+    ghost from_gives = { λ fault made. (made ≡ read_fault fault) × (made ≢ fault.Broken) };
 
     fn from(fault: StoreFault) -> ReadFault {
         match fault {

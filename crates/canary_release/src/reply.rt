@@ -15,7 +15,7 @@ use std::alloc::Global;
 /// What a reply says of its request or query.
 #[derive(Clone, Copy, Debug, PartialEq, Eq)]
 pub enum ReplyStatus {
-    /// The command was accepted.
+    /// The command was accepted, or what a query asks for is there.
     Accepted,
     /// The command was refused, which is kept.
     Refused,
@@ -114,7 +114,8 @@ fn service_body(alloc: Global, stand: &Stand) -> Result<String, Memory>
     let step = stand.step;
     let weight = stand.weight();
     Ok(format!(in alloc;
-        "{{\"code\":\"ok\",\"service\":\"{name}\",\"status\":\"{status}\",\"step\":{step},\"weight\":{weight}}}"
+        "{{\"code\":\"ok\",\"service\":\"{name}\",\"status\":\"{status}\",\
+         \"step\":{step},\"weight\":{weight}}}"
     )?)
 }
 

@@ -1,5 +1,5 @@
--- The rows that a program can hold: names and labels are such, numbers fit 32 bits, moments are in
--- years that have four digits, counts agree, texts are UTF-8.
+-- The rows that a program can hold: names and labels are such, numbers fit 32 bits, moments are
+-- before the end of the year 9998, counts agree, texts are UTF-8.
 use Rattle.std.specs.Prelude.{◌≤◌, ◌<◌, ◌^◌, ℕ, IsTrue, IfSome, IsUtf8}
 use Rattle.std.specs.List.{AllByRecursion}
 use Rattle.canary_base.specs.Names.{is_name, is_label}

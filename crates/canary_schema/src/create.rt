@@ -207,7 +207,7 @@ fn create_desk<S: Alter>(conn: &mut Connection<S>) -> Result<(), Error>
 /// # Errors
 ///
 /// `Memory` where an allocation was refused, `Storage` where a statement failed otherwise, as where
-/// the disk did, or the database was not empty.
+/// the disk did. Whoever calls it has seen that the database is empty.
 pub fn create<S: Alter>(conn: &mut Connection<S>) -> Result<(), StoreFault>
     requires autocommit { conn.old.in_transaction ≡ false }
     ensures mode { conn.new.in_transaction ≡ false }

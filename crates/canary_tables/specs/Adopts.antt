@@ -7,13 +7,16 @@ use Rattle.sqlite_trees.specs.declared.store.Store.{Ghosts}
 use Rattle.canary_rows.specs.Limits.{AreWithin}
 use Rattle.canary_rows.specs.Tables.{Tables}
 use Rattle.canary_schema.specs.Cells.{meta_rows}
+use Rattle.canary_schema.specs.declared.fault.StoreFault.{StoreFault}
 use Rattle.canary_schema.specs.Formed.{IsDeskSchema, IsFormed, HasRows}
 use Rattle.canary_schema.specs.Numbered.{IsLeft}
 use Rattle.canary_schema.specs.Stores.{IsUsable, Holds, Stores}
 use Rattle.canary_judging.specs.Soundness.{AreSoundTables}
 use Rattle.canary_tables.specs.declared.fault.Left.{Left}
 use Rattle.canary_tables.specs.declared.fault.Left.TheVariants as left
+use Rattle.canary_tables.specs.declared.fault.TableFault.{TableFault}
 use Rattle.canary_tables.specs.Desk.{contents_in}
+use Rattle.canary_tables.specs.Faults.{fault_of_store}
 
 -- just a desk's tables are there, with the three indexes or without them, and meta has its one row
 abbrev pub HasDeskTables : Database → Type 0
@@ -64,6 +67,11 @@ abbrev pub LeavesRows : {S : Type 0} → Ghosts S → State → Left S → Type 
 LeavesRows g old (left.Connection conn) =
     IsUsable (state g conn) → IsUsable old × KeepsRows old.now (state g conn).now
 LeavesRows g old (left.Store store) = IsLeft old (g.view store)
+
+-- a store alone is left only where memory or the store failed
+abbrev pub IsLeftBy : {S : Type 0} → TableFault → Left S → Type 0
+IsLeftBy f (left.Connection conn) = Unit {0}
+IsLeftBy f (left.Store store) = (cause : StoreFault) × (f ≡ fault_of_store cause)
 
 -- a connection stands outside a transaction; a store alone has none
 abbrev pub IsOutside : {S : Type 0} → Left S → Type 0

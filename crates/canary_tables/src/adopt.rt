@@ -8,7 +8,7 @@ ghost use Rattle.canary_schema.specs.Stores.{IsUsable, AreNumbered, Stores, Hold
 ghost use Rattle.canary_reads.specs.Finds.{IsSame};
 ghost use Rattle.canary_tables.specs.Adopts.{HasDeskTables, HasSoundRowsWithin, HaveSameRows};
 ghost use Rattle.canary_tables.specs.Adopts.{IsBelieved, IsAdopted, TellsTables, LeavesRows};
-ghost use Rattle.canary_tables.specs.Adopts.{IsOutside};
+ghost use Rattle.canary_tables.specs.Adopts.{IsLeftBy, IsOutside};
 ghost use Rattle.canary_tables.specs.declared.fault.TableFault.TheVariants as fault;
 
 use crate::book::TableBook;
@@ -136,6 +136,7 @@ impl<S: Alter + Drop> TableBook<S> {
         ensures broken { IfErr result (λ e. e.0 ≡ fault.BrokenRow → TellsTables S.Store e.1
             → IsFormed (state S.Store conn).now × ¬ HasSoundRowsWithin (state S.Store conn).now) }
         ensures left { IfErr result (λ e. LeavesRows S.Store (state S.Store conn) e.1) }
+        ensures store { IfErr result (λ e. IsLeftBy e.0 e.1) }
         ensures mode { IfErr result
             (λ e. conn.in_transaction ≡ false → IsOutside e.1) }
         ensures opened { IfErr result (λ e. e.0 ≢ fault.InUse) }

@@ -157,6 +157,9 @@ fn step(alloc: Global, word: &str) -> Option<Step> {
     if kind == "analysis" {
         return Some(Step::Analysis(templates(alloc, of)?));
     }
+    if kind != "pause" {
+        return None;
+    }
     Some(Step::Pause(seconds(of)))
 }
 

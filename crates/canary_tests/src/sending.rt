@@ -14,19 +14,19 @@ use std::process::Abort;
 use std::test::Fail;
 
 /// The answer to a copy of what is asked, or none where memory was refused before it.
-pub(crate) fn answer<B: Book>(alloc: Global, book: &mut B, asked: &str) -> Option<Answer> {
+pub(crate) fn answer(alloc: Global, book: &mut MemoryBook, asked: &str) -> Option<Answer> {
     let event = event(alloc, asked)?.copy(alloc).ok()?;
     run(alloc, book, &[event]).ok()?.pop()
 }
 
 /// How many requests of the caller ops are settled.
-pub(crate) fn settled<B: Book>(book: &mut B) -> Option<u32> {
+fn settled(book: &mut MemoryBook) -> Option<u32> {
     book.settled(&name("ops")?).ok()
 }
 
 /// Whether the answer to a row has its status; none where it was answered 503 or not at all, for
 /// want of memory.
-fn is_answered<B: Book>(alloc: Global, book: &mut B, row: &str) -> Result<Option<bool>, Fail> {
+fn is_answered(alloc: Global, book: &mut MemoryBook, row: &str) -> Result<Option<bool>, Fail> {
     let (status, asked) = row.split_once(' ').ok_or("a row")?;
     let status: u16 = status.parse()?;
     match answer(alloc, book, asked) {
@@ -37,12 +37,7 @@ fn is_answered<B: Book>(alloc: Global, book: &mut B, row: &str) -> Result<Option
 
 /// Sends a row, and once more where it was answered 503 or not at all: then nothing was settled.
 /// How many times more it was sent.
-pub(crate) fn send<B: Book>(
-    rt: &impl Abort,
-    alloc: Global,
-    book: &mut B,
-    row: &str,
-) -> Result<u32, Fail> {
+fn send(rt: &impl Abort, alloc: Global, book: &mut MemoryBook, row: &str) -> Result<u32, Fail> {
     let before = settled(book);
     if let Some(is_so) = is_answered(alloc, book, row)? {
         assert!(rt; is_so, "{row}");

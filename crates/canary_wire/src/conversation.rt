@@ -86,8 +86,8 @@ pub enum Cause {
     Read,
     /// The writer failed, or took no byte, with something still owed.
     Write,
-    /// There was no memory for a reply. What was owed of it was written; if its message was a new
-    /// request, it is settled.
+    /// There was no memory for the reply to a query: room for a request's is taken before the
+    /// request is settled. What was owed of it was written.
     Memory,
 }
 
@@ -176,7 +176,8 @@ impl Conversation {
     /// interrupted, ends the turn and is no fault.
     ///
     /// For each message the clock is asked once, the register is asked where the message is a
-    /// request or a query, and its reply is owed. A client that ends its sending side still gets
+    /// request or a query, and its reply is owed. Where there is no memory for the reply to a
+    /// request, none is looked at, and the next turn tries again. A client that ends its sending side still gets
     /// its replies: the end is read only where nothing is owed.
     ///
     /// After `Rest` or `Nothing` no further turn is needed. A turn after `Rest`, or where there was
@@ -301,7 +302,9 @@ impl Conversation {
         step
     }
 
-    // Answers the message that stands first, if a whole one does.
+    // Answers the message that stands first, if a whole one does. Where there is no room for the
+    // reply to a request, nothing is asked, and its next turn tries again: so none is settled whose
+    // reply would find no memory.
     fn advance<C: Clock, B: Book>(
         &mut self,
         alloc: Global,
@@ -322,6 +325,32 @@ impl Conversation {
             Stage::Over => return Step::Closed,
             Stage::Broken => return Step::Broke,
         }
+        if let Err(_) = self.make_room() {
+            return Step::Answered;
+        }
+        self.answer_first(alloc, routes, clock, book)
+    }
+
+    fn make_room(&mut self) -> Result<(), Memory>
+        ensures { talk_of self.new ≡ talk_of self.old }
+    {
+        self.owed.make_room()
+    }
+
+    fn answer_first<C: Clock, B: Book>(
+        &mut self,
+        alloc: Global,
+        routes: &Routes,
+        clock: &mut C,
+        book: &mut B,
+    ) -> Step
+        requires open { (talk_of self.old).stage ≡ Stage.Open }
+        ensures answers { AnswersMore
+            (point (C.tells clock.old) (B.state book.old))
+            (point (C.tells clock.new) (B.state book.new))
+            (talk_of self.old) (talk_of self.new) }
+        ensures stands { StandsAt (talk_of self.new) result }
+    {
         let (buffer, owed) = (&mut self.buffer, &mut self.owed);
         let step = answer_next(alloc, &routes.router, buffer, owed, clock, book);
         self.answered = count_after(self.answered, step);

@@ -5,8 +5,13 @@ ghost use Rattle.std.specs.Io.KnownBytes.{Appends};
 
 use crate::buffer::is_not_now;
 use crate::reply::WriteFault;
+use canary_base::error::Memory;
 use std::alloc::Global;
 use std::io::Write;
+
+// Room for the reply to any request that is new: a head of some hundred bytes, and at most 32 phases
+// with a service behind them.
+const ROOM: usize = 1_024;
 
 // Bytes that are to be written, in order. As a writer it keeps what is written to it, and fails
 // where there is no memory.
@@ -28,6 +33,13 @@ impl Owed {
             bytes: Vec::new(alloc),
             sent: 0,
         }
+    }
+
+    // Takes room for the reply to a request.
+    pub(crate) fn make_room(&mut self) -> Result<(), Memory>
+        ensures { bytes_owed self.new ≡ bytes_owed self.old }
+    {
+        Ok(self.bytes.reserve(ROOM)?)
     }
 
     // What is still to be written.

@@ -214,8 +214,8 @@ pub(crate) const FILE_HELP: &str =
     "An AnalysisTemplate or a Rollout in JSON, as 'kubectl get -o json' prints it";
 
 pub(crate) const CHECK_HELP: &str = concat!(
-    "It prints 'ok', or each thing that the desk would refuse or could not read, one a line,\n",
-    "with where it stands and what was expected. No desk is needed: whether the templates that a\n",
+    "It prints 'ok', or what the desk would refuse or could not read, one thing a line, with\n",
+    "where it stands and what was expected. No desk is needed: whether the templates that a\n",
     "Rollout names are registered is not looked at, nor that a desk takes 65536 bytes at most.\n\n",
     "Exit status: 0 where it printed 'ok', 2 for a mistake in the words, and 1 where it printed\n",
     "anything else, or for a fault, which a line on standard error names:\n",
