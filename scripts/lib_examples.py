@@ -11,8 +11,8 @@ import sys
 # The crates of tests, that of figures, and the program: no caller rests on them. Nor does any yet
 # on the laws over all senders.
 NO_LIBRARIES = {
-    "canary_bench", "canary_desk", "canary_desk_tests", "canary_files_tests", "canary_senders",
-    "canary_testing", "canary_tests",
+    "canary_bench", "canary_desk", "canary_desk_tests", "canary_senders", "canary_testing",
+    "canary_tests",
 }
 EXAMPLE = re.compile(r"^In use \((\w+), (\S+)\):\n\n((?:    .*\n)+)", re.MULTILINE)
 CODE = re.compile(r"^    ", re.MULTILINE)

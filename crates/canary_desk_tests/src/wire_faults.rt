@@ -4,6 +4,8 @@ use canary_base::lists::Listed;
 use canary_base::moments::Moment;
 use canary_base::names::Name;
 use canary_base::numbers::Number;
+use canary_files::export::ExportFault;
+use canary_files::import::ImportFault;
 use canary_manifest::command::WireFault;
 use canary_once::book::{Book, BookFault, Receipt, Settlement};
 use canary_once::clock::StepClock;
@@ -142,5 +144,31 @@ fn says_what_went_wrong(rt: HostRuntime) -> Result<(), Fail> {
     assert!(rt; says(alloc, &ServeFault::Read, "the input could not be read")?);
     assert!(rt; says(alloc, &ServeFault::Write, "the output could not be written")?);
     assert!(rt; says(alloc, &ServeFault::Memory, "out of memory")?);
+    Ok(())
+}
+
+#[test]
+fn says_why_a_file_ended(rt: HostRuntime) -> Result<(), Fail> {
+    let alloc = rt.alloc();
+    let (input, output) = (
+        "the input could not be read",
+        "the output could not be written",
+    );
+    assert!(rt; says(alloc, &ImportFault::Read, input)?);
+    assert!(rt; says(alloc, &ImportFault::Write, output)?);
+    assert!(rt; says(alloc, &ImportFault::Memory, "out of memory")?);
+    assert!(rt;
+        says(
+            alloc,
+            &ImportFault::Header,
+            "the first record is not the header"
+        )?
+    );
+    assert!(rt; says(alloc, &ImportFault::RowsSpent, "the file has too many rows")?);
+    assert!(rt; says(alloc, &ExportFault::Memory, "out of memory")?);
+    assert!(rt; says(alloc, &ExportFault::Storage, "the store failed")?);
+    assert!(rt; says(alloc, &ExportFault::Write, output)?);
+    assert!(rt; says(alloc, &ExportFault::TooMany, "too many measurements")?);
+    assert!(rt; says(alloc, &ExportFault::UnknownService, "unknown service")?);
     Ok(())
 }

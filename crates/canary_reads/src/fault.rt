@@ -29,7 +29,7 @@ impl From<StoreFault> for ReadFault {
     ghost use Rattle.canary_reads.specs.Faults.{read_fault};
     ghost use Rattle.canary_reads.specs.declared.fault.ReadFault.TheVariants as fault;
 
-    ghost from_gives = { λ fault made. (made ≡ read_fault fault) × (made ≢ fault.Broken) };
+    ghost from_gives = { λ given made. (made ≡ read_fault given) × (made ≢ fault.Broken) };
 
     fn from(fault: StoreFault) -> ReadFault {
         match fault {
