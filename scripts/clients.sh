@@ -9,18 +9,34 @@ miss() {
     exit 1
 }
 
+# What a row ends with where something did not come in time, and nothing wrong came: other work on
+# the machine can be why, and the row is tried once more.
+late() {
+    miss "late: $1"
+}
+
 skip() {
     echo "$1" > "$work/skipped"
     exit 0
 }
 
+# The desk of a row, with further words of `serve`. Sets `files_at_first` to how many files it has
+# open without clients.
 start() {
-    start_desk "$desk_program" "$@" || miss "the desk does not say that it is listening"
+    connections=()
+    if ! start_desk "$desk_program" "$@"; then
+        if [ ! -s "$work/told" ] && kill -0 "$desk" 2> /dev/null; then
+            late "the desk does not say that it is listening"
+        fi
+        miss "the desk ended, or says something else than that it is listening"
+    fi
+    files_at_first=$(files_of_desk)
 }
 
 # A connection in the variable $1.
 open() {
     connect "$1" || miss "no connection"
+    connections+=("${!1}")
 }
 
 # Milliseconds of a clock.
@@ -29,9 +45,32 @@ now() {
     echo $((${seconds:-$(date +%s%6N)} / 1000))
 }
 
+# A command that had a limit of time ended with the status $1, which is 124 where that was reached:
+# where it is not 0 the row ends by $2.
+want_done() {
+    [ "$1" -ne 124 ] || late "$2"
+    [ "$1" -eq 0 ] || miss "$2"
+}
+
+# A byte comes on the connection $1 within $3 seconds, or else the row ends by $2.
+want_byte() {
+    local status=0 byte
+    IFS= read -r -N 1 -t "$3" -u "$1" byte 2> /dev/null || status=$?
+    [ "$status" -le 128 ] || late "$2"
+    [ "$status" -eq 0 ] || miss "$2"
+}
+
+# A reply comes on the connection $1 within $3 seconds, or else the row ends by $2: as late where
+# the connection is open still, and nothing of a reply has come.
+want_some_reply() {
+    read_reply "$1" "$3" && return 0
+    [ -n "$reply_status" ] || want_byte "$1" "$2" 0.01
+    miss "$2"
+}
+
 # The next reply on the connection $1 has the status $2, within $3 seconds if these are given.
 want_reply() {
-    read_reply "$1" "${3:-}" || miss "${4:-no reply with status $2}"
+    want_some_reply "$1" "${4:-no reply with status $2}" "${3:-10}"
     [ "$reply_status" = "$2" ] || miss "status $reply_status in place of $2: $reply_body"
 }
 
@@ -44,7 +83,7 @@ want_service() {
     want_reply "$client" 404
     hang_up "$client"
     local spent=$(($(now) - begun))
-    [ "$spent" -le "$1" ] || miss "another client was answered after $spent ms"
+    [ "$spent" -le "$1" ] || late "another client was answered after $spent ms"
 }
 
 # The connection $1 ends, without a byte, from $2 to $3 seconds after the moment $4.
@@ -52,10 +91,10 @@ want_end() {
     local status=0 byte
     IFS= read -r -N 1 -t "$3" -u "$1" byte 2> /dev/null || status=$?
     [ "$status" -ne 0 ] || miss "a byte of a reply in place of the end: ${byte@Q}"
-    [ "$status" -le 128 ] || miss "not let go after $3 seconds"
+    [ "$status" -le 128 ] || late "not let go after $3 seconds"
     local spent=$(($(now) - $4))
     [ "$spent" -ge "$(($2 * 1000 - 300))" ] || miss "let go after $spent ms already"
-    [ "$spent" -le "$(($3 * 1000))" ] || miss "let go after $spent ms only"
+    [ "$spent" -le "$(($3 * 1000))" ] || late "let go after $spent ms only"
 }
 
 # A line of standard error says $1, within three seconds.
@@ -65,19 +104,32 @@ want_line() {
         ! grep -qx "$1" "$work/errors" || return 0
         sleep 0.05
     done
-    miss "no line '$1' on standard error"
+    late "no line '$1' on standard error"
 }
 
-# The faults on standard error are these lines and no more, within three seconds.
-want_faults() {
-    local tries wanted found
-    wanted=$(printf '%s\n' "$@")
-    for ((tries = 0; tries < 60; tries++)); do
-        found=$(grep '^canary: [a-z]*$' "$work/errors" || true)
-        [ "$found" != "$wanted" ] || return 0
+# The clients of this row hang up, and the desk lets them go, within five seconds. It answers one
+# more then, so that it is done with the others: it has one thread.
+leave() {
+    local client tries
+    for client in "${connections[@]}"; do
+        hang_up "$client"
+    done
+    connections=()
+    for ((tries = 0; tries < 100; tries++)); do
+        [ "$(files_of_desk)" -gt "$files_at_first" ] || break
         sleep 0.05
     done
-    miss "other faults on standard error: ${found:-none}"
+    [ "$tries" -lt 100 ] || late "$(files_of_desk) files are open, at first $files_at_first were"
+    want_service 5000
+}
+
+# The faults on standard error are these lines and no more, once all clients have gone.
+want_faults() {
+    local wanted found
+    leave
+    wanted=$(printf '%s\n' "$@")
+    found=$(grep '^canary: [a-z-]*$' "$work/errors" || true)
+    [ "$found" = "$wanted" ] || miss "other faults on standard error: ${found:-none}"
 }
 
 # The desk ends by itself with the status $1, within five seconds.
@@ -87,7 +139,7 @@ want_exit() {
         kill -0 "$desk" 2> /dev/null || break
         sleep 0.05
     done
-    [ "$tries" -lt 100 ] || miss "the desk goes on"
+    [ "$tries" -lt 100 ] || late "the desk goes on"
     wait "$desk" 2> /dev/null || status=$?
     desk=''
     [ "$status" -eq "$1" ] || miss "exit status $status in place of $1"
