@@ -1,5 +1,5 @@
 """The compact language of tests/stories: texts with parts that stand for others, requests, queries,
-and replies. It is that of crates/canary_testing/src/asked.rt, told as HTTP."""
+and replies. tests/stories/README.md says how they are written."""
 import json
 import re
 
@@ -136,7 +136,10 @@ def entry(word):
 
 
 def command(asked, web="web"):
-    """The body of the command that a compact text asks for, on that service."""
+    """The body of the command that a compact text asks for, on the service that `on NAME` in front
+    of it names, or else on that one."""
+    if asked.startswith("on "):
+        _, web, asked = asked.split(" ", 2)
     kind, *words = asked.split(" ")
     if kind == "template":
         made = template(words[0], words[1:])
@@ -171,7 +174,7 @@ def event(asked):
 
 
 def body(told):
-    """The body that a short form stands for, as crates/canary_testing/src/asked.rt says."""
+    """The body that an answer tells, in short or to the byte, as tests/stories/README.md says."""
     if told.startswith("{"):
         return told.encode()
     if not told.startswith("["):
