@@ -260,13 +260,14 @@ def try_row_that_goes_on(program, place, words, line, status):
 
 def try_serving(program, folder):
     """Programs that go on until they are ended."""
-    rows = only_rows_of("serving")
-    for words, line, status in rows:
+    tried = 0
+    for words, line, status in only_rows_of("serving"):
         if "::1" in words and not has_ipv6():
             print(f"program: no IPv6 here: not tried: {words}", file=sys.stderr)
             continue
         try_row_that_goes_on(program, new_place(program, folder), words, line, status)
-    return len(rows)
+        tried += 1
+    return tried
 
 
 def try_name(program, folder):

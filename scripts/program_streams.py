@@ -1,8 +1,9 @@
-"""Streams that are told to `pipe` of a program piece by piece, over connections that break, and to
-outputs that are slow, full or closed: parts of program.py, each of which answers how many rows it
-had."""
+"""Streams that are told to `pipe` of a program piece by piece, that end at any byte, over
+connections that break, and to outputs that are slow, full or closed: parts of program.py, each of
+which answers how many rows it had."""
 import fcntl
 import os
+import re
 import resource
 import select
 import signal
@@ -13,14 +14,30 @@ import termios
 import time
 
 from story_words import (
-    B, Wrong, blocks, command, expect, get, message, put, query, reply,
+    B, Wrong, answer, blocks, command, expect, get, message, put, query, reply,
 )
 
 STORIES = os.path.join(os.path.dirname(os.path.realpath(__file__)), "../tests/stories")
 AT_B = ["pipe", "--at", str(B), "--step", "1"]
+STILL_AT_B = ["pipe", "--at", str(B), "--step", "0"]
 REQUEST = put("ops", 1, b"{}")
 UNREADABLE = reply("400 Bad Request", b'{"code":"unreadable"}')
+MALFORMED = reply("400 Bad Request", b'{"code":"malformed"}', "Connection: close\r\n")
 NOWHERE = (get("/nope"), reply("404 Not Found", b'{"code":"no-route"}'))
+# Requests of one moment, each with its short answer (tests/stories/README.md), as disk.py has them.
+STORY = [
+    ("ops 1 template errs m,interval=60", "[errs]"),
+    ("ops 2 service v1 setWeight:20 pause background:errs", "[web Healthy 2 100]"),
+    ("ops 3 start v2", "[web Paused 1 20]"),
+    ("agent 1 report 1 m:1:0:5", "[web Paused 1 20 | 1 Successful | Running]"),
+    ("agent 2 report 1 m:3:0:5", '422 {"at":0,"code":"out-of-turn","expected":2}'),
+    ("ops 4 tick", "[web Paused 1 20]"),
+    ("ops 5 promote", "[web Healthy 2 100]"),
+    ("ops 6 start v3", "[web Paused 1 20]"),
+    ("ops 7 abort", "[web Degraded 1 0]"),
+    ("ops 8 retry", "[web Paused 1 20]"),
+    ("ops 9 promoteFull", "[web Healthy 2 100]"),
+]
 # Where an output begins that takes some bytes more: far behind the size of a desk's file.
 FAR = 1 << 26
 
@@ -39,9 +56,31 @@ def release():
     return [message(row) for row in rows]
 
 
+def story():
+    """The requests of STORY, each with its reply; in front of each there is no end of line, or one
+    of either kind."""
+    messages = []
+    for at, (told, wanted) in enumerate(STORY):
+        caller, number, asked = told.split(" ", 2)
+        front = (b"", b"\r\n", b"\n")[at % 3]
+        messages.append((front + put(caller, number, command(asked)), answer(wanted)))
+    return messages
+
+
 def joined(messages):
     """The bytes of these messages, and those of their replies."""
     return tuple(map(b"".join, zip(*messages)))
+
+
+def whole_in(messages, count):
+    """The replies to the messages that are whole in the first so many bytes, and where the last of
+    these ends."""
+    want, end = b"", 0
+    for sent, told in messages:
+        if end + len(sent) > count:
+            break
+        want, end = want + told, end + len(sent)
+    return want, end
 
 
 def begin(program, **more):
@@ -122,6 +161,48 @@ def try_pieces(program, _):
     return len(rows) + 1
 
 
+def try_cuts(program, _):
+    """A stream is answered alike wherever it is cut in two."""
+    stream, want = joined(release())
+    for at in range(len(stream) + 1):
+        pieces = [at, len(stream) - at]
+        tell_pieces(program, f"cut in two behind {at} bytes", stream, pieces, want)
+    return len(stream) + 1
+
+
+def ends_behind(rest):
+    """How a stream may end whose input ends with these bytes behind the last whole message: the
+    bytes of a last reply, the exit status, and what is told. The rules leave it open whether what
+    ends inside a request's target is cut off or malformed."""
+    if not rest.strip(b"\r\n"):
+        return [(b"", 0, b"")]
+    ends = [(b"", 1, b"canary: truncated\n")]
+    if re.fullmatch(rb"[\r\n]*PUT [^ ]*", rest):
+        ends.append((MALFORMED, 0, b""))
+    return ends
+
+
+def tell_until_end(program, messages, count):
+    """So many bytes of the messages come, and then the input ends: what is whole is answered."""
+    stream, _ = joined(messages)
+    want, end = whole_in(messages, count)
+    done = subprocess.run([program, *STILL_AT_B], input=stream[:count], capture_output=True,
+                          timeout=60)
+    found = (done.stdout, done.returncode, done.stderr)
+    ends = [(want + last, status, told) for last, status, told in ends_behind(stream[end:count])]
+    if found not in ends:
+        raise Wrong(f"an input of {count} bytes\n  wanted one of {ends!r}\n  and got {found!r}")
+
+
+def try_ended_inputs(program, _):
+    """The input ends behind each so many bytes of a stream."""
+    messages = story()
+    counts = range(len(joined(messages)[0]) + 1)
+    for count in counts:
+        tell_until_end(program, messages, count)
+    return len(counts)
+
+
 def long_history():
     """Messages behind which the history of web is asked for, with a reply of some 100,000 bytes."""
     steps = [f"step {at} setWeight 20" for at in range(64)]
@@ -149,8 +230,8 @@ def try_slow_readers(program, folder):
                 ours, theirs = socket.socketpair()
                 theirs.setsockopt(socket.SOL_SOCKET, socket.SO_SNDBUF, 4096)
                 source, output = ours.detach(), theirs.detach()
-            words = [program, "pipe", "--at", str(B), "--step", "0"]
-            running = subprocess.Popen(words, stdin=asked, stdout=output, stderr=subprocess.PIPE)
+            running = subprocess.Popen([program, *STILL_AT_B], stdin=asked, stdout=output,
+                                       stderr=subprocess.PIPE)
             os.close(output)
             found = read_slowly(source, running)
             os.close(source)
@@ -229,11 +310,8 @@ def tell_until_reset(program, messages, count):
     """So many bytes of the messages come, and then the input fails: what is whole is answered, and
     the fault is told."""
     row = f"a connection that fails behind {count} bytes"
-    stream = b"".join(sent for sent, _ in messages)
-    want, end = b"", 0
-    for sent, told in messages:
-        end += len(sent)
-        want += told if end <= count else b""
+    stream, _ = joined(messages)
+    want, _ = whole_in(messages, count)
     client, ours = connection()
     running = begin(program, stdin=ours)
     ours.close()
@@ -252,5 +330,5 @@ def try_failing_inputs(program, _):
     return len(counts) + 1
 
 
-STREAM_PARTS = (try_turns, try_pieces, try_slow_readers, try_cut_outputs, try_closed_output,
-                try_failing_inputs)
+STREAM_PARTS = (try_turns, try_pieces, try_cuts, try_ended_inputs, try_slow_readers,
+                try_cut_outputs, try_closed_output, try_failing_inputs)
