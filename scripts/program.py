@@ -1,7 +1,7 @@
 """Runs a program on command lines: program.py PROGRAM FOLDER [PART..]. FOLDER/cases has the cases
 of tests/cases and of tests/examples, and the rows of tests/lines say what each line of words comes
-to; the streams are those of program_streams.py, the terminals those of program_terminals.py.
-tests/program says what is tried."""
+to; the streams are those of program_streams.py, the measurement files those of program_files.py,
+the terminals those of program_terminals.py. tests/program says what is tried."""
 import fcntl
 import os
 import re
@@ -16,6 +16,7 @@ import time
 
 sys.dont_write_bytecode = True
 import program_terminals  # noqa: E402
+from program_files import FILE_PARTS  # noqa: E402
 from program_streams import (  # noqa: E402
     AT_B, REQUEST, STREAM_PARTS, limits_writes,
 )
@@ -288,7 +289,7 @@ def try_terminals(program, folder):
 
 
 PARTS = (try_cases, try_mistakes, try_help, try_ends, try_faulty_streams, try_programs, try_serving,
-         try_name, try_terminals, *STREAM_PARTS)
+         try_name, try_terminals, *STREAM_PARTS, *FILE_PARTS)
 
 
 def main():
