@@ -1,11 +1,13 @@
-"""Judges command lines that were run with an allocation refused: `refused.py cases FOLDER` writes
-them, as cases of `rt try --cases`, and `refused.py judge FOLDER OUTPUT TOLD` reads what that wrote
-on standard output and on standard error. A command line does as it must, or ends with status 1 and
-`canary: memory`; or one message of a stream is answered 503 `no-memory`, and all others as if that
-one had not been sent."""
+"""Runs command lines of a program with one allocation refused, and a further run for each further
+one, until a run meets no refusal: refused.py PROGRAM FOLDER LIBRARY STEP [CASE..]. LIBRARY is made of
+scripts/refusing.c, and of the allocations over a file each STEP-th is refused. A command line does
+as it must, or ends with status 1 and `canary: memory`; or one message of a stream is answered 503
+`no-memory`, and all others as if that one had not been sent. Over a file the stream is then sent
+again, with nothing refused: each request has its reply."""
 import json
 import os
 import re
+import subprocess
 import sys
 
 sys.dont_write_bytecode = True
@@ -55,10 +57,10 @@ def reply_to(number, asked, last, settled):
     raise Wrong(f"the conversation does not settle {asked} under {number}")
 
 
-def replies_without(messages, refused=None):
-    """The replies to a conversation where that one of its messages is answered 503, and does
-    nothing."""
-    settled, last, told = settled_in(messages), 0, []
+def replies_without(messages, refused=None, last=0):
+    """The replies to a conversation, where the numbers up to the last are settled already, and that
+    one of its messages is answered 503 and does nothing; and the last number that is settled then."""
+    settled, told = settled_in(messages), []
     for at, (sent, _) in enumerate(messages):
         if at == refused:
             told.append(answer("503 no-memory"))
@@ -67,82 +69,96 @@ def replies_without(messages, refused=None):
         told.append(reply_to(number, asked, last, settled))
         if settles(told[-1]):
             last = max(last, number)
-    return told
+    return b"".join(told), last
 
 
-def streams_of(messages):
-    """The bytes that may answer a conversation: as it must be, and with each message refused."""
-    wanted = [told for _, told in messages]
-    expect("the conversation, with nothing refused", replies_without(messages), wanted)
-    refused = [replies_without(messages, at) for at in range(len(messages))]
-    return [b"".join(told) for told in [wanted, *refused]]
+def answers_of(messages):
+    """What may answer a conversation, first as it must be, and then with each message refused; with
+    the last number that is settled then."""
+    wanted = b"".join(told for _, told in messages)
+    found = [replies_without(messages, at) for at in [None, *range(len(messages))]]
+    expect("the conversation, with nothing refused", found[0][0], wanted)
+    return found
 
 
-def cases():
-    """The name of each, its words, its input, and what it may come to, first what it must where no
-    memory is refused: the exit status, the output, and the first line of standard error."""
+def told_by(program, words, given, environment=None):
+    """What a command line comes to: its exit status, the output, and the first line of standard
+    error."""
+    done = subprocess.run([program, *words], input=given, capture_output=True, timeout=60,
+                          env={**os.environ, **(environment or {})})
+    return done.returncode, done.stdout, done.stderr.split(b"\n")[0]
+
+
+def refuse(row, program, words, given, library, number, may_be):
+    """Runs a command line with the allocation of that number refused, and answers how many it asked
+    for, and what it came to."""
+    counted = f"{library}.counted"
+    if os.path.exists(counted):
+        os.remove(counted)
+    found = told_by(program, words, given,
+                    {"LD_PRELOAD": library, "REFUSED": str(number), "COUNTED": counted})
+    if found not in [*may_be, OUT_OF_MEMORY]:
+        raise Wrong(f"{row}: where allocation {number} is refused: {found!r}")
+    with open(counted, encoding="utf-8") as told:
+        return int(told.read()), found
+
+
+def refuse_each(row, program, words, given, library, may_be):
+    """Each allocation of a command line in turn; how many there are."""
+    expect(row, told_by(program, words, given), may_be[0])
+    number = 1
+    while refuse(row, program, words, given, library, number, may_be)[0] >= number:
+        number += 1
+    return number - 1
+
+
+def remove(book):
+    for name in (book, book + "-wal"):
+        if os.path.exists(name):
+            os.remove(name)
+
+
+def refuse_over_a_file(program, book, messages, library, step):
+    """Each STEP-th allocation of a conversation over a new file; how many there were. Then it comes
+    again: what was settled has its reply, and what was not is settled."""
+    words, number, tried = [*AT_B, "--db", book], 1, 0
+    given, answers = joined(messages)[0], answers_of(messages)
+    lasts = {(0, told, b""): last for told, last in reversed(answers)}
+    while True:
+        remove(book)
+        asked, found = refuse("file", program, words, given, library, number, [*lasts])
+        again, _ = replies_without(messages, last=lasts.get(found, 0))
+        expect(f"a file, behind a run in which allocation {number} was refused",
+               told_by(program, words, given), (0, again, b""))
+        if asked < number:
+            return tried
+        tried += 1
+        number += step
+
+
+def main():
+    program, folder, library, step, *wanted = sys.argv[1:]
     messages = release()
-    stream, _ = joined(messages)
-    answered = [(0, told, b"") for told in streams_of(messages)]
+    stream = joined(messages)[0]
+    answered = [(0, told, b"") for told, _ in answers_of(messages)]
     with open(HELP, "rb") as shown:
         text = shown.read()
-    return {
-        "check": (["check", "{}"], MANIFEST, [(0, b"ok\n", b"")]),
+    cases = {
+        "check": (["check", "/dev/stdin"], MANIFEST, [(0, b"ok\n", b"")]),
         "help": (["--help"], b"", [(0, text, b"")]),
         "mistake": (["pipe", "--at", "-5", "--step", "1"], b"", [(2, b"", MISTAKE)]),
         "stream": (AT_B, stream, answered),
     }
-
-
-def write_cases(folder):
-    for name, (words, stream, _) in cases().items():
-        with open(os.path.join(folder, name), "wb") as file:
-            file.write(stream)
-        with open(os.path.join(folder, f"{name}.args"), "w", encoding="utf-8") as file:
-            file.write("".join(f"{word}\n" for word in words))
-
-
-def outputs(written, names):
-    """The output of each case, behind a line with its name."""
-    marks = "|".join(names).encode()
-    parts = re.split(rb"== (" + marks + rb")\n", written)[1:]
-    return dict(zip(map(bytes.decode, parts[::2]), parts[1::2], strict=True))
-
-
-def endings(told):
-    """The exit status of each case, and the first line that it told."""
-    found, first = {}, b""
-    for line in told.split(b"\n"):
-        if match := re.match(rb"case=(\w+) run=ended status=(\d+) ", line):
-            found[match[1].decode()] = (int(match[2]), first)
-            first = b""
-        elif not line.startswith(b"allocations: "):
-            first = first or line
-    return found
-
-
-def judge(written, told):
-    wanted = cases()
-    output, ended = outputs(written, wanted), endings(told)
-    expect("the cases that ended", sorted(ended), sorted(wanted))
-    for name, (_, _, ends) in wanted.items():
-        status, line = ended[name]
-        found = (status, output.get(name, b"").rstrip(b"\n"), line)
-        may_be = [(end[0], end[1].rstrip(b"\n"), end[2]) for end in ends]
-        if found not in [*may_be, OUT_OF_MEMORY]:
-            raise Wrong(f"{name}: status {status}, {line!r}, {found[1]!r}")
-        print(f"{name}: {'as it must' if found == may_be[0] else 'out of memory'}")
-
-
-def main():
-    kind, folder, *files = sys.argv[1:]
-    if kind == "cases":
-        write_cases(folder)
-        return
-    written, told = [open(file, "rb").read() for file in files]
     try:
-        judge(written, told)
-    except (Wrong, ValueError) as fault:
+        for row, (words, given, may_be) in cases.items():
+            if not wanted or row in wanted:
+                count = refuse_each(row, program, words, given, library, may_be)
+                print(f"refused: {row}: {count} allocations in turn", file=sys.stderr)
+        if not wanted or "file" in wanted:
+            book = os.path.join(folder, "book")
+            count = refuse_over_a_file(program, book, messages, library, int(step))
+            print(f"refused: a stream over a file: {count} allocations", file=sys.stderr)
+    except (Wrong, subprocess.TimeoutExpired) as fault:
         sys.exit(f"refused: {fault}")
 
 

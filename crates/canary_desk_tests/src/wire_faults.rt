@@ -105,7 +105,7 @@ impl Book for Failing {
 // Whether a store that fails at this call is told of once, and the request is settled as it comes
 // again.
 fn goes_on(alloc: Global, fails: u32) -> Result<bool, Memory> {
-    let mut written = Vec::new(alloc);
+    let mut written = Vec::with_capacity(alloc, 1_000)?;
     let start = Moment::new(1_767_225_600).unwrap();
     let mut now = StepClock::new(start, Moment::new(1).unwrap());
     let mut stream = STREAM.as_bytes();
