@@ -207,7 +207,7 @@ fn create_desk<S: Alter>(conn: &mut Connection<S>) -> Result<(), Error>
 /// # Errors
 ///
 /// `Memory` where an allocation was refused, `Storage` where a statement failed otherwise, as where
-/// the disk did. Whoever calls it has seen that the database is empty.
+/// the disk did. Of a database that is not empty it is only said that an error leaves it so.
 pub fn create<S: Alter>(conn: &mut Connection<S>) -> Result<(), StoreFault>
     requires autocommit { conn.old.in_transaction ≡ false }
     ensures mode { conn.new.in_transaction ≡ false }

@@ -30,11 +30,14 @@ const TIMED: &str = "200 ops 1 0 template t m
 200 ops 3 0 start v2";
 
 /// What is then asked of copies of its template and its service, and the body that is replied.
-const COPIED: &str = r#"ops 4 0 template s m => {"code":"ok","template":"s"}
+const COPIED: &str = concat!(
+    r#"ops 4 0 template s m => {"code":"ok","template":"s"}
 ops 4 0 start v3 => {"code":"in-progress"}
 ops 4 300 tick => {"code":"ok","service":"web","status":"Progressing","step":2,"weight":20}
-ops 4 1 report 1 m:1:0:!down => {"code":"ok","phases":["Error"],"run":1,"service":"web","status":"Paused","step":1,"verdict":"Running","weight":20}
-ops 4 1 abort => {"code":"ok","service":"web","status":"Degraded","step":1,"weight":0}"#;
+ops 4 1 report 1 m:1:0:!down => {"code":"ok","phases":["Error"],"run":1,"service":"web","#,
+    r#""status":"Paused","step":1,"verdict":"Running","weight":20}
+ops 4 1 abort => {"code":"ok","service":"web","status":"Degraded","step":1,"weight":0}"#
+);
 
 /// The templates and the service that a book has.
 #[derive(Drop)]
