@@ -61,7 +61,7 @@ impl Clients {
         ensures same { clients_attendance self.new ≡ clients_attendance self.old }
     {
         match self.spare.pop() {
-            Some(conversation) => Ok(conversation.renewed(alloc, most_owed)),
+            Some(conversation) => Ok(conversation.renewed(most_owed)),
             None => Conversation::new(alloc, most_owed),
         }
     }

@@ -112,29 +112,31 @@ impl Conversation {
     /// reply.
     ///
     /// # Errors
-    /// `Memory` where there was none for the buffer of 81,920 bytes.
+    /// `Memory` where there was none for the buffer of 81,920 bytes, or for a first reply.
     pub fn new(alloc: Global, most_owed: usize) -> Result<Conversation, Memory>
         ensures { IfOk result (λ conversation. talk_of conversation ≡ begun) }
     {
         let buffer = Buffer::new(alloc)?;
+        let owed = Owed::new(alloc)?;
         Ok(Conversation {
             buffer,
-            owed: Owed::new(alloc),
+            owed,
             stage: Stage::Open,
             most_owed,
             answered: 0,
         })
     }
 
-    /// One in which nothing was said, with the buffer of this one, so that it takes no memory.
-    pub fn renewed(self, alloc: Global, most_owed: usize) -> Conversation
+    /// One in which nothing was said, with the memory of this one, so that it takes none.
+    pub fn renewed(self, most_owed: usize) -> Conversation
         ensures { talk_of result ≡ begun }
     {
-        let mut buffer = self.buffer;
+        let (mut buffer, mut owed) = (self.buffer, self.owed);
         buffer.clear();
+        owed.clear();
         Conversation {
             buffer,
-            owed: Owed::new(alloc),
+            owed,
             stage: Stage::Open,
             most_owed,
             answered: 0,
@@ -176,9 +178,9 @@ impl Conversation {
     /// interrupted, ends the turn and is no fault.
     ///
     /// For each message the clock is asked once, the register is asked where the message is a
-    /// request or a query, and its reply is owed. Where there is no memory for the reply to a
-    /// request, none is looked at, and the next turn tries again. A client that ends its sending side still gets
-    /// its replies: the end is read only where nothing is owed.
+    /// request or a query, and its reply is owed. Where there is no memory for one more reply to a
+    /// request, what is owed is written first. A client that ends its sending side still gets its
+    /// replies: the end is read only where nothing is owed.
     ///
     /// After `Rest` or `Nothing` no further turn is needed. A turn after `Rest`, or where there was
     /// no memory for a reply, reads, writes and asks nothing.
@@ -303,8 +305,8 @@ impl Conversation {
     }
 
     // Answers the message that stands first, if a whole one does. Where there is no room for the
-    // reply to a request, nothing is asked, and its next turn tries again: so none is settled whose
-    // reply would find no memory.
+    // reply to a request, nothing is asked, and its next turn tries again, when less is owed: so
+    // none is settled whose reply would find no memory.
     fn advance<C: Clock, B: Book>(
         &mut self,
         alloc: Global,
@@ -331,12 +333,14 @@ impl Conversation {
         self.answer_first(alloc, routes, clock, book)
     }
 
+    // Takes room for the reply to a request; there is some already where nothing is owed.
     fn make_room(&mut self) -> Result<(), Memory>
         ensures { talk_of self.new ≡ talk_of self.old }
     {
         self.owed.make_room()
     }
 
+    // The same, where it is open and has room.
     fn answer_first<C: Clock, B: Book>(
         &mut self,
         alloc: Global,

@@ -1,5 +1,5 @@
 //! What is still to be written to a client.
-ghost use Rattle.std.specs.Prelude.{◌≡◌, ℕ, ◌<◌, ◌≤◌, OnErr};
+ghost use Rattle.std.specs.Prelude.{◌≡◌, ℕ, ◌<◌, ◌≤◌, IfOk, OnErr};
 ghost use Rattle.std.specs.Prelude.{List, [], ◌++◌, length, drop, vec_len};
 ghost use Rattle.std.specs.Io.KnownBytes.{Appends};
 
@@ -25,17 +25,23 @@ pub(crate) struct Owed {
 impl Owed {
     ghost use Rattle.canary_wire.specs.Owing.{bytes_owed};
 
-    // Nothing.
-    pub(crate) fn new(alloc: Global) -> Owed
-        ensures { bytes_owed result ≡ [] }
+    // Nothing, with room for the reply to a request.
+    pub(crate) fn new(alloc: Global) -> Result<Owed, Memory>
+        ensures { IfOk result (λ owed. bytes_owed owed ≡ []) }
     {
-        Owed {
-            bytes: Vec::new(alloc),
-            sent: 0,
-        }
+        let bytes = Vec::with_capacity(alloc, ROOM)?;
+        Ok(Owed { bytes, sent: 0 })
     }
 
-    // Takes room for the reply to a request.
+    // Nothing is to be written any more; the room stays.
+    pub(crate) fn clear(&mut self)
+        ensures { bytes_owed self.new ≡ [] }
+    {
+        self.bytes.clear();
+        self.sent = 0;
+    }
+
+    // Takes room for the reply to a request behind what is owed: none is taken where nothing is.
     pub(crate) fn make_room(&mut self) -> Result<(), Memory>
         ensures { bytes_owed self.new ≡ bytes_owed self.old }
     {
@@ -76,8 +82,7 @@ impl Owed {
     {
         self.sent += n;
         if self.sent == self.bytes.len() {
-            self.bytes.clear();
-            self.sent = 0;
+            self.clear();
         }
     }
 }
