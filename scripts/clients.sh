@@ -158,3 +158,59 @@ files_of_desk() {
     local files=("/proc/$desk/fd"/*)
     echo "${#files[@]}"
 }
+
+# A client that ends its sending side, and reads to the end: the bytes of standard input, and the
+# replies on standard output. Where it has waited for ten seconds its status is 124.
+half_closing='
+import socket, sys, time
+try:
+    client = socket.create_connection(("127.0.0.1", int(sys.argv[1])), timeout=10)
+    client.sendall(sys.stdin.buffer.read())
+    client.shutdown(socket.SHUT_WR)
+    time.sleep(0.2)
+    while some := client.recv(65536):
+        sys.stdout.buffer.write(some)
+except socket.timeout:
+    sys.exit(124)
+'
+
+# Such a client sends the file $1 and comes to its end, or else the row ends by $2; `$work/replies`
+# has its replies.
+half_close() {
+    local status=0
+    timeout 15 python3 -c "$half_closing" "$port" < "$1" > "$work/replies" || status=$?
+    want_done "$status" "$2"
+}
+
+# A client with small buffers that sends what is on standard input, and reads nothing until there is
+# the file that its last word names.
+deaf='
+import os, socket, sys, threading, time
+def send():
+    client.sendall(sys.stdin.buffer.read())
+    client.shutdown(socket.SHUT_WR)
+client = socket.socket()
+client.setsockopt(socket.SOL_SOCKET, socket.SO_RCVBUF, 4096)
+client.setsockopt(socket.IPPROTO_TCP, socket.TCP_MAXSEG, 536)
+client.connect(("127.0.0.1", int(sys.argv[1])))
+threading.Thread(target=send, daemon=True).start()
+while not os.path.exists(sys.argv[2]):
+    time.sleep(0.05)
+while client.recv(65536):
+    pass
+'
+
+# The request of the caller last is settled, if $1 is 422, or not yet, if it is 409.
+want_last() {
+    local client tries
+    for ((tries = 0; tries < 100; tries++)); do
+        open client
+        put last 2 "$nobody" >&"$client"
+        want_some_reply "$client" "no reply to the caller last" 10
+        hang_up "$client"
+        [ "$reply_status" != "$1" ] || return 0
+        [ "$reply_status" = 409 ] || miss "status $reply_status in place of $1: $2"
+        sleep 0.1
+    done
+    late "status 409 in place of $1: $2"
+}

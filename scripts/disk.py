@@ -3,259 +3,20 @@ answered is kept, what was not is as if it had not been sent, and the program go
 it does not. tests/disk says what is tried."""
 import os
 import re
-import resource
 import shutil
-import signal
 import sqlite3
-import subprocess
 import sys
-from contextlib import contextmanager
 
-from program_streams import limits_writes
-from story_words import B, answer, command, get, put, query
+sys.dont_write_bytecode = True
+from disk_story import (  # noqa: E402
+    REFUSED, Desk, Well, copy, fail, history, remove, size, tell_behind, tell_failing, tell_whole,
+    told_by, went_on,
+)
+from power_cuts import try_power_cuts  # noqa: E402
 
-STORY = [
-    ("ops 1 template errs m,interval=60", "[errs]"),
-    ("ops 2 service v1 setWeight:20 pause background:errs", "[web Healthy 2 100]"),
-    ("ops 3 start v2", "[web Paused 1 20]"),
-    ("agent 1 report 1 m:1:0:5", "[web Paused 1 20 | 1 Successful | Running]"),
-    ("agent 2 report 1 m:3:0:5", '422 {"at":0,"code":"out-of-turn","expected":2}'),
-    ("ops 4 tick", "[web Paused 1 20]"),
-    ("ops 5 promote", "[web Healthy 2 100]"),
-    ("ops 6 start v3", "[web Paused 1 20]"),
-    ("ops 7 abort", "[web Degraded 1 0]"),
-    ("ops 8 retry", "[web Paused 1 20]"),
-    ("ops 9 promoteFull", "[web Healthy 2 100]"),
-]
-CALLERS = ("ops", "agent")
-REFUSED = answer("503 storage")
 NOBODY = 65534
 # The calls that read, write or sync a file.
 CALLS = ("pread64", "pwrite64", "fsync", "fdatasync", "ftruncate")
-# How long a program may take for a reply, or to end.
-SECONDS = 60
-
-
-def request(told):
-    caller, number, asked = told.split(" ", 2)
-    return put(caller, number, command(asked))
-
-
-MESSAGES = [(request(told), answer(wanted)) for told, wanted in STORY]
-# They change nothing: a number far ahead of each caller's turn tells its next one.
-QUESTIONS = [put(caller, 1_000_000_000, command("tick")) for caller in CALLERS]
-QUESTIONS.append(get(query("history web")))
-
-
-def fail(text):
-    sys.exit(f"disk: {text}")
-
-
-@contextmanager
-def in_time(row, process):
-    """Where this takes too long the process is killed, and those that it started, and it fails."""
-    def is_late(*_):
-        os.killpg(process.pid, signal.SIGKILL)
-        fail(f"{row}: the desk neither answers nor ends within {SECONDS} seconds")
-
-    signal.signal(signal.SIGALRM, is_late)
-    signal.alarm(SECONDS)
-    try:
-        yield
-    finally:
-        signal.alarm(0)
-
-
-class Desk:
-    """A program that answers messages over a file, one after another. The log, if there is one, is
-    that of strace, which makes some of its calls fail."""
-
-    def __init__(self, program, file, row, most=None, front=(), log=None):
-        words = [*front, program, "pipe", "--at", str(B), "--step", "0", "--db", file]
-        first = None if most is None else lambda: limits_writes(most)
-        self.row, self.log, self.replies = row, log, []
-        self.process = subprocess.Popen(
-            words, stdin=subprocess.PIPE, stdout=subprocess.PIPE, stderr=subprocess.PIPE,
-            preexec_fn=first, start_new_session=True)
-
-    def ask(self, message):
-        """The bytes of its reply; none where it has ended."""
-        with in_time(self.row, self.process):
-            self.replies.append(self.reply(message))
-        return self.replies[-1]
-
-    def reply(self, message):
-        try:
-            self.process.stdin.write(message)
-            self.process.stdin.flush()
-        except BrokenPipeError:
-            return b""
-        head, length = b"", 0
-        while line := self.process.stdout.readline():
-            head += line
-            if line.lower().startswith(b"content-length:"):
-                length = int(line.split(b":")[1])
-            if line == b"\r\n":
-                break
-        return head + self.process.stdout.read(length)
-
-    def lift(self):
-        """The disk is not full any more."""
-        most = (resource.RLIM_INFINITY, resource.RLIM_INFINITY)
-        resource.prlimit(self.process.pid, resource.RLIMIT_FSIZE, most)
-
-    def failed_calls(self):
-        """How many of its calls failed so far."""
-        if self.log is None:
-            return 0
-        with open(self.log) as told:
-            return told.read().count("(INJECTED)")
-
-    def want(self, at, where):
-        """This message of the story is answered as it has to be."""
-        message, wanted = MESSAGES[at]
-        found = self.ask(message)
-        if found != wanted:
-            fail(f"{self.row}: {where} message {at + 1} is answered {found}")
-
-    def want_end(self):
-        """It is done; or it says that the file failed, where the last message got no reply or 503,
-        or where a call failed as the file was closed."""
-        failed, last = self.failed_calls(), self.replies[-1]
-        with in_time(self.row, self.process):
-            told = self.process.communicate()[1].decode()
-        is_done = last not in (b"", REFUSED) and self.failed_calls() == failed
-        found, wanted = (self.process.returncode, told), (1, "canary: storage\n")
-        if found != ((0, "") if is_done else wanted):
-            fail(f"{self.row}: it ended with {found}, behind {len(self.replies)} replies, the last"
-                 f" of which is {last}")
-
-
-def remove(file):
-    for name in (file, file + "-wal"):
-        if os.path.exists(name):
-            os.remove(name)
-
-
-def copy(file, to):
-    remove(to)
-    for suffix in ("", "-wal"):
-        if os.path.exists(file + suffix):
-            shutil.copyfile(file + suffix, to + suffix)
-
-
-def size(file):
-    return os.path.getsize(file) if os.path.exists(file) else 0
-
-
-def told_by(row, *words, first=None):
-    """The exit status of a program, what it wrote, and what it told."""
-    try:
-        done = subprocess.run(words, capture_output=True, preexec_fn=first, timeout=SECONDS)
-    except subprocess.TimeoutExpired:
-        fail(f"{row}: {words[1]} does not end within {SECONDS} seconds")
-    return done.returncode, done.stdout.decode(), done.stderr.decode()
-
-
-def history(program, file, row):
-    return told_by(row, program, "history", "--db", file, "web")
-
-
-def standing(desk):
-    """What it tells of what is settled."""
-    return [desk.ask(question) for question in QUESTIONS]
-
-
-def next_number(caller, count):
-    """What tells a caller's next number where so many messages of the story are settled."""
-    settled = sum(told.startswith(f"{caller} ") for told, _ in STORY[:count])
-    return answer(f'409 {{"code":"ahead","expected":{settled + 1}}}')
-
-
-class Well:
-    """What the story comes to on a disk that is well: how the desk stands where so many messages
-    are settled, how long its files become, and the history."""
-
-    def __init__(self, program, file):
-        remove(file)
-        desk = Desk(program, file, "a well disk")
-        self.standings = [standing(desk)]
-        for at in range(len(MESSAGES)):
-            desk.want(at, "alone,")
-            self.standings.append(standing(desk))
-        for count, (*numbers, _) in enumerate(self.standings):
-            if numbers != [next_number(caller, count) for caller in CALLERS]:
-                fail(f"a well disk: behind {count} messages the next numbers are {numbers}")
-        self.most = max(size(file), size(file + "-wal"))
-        desk.want_end()
-        self.history = history(program, file, desk.row)
-
-
-def tell_whole(desk):
-    """Tells the whole story on a disk that is well: each answer is as it has to be."""
-    for at in range(len(MESSAGES)):
-        desk.want(at, "on a well disk")
-    desk.want_end()
-
-
-def tell_until_fault(desk, first=0):
-    """Tells the story from this message on until one is answered 503, or the desk has ended and has
-    answered nothing. The message that was not answered, and whether it was answered 503."""
-    for at in range(first, len(MESSAGES)):
-        message, wanted = MESSAGES[at]
-        found = desk.ask(message)
-        if found == REFUSED or desk.replies == [b""]:
-            return at, found == REFUSED
-        if found != wanted:
-            fail(f"{desk.row}: message {at + 1} is answered {found}")
-    return len(MESSAGES), False
-
-
-def standing_behind_503(desk, wanted):
-    """What is told behind a 503: that its message did nothing, or 503 again."""
-    found = standing(desk)
-    if any(reply not in (REFUSED, told) for reply, told in zip(found, wanted)):
-        fail(f"{desk.row}: behind a reply 503 the questions are answered {found}")
-    return found
-
-
-def tell_failing(desk, well, is_full=False):
-    """Tells the story while the disk fails, and goes on behind the first 503; a disk that was full
-    has room then. How many messages may be settled: those that were answered, and one more where
-    it ends with 503 alone, as where the book was given up."""
-    at, is_refused = tell_until_fault(desk)
-    if is_refused:
-        if is_full:
-            desk.lift()
-        standing_behind_503(desk, well.standings[at])
-        at, is_refused = tell_until_fault(desk, at)
-    if not is_refused:
-        return [at]
-    found = standing_behind_503(desk, well.standings[at])
-    is_given_up = all(reply == REFUSED for reply in found)
-    return [at, at + 1] if is_given_up else [at]
-
-
-def went_on(desk, counts):
-    """It answered 503, and then the rest of the story."""
-    return REFUSED in desk.replies and counts == [len(MESSAGES)]
-
-
-def tell_behind(program, file, row, well, counts):
-    """Behind the fault the disk is well: what was answered is there, with its reply, and the rest
-    can be sent again. How many messages were settled, which is one of these counts."""
-    desk = Desk(program, file, row)
-    for at in reversed(range(min(counts))):
-        desk.want(at, "sent again behind the fault, from the last one back,")
-    found = standing(desk)
-    settled = [count for count in counts if well.standings[count] == found]
-    if not settled:
-        fail(f"{row}: where {counts} messages may be settled the questions are answered {found}")
-    tell_whole(desk)
-    lines = history(program, file, row)
-    if lines != well.history:
-        fail(f"{row}: the history is {lines}")
-    return settled[0]
 
 
 def try_full_disk(program, folder):
@@ -421,7 +182,10 @@ def try_read_only(program, folder):
     print("disk: a file that may not be written is told as storage", file=sys.stderr)
 
 
-PARTS = (try_foreign_files, try_read_only, try_cut_files, try_full_disk, try_failing_calls)
+PARTS = (
+    try_foreign_files, try_read_only, try_cut_files, try_full_disk, try_failing_calls,
+    try_power_cuts,
+)
 
 
 def main():

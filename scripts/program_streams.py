@@ -14,7 +14,7 @@ import termios
 import time
 
 from story_words import (
-    B, Wrong, answer, blocks, command, expect, get, message, put, query, reply,
+    B, Wrong, blocks, command, expect, get, message, messages_of_story, put, query, reply,
 )
 
 STORIES = os.path.join(os.path.dirname(os.path.realpath(__file__)), "../tests/stories")
@@ -24,20 +24,6 @@ REQUEST = put("ops", 1, b"{}")
 UNREADABLE = reply("400 Bad Request", b'{"code":"unreadable"}')
 MALFORMED = reply("400 Bad Request", b'{"code":"malformed"}', "Connection: close\r\n")
 NOWHERE = (get("/nope"), reply("404 Not Found", b'{"code":"no-route"}'))
-# Requests of one moment, each with its short answer (tests/stories/README.md), as disk.py has them.
-STORY = [
-    ("ops 1 template errs m,interval=60", "[errs]"),
-    ("ops 2 service v1 setWeight:20 pause background:errs", "[web Healthy 2 100]"),
-    ("ops 3 start v2", "[web Paused 1 20]"),
-    ("agent 1 report 1 m:1:0:5", "[web Paused 1 20 | 1 Successful | Running]"),
-    ("agent 2 report 1 m:3:0:5", '422 {"at":0,"code":"out-of-turn","expected":2}'),
-    ("ops 4 tick", "[web Paused 1 20]"),
-    ("ops 5 promote", "[web Healthy 2 100]"),
-    ("ops 6 start v3", "[web Paused 1 20]"),
-    ("ops 7 abort", "[web Degraded 1 0]"),
-    ("ops 8 retry", "[web Paused 1 20]"),
-    ("ops 9 promoteFull", "[web Healthy 2 100]"),
-]
 # Where an output begins that takes some bytes more: far behind the size of a desk's file.
 FAR = 1 << 26
 
@@ -46,6 +32,23 @@ def limits_writes(most):
     """What a process does first that can write files of so many bytes at most: a full disk."""
     signal.signal(signal.SIGXFSZ, signal.SIG_IGN)
     resource.setrlimit(resource.RLIMIT_FSIZE, (most, resource.RLIM_INFINITY))
+
+
+def reply_of(process, message):
+    """The bytes with which a process answers a message; none where it has ended."""
+    try:
+        process.stdin.write(message)
+        process.stdin.flush()
+    except BrokenPipeError:
+        return b""
+    head, length = b"", 0
+    while line := process.stdout.readline():
+        head += line
+        if line.lower().startswith(b"content-length:"):
+            length = int(line.split(b":")[1])
+        if line == b"\r\n":
+            break
+    return head + process.stdout.read(length)
 
 
 def release():
@@ -57,14 +60,9 @@ def release():
 
 
 def story():
-    """The requests of STORY, each with its reply; in front of each there is no end of line, or one
-    of either kind."""
-    messages = []
-    for at, (told, wanted) in enumerate(STORY):
-        caller, number, asked = told.split(" ", 2)
-        front = (b"", b"\r\n", b"\n")[at % 3]
-        messages.append((front + put(caller, number, command(asked)), answer(wanted)))
-    return messages
+    """The messages of STORY; in front of each there is no end of line, or one of either kind."""
+    fronts = (b"", b"\r\n", b"\n")
+    return [(fronts[at % 3] + sent, told) for at, (sent, told) in enumerate(messages_of_story())]
 
 
 def joined(messages):

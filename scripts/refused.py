@@ -1,163 +1,305 @@
-"""Runs command lines of a program with one allocation refused, and a further run for each further
-one, until a run meets no refusal: refused.py PROGRAM FOLDER LIBRARY STEP [CASE..]. LIBRARY is made of
-scripts/refusing.c, and of the allocations over a file each STEP-th is refused. A command line does
-as it must, or ends with status 1 and `canary: memory`; or one message of a stream is answered 503
-`no-memory`, and all others as if that one had not been sent. Over a file the stream is then sent
-again, with nothing refused: each request has its reply."""
-import json
+"""Runs a program with one allocation refused, and once more for each further one, until a run meets
+no refusal: refused.py PROGRAM FOLDER LIBRARY STEP [CASE..]. LIBRARY is made of scripts/refusing.c,
+and of the allocations over a file each STEP-th is refused. tests/refused-allocations says what has
+to come of it."""
 import os
-import re
+import shutil
 import subprocess
 import sys
 
 sys.dont_write_bytecode = True
-from program_streams import AT_B, joined, release  # noqa: E402
-from story_words import Wrong, answer, expect  # noqa: E402
+from program_streams import STILL_AT_B, reply_of  # noqa: E402
+from story_words import Wrong, answer, expect, get, messages_of_story, query  # noqa: E402
 
-MANIFEST = b'{"kind":"Rollout","metadata":{"name":"web"},"spec":{"strategy":{"canary":{}}}}'
-HELP = os.path.join(os.path.dirname(os.path.realpath(__file__)), "../tests/cases/help.stdout")
+ROOT = os.path.join(os.path.dirname(os.path.realpath(__file__)), "..")
+MANIFESTS = ("rollouts/step-analysis.json", "templates/success-rate.json")
 MISTAKE = b"error: unexpected argument '-5' found"
-OUT_OF_MEMORY = (1, b"", b"canary: memory")
+OUT_OF_MEMORY = b"canary: memory"
+NO_MEMORY = answer("503 no-memory")
+QUERIES = [get(query(asked)) for asked in ("service web", "history web", "run web 1")]
+
+# A release of web that waits at a pause, and a measurement file of its run.
+BEGUN = messages_of_story()[:3]
+ROWS = b"""caller,number,service,run,metric,ordinal,taken,result,failure
+agent,1,web,1,m,1,1767225600,5,
+agent,2,web,1,m,3,1767225660,5,
+agent,3,web,1,m,2,1767225660,,timeout
+agent
+agent,4,web,1,m,3,1767225720,[1;2],
+"""
+REPORTED = (b'200 {"code":"ok","phases":["%s"],"run":1,"service":"web","status":"Paused","step":1,'
+            b'"verdict":"Running","weight":20}')
+TOLD = [
+    REPORTED % b"Successful",
+    b'422 {"at":0,"code":"out-of-turn","expected":2}',
+    REPORTED % b"Error",
+    b'400 {"code":"unreadable"}',
+    REPORTED % b"Successful",
+]
+# The row of the file that is no request; those before it have the numbers of their requests.
+NO_REQUEST = 4
+AHEAD = b'409 {"code":"ahead","expected":%d}'
+EXPORTED = b"""caller,number,service,run,metric,ordinal,taken,result,failure
+copy,1,web,1,m,1,1767225600,5,
+copy,2,web,1,m,2,1767225660,,timeout
+copy,3,web,1,m,3,1767225720,[1;2],
+"""
+HISTORY = b"""2026-01-01T00:00:00Z created v1
+2026-01-01T00:00:00Z start v2
+2026-01-01T00:00:00Z background run 1
+2026-01-01T00:00:00Z step 0 setWeight 20
+2026-01-01T00:00:00Z step 1 pause
+"""
+STATUS = b"""NAME  STATUS  STEP  WEIGHT          VERSION  STABLE
+web   Paused  1/2   ##-------- 20%  v2       v1
+
+RUN  SERVICE  ANALYSIS    METRIC  PHASE    COUNTED  DUE
+1    web      background  m       Running  2        2026-01-01T00:03:00Z
+"""
 
 
-def request_of(sent):
-    """The number of a request, and its command. All are of one caller."""
-    head, _, body = sent.partition(b"\r\n\r\n")
-    found = re.match(rb"PUT /callers/ops/requests/(\d+) ", head)
-    if found is None:
-        raise Wrong(f"no request of ops: {sent!r}")
-    return int(found[1]), json.loads(body)
+class Trial:
+    """A program, the library that refuses one of its allocations, and the names of its files."""
+
+    def __init__(self, program, folder, library):
+        self.program, self.library, self.counted = program, library, library + ".counted"
+        self.file, self.begun = os.path.join(folder, "book"), os.path.join(folder, "begun")
+        self.rows, self.copy = os.path.join(folder, "rows"), os.path.join(folder, "copy")
+
+    def refusing(self, number):
+        """The environment of a process whose allocation of that number is refused."""
+        return {**os.environ, "LD_PRELOAD": self.library, "REFUSED": str(number),
+                "COUNTED": self.counted}
+
+    def asked(self):
+        """How many allocations the last such process asked for."""
+        with open(self.counted, encoding="utf-8") as told:
+            return int(told.read())
+
+    def run(self, words, number=0):
+        """What a command line comes to: its exit status, the output, and the first line of standard
+        error."""
+        done = subprocess.run([self.program, *words], capture_output=True, timeout=60,
+                              stdin=subprocess.DEVNULL, env=self.refusing(number))
+        return done.returncode, done.stdout, done.stderr.split(b"\n")[0]
+
+    def converse(self, words, messages, number=0):
+        """Tells messages one after another, of which one may be answered 503 and is sent again. The
+        replies, as far as they come, and how the program ends."""
+        process = subprocess.Popen(
+            [self.program, *words], stdin=subprocess.PIPE, stdout=subprocess.PIPE,
+            stderr=subprocess.PIPE, env=self.refusing(number))
+        replies, may_be_refused = [], number > 0
+        for message in messages:
+            found = reply_of(process, message)
+            if found == NO_MEMORY and may_be_refused:
+                may_be_refused = False
+                found = reply_of(process, message)
+            if found == b"":
+                break
+            replies.append(found)
+        output, errors = process.communicate(timeout=60)
+        return replies, (process.returncode, output, errors.split(b"\n")[0])
 
 
-def settles(told):
-    """Whether a reply uses up the number of its request."""
-    return told[9:12] in (b"200", b"422")
+def refuse_each(row, step, refuse):
+    """Each STEP-th allocation in turn, until a run asks for fewer."""
+    tried, number = 0, 1
+    while refuse(number) >= number:
+        tried += 1
+        number += step
+    if tried == 0:
+        raise Wrong(f"{row}: the program asks for no memory that could be refused")
+    print(f"refused: {row}: {tried} allocations", file=sys.stderr)
 
 
-def settled_in(messages):
-    """What a conversation settles under each number: the command and its reply."""
-    settled = {}
-    for sent, told in messages:
-        number, asked = request_of(sent)
-        if settles(told):
-            settled.setdefault(number, (asked, told))
-    return settled
+def read(file):
+    with open(file, "rb") as found:
+        return found.read()
 
 
-def reply_to(number, asked, last, settled):
-    """The reply to a command under this number, where the numbers up to the last are settled as in
-    the conversation (docs/API.md, "Callers and numbers")."""
-    if number > last + 1:
-        return answer(f'409 {{"code":"ahead","expected":{last + 1}}}')
-    command, told = settled.get(number, (None, b""))
-    if asked == command:
-        return told
-    if number <= last:
-        return answer("409 reused")
-    raise Wrong(f"the conversation does not settle {asked} under {number}")
-
-
-def replies_without(messages, refused=None, last=0):
-    """The replies to a conversation, where the numbers up to the last are settled already, and that
-    one of its messages is answered 503 and does nothing; and the last number that is settled then."""
-    settled, told = settled_in(messages), []
-    for at, (sent, _) in enumerate(messages):
-        if at == refused:
-            told.append(answer("503 no-memory"))
-            continue
-        number, asked = request_of(sent)
-        told.append(reply_to(number, asked, last, settled))
-        if settles(told[-1]):
-            last = max(last, number)
-    return b"".join(told), last
-
-
-def answers_of(messages):
-    """What may answer a conversation, first as it must be, and then with each message refused; with
-    the last number that is settled then."""
-    wanted = b"".join(told for _, told in messages)
-    found = [replies_without(messages, at) for at in [None, *range(len(messages))]]
-    expect("the conversation, with nothing refused", found[0][0], wanted)
-    return found
-
-
-def told_by(program, words, given, environment=None):
-    """What a command line comes to: its exit status, the output, and the first line of standard
-    error."""
-    done = subprocess.run([program, *words], input=given, capture_output=True, timeout=60,
-                          env={**os.environ, **(environment or {})})
-    return done.returncode, done.stdout, done.stderr.split(b"\n")[0]
-
-
-def refuse(row, program, words, given, library, number, may_be):
-    """Runs a command line with the allocation of that number refused, and answers how many it asked
-    for, and what it came to."""
-    counted = f"{library}.counted"
-    if os.path.exists(counted):
-        os.remove(counted)
-    found = told_by(program, words, given,
-                    {"LD_PRELOAD": library, "REFUSED": str(number), "COUNTED": counted})
-    if found not in [*may_be, OUT_OF_MEMORY]:
-        raise Wrong(f"{row}: where allocation {number} is refused: {found!r}")
-    with open(counted, encoding="utf-8") as told:
-        return int(told.read()), found
-
-
-def refuse_each(row, program, words, given, library, may_be):
-    """Each allocation of a command line in turn; how many there are."""
-    expect(row, told_by(program, words, given), may_be[0])
-    number = 1
-    while refuse(row, program, words, given, library, number, may_be)[0] >= number:
-        number += 1
-    return number - 1
-
-
-def remove(book):
-    for name in (book, book + "-wal"):
+def remove(file):
+    for name in (file, file + "-wal"):
         if os.path.exists(name):
             os.remove(name)
 
 
-def refuse_over_a_file(program, book, messages, library, step):
-    """Each STEP-th allocation of a conversation over a new file; how many there were. Then it comes
-    again: what was settled has its reply, and what was not is settled."""
-    words, number, tried = [*AT_B, "--db", book], 1, 0
-    given, answers = joined(messages)[0], answers_of(messages)
-    lasts = {(0, told, b""): last for told, last in reversed(answers)}
-    while True:
-        remove(book)
-        asked, found = refuse("file", program, words, given, library, number, [*lasts])
-        again, _ = replies_without(messages, last=lasts.get(found, 0))
-        expect(f"a file, behind a run in which allocation {number} was refused",
-               told_by(program, words, given), (0, again, b""))
-        if asked < number:
-            return tried
-        tried += 1
-        number += step
+def copy(file, to):
+    remove(to)
+    for suffix in ("", "-wal"):
+        if os.path.exists(file + suffix):
+            shutil.copyfile(file + suffix, to + suffix)
+
+
+def is_cut_short(found, wanted):
+    """Whether memory ran out behind the first lines of what a command line has to write."""
+    status, output, told = found
+    is_part = wanted.startswith(output) and (output == b"" or output.endswith(b"\n"))
+    return is_part and (status, told) == (1, OUT_OF_MEMORY)
+
+
+def try_line(trial, row, words, wanted, step=1):
+    """A command line does as it must, or memory runs out on the way; and behind that, with nothing
+    refused, it does as it must."""
+    def refuse(number):
+        found = trial.run(words, number)
+        asked = trial.asked()
+        if not is_cut_short(found, wanted[1]):
+            expect(f"{row}: where allocation {number} is refused", found, wanted)
+        expect(f"{row}: behind a refusal of allocation {number}", trial.run(words), wanted)
+        return asked
+
+    refuse_each(row, step, refuse)
+
+
+def try_lines(trial, _):
+    """Command lines without a desk's file."""
+    with open(os.path.join(ROOT, "tests/cases/help.stdout"), "rb") as shown:
+        try_line(trial, "help", ["--help"], (0, shown.read(), b""))
+    try_line(trial, "mistake", ["pipe", "--at", "-5", "--step", "1"], (2, b"", MISTAKE))
+    for name in MANIFESTS:
+        manifest = os.path.join(ROOT, "examples", name)
+        try_line(trial, f"check {name}", ["check", manifest], (0, b"ok\n", b""))
+
+
+def expect_told(row, found, wanted):
+    """A conversation goes as it has to, or ends for memory before its first reply."""
+    if found != ([], (1, b"", OUT_OF_MEMORY)):
+        expect(row, found, (wanted, (0, b"", b"")))
+
+
+def with_queries(trial):
+    """The story, with queries between its messages, and what each is answered."""
+    messages = messages_of_story()
+    asked = [message for sent, _ in messages for message in (sent, *QUERIES)]
+    replies, end = trial.converse(STILL_AT_B, asked)
+    expect("the story, with nothing refused", (replies[::1 + len(QUERIES)], end),
+           ([told for _, told in messages], (0, b"", b"")))
+    return asked, replies
+
+
+def try_stream(trial, _):
+    """The story over a book in memory."""
+    asked, wanted = with_queries(trial)
+
+    def refuse(number):
+        found = trial.converse(STILL_AT_B, asked, number)
+        expect_told(f"stream: where allocation {number} is refused", found, wanted)
+        return trial.asked()
+
+    refuse_each("a stream", 1, refuse)
+
+
+def try_file(trial, step):
+    """The story over a new file, and then once more, with nothing refused: each request has the
+    reply that it had, or gets it now."""
+    words = [*STILL_AT_B, "--db", trial.file]
+    requests, wanted = map(list, zip(*messages_of_story()))
+
+    def refuse(number):
+        remove(trial.file)
+        found = trial.converse(words, requests, number)
+        asked = trial.asked()
+        expect_told(f"file: where allocation {number} is refused", found, wanted)
+        found = trial.converse(words, requests)
+        expect_told(f"file: behind a refusal of allocation {number}", found, wanted)
+        return asked
+
+    refuse_each("a stream over a file", step, refuse)
+
+
+def make_files(trial):
+    """The file of a desk with a release, and a measurement file of it."""
+    remove(trial.begun)
+    requests, wanted = map(list, zip(*BEGUN))
+    found = trial.converse([*STILL_AT_B, "--db", trial.begun], requests)
+    expect("a release", found, (wanted, (0, b"", b"")))
+    with open(trial.rows, "wb") as rows:
+        rows.write(ROWS)
+
+
+def lines_of(refused=None):
+    """The lines of an import, of which that row is answered 503: those behind it are ahead then."""
+    lines = []
+    for number, told in enumerate(TOLD, 1):
+        if number == refused:
+            told = b'503 {"code":"no-memory"}'
+        elif refused is not None and refused < NO_REQUEST and number > refused:
+            told = told if number == NO_REQUEST else AHEAD % refused
+        lines.append(b"%d %s\n" % (number, told))
+    return b"".join(lines)
+
+
+def try_import(trial, step):
+    """A measurement file is imported: one row may be answered 503; and once more, with nothing
+    refused."""
+    make_files(trial)
+    words = ["import", "--db", trial.file, trial.rows]
+    may_be = [(0, lines_of(row), b"") for row in (None, 1, 2, 3, 4, 5)]
+
+    def refuse(number):
+        copy(trial.begun, trial.file)
+        found = trial.run(words, number)
+        asked = trial.asked()
+        if found not in may_be and not is_cut_short(found, lines_of()):
+            raise Wrong(f"import: where allocation {number} is refused: {found!r}")
+        expect(f"import: behind a refusal of allocation {number}", trial.run(words), may_be[0])
+        return asked
+
+    refuse_each("an import", step, refuse)
+
+
+def try_shown(trial, step):
+    """What the programs show of the file of a desk with measurements."""
+    make_files(trial)
+    copy(trial.begun, trial.file)
+    expect("an import", trial.run(["import", "--db", trial.file, trial.rows]), (0, lines_of(), b""))
+    of_file = ["--db", trial.file]
+    for row, words, shown in (
+            ("export", ["export", *of_file, "--caller", "copy", "web"], EXPORTED),
+            ("history", ["history", *of_file, "web"], HISTORY),
+            ("status", ["status", *of_file], STATUS)):
+        try_line(trial, row, words, (0, shown, b""), step)
+
+
+def try_backup(trial, _):
+    """A copy of a desk's file is made, or there is none."""
+    make_files(trial)
+    words = ["backup", "--db", trial.begun, trial.copy]
+    folder = os.path.dirname(trial.copy)
+
+    def refuse(number):
+        remove(trial.copy)
+        before = sorted(os.listdir(folder))
+        found = trial.run(words, number)
+        asked = trial.asked()
+        if found == (0, b"", b""):
+            for suffix in ("", "-wal"):
+                expect(f"backup: a copy{suffix}", read(trial.copy + suffix),
+                       read(trial.begun + suffix))
+        else:
+            expect(f"backup: where allocation {number} is refused", found, (1, b"", OUT_OF_MEMORY))
+            left = [name for name in sorted(os.listdir(folder)) if not name.endswith(".counted")]
+            expect("backup: what is left", left,
+                   [name for name in before if not name.endswith(".counted")])
+        return asked
+
+    refuse_each("backup", 1, refuse)
+
+
+CASES = (try_lines, try_stream, try_file, try_import, try_shown, try_backup)
 
 
 def main():
     program, folder, library, step, *wanted = sys.argv[1:]
-    messages = release()
-    stream = joined(messages)[0]
-    answered = [(0, told, b"") for told, _ in answers_of(messages)]
-    with open(HELP, "rb") as shown:
-        text = shown.read()
-    cases = {
-        "check": (["check", "/dev/stdin"], MANIFEST, [(0, b"ok\n", b"")]),
-        "help": (["--help"], b"", [(0, text, b"")]),
-        "mistake": (["pipe", "--at", "-5", "--step", "1"], b"", [(2, b"", MISTAKE)]),
-        "stream": (AT_B, stream, answered),
-    }
+    unknown = set(wanted) - {case.__name__ for case in CASES}
+    if unknown:
+        sys.exit(f"refused: there is no case {' '.join(sorted(unknown))}")
+    trial = Trial(program, folder, library)
     try:
-        for row, (words, given, may_be) in cases.items():
-            if not wanted or row in wanted:
-                count = refuse_each(row, program, words, given, library, may_be)
-                print(f"refused: {row}: {count} allocations in turn", file=sys.stderr)
-        if not wanted or "file" in wanted:
-            book = os.path.join(folder, "book")
-            count = refuse_over_a_file(program, book, messages, library, int(step))
-            print(f"refused: a stream over a file: {count} allocations", file=sys.stderr)
+        for case in CASES:
+            if not wanted or case.__name__ in wanted:
+                case(trial, int(step))
     except (Wrong, subprocess.TimeoutExpired) as fault:
         sys.exit(f"refused: {fault}")
 

@@ -11,6 +11,21 @@ REASONS = {
     503: "Service Unavailable",
 }
 
+# The nine commands at one moment, by two callers, each with its short answer.
+STORY = [
+    ("ops 1 template errs m,interval=60", "[errs]"),
+    ("ops 2 service v1 setWeight:20 pause background:errs", "[web Healthy 2 100]"),
+    ("ops 3 start v2", "[web Paused 1 20]"),
+    ("agent 1 report 1 m:1:0:5", "[web Paused 1 20 | 1 Successful | Running]"),
+    ("agent 2 report 1 m:3:0:5", '422 {"at":0,"code":"out-of-turn","expected":2}'),
+    ("ops 4 tick", "[web Paused 1 20]"),
+    ("ops 5 promote", "[web Healthy 2 100]"),
+    ("ops 6 start v3", "[web Paused 1 20]"),
+    ("ops 7 abort", "[web Degraded 1 0]"),
+    ("ops 8 retry", "[web Paused 1 20]"),
+    ("ops 9 promoteFull", "[web Healthy 2 100]"),
+]
+
 # What a line `background` or `analysis` of a story stands for.
 LINES = {
     "background": [
@@ -198,6 +213,15 @@ def answer(told):
     if told[0] not in "[{":
         status, told = told.split(" ", 1)
     return reply(f"{int(status)} {REASONS[int(status)]}", body(told))
+
+
+def messages_of_story():
+    """The requests of STORY, each with its reply."""
+    messages = []
+    for told, wanted in STORY:
+        caller, number, asked = told.split(" ", 2)
+        messages.append((put(caller, number, command(asked)), answer(wanted)))
+    return messages
 
 
 class Wrong(Exception):

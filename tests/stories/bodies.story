@@ -1,4 +1,4 @@
-bodies 222
+bodies 268
 
 # Bodies; other members and kinds; names and labels; and at the end what is unsupported before it is
 # unreadable, which holds in a body of one member alone. Then bytes: blanks round a body, blanks
@@ -42,6 +42,18 @@ unreadable {"promote":{"service":"we_b"}}
 reads {"start":{"service":"web","version":"<<63*v>>"}}
 unreadable {"start":{"service":"web","version":"<<64*v>>"}}
 
+# More names and labels, and the members of a service.
+between ...
+reads {"promote":{"service":"a--b"}}
+unreadable {"promote":{"service":"we.b"}}
+unreadable {"start":{"service":"web","version":"v1+2"}}
+unreadable {"start":{"service":"web","version":null}}
+unreadable {"service":{"manifest":{"metadata":{"name":"web"},"spec":{"strategy":{"canary":{}}}}}}
+unreadable {"service":{"manifest":{"metadata":{"name":"web"},"spec":{"strategy":{"canary":{}}}},
+    "version":"v1","x":null}}
+reads {"service":{"manifest":{"apiVersion":"apps/v1","metadata":{"name":"web"},
+    "spec":{"strategy":{"canary":{}}}},"version":"v1"}}
+
 # Commands that have a service alone, each with it, and with one member more.
 between ...
 reads {"promoteFull":{"service":"web"}}
@@ -78,6 +90,10 @@ unreadable "spec":{"metrics":[{"name":"m"}<<32*,{"name":"m"}>>]}
 reads "spec":{"metrics":[{"name":"m"}],"dryRun":[{"metricName":"<<63*a>>"}]}
 unreadable "spec":{"metrics":[{"name":"m"}],"dryRun":[{"metricName":"<<64*a>>"}]}
 unreadable "spec":{"metrics":[{"name":"m"}],"dryRun":[{"metricName":"<<32*é>>"}]}
+unreadable "spec":{"metrics":[null]}
+unreadable "spec":{"metrics":[{"name":"m"}],"dryRun":[null]}
+unsupported "spec":{"metrics":[{"name":"m"},{"consecutiveSuccessLimit":1}]}
+unsupported "kind":"analysistemplate","spec":{"metrics":[{"name":"m"}]}
 
 # Those of a metric.
 between {"template":{"metadata":{"name":"t"},"spec":{"metrics":[{"name":"success-rate", ... }]}}}
@@ -114,6 +130,33 @@ reads "consecutiveSuccessLimit":null
 unreadable "name":"success rate"
 reads "name":"Success_rate.p99"
 
+# The forms of durations, counts and limits: nothing is trimmed, and a sign stands in a failure
+# limit below 0 alone, however long its text is.
+between {"template":{"metadata":{"name":"t"},"spec":{"metrics":[{"name":"m", ... }]}}}
+unreadable "interval":"1H"
+unreadable "interval":"1d"
+unreadable "interval":"+1m"
+unreadable "interval":" 1m"
+unreadable "interval":"1m "
+unreadable "interval":"1h 30m"
+unreadable "interval":"m"
+unreadable "interval":"1m30"
+reads "interval":"007m"
+reads "interval":null
+unreadable "count":""
+unreadable "count":"+5"
+unreadable "count":" 5"
+unreadable "count":"-0"
+reads "count":"007"
+unreadable "count":1e1
+unreadable "failureLimit":""
+unreadable "failureLimit":"-0"
+unreadable "failureLimit":-0
+unreadable "failureLimit":" -1"
+unreadable "failureLimit":-99999999999999999999
+unsupported "failureLimit":"-99999999999999999999"
+unreadable "consecutiveErrorLimit":-1
+
 # Those of an entry of a report.
 between {"report":{"service":"web","run":1,"entries":[{"metric":"m", ... }]}}
 reads "ordinal":1,"taken":1767225600,"result":5
@@ -149,6 +192,7 @@ reads "result":9223372036854775807
 unreadable "result":9223372036854775808
 reads "result":-9223372036854775808
 unreadable "result":-9223372036854775809
+unreadable "result":true
 reads "failure":"no data"
 unreadable "failure":""
 unreadable "failure":null
@@ -204,6 +248,10 @@ unsupported "kind":"AnalysisTemplate","spec":{"strategy":{"canary":{}}}
 unsupported "kind":["Rollout"]
 unsupported "spec":{"paused":true,"strategy":{"canary":{}}}
 unsupported "spec":{"strategy":{"blueGreen":{}}}
+unsupported "spec":{"strategy":{"blueGreen":false,"canary":{}}}
+unsupported "kind":"rollout","spec":{"strategy":{"canary":{}}}
+reads "spec":{"paused":"true","strategy":{"canary":{}}}
+reads "spec":{"paused":1,"strategy":{"canary":{}}}
 unsupported "spec":{"strategy":{"canary":{"analysis":{"dryRun":[{"metricName":"m"}]}}}}
 unsupported "spec":{"strategy":{"canary":{"analysis":{"measurementRetention":{}}}}}
 unsupported "spec":{"strategy":{"canary":{"analysis":{"templates":[{"templateName":"t"},
@@ -242,6 +290,8 @@ unreadable {"pause":{"duration":31536001}}
 unreadable {"pause":{"duration":"5x"}}
 unreadable {"pause":{"duration":""}}
 unreadable {"pause":{"duration":-1}}
+unreadable {"pause":{"duration":"31536001"}}
+unreadable {"pause":{"duration":"8760h1s"}}
 reads {"pause":{"duration":null}}
 unreadable {"pause":[]}
 unreadable {}
@@ -254,6 +304,8 @@ unsupported {"setWeight":20,"analysis":{"dryRun":[{}]}}
 unsupported {"analysis":{"measurementRetention":[{}]}}
 unsupported {"analysis":{"templates":[{"clusterScope":true}]}}
 unreadable {"analysis":{"templates":[{"clusterScope":false}]}}
+reads {"analysis":{"templates":[{"templateName":"t","clusterScope":"true"}]}}
+unsupported {"pause":{}},{"experiment":{}}
 
 # Pairs that are the same command. Of two members of one name the last counts.
 same
@@ -278,3 +330,21 @@ same
 {"report":{"service":"web","run":1,"entries":[{"metric":"m","ordinal":1,"taken":0,"result":[1,0]}]}}
      = {"report":{"entries":[{"result":[ 1, 0 ],"taken":0,"ordinal":1,"metric":"m"}],"run":1,
     "service":"web"}}
+
+# What is left out, empty or null is what it stands for.
+same
+{"template":{"metadata":{"name":"t"},"spec":{"metrics":[{"name":"m"}]}}}
+     = {"template":{"metadata":{"name":"t"},"spec":{"metrics":[{"name":"m","interval":"",
+    "initialDelay":null,"count":"0","successCondition":"","failureCondition":null,
+    "failureLimit":"0","inconclusiveLimit":0,"consecutiveErrorLimit":"4"}],"dryRun":null}}}
+{"template":{"metadata":{"name":"t"},"spec":{"metrics":[
+    {"name":"m","failureCondition":"result > 1"}]}}}
+     = {"template":{"metadata":{"name":"t"},"spec":{"metrics":[{"name":"m","interval":null,
+    "count":0,"successCondition":"","failureCondition":"result > 1","initialDelay":"0s"}],
+    "dryRun":[]}}}
+{"service":{"manifest":{"metadata":{"name":"web"},"spec":{"strategy":{"canary":{"steps":[
+    {"pause":{"duration":0}},{"pause":{"duration":300}}],
+    "analysis":{"templates":[{"templateName":"t"}]}}}}},"version":"v1"}}
+     = {"service":{"manifest":{"metadata":{"name":"web"},"spec":{"strategy":{"canary":{"steps":[
+    {"pause":{"duration":"0s"}},{"pause":{"duration":"0300"}}],
+    "analysis":{"templates":[{"templateName":"t"}],"startingStep":0}}}}},"version":"v1"}}

@@ -1,4 +1,4 @@
-conditions 160
+conditions 171
 
 # Conditions of success and failure, a result and its phase.
 phases
@@ -50,6 +50,10 @@ result[0] > 0 || result[9] > 0 =>  => [0] => Error
 result > 0 && result[0] > 0 =>  => 1 => Error
 0 < result =>  => [1] => Error
 result [ 01 ] == 2 =>  => [1;2] => Successful
+result > 10 => result[1] < 5 => 4 => Error
+result[9] != 0 =>  => [1] => Error
+result[0] == result[1] =>  => [5;5] => Successful
+result[0] == result[1] =>  => [5;6] => Failed
 
 # Texts that are no condition.
 refused
@@ -68,6 +72,9 @@ result > -9223372036854775809
 result<<x:0c>>> 1
 Result > 1
 result > 1 AND result < 5
+result[9223372036854775808] > 0
+result > 1and result < 5
+result > -1a
 
 # Texts that are no condition, the byte where each stops being one, and what is expected there.
 stops
@@ -113,6 +120,13 @@ result > -9223372036854775808
 <<1021*!>>0<1
 <<101*result>0||>>result >= 0000
 <<32*(>>result>0<<32*)>>
+
+# A place in the list is any number of 64 bits, and brackets count while they are open.
+accepted
+result[16] > 0
+result[9223372036854775807] > 0
+<<32*(>>result[0]>0<<32*)>>
+<<33*(result>0)||>>result>0
 
 # Texts that are nested too deep, or too long.
 refused

@@ -1,4 +1,4 @@
-histories 46
+histories 53
 
 # Each reply, and the lines that its request adds to the history of web. The last promotion of the
 # first comes with an earlier moment.
@@ -57,3 +57,13 @@ histories 46
 0 service v1 setWeight:10 analysis:t setWeight:60 pause => [web Healthy 4 100] => 0 created v1;
 0 start v2 => [web Progressing 1 10] => 0 start v2;0 step 0 setWeight 10;0 step 1 analysis run 1;
 0 promoteFull => [web Healthy 4 100] => 0 promote full;0 run 1 Successful ended;0 done v2;
+
+# An abort is told behind what time has brought by then, and a run that time ends where it does.
+0 service v1 pause:10 pause => [web Healthy 2 100] => 0 created v1;
+0 start v2 => [web Paused 0 0] => 0 start v2;0 step 0 pause 10s;
+20 abort => [web Degraded 1 0] => 10 step 1 pause;20 abort;
+
+0 template t m,interval=60 => [t] => nothing
+0 service v1 pause:10 background:t => [web Healthy 1 100] => 0 created v1;
+0 start v2 => [web Paused 0 0] => 0 start v2;0 background run 1;0 step 0 pause 10s;
+20 tick => [web Healthy 1 100] => 10 run 1 Successful ended;10 done v2;

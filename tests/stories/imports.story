@@ -1,4 +1,4 @@
-imports 76
+imports 94
 
 # Rows that are no request, all in one file.
 rows
@@ -42,6 +42,19 @@ agent,2,web,1,m,1,1767225600,,<<200*a>> => 409 {"code":"ahead","expected":1}
 agent,1,web,1,m,1,1767225600,,<<101*é>> => 400 unreadable
 agent,1,web,1,m,1,1767225600,,a<<x:ff>> => 400 unreadable
 
+# Forms of a name, a number and a result. Nothing is trimmed: a space alone is a failure's text.
+rows
+,1,web,1,m,1,1767225600,5, => 400 bad-name
+agent,,web,1,m,1,1767225600,5, => 400 bad-number
+agent,+1,web,1,m,1,1767225600,5, => 400 bad-number
+agent,1,web,1,m,1,1767225600,+5, => 400 unreadable
+agent,1,web,1,m,1,1767225600,-05, => 400 unreadable
+agent,1,web,1,m,1,1767225600,[1;-0], => 400 unreadable
+agent,1,web,1,m,1,1767225600,[1;], => 400 unreadable
+agent,1,web,1,m,1,1767225600, 5, => 400 unreadable
+agent,1,web,1,m,1,+1767225600,5, => 400 unreadable
+agent,2,web,1,m,1,1767225600,,  => 409 {"code":"ahead","expected":1}
+
 # Rows that are one: in quotes, with quotes and ends of line in a failure, with empty lines between
 # them, ahead, again, and refused; and at the end a quote that nothing closes.
 rows
@@ -69,6 +82,7 @@ caller,number,service,run,metric,ordinal,taken,result,failure
 <<x:efbbbf>>caller,number,service,run,metric,ordinal,taken,result,failure|
 "caller","number","service","run","metric","ordinal","taken","result","failure"|
 |caller,number,service,run,metric,ordinal,taken,result,failure||
+caller,number,service,run,metric,ordinal,taken,result,failure<<x:0d>>
 
 # Files whose first record is not the header.
 other headers
@@ -95,3 +109,14 @@ ops 6 60 retry => [web Progressing 0 0]
 agent 4 120 report 4 a:1:120:-7 => [web Progressing 0 0 | 4 Successful | Running]
 copy,1,web,1,m,1,1767225600,5,|copy,2,web,2,b,1,1767225600,[1;-2],|
     copy,3,web,1,m,2,1767225660,,"timed,""out"""|copy,4,web,4,a,1,1767225720,-7,|
+
+# The measurements of one report, in the order of its entries, and not in that of the run's metrics;
+# a refused report leaves no row.
+export
+ops 1 0 template errs m,interval=60 => [errs]
+ops 2 0 template t a b => [t]
+ops 3 0 service v1 analysis:t background:errs => [web Healthy 1 100]
+ops 4 0 start v2 => [web Progressing 0 0]
+agent 1 0 report 2 a:1:0:9 x:1:0:9 => 422 {"at":1,"code":"unknown-metric"}
+agent 2 0 report 2 b:1:0:2 a:1:0:1 => [web Healthy 1 100 | 2 Successful Successful | Successful]
+copy,1,web,2,b,1,1767225600,2,|copy,2,web,2,a,1,1767225600,1,|

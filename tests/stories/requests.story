@@ -1,4 +1,4 @@
-desk 266
+desk 422
 
 # A doubled promotion acts once, a number ahead and another command under an old number change
 # nothing, and each kept reply comes again.
@@ -121,6 +121,28 @@ agent 1 0 report 1 m:1:0:7 => [web Progressing 1 10 | 1 Inconclusive | Running]
 agent 2 10 report 1 m:2:10:11 => [web Paused 3 60 | 1 Successful | Successful]
 
 
+# Failed and inconclusive measurements are counted over the whole run, in a row or not, each kind
+# against its own limit.
+ops 1 0 template t m,success=result==0,count=4,interval=10,failureLimit=1 => [t]
+analysis
+agent 1 0 report 1 m:1:0:1 => [web Progressing 1 10 | 1 Failed | Running]
+agent 2 10 report 1 m:2:10:0 => [web Progressing 1 10 | 1 Successful | Running]
+agent 3 20 report 1 m:3:20:1 => [web Degraded 1 0 | 1 Failed | Failed]
+
+ops 1 0 template t m,success=result>10,failure=result<5,count=4,interval=10,inconclusiveLimit=1 => [t]
+analysis
+agent 1 0 report 1 m:1:0:7 => [web Progressing 1 10 | 1 Inconclusive | Running]
+agent 2 10 report 1 m:2:10:11 => [web Progressing 1 10 | 1 Successful | Running]
+agent 3 20 report 1 m:3:20:7 => [web Paused 1 10 | 1 Inconclusive | Inconclusive]
+
+ops 1 0 template t m,success=result>10,failure=result<5,count=3,interval=10,
+    failureLimit=1,inconclusiveLimit=1 => [t]
+analysis
+agent 1 0 report 1 m:1:0:7 => [web Progressing 1 10 | 1 Inconclusive | Running]
+agent 2 10 report 1 m:2:10:3 => [web Progressing 1 10 | 1 Failed | Running]
+agent 3 20 report 1 m:3:20:11 => [web Paused 3 60 | 1 Successful | Successful]
+
+
 # One bad metric closes a run, whatever the others wait for.
 ops 1 0 template t a,success=result>10,failure=result<5 b => [t]
 analysis
@@ -149,12 +171,66 @@ ops 2 0 service v1 analysis:t => 422 endless-metric
 ops 3 0 service v1 background:t => [web Healthy 0 100]
 
 
+# A count of 0 is as if none were given.
+ops 1 0 template t m,count=0 => [t]
+analysis
+agent 1 0 report 1 m:1:0:5 => [web Paused 3 60 | 1 Successful | Successful]
+
+ops 1 0 template t m,count=0,interval=60 => [t]
+ops 2 0 service v1 analysis:t => 422 endless-metric
+
+
 # `.*` marks the metrics of its own template alone.
 ops 1 0 template t m,success=result==0 => [t]
 ops 2 0 template u n dryRun:.* => [u]
 ops 3 0 service v1 analysis:t+u => [web Healthy 1 100]
 ops 4 0 start v2 => [web Progressing 0 0]
 agent 1 0 report 1 m:1:0:1 => [web Degraded 0 0 | 1 Failed | Failed]
+
+
+# A name marks the metric of exactly that name; each name counts, and `.*` wherever it stands.
+ops 1 0 template t m,success=result==0 mm,success=result==0 dryRun:m => [t]
+analysis
+agent 1 0 report 1 m:1:0:1 mm:1:0:1 => [web Degraded 1 0 | 1 Failed Failed | Failed]
+
+ops 1 0 template t a,success=result==0 b,success=result==0 c dryRun:a dryRun:b => [t]
+analysis
+agent 1 0 report 1 a:1:0:1 b:1:0:1 c:1:0:1 =>
+     [web Paused 3 60 | 1 Failed Failed Successful | Successful]
+
+ops 1 0 template t a,success=result==0 b,success=result==0 dryRun:a dryRun:.* dryRun:a => [t]
+analysis
+agent 1 0 report 1 a:1:0:1 b:1:0:1 => [web Paused 3 60 | 1 Failed Failed | Successful]
+
+ops 1 0 template t m dryRun:m.* => 422 bad-dry-run
+ops 2 0 template t m dryRun:M => 422 bad-dry-run
+ops 3 0 template t m M => [t]
+
+
+# A dry-run metric that is Inconclusive or Error closes no run, and is completed: it takes no more
+# measurements. The verdict of a run that is ended from outside passes over it, too.
+ops 1 0 template t d,success=result>10,failure=result<5 e,count=2,interval=10 dryRun:d => [t]
+analysis
+agent 1 0 report 1 d:1:0:7 e:1:0:1 => [web Progressing 1 10 | 1 Inconclusive Successful | Running]
+agent 2 10 report 1 d:2:10:7 => 422 {"at":0,"code":"metric-closed"}
+agent 3 10 report 1 e:2:10:1 => [web Paused 3 60 | 1 Successful | Successful]
+
+ops 1 0 template t d,consecutiveErrorLimit=0 e,count=2,interval=10 dryRun:d => [t]
+analysis
+agent 1 0 report 1 d:1:0:!down e:1:0:1 => [web Progressing 1 10 | 1 Error Successful | Running]
+agent 2 10 report 1 d:2:10:5 => 422 {"at":0,"code":"metric-closed"}
+agent 3 10 report 1 e:2:10:1 => [web Paused 3 60 | 1 Successful | Successful]
+
+ops 1 0 template t d,success=result==0 e,count=2,interval=10 dryRun:d => [t]
+analysis
+agent 1 0 report 1 d:1:0:1 e:1:0:1 => [web Progressing 1 10 | 1 Failed Successful | Running]
+ops 4 5 promoteFull => [web Healthy 4 100]
+? 5 run web 1 => {"closed":1767225605,"code":"ok","metrics":[
+    {"consecutive":0,"counted":1,"dryRun":true,"due":null,"errors":0,"failed":1,
+    "inconclusive":0,"measurements":1,"name":"d","phase":"Failed"},
+    {"consecutive":0,"counted":1,"dryRun":false,"due":null,"errors":0,"failed":0,
+    "inconclusive":0,"measurements":1,"name":"e","phase":"Successful"}
+    ],"run":1,"service":"web","started":1767225600,"step":1,"verdict":"Successful"}
 
 
 # Releases without a run: pauses that end by themselves, aborts, refusals, and moments that fall.
@@ -190,6 +266,13 @@ ops 6 0 start v2 => [web Healthy 64 100]
 ops 7 1 start v2 => 422 already-stable
 
 
+# The weight is the last one that a step has set, and not the greatest.
+ops 1 0 service v1 setWeight:50 pause setWeight:20 pause setWeight:0 pause => [web Healthy 6 100]
+ops 2 0 start v2 => [web Paused 1 50]
+ops 3 0 promote => [web Paused 3 20]
+ops 4 0 promote => [web Paused 5 0]
+
+
 # Why templates and services are refused, in order; and measurements that no run takes.
 ops 1 0 template t m,success=result> => 422 bad-condition
 ops 2 0 template t m n,success=result>1,failure=result> => 422 bad-condition
@@ -209,6 +292,34 @@ agent 1 0 report 1 a:1:0:5 => [web Progressing 1 10 | 1 Successful | Running]
 agent 2 0 report 1 b:1:0:5 b:2:0:5 => 422 {"at":1,"code":"repeated-metric"}
 agent 3 10 report 1 a:2:10:5 => 422 {"at":0,"code":"metric-closed"}
 agent 4 10 report 1 b:1:0:5 => [web Progressing 1 10 | 1 Successful | Running]
+
+
+# The place of a bad entry, whatever it is refused for; none of its report is recorded.
+ops 1 0 template t a,interval=10,count=3 b,interval=10,count=3 c => [t]
+analysis
+agent 1 0 report 1 a:1:0:1 b:1:0:1 c:1:0:1 =>
+     [web Progressing 1 10 | 1 Successful Successful Successful | Running]
+agent 2 10 report 1 a:2:10:1 c:2:10:1 => 422 {"at":1,"code":"metric-closed"}
+agent 3 10 report 1 a:2:10:1 b:1:10:1 => 422 {"at":1,"code":"recorded"}
+agent 4 10 report 1 a:2:10:1 b:3:10:1 => 422 {"at":1,"code":"out-of-turn","expected":2}
+agent 5 10 report 1 a:2:10:1 b:2:11:1 => 422 {"at":1,"code":"future"}
+agent 6 10 report 1 a:2:10:1 b:2:9:1 => 422 {"at":1,"code":"too-early","due":1767225610}
+agent 7 10 report 1 a:2:10:1 b:2:10:1 => [web Progressing 1 10 | 1 Successful Successful | Running]
+
+
+# Phases stand in the order of the report's entries, and not in that of the run's metrics.
+ops 1 0 template t a,success=result>10,failure=result<5 b,success=result==0 => [t]
+analysis
+agent 1 0 report 1 b:1:0:1 a:1:0:7 => [web Degraded 1 0 | 1 Failed Inconclusive | Failed]
+
+
+# A run of an attempt before this one is closed, and not unknown.
+ops 1 0 template t m => [t]
+analysis
+ops 4 0 abort => [web Degraded 1 0]
+ops 5 0 retry => [web Progressing 1 10]
+agent 1 0 report 1 m:1:0:5 => 422 run-closed
+agent 2 0 report 2 m:1:0:5 => [web Paused 3 60 | 2 Successful | Successful]
 
 
 # Conditions on lists, errors that abort from a step, a background run that ends well, and a pause
@@ -255,6 +366,19 @@ ops 3 1 promote => [web Healthy 1 100]
     "2026-01-01T00:00:09Z done v2"],"service":"web"}
 
 
+# A service that is done or aborted has a last moment, too.
+ops 1 0 service v1 pause => [web Healthy 1 100]
+ops 2 100 tick => [web Healthy 1 100]
+ops 3 50 start v2 => [web Paused 0 0]
+ops 4 50 abort => [web Degraded 0 0]
+ops 5 200 tick => [web Degraded 0 0]
+ops 6 150 retry => [web Paused 0 0]
+? 0 history web => {"code":"ok","lines":[
+    "2026-01-01T00:00:00Z created v1","2026-01-01T00:01:40Z start v2",
+    "2026-01-01T00:01:40Z step 0 pause","2026-01-01T00:01:40Z abort",
+    "2026-01-01T00:03:20Z retry v2","2026-01-01T00:03:20Z step 0 pause"],"service":"web"}
+
+
 # A service is refused for the first cause that one of its analyses has: a metric twice, then a
 # template that is not there, then a metric without end, in a dry run too, then what else is wrong
 # with its steps. A metric of the background may have no end.
@@ -270,6 +394,14 @@ ops 9 0 service v1 analysis:t setWeight:101 => 422 bad-strategy
 ops 10 0 service v1 analysis:t background:dry => [web Healthy 1 100]
 
 
+# Templates and services have names of their own. A template that is not there goes before all that
+# is wrong with the steps, and before too many templates.
+ops 1 0 service v1 => [web Healthy 0 100]
+ops 2 0 template web m => [web]
+ops 3 0 on api service v1 analysis:a+b+c+d+e+f+g+h+i => 422 unknown-template
+ops 4 0 on api service v1 65*pause background:a => 422 unknown-template
+
+
 # A request is judged at the service's last moment where its own is earlier.
 ops 1 0 template errs m,interval=60 => [errs]
 background
@@ -277,6 +409,40 @@ ops 4 100 tick => [web Paused 1 20]
 agent 1 50 report 1 m:1:90:5 => [web Paused 1 20 | 1 Successful | Running]
 agent 2 60 report 1 m:2:160:5 => 422 {"at":0,"code":"future"}
 agent 3 40 report 1 m:2:100:5 => 422 {"at":0,"code":"too-early","due":1767225750}
+
+
+# A command finds the release as time has left it by then, and a refusal leaves it as it was.
+ops 1 0 service v1 pause:10 => [web Healthy 1 100]
+ops 2 0 start v2 => [web Paused 0 0]
+ops 3 9 start v3 => 422 in-progress
+ops 4 10 abort => 422 not-in-progress
+ops 5 10 promoteFull => 422 not-in-progress
+ops 6 10 start v2 => 422 already-stable
+ops 7 9 tick => [web Paused 0 0]
+ops 8 10 start v3 => [web Paused 0 0]
+? 10 service web => {"code":"ok","hold":"none","moment":1767225610,"open":[],"runs":0,
+    "service":"web","stable":"v2","status":"Paused","step":0,"version":"v3","weight":0}
+
+
+# A run that time ends takes no report from that moment on, and a refused report leaves it open.
+ops 1 0 template errs m,interval=5 => [errs]
+ops 2 0 service v1 pause:10 background:errs => [web Healthy 1 100]
+ops 3 0 start v2 => [web Paused 0 0]
+agent 1 10 report 1 m:1:5:5 => 422 run-closed
+agent 2 9 report 1 m:1:9:5 => [web Paused 0 0 | 1 Successful | Running]
+ops 4 25 tick => [web Healthy 1 100]
+? 25 run web 1 => {"closed":1767225610,"code":"ok","metrics":[
+    {"consecutive":0,"counted":1,"dryRun":false,"due":null,"errors":0,"failed":0,
+    "inconclusive":0,"measurements":1,"name":"m","phase":"Successful"}
+    ],"run":1,"service":"web","started":1767225600,"step":null,"verdict":"Successful"}
+
+
+# Another command under an old number passes no time.
+ops 1 0 service v1 pause:10 pause => [web Healthy 2 100]
+ops 2 0 start v2 => [web Paused 0 0]
+ops 2 50 abort => 409 reused
+? 5 service web => {"code":"ok","hold":"none","moment":1767225605,"open":[],"runs":0,
+    "service":"web","stable":"v1","status":"Paused","step":0,"version":"v2","weight":0}
 
 
 # A background run opens where its step is entered, and never behind the last step.
@@ -299,12 +465,73 @@ ops 4 0 promote => [web Healthy 1 100]
 agent 1 0 report 1 m:1:0:5 => 422 unknown-run
 
 
+# A background run that opens as time passes starts at the moment at which its step is entered.
+ops 1 0 template errs m,interval=60 => [errs]
+ops 2 0 service v1 pause:10 pause background:errs@1 => [web Healthy 2 100]
+ops 3 0 start v2 => [web Paused 0 0]
+ops 4 25 tick => [web Paused 1 0]
+agent 1 25 report 1 m:1:9:5 => 422 {"at":0,"code":"too-early","due":1767225610}
+agent 2 25 report 1 m:1:10:5 => [web Paused 1 0 | 1 Successful | Running]
+? 25 run web 1 => {"closed":null,"code":"ok","metrics":[
+    {"consecutive":0,"counted":1,"dryRun":false,"due":1767225670,"errors":0,"failed":0,
+    "inconclusive":0,"measurements":1,"name":"m","phase":"Running"}
+    ],"run":1,"service":"web","started":1767225610,"step":null,"verdict":"Running"}
+
+
+# While a step is held, a background run that ends well changes nothing, and one that fails aborts.
+# Where the step alone is held, its promotion leaves the background run open.
+ops 1 0 template t m,success=result>10,failure=result<5 => [t]
+ops 2 0 template bg g,success=result>10,failure=result<5 => [bg]
+ops 3 0 service v1 setWeight:10 analysis:t pause background:bg => [web Healthy 3 100]
+ops 4 0 start v2 => [web Progressing 1 10]
+agent 1 0 report 2 m:1:0:7 => [web Paused 1 10 | 2 Inconclusive | Inconclusive]
+agent 2 0 report 1 g:1:0:11 => [web Paused 1 10 | 1 Successful | Successful]
+? 0 service web => {"code":"ok","hold":"step","moment":1767225600,"open":[],"runs":2,
+    "service":"web","stable":"v1","status":"Paused","step":1,"version":"v2","weight":10}
+ops 5 0 promote => [web Paused 2 10]
+
+ops 1 0 template t m,success=result>10,failure=result<5 => [t]
+ops 2 0 template bg g,success=result>10,failure=result<5 => [bg]
+ops 3 0 service v1 setWeight:10 analysis:t pause background:bg => [web Healthy 3 100]
+ops 4 0 start v2 => [web Progressing 1 10]
+agent 1 0 report 2 m:1:0:7 => [web Paused 1 10 | 2 Inconclusive | Inconclusive]
+agent 2 0 report 1 g:1:0:3 => [web Degraded 1 0 | 1 Failed | Failed]
+? 0 service web => {"code":"ok","hold":"none","moment":1767225600,"open":[],"runs":2,
+    "service":"web","stable":"v1","status":"Degraded","step":1,"version":"v2","weight":0}
+
+ops 1 0 template t m,success=result>10,failure=result<5 => [t]
+ops 2 0 template bg g,interval=60 => [bg]
+ops 3 0 service v1 analysis:t pause background:bg => [web Healthy 2 100]
+ops 4 0 start v2 => [web Progressing 0 0]
+agent 1 0 report 2 m:1:0:7 => [web Paused 0 0 | 2 Inconclusive | Inconclusive]
+ops 5 0 promote => [web Paused 1 0]
+? 0 service web => {"code":"ok","hold":"none","moment":1767225600,"open":[1],"runs":2,
+    "service":"web","stable":"v1","status":"Paused","step":1,"version":"v2","weight":0}
+
+
 # Numbers begin with 1, and a refused request has taken its own.
 ops 2 0 tick => 409 {"code":"ahead","expected":1}
 ops 1 0 promote => 422 unknown-service
 ops 1 0 abort => 409 reused
 ops 2 0 service v1 => [web Healthy 0 100]
 ops 1 0 promote => 422 unknown-service
+
+
+# Commands that differ in an order, in how a condition is written, or in one value are others.
+ops 1 0 template t a b dryRun:a dryRun:b => [t]
+ops 1 0 template t a b dryRun:b dryRun:a => 409 reused
+ops 1 0 template t b a dryRun:a dryRun:b => 409 reused
+ops 2 0 template u m,success=result>1 => [u]
+ops 2 0 template u m,success=result>01 => 409 reused
+ops 2 0 template u m,success=(result>1) => 409 reused
+agent 1 0 report 1 m:1:0:5 => 422 unknown-service
+agent 1 0 report 1 m:1:1:5 => 409 reused
+agent 1 0 report 1 m:1:0:[5] => 409 reused
+agent 1 0 report 1 m:1:0:!5 => 409 reused
+agent 2 0 report 1 a:1:0:5 b:1:0:5 => 422 unknown-service
+agent 2 0 report 1 b:1:0:5 a:1:0:5 => 409 reused
+ops 3 0 service v1 => [web Healthy 0 100]
+ops 3 0 service v2 => 409 reused
 
 
 # Each kind of command, and then each again, and others under the same numbers: the moments fall, so

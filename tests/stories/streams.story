@@ -1,4 +1,4 @@
-streams 88
+streams 130
 
 # A doubled promotion, a number ahead, another command under an old number, the start in other
 # words, and on to the end.
@@ -84,6 +84,10 @@ ops/1 => {"tick":{"service":"web"}} => 422 Unprocessable Content => {"code":"unk
 unanswered 0
 <<x:>>
 |
+<<x:0a>>
+<<x:0d>>
+<<x:0a0d0a0a>>
+<<8191*|>>
 
 unanswered 1
 P
@@ -114,6 +118,33 @@ GET /nope HTTP/1.1|Connection: keep-alive|Connection: close||GET /nope HTTP/1.1|
      => 404 Not Found => {"code":"no-route"}
 GET /nope HTTP/1.0|Connection: keep-alive||GET /nope HTTP/1.1||
      => 404 Not Found => {"code":"no-route"}
+
+# Any Transfer-Encoding is refused for want of a length, and a PUT without one on any path. Each
+# Connection field counts, word by word between its commas.
+answered with Connection: close
+GET /nope HTTP/1.1|Transfer-Encoding: identity|| => 411 Length Required => {"code":"length"}
+PUT /services/web HTTP/1.1|| => 411 Length Required => {"code":"length"}
+GET /nope HTTP/1.1|Connection: close|Connection: keep-alive||GET /nope HTTP/1.1||
+     => 404 Not Found => {"code":"no-route"}
+GET /nope HTTP/1.1|Connection: a,<<x:09>>close<<x:09>>,b||GET /nope HTTP/1.1||
+     => 404 Not Found => {"code":"no-route"}
+
+# Heads with a space too many, a field that goes on in the next line, other versions, a path that is
+# not UTF-8; ends of line that fill the room of a head, and a head that has no room behind them.
+answered with Connection: close
+GET /nope HTTP/1.1|Content-Length : 0|| => 400 Bad Request => {"code":"malformed"}
+GET /nope HTTP/1.1| Content-Length: 0|| => 400 Bad Request => {"code":"malformed"}
+GET /nope HTTP/1.1|a: b| c|| => 400 Bad Request => {"code":"malformed"}
+GET  /nope HTTP/1.1|| => 400 Bad Request => {"code":"malformed"}
+GET /nope  HTTP/1.1|| => 400 Bad Request => {"code":"malformed"}
+GET /nope HTTP/1.1 || => 400 Bad Request => {"code":"malformed"}
+GET /nope HTTP/1.2|| => 400 Bad Request => {"code":"malformed"}
+GET /nope HTTP/2.0|| => 400 Bad Request => {"code":"malformed"}
+GET /nope|| => 400 Bad Request => {"code":"malformed"}
+<<8192*|>> => 400 Bad Request => {"code":"malformed"}
+<<8182*|>>GET /nope HTTP/1.1|| => 400 Bad Request => {"code":"malformed"}
+GET /services/<<x:ff>> HTTP/1.1|| => 400 Bad Request => {"code":"malformed"}
+ GET /nope HTTP/1.1|| => 400 Bad Request => {"code":"malformed"}
 
 # What is answered, and the stream goes on. Behind the refusals: 64 fields, a head of 16,384 bytes,
 # and a body of 65,536.
@@ -149,6 +180,30 @@ DELETE /nope HTTP/1.1|| => 404 Not Found => {"code":"no-route"}
 GET /services/w%65b HTTP/1.1|| => 400 Bad Request => {"code":"bad-name"}
 GET http://127.0.0.1/services/web HTTP/1.1|| => 404 Not Found => {"code":"no-route"}
 
+# Heads behind ends of line, and with ends of line of one byte; names of fields in other letters,
+# and blanks round a value; words that are not close; paths, each up to its first question mark.
+answered
+<<8181*|>>GET /nope HTTP/1.1|| => 404 Not Found => {"code":"no-route"}
+||GET /nope HTTP/1.1|| => 404 Not Found => {"code":"no-route"}
+GET /nope HTTP/1.1<<x:0a0a>> => 404 Not Found => {"code":"no-route"}
+GET /nope HTTP/1.1|CONTENT-LENGTH:2||hi| => 404 Not Found => {"code":"no-route"}
+GET /nope HTTP/1.1|cOntent-length:<<x:09>>  2 <<x:09>>||hi| => 404 Not Found => {"code":"no-route"}
+DELETE /nope HTTP/1.1|Content-Length: 2||hi| => 404 Not Found => {"code":"no-route"}
+POST /nope HTTP/1.1|| => 404 Not Found => {"code":"no-route"}
+GET /nope HTTP/1.1|Connection: close x, closed|Proxy-Connection: close||
+     => 404 Not Found => {"code":"no-route"}
+GET /nope HTTP/1.1|Connection: close;q=1|| => 404 Not Found => {"code":"no-route"}
+GET /nope HTTP/1.1|a: <<x:e9>>|| => 404 Not Found => {"code":"no-route"}
+GET /services/w<<x:c3a9>>b HTTP/1.1|| => 400 Bad Request => {"code":"bad-name"}
+GET /services/web?a?b HTTP/1.1|| => 404 Not Found => {"code":"unknown-service"}
+GET /services/web? HTTP/1.1|| => 404 Not Found => {"code":"unknown-service"}
+GET /services/web;a HTTP/1.1|| => 400 Bad Request => {"code":"bad-name"}
+GET /services/web#a HTTP/1.1|| => 400 Bad Request => {"code":"bad-name"}
+GET /Services/web HTTP/1.1|| => 404 Not Found => {"code":"no-route"}
+GET /services//web HTTP/1.1|| => 404 Not Found => {"code":"no-route"}
+GET /services/web/runs/1000000001 HTTP/1.1|| => 400 Bad Request => {"code":"bad-number"}
+GET /services/web/runs/1000000000 HTTP/1.1|| => 404 Not Found => {"code":"unknown-service"}
+
 # Other methods.
 answered with Allow: PUT
 DELETE /callers/ops/requests/1 HTTP/1.1|| => 405 Method Not Allowed => {"code":"method"}
@@ -173,4 +228,7 @@ GET /services/web HTTP/1.1|Content-Length: 2||{}GET /nope HTTP/1.1|| =>
     HTTP/1.1 404 Not Found|Content-Type: application/json|Content-Length: 19||{"code":"no-route"}
 HEAD /nope HTTP/1.1|| => HTTP/1.1 404 Not Found|Content-Type: application/json|Content-Length: 19||
 HEAD /services/web HTTP/1.1|Content-Length: x|| => HTTP/1.1 400 Bad Request|Content-Type: application/json|Content-Length: 20|Connection: close||
+head /nope HTTP/1.1|| => HTTP/1.1 404 Not Found|Content-Type: application/json|Content-Length: 19||{"code":"no-route"}
+DELETE /services/web HTTP/1.0|| => HTTP/1.1 405 Method Not Allowed|Content-Type: application/json|
+    Content-Length: 17|Allow: GET|Connection: close||{"code":"method"}
 PUT /callers/ops/requests/1 HTTP/1.1|Expect: 100-continue|Content-Length: 2||{} => HTTP/1.1 400 Bad Request|Content-Type: application/json|Content-Length: 21||{"code":"unreadable"}

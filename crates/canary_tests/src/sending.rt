@@ -24,8 +24,8 @@ fn settled(book: &mut MemoryBook) -> Option<u32> {
     book.settled(&name("ops")?).ok()
 }
 
-/// Whether the answer to a row has its status; none where it was answered 503 or not at all, for
-/// want of memory.
+/// Whether the answer to a row has its status; none where it was answered 503 or not at all, since
+/// memory was refused.
 fn is_answered(alloc: Global, book: &mut MemoryBook, row: &str) -> Result<Option<bool>, Fail> {
     let (status, asked) = row.split_once(' ').ok_or("a row")?;
     let status: u16 = status.parse()?;

@@ -1,5 +1,7 @@
 //! What is printed of faults, and of names where a program is looked into.
 use canary_base::names::{Label, Name};
+use canary_canonical::form::FormFault;
+use canary_condition::condition::ConditionFault;
 use canary_once::book::BookFault;
 use canary_plan::fault::{BindFault, CheckFault};
 use canary_plan::refusal::Refusal;
@@ -7,6 +9,21 @@ use canary_release::parts::PartsFault;
 use canary_testing::rows::says;
 use std::alloc::Global;
 use std::test::Fail;
+
+#[test]
+fn words_of_texts(rt: HostRuntime) -> Result<(), Fail> {
+    let alloc = rt.alloc();
+    let deep = "more than 32 round brackets open at one place";
+    let range = "a number outside a signed 64-bit number";
+    assert!(rt; says(alloc, &ConditionFault::Syntax, "not a condition")?);
+    assert!(rt; says(alloc, &ConditionFault::TooDeep, deep)?);
+    assert!(rt; says(alloc, &ConditionFault::NumberRange, range)?);
+    assert!(rt; says(alloc, &ConditionFault::Memory, "out of memory")?);
+    assert!(rt; says(alloc, &ConditionFault::TooLong, "more than 1,024 bytes")?);
+    assert!(rt; says(alloc, &FormFault::Unreadable, "the value has another form")?);
+    assert!(rt; says(alloc, &FormFault::Memory, "out of memory")?);
+    Ok(())
+}
 
 #[test]
 fn words_of_faults(rt: HostRuntime) -> Result<(), Fail> {
