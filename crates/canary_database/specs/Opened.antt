@@ -1,5 +1,7 @@
--- Why a desk's file was not opened.
+-- Why a desk's file was not opened, and which work on it settles nothing.
 use Rattle.std.specs.Prelude.{◌≡◌}
+use Rattle.canary_database.specs.declared.work.Work.{Work}
+use Rattle.canary_database.specs.declared.work.Work.TheVariants.{Export, History}
 use Rattle.canary_tables.specs.declared.fault.TableFault.{TableFault}
 use Rattle.canary_tables.specs.declared.fault.TableFault.TheVariants as tables
 use Rattle.canary_programs.specs.declared.fault.Fault.{Fault}
@@ -16,3 +18,9 @@ of_tables tables.BrokenRow = fault.BrokenRow
 -- a fault is one of the tables', so that none says that a word is no name
 abbrev pub IsOfTables : Fault → Type 0
 IsOfTables f = (cause : TableFault) × (f ≡ of_tables cause)
+
+-- work that settles nothing
+abbrev pub IsReading : Work → Type 0
+IsReading (Export service caller) = Unit {0}
+IsReading (History service) = Unit {0}
+IsReading _ = ⊥

@@ -3,17 +3,16 @@ ghost use Rattle.std.specs.Prelude.{◌≡◌, ◌≢◌, Err, IsTrue};
 ghost use Rattle.canary_base.specs.Names.{is_name};
 ghost use Rattle.canary_programs.specs.declared.fault.Fault.TheVariants as fault;
 
-use crate::open::open;
-use canary_programs::export::export_rows;
+use crate::work::{Work, on_file};
 use canary_programs::fault::Fault;
 use canary_programs::show::name_of;
-use std::io::Write;
+use std::io::{self, Write};
 
 /// Writes the measurements of a service in a file, under this caller.
 ///
 /// # Errors
 /// `BadName` where the service's name or the caller's is none: no file is opened then. What `open`
-/// and `export_rows` answer.
+/// and canary_programs' `export_rows` answer.
 pub fn export<W: Write, F: Write>(
     rt: &HostRuntime,
     file: &str,
@@ -31,7 +30,14 @@ pub fn export<W: Write, F: Write>(
         → result ≢ Err fault.BadName }
 {
     let (caller, service) = (name_of(caller)?, name_of(service)?);
-    let mut book = open(rt, file, errors, is_terminal)?;
-    export_rows(rt.alloc(), &mut book, service, caller, output)?;
-    Ok(())
+    let work = Work::Export { service, caller };
+    on_file(
+        rt,
+        file,
+        work,
+        &mut io::empty(),
+        output,
+        errors,
+        is_terminal,
+    )
 }

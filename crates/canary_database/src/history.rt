@@ -3,11 +3,10 @@ ghost use Rattle.std.specs.Prelude.{◌≡◌, ◌≢◌, Err, IsTrue};
 ghost use Rattle.canary_base.specs.Names.{is_name};
 ghost use Rattle.canary_programs.specs.declared.fault.Fault.TheVariants as fault;
 
-use crate::open::open;
+use crate::work::{Work, on_file};
 use canary_programs::fault::Fault;
-use canary_programs::history::write_history;
 use canary_programs::show::name_of;
-use std::io::Write;
+use std::io::{self, Write};
 
 /// Writes the history of a service in a file as it is stored: no time passes.
 ///
@@ -28,6 +27,14 @@ pub fn history<W: Write, F: Write>(
     ensures name { IsTrue (is_name service.now) → result ≢ Err fault.BadName }
 {
     let service = name_of(service)?;
-    let mut book = open(rt, file, errors, is_terminal)?;
-    write_history(rt.alloc(), &mut book, service, output)
+    let work = Work::History { service };
+    on_file(
+        rt,
+        file,
+        work,
+        &mut io::empty(),
+        output,
+        errors,
+        is_terminal,
+    )
 }

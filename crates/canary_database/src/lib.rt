@@ -21,3 +21,4 @@ pub mod pipe;
 pub mod progress;
 pub mod serve;
 pub mod status;
+mod work;

@@ -7,7 +7,7 @@ use canary_base::names::Name;
 use canary_programs::fault::Fault;
 use canary_tables::book::TableBook;
 use canary_tables::fault::TableFault;
-use sqlite::{File, FileStore};
+use sqlite::{Alter, File, FileStore};
 use std::io::Write;
 
 /// A book in a file.
@@ -51,23 +51,12 @@ fn fault_of(fault: TableFault) -> Fault
     }
 }
 
-/// The names of the services of a book in a file, in order.
+/// The names of the services of a book in tables, in order.
 ///
 /// # Errors
-/// `Memory` where an allocation was refused, and `Storage` where the file failed.
-pub(crate) fn names_of(book: &mut FileBook) -> Result<Vec<Name>, Fault> {
+/// `Memory` where an allocation was refused, and `Storage` where the tables failed.
+pub(crate) fn names_of<S: Alter + Drop>(book: &mut TableBook<S>) -> Result<Vec<Name>, Fault> {
     let mut names = book.service_names()?.into_vec();
     names.sort()?;
     Ok(names)
-}
-
-/// Closes the book in a file.
-///
-/// # Errors
-/// `Storage` where the file fails; what was settled is settled.
-pub fn close(book: FileBook) -> Result<(), Fault> {
-    match book.into_connection().close() {
-        Ok(()) => Ok(()),
-        Err(_) => Err(Fault::Storage),
-    }
 }

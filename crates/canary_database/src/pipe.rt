@@ -1,9 +1,7 @@
 //! `pipe`: a stream answered over the book in a file.
-use crate::open::{close, open};
+use crate::work::{Work, on_file};
 use canary_base::moments::Moment;
-use canary_once::clock::StepClock;
 use canary_programs::fault::Fault;
-use canary_programs::pipe::answer;
 use std::io::{Read, Write};
 
 /// Answers HTTP from `input` on `output` over the book in a file, which is closed then. The first
@@ -22,10 +20,6 @@ pub fn pipe<R: Read, W: Write, F: Write>(
     errors: &mut F,
     is_terminal: bool,
 ) -> Result<(), Fault> {
-    let mut book = open(rt, file, errors, is_terminal)?;
-    let mut clock = StepClock::new(at, step);
-    let answered = answer(rt.alloc(), input, output, &mut clock, &mut book);
-    let closed = close(book);
-    answered?;
-    closed
+    let work = Work::Pipe { at, step };
+    on_file(rt, file, work, input, output, errors, is_terminal)
 }

@@ -1,9 +1,9 @@
 //! `serve`: the desk on a socket.
-use crate::open::{close, open};
+use crate::work::{Work, on_file};
 use canary_listen::limits::Limits;
 use canary_programs::fault::Fault;
-use canary_programs::serve::{Listening, serve_book, serve_memory};
-use std::io::Write;
+use canary_programs::serve::{Listening, serve_memory};
+use std::io::{self, Write};
 
 /// Serves clients on the address that `listen` spells, after so many connections no more. The book
 /// is that of a file, which is opened before anybody can connect, or one in memory where none is
@@ -27,22 +27,18 @@ pub fn serve<W: Write, F: Write>(
 ) -> Result<(), Fault> {
     let listening = Listening::at(listen, connections, limits)?;
     match file {
-        Some(file) => serve_file(rt, listening, file, output, errors, is_terminal),
+        Some(file) => {
+            let work = Work::Serve(listening);
+            on_file(
+                rt,
+                file,
+                work,
+                &mut io::empty(),
+                output,
+                errors,
+                is_terminal,
+            )
+        }
         None => serve_memory(rt, listening, output, errors),
     }
-}
-
-fn serve_file<W: Write, F: Write>(
-    rt: &HostRuntime,
-    listening: Listening,
-    file: &str,
-    output: &mut W,
-    errors: &mut F,
-    is_terminal: bool,
-) -> Result<(), Fault> {
-    let mut book = open(rt, file, errors, is_terminal)?;
-    let served = serve_book(rt, listening, "", &mut book, output, errors);
-    let closed = close(book);
-    served?;
-    closed
 }

@@ -1,9 +1,11 @@
 //! `status`: the services of a desk at a glance.
 use crate::open::{FileBook, names_of, open};
+use canary_backup::copying::{Pair, copy_database};
 use canary_listen::wall_clock::WallClock;
-use canary_programs::backup::{Pair, copy_database};
 use canary_programs::fault::Fault;
 use canary_programs::overview::{Drawing, draw, text_of_book};
+use canary_tables::book::TableBook;
+use sqlite::Alter;
 use std::io::Write;
 use std::thread;
 use std::time::Duration;
@@ -44,7 +46,7 @@ fn status_text<F: Write>(
     is_terminal: bool,
 ) -> Result<String, Fault> {
     match open(rt, file, errors, is_terminal) {
-        Ok(book) => text_of_file(rt, book),
+        Ok(book) => text_of_opened(rt, book),
         Err(Fault::InUse) => text_of_copy(rt, file, errors, is_terminal),
         Err(fault) => Err(fault),
     }
@@ -72,15 +74,22 @@ fn text_behind_copy<F: Write>(
 ) -> Result<String, Fault> {
     copy_database(rt, file, copy)?;
     let book = open(rt, copy.database(), errors, is_terminal)?;
-    text_of_file(rt, book)
+    text_of_opened(rt, book)
 }
 
-fn text_of_file(rt: &HostRuntime, book: FileBook) -> Result<String, Fault> {
+fn text_of_opened(rt: &HostRuntime, book: FileBook) -> Result<String, Fault> {
+    text_of_tables(rt, book)
+}
+
+fn text_of_tables<S: Alter + Drop>(rt: &HostRuntime, book: TableBook<S>) -> Result<String, Fault> {
     let mut book = book;
     text_of_services(rt, &mut book)
 }
 
-fn text_of_services(rt: &HostRuntime, book: &mut FileBook) -> Result<String, Fault> {
+fn text_of_services<S: Alter + Drop>(
+    rt: &HostRuntime,
+    book: &mut TableBook<S>,
+) -> Result<String, Fault> {
     let now = WallClock::new(rt).tell();
     let names = names_of(book)?;
     text_of_book(rt.alloc(), book, names.as_slice(), now)

@@ -1,5 +1,7 @@
 -- What a fault is called, and what the faults of the layers below come to.
 use Rattle.std.specs.Prelude.{ℕ, List, [], ◌∷◌, ◌++◌, Result, Ok, Err, codes}
+use Rattle.canary_backup.specs.declared.fault.BackupFault.{BackupFault}
+use Rattle.canary_backup.specs.declared.fault.BackupFault.TheVariants as copying
 use Rattle.canary_once.specs.declared.book.BookFault.{BookFault}
 use Rattle.canary_once.specs.declared.book.BookFault.TheVariants as book
 use Rattle.canary_files.specs.declared.import.ImportFault.{ImportFault}
@@ -43,6 +45,12 @@ line_of f = codes "canary: " ++ word_of f ++ 10 ∷ []
 abbrev pub of_book : BookFault → Fault
 of_book book.Memory = fault.Memory
 of_book book.Storage = fault.Storage
+
+abbrev pub of_backup : BackupFault → Fault
+of_backup copying.Memory = fault.Memory
+of_backup copying.Storage = fault.Storage
+of_backup copying.InUse = fault.InUse
+of_backup copying.File = fault.File
 
 abbrev pub of_import : ImportFault → Fault
 of_import importing.Read = fault.Read

@@ -2,6 +2,7 @@
 ghost use Rattle.std.specs.Prelude.{◌≡◌};
 ghost use Rattle.canary_programs.specs.Faults.{done_of, line_of};
 
+use canary_backup::fault::BackupFault;
 use canary_base::error::Memory;
 use canary_files::export::ExportFault;
 use canary_files::import::ImportFault;
@@ -133,6 +134,21 @@ impl From<BookFault> for Fault {
         match fault {
             BookFault::Memory => Fault::Memory,
             BookFault::Storage => Fault::Storage,
+        }
+    }
+}
+
+impl From<BackupFault> for Fault {
+    ghost use Rattle.canary_programs.specs.Faults.{of_backup};
+
+    ghost from_gives = { λ fault made. made ≡ of_backup fault };
+
+    fn from(fault: BackupFault) -> Fault {
+        match fault {
+            BackupFault::Memory => Fault::Memory,
+            BackupFault::Storage => Fault::Storage,
+            BackupFault::InUse => Fault::InUse,
+            BackupFault::File => Fault::File,
         }
     }
 }

@@ -6,11 +6,9 @@
 //! and `serve_clients` gets from the desk before to the desk after as canary_listen says. Each
 //! fault has its line. What files hold that `backup` copies no contract says.
 //!
-//! In use (canary_database, src/history.rt):
+//! In use (canary_database, src/work.rt):
 //!
-//!     let service = name_of(service)?;
-//!     let mut book = open(rt, file, errors, is_terminal)?;
-//!     write_history(rt.alloc(), &mut book, service, output)
+//!     Work::History { service } => write_history(alloc, book, service, output),
 #![tactic(auto)]
 
 pub mod backup;
@@ -22,4 +20,3 @@ pub mod overview;
 pub mod pipe;
 pub mod serve;
 pub mod show;
-mod table;

@@ -1,0 +1,26 @@
+//! Why a database was not copied.
+use std::alloc::AllocError;
+use thiserror::Error;
+
+/// Why a database was not copied.
+#[derive(Clone, Copy, Debug, PartialEq, Eq, Error)]
+pub enum BackupFault {
+    /// An allocation was refused.
+    #[error("out of memory")]
+    Memory,
+    /// There is no such database, or it cannot be reached.
+    #[error("the database cannot be reached")]
+    Storage,
+    /// The database is written faster than it can be copied.
+    #[error("the database changes too fast to be copied")]
+    InUse,
+    /// A file cannot be read or written, or is there already.
+    #[error("a file cannot be read or written, or is there already")]
+    File,
+}
+
+impl From<AllocError> for BackupFault {
+    fn from(_: AllocError) -> BackupFault {
+        BackupFault::Memory
+    }
+}

@@ -1,0 +1,117 @@
+//! Work on the book in a file, from its opening to its end.
+ghost use Rattle.std.specs.Prelude.{◌≢◌, Err};
+ghost use Rattle.canary_database.specs.Opened.{IsReading};
+ghost use Rattle.canary_programs.specs.declared.fault.Fault.TheVariants as fault;
+
+use crate::open::open;
+use crate::progress::{Counted, Shown};
+use canary_base::moments::Moment;
+use canary_base::names::Name;
+use canary_listen::wall_clock::WallClock;
+use canary_once::book::Book;
+use canary_once::clock::StepClock;
+use canary_programs::export::export_rows;
+use canary_programs::fault::Fault;
+use canary_programs::history::write_history;
+use canary_programs::import::import_rows;
+use canary_programs::pipe::answer;
+use canary_programs::serve::{Listening, serve_book};
+use std::io::{Read, Write};
+
+/// What is done with a book.
+#[derive(Clone, Copy)]
+pub(crate) enum Work {
+    /// The stream of the input is answered on the output. The first message is at `at`, and each
+    /// later one `step` seconds after the one before it.
+    Pipe { at: Moment, step: Moment },
+    /// Clients are served.
+    Serve(Listening),
+    /// The measurement file that the input is, of so many bytes where that is known, is imported.
+    Import { whole: Option<u64> },
+    /// The measurements of a service are written, under this caller.
+    Export { service: Name, caller: Name },
+    /// The history of a service is written.
+    History { service: Name },
+}
+
+impl Work {
+    // Whether it may settle requests.
+    fn settles(&self) -> bool {
+        !matches!(self, Work::Export { .. } | Work::History { .. })
+    }
+}
+
+/// Does this work on the book in a file, which is closed where the work may have settled requests.
+///
+/// # Errors
+/// What `open` answers: nothing is read or written then. What canary_programs answers of the work.
+/// `Storage` where the file fails as it is closed; what was settled is settled.
+pub(crate) fn on_file<R: Read, W: Write, F: Write>(
+    rt: &HostRuntime,
+    file: &str,
+    work: Work,
+    input: &mut R,
+    output: &mut W,
+    errors: &mut F,
+    is_terminal: bool,
+) -> Result<(), Fault>
+    ensures { IsReading work → result ≢ Err fault.BadName }
+{
+    let mut book = open(rt, file, errors, is_terminal)?;
+    let settles = work.settles();
+    let done = on_book(rt, &mut book, work, input, output, errors, is_terminal);
+    if !settles {
+        return done;
+    }
+    let closed = book.into_connection().close();
+    done?;
+    closed.or(Err(Fault::Storage))
+}
+
+// Does this work on a book.
+fn on_book<B: Book, R: Read, W: Write, F: Write>(
+    rt: &HostRuntime,
+    book: &mut B,
+    work: Work,
+    input: &mut R,
+    output: &mut W,
+    errors: &mut F,
+    is_terminal: bool,
+) -> Result<(), Fault>
+    ensures { IsReading work → result ≢ Err fault.BadName }
+{
+    let alloc = rt.alloc();
+    match work {
+        Work::Pipe { at, step } => {
+            let mut clock = StepClock::new(at, step);
+            answer(alloc, input, output, &mut clock, book)
+        }
+        Work::Serve(listening) => serve_book(rt, listening, "", book, output, errors),
+        Work::Import { whole } => import_shown(rt, book, input, whole, output, errors, is_terminal),
+        Work::Export { service, caller } => {
+            export_rows(alloc, book, service, caller, output)?;
+            Ok(())
+        }
+        Work::History { service } => write_history(alloc, book, service, output),
+    }
+}
+
+// Imports a measurement file, of so many bytes where that is known, by the machine's clock, and
+// shows how much is read.
+fn import_shown<B: Book, R: Read + Drop, W: Write, F: Write>(
+    rt: &HostRuntime,
+    book: &mut B,
+    source: R,
+    whole: Option<u64>,
+    output: &mut W,
+    errors: &mut F,
+    is_terminal: bool,
+) -> Result<(), Fault> {
+    let mut clock = WallClock::new(rt);
+    let shown = Shown::bytes(rt.alloc(), errors, is_terminal, whole);
+    let mut read = Counted { source, shown };
+    let imported = import_rows(rt.alloc(), &mut read, output, &mut clock, book);
+    read.shown.end();
+    imported?;
+    Ok(())
+}

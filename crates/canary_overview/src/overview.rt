@@ -1,0 +1,164 @@
+//! The services of a desk at a glance, and their open runs.
+use crate::table::Table;
+use canary_base::error::Memory;
+use canary_base::moments::Moment;
+use canary_base::names::Name;
+use canary_condition::outcome::Phase;
+use canary_metric::metric::Metric;
+use canary_metric::tally::Tally;
+use canary_metric::verdict::is_completed;
+use canary_release::runs::OpenRun;
+use canary_release::service::Service;
+use std::alloc::Global;
+
+const SERVICE_TITLES: [&str; 6] = ["NAME", "STATUS", "STEP", "WEIGHT", "VERSION", "STABLE"];
+
+const RUN_TITLES: [&str; 7] = [
+    "RUN", "SERVICE", "ANALYSIS", "METRIC", "PHASE", "COUNTED", "DUE",
+];
+
+// How many cells the bar of a weight has.
+const BAR_CELLS: u32 = 10;
+
+/// Two tables: of services, and of their open runs.
+#[derive(Drop)]
+pub struct Overview {
+    alloc: Global,
+    services: Table,
+    runs: Table,
+}
+
+impl Overview {
+    /// One of no service.
+    ///
+    /// # Errors
+    /// `Memory` where an allocation was refused.
+    pub fn new(alloc: Global) -> Result<Overview, Memory> {
+        let services = Table::new(alloc, &SERVICE_TITLES)?;
+        let runs = Table::new(alloc, &RUN_TITLES)?;
+        Ok(Overview {
+            alloc,
+            services,
+            runs,
+        })
+    }
+
+    /// Adds a service, passed to a moment, and its open runs.
+    ///
+    /// # Errors
+    /// `Memory` where an allocation was refused; some of its rows may be there then.
+    pub fn add(&mut self, service: &Service, now: Moment) -> Result<(), Memory> {
+        let passed = service.passed(self.alloc, now)?;
+        self.add_passed(&passed.service)
+    }
+
+    fn add_passed(&mut self, service: &Service) -> Result<(), Memory> {
+        self.services.push(service_row(self.alloc, service)?)?;
+        for run in service.open_runs() {
+            add_run(self.alloc, service, run, &mut self.runs)?;
+        }
+        Ok(())
+    }
+
+    /// Its text: the second table stands behind an empty line, where it has rows.
+    ///
+    /// # Errors
+    /// `Memory` where an allocation was refused.
+    pub fn text(&self) -> Result<String, Memory> {
+        let text = self.services.text()?;
+        if self.runs.has_rows() {
+            with_table(text, &self.runs)
+        } else {
+            Ok(text)
+        }
+    }
+}
+
+// A text, and a table behind an empty line.
+fn with_table(text: String, table: &Table) -> Result<String, Memory> {
+    let mut text = text;
+    text.push_str("\n")?;
+    text.push_str(table.text()?.as_str())?;
+    Ok(text)
+}
+
+fn service_row(alloc: Global, service: &Service) -> Result<Vec<String>, Memory> {
+    let (step, steps) = (service.step(), service.strategy().steps().len());
+    let mut row = Vec::new(alloc);
+    row.push(String::from_str(alloc, service.name().as_str())?)?;
+    row.push(String::from_str(alloc, service.status().text())?)?;
+    row.push(format!(in alloc; "{step}/{steps}")?)?;
+    row.push(bar(alloc, service.weight())?)?;
+    row.push(String::from_str(alloc, service.version().as_str())?)?;
+    row.push(String::from_str(alloc, service.stable().as_str())?)?;
+    Ok(row)
+}
+
+// A weight as a bar, of which a cell is full for each ten percent, and in percent.
+fn bar(alloc: Global, weight: u32) -> Result<String, Memory> {
+    let full = weight / BAR_CELLS;
+    let mut text = String::new(alloc);
+    for cell in 0..BAR_CELLS {
+        text.push_str(if cell < full { "#" } else { "-" })?;
+    }
+    text.push_str(format!(in alloc; " {weight}%")?.as_str())?;
+    Ok(text)
+}
+
+// Adds a row for each metric of an open run.
+fn add_run(
+    alloc: Global,
+    service: &Service,
+    run: &OpenRun,
+    runs: &mut Table,
+) -> Result<(), Memory> {
+    let Some(metrics) = service.strategy().metrics(run.step) else {
+        return Ok(());
+    };
+    for (metric, tally) in metrics.iter().zip(run.tallies.as_slice()) {
+        runs.push(metric_row(alloc, service.name(), run, metric, tally)?)?;
+    }
+    Ok(())
+}
+
+fn metric_row(
+    alloc: Global,
+    service: Name,
+    run: &OpenRun,
+    metric: &Metric,
+    tally: &Tally,
+) -> Result<Vec<String>, Memory> {
+    let (number, counted, phase) = (run.number, tally.counted(), tally.phase(metric, false));
+    let mut row = Vec::new(alloc);
+    row.push(format!(in alloc; "{number}")?)?;
+    row.push(String::from_str(alloc, service.as_str())?)?;
+    row.push(analysis(alloc, run.step)?)?;
+    row.push(String::from_str(alloc, metric.name().as_str())?)?;
+    row.push(String::from_str(alloc, phase.text())?)?;
+    row.push(format!(in alloc; "{counted}")?)?;
+    row.push(due_text(alloc, run, metric, tally, phase)?)?;
+    Ok(row)
+}
+
+fn analysis(alloc: Global, step: Option<u32>) -> Result<String, Memory> {
+    match step {
+        Some(step) => Ok(format!(in alloc; "step {step}")?),
+        None => Ok(String::from_str(alloc, "background")?),
+    }
+}
+
+// When the next measurement of a metric is due; `-` where it wants none.
+fn due_text(
+    alloc: Global,
+    run: &OpenRun,
+    metric: &Metric,
+    tally: &Tally,
+    phase: Phase,
+) -> Result<String, Memory> {
+    let mut text = String::new(alloc);
+    match Moment::new(tally.due(metric, run.started)) {
+        Some(moment) if !is_completed(phase) => moment.text(&mut text)?,
+        _ => text.push_str("-")?,
+    }
+    Ok(text)
+}
