@@ -1,6 +1,6 @@
 //! The commands that the desk takes, with their options.
-ghost use Rattle.std.specs.Prelude.{◌≡◌, IfOk, false};
-ghost use Rattle.clap.specs.Words.{app_of, rule_of, with_subcommand};
+ghost use Rattle.std.specs.Prelude.{◌≡◌, IfOk, false, true};
+ghost use Rattle.clap.specs.Words.{App, app_of, rule_of, with_rule, with_subcommand};
 ghost use Rattle.canary_words.specs.CommandLine.{desk_command, with_records_commands};
 ghost use Rattle.canary_words.specs.CommandLine.{pipe_command, serve_command, import_command};
 ghost use Rattle.canary_words.specs.CommandLine.{history_command, export_command, status_command};
@@ -42,148 +42,214 @@ pub(crate) fn desk_command<'a>(alloc: Global) -> Result<Command<'a>, AllocError>
         .about(help::DESK_ABOUT)
         .after_help(help::DESK_HELP)
         .subcommand_required(true);
-    let desk = with_serve(alloc, with_pipe(alloc, desk)?)?;
-    with_check(alloc, with_records_commands(alloc, desk)?)
+    let desk = with_command(desk, pipe_command(alloc))?;
+    let desk = with_command(desk, serve_command(alloc))?;
+    let desk = with_records_commands(alloc, desk)?;
+    with_command(desk, check_command(alloc))
 }
 
 // The desk's command with those that work on the file of its records.
 fn with_records_commands<'a>(alloc: Global, desk: Command<'a>) -> Result<Command<'a>, AllocError>
     ensures { IfOk result (λ c. app_of c ≡ with_records_commands (app_of desk.entry)) }
 {
-    let desk = with_history(alloc, with_import(alloc, desk)?)?;
-    with_backup(alloc, with_status(alloc, with_export(alloc, desk)?)?)
+    let desk = with_command(desk, import_command(alloc))?;
+    let desk = with_command(desk, history_command(alloc))?;
+    let desk = with_command(desk, export_command(alloc))?;
+    let desk = with_command(desk, status_command(alloc))?;
+    with_command(desk, backup_command(alloc))
 }
 
-// The desk's command with `pipe --at SECONDS --step SECONDS` and its further option.
-fn with_pipe<'a>(alloc: Global, desk: Command<'a>) -> Result<Command<'a>, AllocError>
-    ensures { IfOk result (λ c. app_of c ≡ with_subcommand (app_of desk.entry) pipe_command.top) }
+// The desk's command with another one, if that was had.
+fn with_command<'a>(
+    desk: Command<'a>,
+    command: Result<Command<'a>, AllocError>,
+) -> Result<Command<'a>, AllocError>
+    ensures { (app : App) → IfOk command.entry (λ c. app_of c ≡ app) → app.top.is_plain ≡ true
+        → IfOk result (λ c. app_of c ≡ with_subcommand (app_of desk.entry) app.top) }
 {
-    let at = moment_option(alloc, "at", help::AT_HELP);
-    let step = moment_option(alloc, "step", help::STEP_HELP);
-    let db = text_option(alloc, "db", "FILE", false, help::DB_OR_MEMORY_HELP);
+    desk.subcommand(command?)
+}
+
+// `pipe --at SECONDS --step SECONDS` and its further option.
+fn pipe_command<'a>(alloc: Global) -> Result<Command<'a>, AllocError>
+    ensures { IfOk result (λ c. app_of c ≡ pipe_command) }
+{
     let pipe = Command::new(alloc, "pipe")
         .about(help::PIPE_ABOUT)
         .override_usage(help::PIPE_USAGE)
-        .after_help(help::PIPE_HELP)
-        .arg(at)?
-        .arg(step)?
-        .arg(db)?;
-    desk.subcommand(pipe)
+        .after_help(help::PIPE_HELP);
+    let pipe = with_moment(alloc, pipe, "at", help::AT_HELP)?;
+    let pipe = with_moment(alloc, pipe, "step", help::STEP_HELP)?;
+    with_text(alloc, pipe, "db", "FILE", false, help::DB_OR_MEMORY_HELP)
 }
 
-// The desk's command with `serve --listen ADDRESS` and its further options.
-fn with_serve<'a>(alloc: Global, desk: Command<'a>) -> Result<Command<'a>, AllocError>
-    ensures { IfOk result (λ c. app_of c ≡ with_subcommand (app_of desk.entry) serve_command.top) }
+// `serve --listen ADDRESS` and its further options.
+fn serve_command<'a>(alloc: Global) -> Result<Command<'a>, AllocError>
+    ensures { IfOk result (λ c. app_of c ≡ serve_command) }
 {
-    let listen = text_option(alloc, "listen", "ADDRESS", true, help::LISTEN_HELP);
-    let db = text_option(alloc, "db", "FILE", false, help::DB_OR_MEMORY_HELP);
-    let connections = number_option(
-        alloc,
-        "connections",
-        "N",
-        MOST_CONNECTIONS,
-        help::CONNECTIONS_HELP,
-    );
     let serve = Command::new(alloc, "serve")
         .about(help::SERVE_ABOUT)
-        .after_help(help::SERVE_HELP)
-        .arg(listen)?
-        .arg(db)?
-        .arg(connections)?;
-    desk.subcommand(with_limits(alloc, serve)?)
+        .after_help(help::SERVE_HELP);
+    let serve = with_text(alloc, serve, "listen", "ADDRESS", true, help::LISTEN_HELP)?;
+    let serve = with_text(alloc, serve, "db", "FILE", false, help::DB_OR_MEMORY_HELP)?;
+    let most = MOST_CONNECTIONS;
+    let serve = with_number(
+        alloc,
+        serve,
+        "connections",
+        "N",
+        most,
+        help::CONNECTIONS_HELP,
+    )?;
+    with_limits(alloc, serve)
 }
 
 // The command of `serve` with the options of its limits.
 fn with_limits<'a>(alloc: Global, serve: Command<'a>) -> Result<Command<'a>, AllocError>
     ensures { IfOk result (λ c. app_of c ≡ with_limits (app_of serve.entry)) }
 {
-    let message = number_option(
+    let most = MOST_SECONDS;
+    let serve = with_number(alloc, serve, "message", "SECONDS", most, help::MESSAGE_HELP)?;
+    let serve = with_number(alloc, serve, "idle", "SECONDS", most, help::IDLE_HELP)?;
+    let serve = with_number(
         alloc,
-        "message",
-        "SECONDS",
-        MOST_SECONDS,
-        help::MESSAGE_HELP,
-    );
-    let idle = number_option(alloc, "idle", "SECONDS", MOST_SECONDS, help::IDLE_HELP);
-    let clients = number_option(alloc, "clients", "N", MOST_CLIENTS, help::CLIENTS_HELP);
-    let owed = number_option(alloc, "owed", "BYTES", MOST_OWED, help::OWED_HELP);
-    serve.arg(message)?.arg(idle)?.arg(clients)?.arg(owed)
+        serve,
+        "clients",
+        "N",
+        MOST_CLIENTS,
+        help::CLIENTS_HELP,
+    )?;
+    with_number(alloc, serve, "owed", "BYTES", MOST_OWED, help::OWED_HELP)
 }
 
-// The desk's command with `import --db FILE CSV`.
-fn with_import<'a>(alloc: Global, desk: Command<'a>) -> Result<Command<'a>, AllocError>
-    ensures { IfOk result (λ c. app_of c ≡ with_subcommand (app_of desk.entry) import_command.top) }
+// `import --db FILE CSV`.
+fn import_command<'a>(alloc: Global) -> Result<Command<'a>, AllocError>
+    ensures { IfOk result (λ c. app_of c ≡ import_command) }
 {
     let import = Command::new(alloc, "import")
         .about(help::IMPORT_ABOUT)
-        .after_help(help::IMPORT_HELP)
-        .arg(text_option(alloc, "db", "FILE", true, help::DB_OR_MADE_HELP))?
-        .arg(text_word(alloc, "csv", "CSV", help::CSV_HELP))?;
-    desk.subcommand(import)
+        .after_help(help::IMPORT_HELP);
+    let import = with_text(alloc, import, "db", "FILE", true, help::DB_OR_MADE_HELP)?;
+    with_word(alloc, import, "csv", "CSV", help::CSV_HELP)
 }
 
-// The desk's command with `history --db FILE SERVICE`.
-fn with_history<'a>(alloc: Global, desk: Command<'a>) -> Result<Command<'a>, AllocError>
-    ensures { IfOk result (λ c. app_of c
-        ≡ with_subcommand (app_of desk.entry) history_command.top) }
+// `history --db FILE SERVICE`.
+fn history_command<'a>(alloc: Global) -> Result<Command<'a>, AllocError>
+    ensures { IfOk result (λ c. app_of c ≡ history_command) }
 {
     let history = Command::new(alloc, "history")
         .about(help::HISTORY_ABOUT)
-        .after_help(help::HISTORY_HELP)
-        .arg(text_option(alloc, "db", "FILE", true, help::DB_OR_MADE_HELP))?
-        .arg(text_word(alloc, "service", "SERVICE", help::SERVICE_HELP))?;
-    desk.subcommand(history)
+        .after_help(help::HISTORY_HELP);
+    let history = with_text(alloc, history, "db", "FILE", true, help::DB_OR_MADE_HELP)?;
+    with_word(alloc, history, "service", "SERVICE", help::SERVICE_HELP)
 }
 
-// The desk's command with `export --db FILE --caller NAME SERVICE`.
-fn with_export<'a>(alloc: Global, desk: Command<'a>) -> Result<Command<'a>, AllocError>
-    ensures { IfOk result (λ c. app_of c ≡ with_subcommand (app_of desk.entry) export_command.top) }
+// `export --db FILE --caller NAME SERVICE`.
+fn export_command<'a>(alloc: Global) -> Result<Command<'a>, AllocError>
+    ensures { IfOk result (λ c. app_of c ≡ export_command) }
 {
-    let db = text_option(alloc, "db", "FILE", true, help::DB_OR_MADE_HELP);
-    let caller = text_option(alloc, "caller", "NAME", true, help::CALLER_HELP);
-    let service = text_word(alloc, "service", "SERVICE", help::SERVICE_HELP);
     let export = Command::new(alloc, "export")
         .about(help::EXPORT_ABOUT)
-        .after_help(help::EXPORT_HELP)
-        .arg(db)?
-        .arg(caller)?
-        .arg(service)?;
-    desk.subcommand(export)
+        .after_help(help::EXPORT_HELP);
+    let export = with_text(alloc, export, "db", "FILE", true, help::DB_OR_MADE_HELP)?;
+    let export = with_text(alloc, export, "caller", "NAME", true, help::CALLER_HELP)?;
+    with_word(alloc, export, "service", "SERVICE", help::SERVICE_HELP)
 }
 
-// The desk's command with `status --db FILE` and its further option.
-fn with_status<'a>(alloc: Global, desk: Command<'a>) -> Result<Command<'a>, AllocError>
-    ensures { IfOk result (λ c. app_of c ≡ with_subcommand (app_of desk.entry) status_command.top) }
+// `status --db FILE` and its further option.
+fn status_command<'a>(alloc: Global) -> Result<Command<'a>, AllocError>
+    ensures { IfOk result (λ c. app_of c ≡ status_command) }
 {
     let status = Command::new(alloc, "status")
         .about(help::STATUS_ABOUT)
-        .after_help(help::STATUS_HELP)
-        .arg(text_option(alloc, "db", "FILE", true, help::DB_OR_MADE_HELP))?
-        .arg(number_option(alloc, "watch", "SECONDS", MOST_WATCH, help::WATCH_HELP))?;
-    desk.subcommand(status)
+        .after_help(help::STATUS_HELP);
+    let status = with_text(alloc, status, "db", "FILE", true, help::DB_OR_MADE_HELP)?;
+    with_number(
+        alloc,
+        status,
+        "watch",
+        "SECONDS",
+        MOST_WATCH,
+        help::WATCH_HELP,
+    )
 }
 
-// The desk's command with `backup --db FILE COPY`.
-fn with_backup<'a>(alloc: Global, desk: Command<'a>) -> Result<Command<'a>, AllocError>
-    ensures { IfOk result (λ c. app_of c ≡ with_subcommand (app_of desk.entry) backup_command.top) }
+// `backup --db FILE COPY`.
+fn backup_command<'a>(alloc: Global) -> Result<Command<'a>, AllocError>
+    ensures { IfOk result (λ c. app_of c ≡ backup_command) }
 {
     let backup = Command::new(alloc, "backup")
         .about(help::BACKUP_ABOUT)
-        .after_help(help::BACKUP_HELP)
-        .arg(text_option(alloc, "db", "FILE", true, help::DB_HELP))?
-        .arg(text_word(alloc, "copy", "COPY", help::COPY_HELP))?;
-    desk.subcommand(backup)
+        .after_help(help::BACKUP_HELP);
+    let backup = with_text(alloc, backup, "db", "FILE", true, help::DB_HELP)?;
+    with_word(alloc, backup, "copy", "COPY", help::COPY_HELP)
 }
 
-// The desk's command with `check FILE`.
-fn with_check<'a>(alloc: Global, desk: Command<'a>) -> Result<Command<'a>, AllocError>
-    ensures { IfOk result (λ c. app_of c ≡ with_subcommand (app_of desk.entry) check_command.top) }
+// `check FILE`.
+fn check_command<'a>(alloc: Global) -> Result<Command<'a>, AllocError>
+    ensures { IfOk result (λ c. app_of c ≡ check_command) }
 {
     let check = Command::new(alloc, "check")
         .about(help::CHECK_ABOUT)
-        .after_help(help::CHECK_HELP)
-        .arg(text_word(alloc, "file", "FILE", help::FILE_HELP))?;
-    desk.subcommand(check)
+        .after_help(help::CHECK_HELP);
+    with_word(alloc, check, "file", "FILE", help::FILE_HELP)
+}
+
+// A command with the option `--NAME SECONDS`, which has to be given.
+fn with_moment<'a>(
+    alloc: Global,
+    command: Command<'a>,
+    name: &'a str,
+    help: &'a str,
+) -> Result<Command<'a>, AllocError>
+    ensures { IfOk result (λ c. app_of c
+        ≡ with_rule (app_of command.entry) (moment_option name.entry.now)) }
+{
+    command.arg(moment_option(alloc, name, help))
+}
+
+// A command with the option `--NAME VALUE`, a whole number from 1 to `most`.
+fn with_number<'a>(
+    alloc: Global,
+    command: Command<'a>,
+    name: &'a str,
+    value: &'a str,
+    most: u64,
+    help: &'a str,
+) -> Result<Command<'a>, AllocError>
+    ensures { IfOk result (λ c. app_of c
+        ≡ with_rule (app_of command.entry) (number_option name.entry.now most)) }
+{
+    command.arg(number_option(alloc, name, value, most, help))
+}
+
+// A command with the option `--NAME VALUE`, any text.
+fn with_text<'a>(
+    alloc: Global,
+    command: Command<'a>,
+    name: &'a str,
+    value: &'a str,
+    is_required: bool,
+    help: &'a str,
+) -> Result<Command<'a>, AllocError>
+    ensures { IfOk result (λ c. app_of c
+        ≡ with_rule (app_of command.entry) (text_option name.entry.now is_required)) }
+{
+    command.arg(text_option(alloc, name, value, is_required, help))
+}
+
+// A command with the word `VALUE`, any text.
+fn with_word<'a>(
+    alloc: Global,
+    command: Command<'a>,
+    name: &'a str,
+    value: &'a str,
+    help: &'a str,
+) -> Result<Command<'a>, AllocError>
+    ensures { IfOk result (λ c. app_of c
+        ≡ with_rule (app_of command.entry) (text_word name.entry.now)) }
+{
+    command.arg(text_word(alloc, name, value, help))
 }
 
 // The option `--NAME SECONDS`, which has to be given, with the seconds of a moment.
