@@ -63,29 +63,36 @@ fn time_evaluation(rt: &HostRuntime, rounds: u32, text: &str) -> Result<u64, Fau
     Ok(nanos_of(start.elapsed(rt)?))
 }
 
-// Tenths as a number with one decimal.
-fn with_decimal(alloc: Global, tenths: u64) -> Result<String, Fault> {
-    let whole = tenths / 10;
-    let tenth = tenths % 10;
-    Ok(format!(in alloc; "{whole}.{tenth}")?)
+// How many a second, and the nanoseconds for each byte, with one decimal.
+fn print_figures(rt: &HostRuntime, rounds: u32, len: usize, nanos: u64) -> Result<(), Fault> {
+    let (each, tenths) = (
+        per_second(rounds, nanos),
+        tenths_per_byte(rounds, len, nanos),
+    );
+    let (whole, tenth) = (tenths / 10, tenths % 10);
+    print!(rt; " {each:14} {whole:>10}.{tenth}")?;
+    Ok(())
+}
+
+fn print_text(rt: &HostRuntime, rounds: u32, text: &str) -> Result<(), Fault> {
+    let len = text.len();
+    let parsing = time_parsing(rt, rounds, text)?;
+    let evaluation = time_evaluation(rt, rounds, text)?;
+    print!(rt; "{len:5}")?;
+    print_figures(rt, rounds, len, parsing)?;
+    print_figures(rt, rounds, len, evaluation)?;
+    println!(rt; "")?;
+    Ok(())
 }
 
 fn print_line(rt: &HostRuntime, rounds: u32, len: usize) -> Result<(), Fault> {
     let text = condition_text(rt.alloc(), len)?;
-    let len = text.len();
-    let parsing = time_parsing(rt, rounds, text.as_str())?;
-    let evaluation = time_evaluation(rt, rounds, text.as_str())?;
-    let parsed = per_second(rounds, parsing);
-    let parsed_byte = with_decimal(rt.alloc(), tenths_per_byte(rounds, len, parsing))?;
-    let evaluated = per_second(rounds, evaluation);
-    let evaluated_byte = with_decimal(rt.alloc(), tenths_per_byte(rounds, len, evaluation))?;
-    println!(rt; "{len:5} {parsed:12} {parsed_byte:>12} {evaluated:14} {evaluated_byte:>12}")?;
-    Ok(())
+    print_text(rt, rounds, text.as_str())
 }
 
 /// Reads and evaluates conditions of 16, 256 and 1,024 bytes that many times, and prints a table.
 pub fn measure(rt: &HostRuntime, rounds: u32) -> Result<(), Fault> {
-    println!(rt; "bytes     parsed/s  ns per byte    evaluated/s  ns per byte")?;
+    println!(rt; "bytes       parsed/s  ns per byte    evaluated/s  ns per byte")?;
     for len in [16, 256, 1024] {
         print_line(rt, rounds, len)?;
     }

@@ -50,10 +50,14 @@ fn print_row(rt: &HostRuntime, rounds: u32, steps: u32, metrics: u32) -> Result<
     let size = Size { steps, metrics };
     let now = plans::begin().ok_or(Fault::Refused)?;
     let trial = &Trial { rounds, size, now };
-    let templates = plans::known(rt.alloc(), size).ok_or(Fault::Refused)?;
     print!(rt; "{steps:>5} {metrics:>7}")?;
-    print_check(rt, trial, &templates)?;
-    print_new(rt, trial, &templates)?;
+    let templates = plans::known(rt.alloc(), size).ok_or(Fault::Refused)?;
+    print_cells(rt, trial, &templates)
+}
+
+fn print_cells(rt: &HostRuntime, trial: &Trial, templates: &Templates) -> Result<(), Fault> {
+    print_check(rt, trial, templates)?;
+    print_new(rt, trial, templates)?;
     println!(rt; "")?;
     Ok(())
 }
@@ -86,10 +90,13 @@ fn check_often(alloc: Global, rounds: u32, templates: &Templates, spec: &Service
 
 // Registering the service, and what follows on it.
 fn print_new(rt: &HostRuntime, trial: &Trial, templates: &Templates) -> Result<(), Fault> {
-    let register = plans::register(rt.alloc(), trial.size).ok_or(Fault::Refused)?;
-    print_cell(rt, trial, templates, None, &register)?;
-    let service = after(rt.alloc(), trial.now, templates, None, &register).ok_or(Fault::Refused)?;
-    print_start(rt, trial, templates, &service)
+    let register = plans::register(rt.alloc(), trial.size);
+    print_given(rt, trial, templates, None, register)?;
+    let register = plans::register(rt.alloc(), trial.size);
+    match after_given(rt.alloc(), trial.now, templates, None, register) {
+        Some(service) => print_start(rt, trial, templates, &service),
+        None => Err(Fault::Refused),
+    }
 }
 
 // Starting a release, and what follows on it.
@@ -99,11 +106,13 @@ fn print_start(
     templates: &Templates,
     service: &Service,
 ) -> Result<(), Fault> {
-    let start = command(rt.alloc(), "start v2").ok_or(Fault::Refused)?;
-    print_cell(rt, trial, templates, Some(service), &start)?;
-    let started = after(rt.alloc(), trial.now, templates, Some(service), &start);
-    let started = started.ok_or(Fault::Refused)?;
-    print_started(rt, trial, templates, &started)
+    let start = command(rt.alloc(), "start v2");
+    print_given(rt, trial, templates, Some(service), start)?;
+    let start = command(rt.alloc(), "start v2");
+    match after_given(rt.alloc(), trial.now, templates, Some(service), start) {
+        Some(started) => print_started(rt, trial, templates, &started),
+        None => Err(Fault::Refused),
+    }
 }
 
 // What is decided at the first step at which the release stands.
@@ -115,23 +124,12 @@ fn print_started(
 ) -> Result<(), Fault> {
     let alloc = rt.alloc();
     let all = trial.size.metrics.max(1);
-    print_given(rt, trial, templates, service, command(alloc, "tick"))?;
+    let at = Some(service);
+    print_given(rt, trial, templates, at, command(alloc, "tick"))?;
     print_promote(rt, trial, templates, service)?;
-    print_given(rt, trial, templates, service, plans::good_report(alloc, 1))?;
-    print_given(
-        rt,
-        trial,
-        templates,
-        service,
-        plans::good_report(alloc, all),
-    )?;
-    print_given(
-        rt,
-        trial,
-        templates,
-        service,
-        plans::doubtful_report(alloc, all),
-    )
+    print_given(rt, trial, templates, at, plans::good_report(alloc, 1))?;
+    print_given(rt, trial, templates, at, plans::good_report(alloc, all))?;
+    print_given(rt, trial, templates, at, plans::doubtful_report(alloc, all))
 }
 
 // A promotion of the release as it is held by its run, or at its pause.
@@ -141,16 +139,27 @@ fn print_promote(
     templates: &Templates,
     service: &Service,
 ) -> Result<(), Fault> {
-    let promote = command(rt.alloc(), "promote").ok_or(Fault::Refused)?;
+    let promote = command(rt.alloc(), "promote");
     match held(rt.alloc(), trial, templates, service) {
-        None => print_cell(rt, trial, templates, Some(service), &promote),
-        Some(held) => print_cell(rt, trial, templates, Some(&held), &promote),
+        None => print_given(rt, trial, templates, Some(service), promote),
+        Some(held) => print_given(rt, trial, templates, Some(&held), promote),
     }
 }
 
 fn held(alloc: Global, trial: &Trial, templates: &Templates, service: &Service) -> Option<Service> {
-    let report = plans::doubtful_report(alloc, trial.size.metrics)?;
-    after(alloc, trial.now, templates, Some(service), &report)
+    let report = plans::doubtful_report(alloc, trial.size.metrics);
+    after_given(alloc, trial.now, templates, Some(service), report)
+}
+
+// The service as the command leaves it, if that was had.
+fn after_given(
+    alloc: Global,
+    now: Moment,
+    templates: &Templates,
+    service: Option<&Service>,
+    command: Option<Command>,
+) -> Option<Service> {
+    after(alloc, now, templates, service, &command?)
 }
 
 // The service as the command leaves it.
@@ -179,11 +188,11 @@ fn print_given(
     rt: &HostRuntime,
     trial: &Trial,
     templates: &Templates,
-    service: &Service,
+    service: Option<&Service>,
     command: Option<Command>,
 ) -> Result<(), Fault> {
     let command = command.ok_or(Fault::Refused)?;
-    print_cell(rt, trial, templates, Some(service), &command)
+    print_cell(rt, trial, templates, service, &command)
 }
 
 fn print_cell(

@@ -17,20 +17,24 @@ const TALLIES: usize = 4;
 
 /// Makes about so many additions and asks so many phases at each size, and prints a table.
 pub fn measure(rt: &HostRuntime, work: u32) -> Result<(), Fault> {
-    let Some((metric, begin)) = measured() else {
-        return Ok(());
-    };
     println!(rt;
         "{:>12} {:>14} {:>14}",
         "measurements", "additions/s", "phases/s"
     )?;
+    match measured() {
+        Some((metric, begin)) => print_sizes(rt, work, &metric, begin),
+        None => Ok(()),
+    }
+}
+
+fn print_sizes(rt: &HostRuntime, work: u32, metric: &Metric, begin: Moment) -> Result<(), Fault> {
     for size in [10, 100, 1_000, 10_000, 100_000, 1_000_000] {
         let start = Instant::now(rt)?;
         let fillings = (work / size).max(1);
         let tallies = filled_often(size, fillings, begin);
         let additions = rate(u64::from(fillings) * u64::from(size), start.elapsed(rt)?);
         let start = Instant::now(rt)?;
-        let running = count_running(&tallies, work, &metric);
+        let running = count_running(&tallies, work, metric);
         let phases = rate(u64::from(work), start.elapsed(rt)?);
         println!(rt; "{size:>12} {additions:>14} {phases:>14}")?;
         if running > work {

@@ -57,12 +57,22 @@ pub fn register_template(alloc: Global, count: u32, measurements: u32) -> Option
 
 /// The templates that are known: one, with the metrics of an analysis.
 pub fn known(alloc: Global, size: Size) -> Option<Templates> {
-    let mut known = Templates::new(alloc);
-    if size.metrics > 0 {
-        let registered = register_template(alloc, size.metrics, 5)?;
-        known.insert(latency()?, bound(alloc, registered)?).ok()?;
+    if size.metrics == 0 {
+        return Some(Templates::new(alloc));
     }
+    one_known(alloc, latency()?, latency_of(alloc, size.metrics)?)
+}
+
+// The template of that name alone.
+fn one_known(alloc: Global, name: Name, template: Template) -> Option<Templates> {
+    let mut known = Templates::new(alloc);
+    known.insert(name, template).ok()?;
     Some(known)
+}
+
+// The template with so many metrics.
+fn latency_of(alloc: Global, metrics: u32) -> Option<Template> {
+    bound(alloc, register_template(alloc, metrics, 5)?)
 }
 
 fn bound(alloc: Global, registered: Command) -> Option<Template> {

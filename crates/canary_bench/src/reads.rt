@@ -56,34 +56,46 @@ pub struct Aim {
     pub middle: u64,
 }
 
-/// What the probes aim at in a book with so many settled requests of the stream.
-pub fn take_aim(alloc: Global, stream: Stream, settled: u32) -> Option<Aim> {
-    let first = stream.request(alloc, 0)?;
-    let place = settled / 2;
-    let middle = stream.request(alloc, place)?;
-    aim_at(stream, first, &middle, u64::from(place))
+// What is said of the request in the middle.
+#[derive(Clone, Copy)]
+struct Middle {
+    now: Moment,
+    caller: Name,
+    number: Number,
+    subject: Name,
 }
 
-fn aim_at(stream: Stream, first: Request, request: &Request, middle: u64) -> Option<Aim> {
-    let now = request.moment;
+fn middle_of(request: &Request) -> Middle {
+    Middle {
+        now: request.moment,
+        caller: request.caller,
+        number: request.number,
+        subject: request.command.subject(),
+    }
+}
+
+fn take_middle(alloc: Global, stream: Stream, place: u32) -> Option<Middle> {
+    Some(middle_of(&stream.request(alloc, place)?))
+}
+
+/// What the probes aim at in a book with so many settled requests of the stream.
+pub fn take_aim(alloc: Global, stream: Stream, settled: u32) -> Option<Aim> {
+    let place = settled / 2;
+    let middle = take_middle(alloc, stream, place)?;
     let stranger = Name::read("nobody".as_bytes())?;
     let ahead = Number::new(2)?;
     let template = crate::plans::latency()?;
-    let first_status = stream.status();
-    let caller = request.caller;
-    let number = request.number;
-    let subject = request.command.subject();
     Some(Aim {
-        first,
-        first_status,
-        now,
+        first: stream.request(alloc, 0)?,
+        first_status: stream.status(),
+        now: middle.now,
         stranger,
         ahead,
-        caller,
-        number,
-        subject,
+        caller: middle.caller,
+        number: middle.number,
+        subject: middle.subject,
         template,
-        middle,
+        middle: u64::from(place),
     })
 }
 

@@ -67,24 +67,37 @@ fn print_head(rt: &HostRuntime) -> Result<(), Fault> {
 
 fn measure_named(rt: &HostRuntime, most: u32, name: &str) -> Result<(), Fault> {
     let stream = Stream::named(name).ok_or(Fault::Words)?;
-    let mut book = MemoryBook::new(rt.alloc());
     // What making a chunk of requests takes is no part of what the book takes.
     make_ready(rt, stream)?;
     let before = resident(rt)?;
+    let mut book = MemoryBook::new(rt.alloc());
+    print_sizes(rt, &mut book, stream, most, before)
+}
+
+// Prints a row at each size, of a book that is empty at first. The process has so much memory
+// before.
+fn print_sizes(
+    rt: &HostRuntime,
+    book: &mut MemoryBook,
+    stream: Stream,
+    most: u32,
+    before: u64,
+) -> Result<(), Fault> {
+    let name = stream.name();
     let mut settled = 0u32;
     for size in SIZES {
         if size > most {
             break;
         }
-        let Some(nanos) = grow(rt, &mut book, stream, settled, size)? else {
+        let Some(nanos) = grow(rt, book, stream, settled, size)? else {
             println!(rt; "{name:8} {size:>8}   more than a minute")?;
             break;
         };
         let bytes = resident(rt)?.saturating_sub(before) / u64::from(size.max(1));
         let whole = nanos / u64::from(size.saturating_sub(settled).max(1));
-        let next = time_next(rt, &mut book, stream, size)?;
+        let next = time_next(rt, book, stream, size)?;
         print!(rt; "{name:8} {size:>8} {whole:>9} {next:>9} {bytes:>7}")?;
-        print_reads(rt, &mut book, stream, size)?;
+        print_reads(rt, book, stream, size)?;
         settled = size.saturating_add(BATCHES * NEXT);
     }
     Ok(())
@@ -220,8 +233,12 @@ fn print_reads(
     size: u32,
 ) -> Result<(), Fault> {
     let aim = reads::take_aim(rt.alloc(), stream, size).ok_or(Fault::Refused)?;
+    print_probes(rt, book, &aim)
+}
+
+fn print_probes(rt: &HostRuntime, book: &mut MemoryBook, aim: &Aim) -> Result<(), Fault> {
     for probe in PROBES {
-        print_read(rt, book, probe, &aim)?;
+        print_read(rt, book, probe, aim)?;
     }
     println!(rt; "")?;
     Ok(())

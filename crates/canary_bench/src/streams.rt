@@ -64,7 +64,8 @@ impl Stream {
         None
     }
 
-    fn name(self) -> &'static str {
+    /// Its name.
+    pub fn name(self) -> &'static str {
         match self {
             Stream::One => "one",
             Stream::Callers => "callers",

@@ -9,6 +9,7 @@ use canary_wire::conversation::{Cause, Conversation, Routes, Wants};
 use std::alloc::Global;
 use std::io;
 use std::io::{ErrorKind, Read, Write};
+use std::process::Abort;
 use std::test::Fail;
 
 // A service, a start, a promotion that comes twice, a number ahead, and a query.
@@ -119,11 +120,27 @@ fn run(
     let routes = Routes::new(alloc)?;
     let mut talk = Conversation::new(alloc, most_owed)?;
     let mut book = MemoryBook::new(alloc);
+    take_turns(alloc, &routes, &mut talk, reader, writer, &mut book)
+}
+
+// A clock that ticks by a second.
+fn seconds() -> StepClock {
     let start = Moment::new(1_767_225_600).unwrap();
-    let mut now = StepClock::new(start, Moment::new(1).unwrap());
+    StepClock::new(start, Moment::new(1).unwrap())
+}
+
+fn take_turns(
+    alloc: Global,
+    routes: &Routes,
+    talk: &mut Conversation,
+    reader: &mut Incoming,
+    writer: &mut Outgoing,
+    book: &mut MemoryBook,
+) -> Result<Ran, Memory> {
+    let mut now = seconds();
     let mut owed = 0;
     for turns in 0..MOST_TURNS {
-        let wants = talk.turn(alloc, &routes, reader, writer, &mut now, &mut book);
+        let wants = talk.turn(alloc, routes, reader, writer, &mut now, book);
         owed = owed.max(talk.owes());
         if wants == Wants::Nothing(Cause::Memory) {
             return Err(Memory);
@@ -208,35 +225,42 @@ fn count_of(replies: &[u8], text: &str) -> usize {
         .count()
 }
 
-// Each request has a reply, and is settled where that accepts it, wherever memory is refused.
-#[test]
-fn settles_nothing_unanswered(rt: HostRuntime) -> Result<(), Fail> {
-    let alloc = rt.alloc();
+// Answers the new requests in ten turns, which take them all.
+fn answer_new(alloc: Global, writer: &mut Outgoing, book: &mut MemoryBook) -> Result<(), Memory> {
     let routes = Routes::new(alloc)?;
     let mut talk = Conversation::new(alloc, 16_384)?;
-    let mut book = MemoryBook::new(alloc);
-    let mut now = StepClock::new(Moment::new(1).unwrap(), Moment::new(1).unwrap());
+    let mut now = seconds();
     let mut reader = Incoming {
         rest: NEW.as_bytes(),
         size: 1000,
         blocks: true,
     };
-    let mut writer = writing(alloc, 1_000_000);
-    writer.bytes.reserve(1_000)?;
     for _ in 0..10 {
-        talk.turn(
-            alloc,
-            &routes,
-            &mut reader,
-            &mut writer,
-            &mut now,
-            &mut book,
-        );
+        talk.turn(alloc, &routes, &mut reader, writer, &mut now, book);
     }
+    Ok(())
+}
+
+fn check_new(
+    rt: &impl Abort,
+    alloc: Global,
+    writer: &mut Outgoing,
+    book: &mut MemoryBook,
+) -> Result<(), Fail> {
+    writer.bytes.reserve(1_000)?;
+    answer_new(alloc, writer, book)?;
     let Ok(settled) = book.settled(&name("ops").ok_or("a name")?) else {
         return Err("a count".into());
     };
     assert!(rt; count_of(&writer.bytes, "HTTP/1.1 ") == 2);
     assert!(rt; count_of(&writer.bytes, "HTTP/1.1 200 OK") == settled as usize);
     Ok(())
+}
+
+// Each request has a reply, and is settled where that accepts it, wherever memory is refused.
+#[test]
+fn settles_nothing_unanswered(rt: HostRuntime) -> Result<(), Fail> {
+    let alloc = rt.alloc();
+    let (mut writer, mut book) = (writing(alloc, 1_000_000), MemoryBook::new(alloc));
+    check_new(&rt, alloc, &mut writer, &mut book)
 }

@@ -22,6 +22,7 @@ use canary_testing::asked::{B, command, name};
 use canary_testing::rows::split;
 use canary_testing::sent::request;
 use std::alloc::Global;
+use std::process::Abort;
 use std::test::Fail;
 
 /// A release at a pause that ends at the moment 300, with an open run.
@@ -85,11 +86,21 @@ fn settlement(by: (Name, Number), command: CanonicalCommand, decision: Decision)
     }
 }
 
+/// The copy of what a command comes to; none where memory was refused.
+fn decided_copy(alloc: Global, desk: &Desk, asked: &str) -> Option<Decision> {
+    decided(alloc, desk, asked)?.copy(alloc).ok()
+}
+
+/// A promotion that is settled so; none where memory was refused.
+fn promoted(alloc: Global, by: (Name, Number), decision: Decision) -> Option<Settlement> {
+    let command = canonical(alloc, "promote")?;
+    Some(settlement(by, command, decision))
+}
+
 /// The copy of a settlement of the copy of what a command comes to; none where memory was refused.
 fn settled(alloc: Global, by: (Name, Number), desk: &Desk, asked: &str) -> Option<Settlement> {
-    let command = canonical(alloc, "promote")?;
-    let decision = decided(alloc, desk, asked)?.copy(alloc).ok()?;
-    settlement(by, command, decision).copy(alloc).ok()
+    let decision = decided_copy(alloc, desk, asked)?;
+    promoted(alloc, by, decision)?.copy(alloc).ok()
 }
 
 /// Whether a row's command comes to its reply.
@@ -108,20 +119,27 @@ fn passed(alloc: Global, desk: &Desk) -> Option<(u64, u32)> {
     Some((copy.service.last().get(), copy.service.step()))
 }
 
+/// Copies of what the story leaves.
+fn timed(rt: &impl Abort, alloc: Global) -> Result<Desk, Fail> {
+    let mut book = send_story(rt, alloc, TIMED)?;
+    let desk = desk_of(alloc, &mut book).ok_or(Memory)?;
+    Ok(desk)
+}
+
+fn check_desk(rt: &impl Abort, alloc: Global, desk: &Desk) -> Result<(), Fail> {
+    let caller = name("ops").ok_or("a name")?;
+    let number = Number::new(1).ok_or("a number")?;
+    for row in COPIED.lines() {
+        assert!(rt; is_told(alloc, (caller, number), desk, row)?, "{row}");
+    }
+    assert!(rt; passed(alloc, desk).ok_or(Memory)? == (LAST_MOMENT, 2));
+    Ok(())
+}
+
 #[test]
 fn copies_of_a_desk(rt: HostRuntime) -> Result<(), Fail> {
-    let alloc = rt.alloc();
-    let by = (
-        name("ops").ok_or("a name")?,
-        Number::new(1).ok_or("a number")?,
-    );
-    let mut book = send_story(&rt, alloc, TIMED)?;
-    let desk = desk_of(alloc, &mut book).ok_or(Memory)?;
-    for row in COPIED.lines() {
-        assert!(rt; is_told(alloc, by, &desk, row)?, "{row}");
-    }
-    assert!(rt; passed(alloc, &desk).ok_or(Memory)? == (LAST_MOMENT, 2));
-    Ok(())
+    let desk = timed(&rt, rt.alloc())?;
+    check_desk(&rt, rt.alloc(), &desk)
 }
 
 /// The number, the step, the start and the number of metrics of a copy of the run web 1; none where
@@ -147,13 +165,16 @@ fn status(alloc: Global, book: &mut MemoryBook) -> Option<u16> {
     Some(copy.status())
 }
 
+fn check_shown(rt: &impl Abort, alloc: Global, book: &mut MemoryBook) -> Result<(), Fail> {
+    assert!(rt; record(alloc, book).ok_or(Memory)? == (1, Some(1), B, 1));
+    assert!(rt; status(alloc, book).or(status(alloc, book)) == Some(404));
+    Ok(())
+}
+
 #[test]
 fn copies_of_what_is_shown(rt: HostRuntime) -> Result<(), Fail> {
-    let alloc = rt.alloc();
-    let mut book = send_story(&rt, alloc, TWO_RUNS)?;
-    assert!(rt; record(alloc, &mut book).ok_or(Memory)? == (1, Some(1), B, 1));
-    assert!(rt; status(alloc, &mut book).or(status(alloc, &mut book)) == Some(404));
-    Ok(())
+    let mut book = send_story(&rt, rt.alloc(), TWO_RUNS)?;
+    check_shown(&rt, rt.alloc(), &mut book)
 }
 
 /// The settings of a metric with an interval of a minute and this condition of success.

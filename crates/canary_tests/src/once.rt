@@ -6,6 +6,7 @@ use canary_once::book::Book;
 use canary_once::memory::MemoryBook;
 use canary_release::effect::Recorded;
 use canary_testing::asked::{B, name};
+use std::process::Abort;
 use std::test::Fail;
 
 const FALLING: &str = "200 ops 1 9 service v1 pause
@@ -19,11 +20,15 @@ fn moments(book: &mut MemoryBook) -> Option<(u64, u64)> {
     Some((service.last().get(), service.entered().get()))
 }
 
+fn check_moments(rt: &impl Abort, book: &mut MemoryBook) {
+    let found = moments(book).or(moments(book));
+    assert!(rt; found == Some((B + 9, B + 9)));
+}
+
 #[test]
 fn moments_that_fall(rt: HostRuntime) -> Result<(), Fail> {
     let mut book = send_story(&rt, rt.alloc(), FALLING)?;
-    let found = moments(&mut book).or(moments(&mut book));
-    assert!(rt; found == Some((B + 9, B + 9)));
+    check_moments(&rt, &mut book);
     Ok(())
 }
 
@@ -51,16 +56,20 @@ fn page(book: &mut MemoryBook, from: u64, most: u32) -> Option<(usize, (u32, u32
     Some((page.len(), place(page.first()), place(page.last())))
 }
 
-#[test]
-fn measurements_in_pages(rt: HostRuntime) -> Result<(), Fail> {
-    let mut book = send_story(&rt, rt.alloc(), TWO_RUNS)?;
+fn check_pages(rt: &impl Abort, book: &mut MemoryBook) {
     for (from, most, told) in [
         (0, 256, (2, (1, 1), (2, 1))),
         (1, 1, (1, (2, 1), (2, 1))),
         (u64::MAX, u32::MAX, (0, (0, 0), (0, 0))),
     ] {
-        let found = page(&mut book, from, most).or(page(&mut book, from, most));
+        let found = page(book, from, most).or(page(book, from, most));
         assert!(rt; found == Some(told), "{from} {most}");
     }
+}
+
+#[test]
+fn measurements_in_pages(rt: HostRuntime) -> Result<(), Fail> {
+    let mut book = send_story(&rt, rt.alloc(), TWO_RUNS)?;
+    check_pages(&rt, &mut book);
     Ok(())
 }

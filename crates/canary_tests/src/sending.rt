@@ -48,14 +48,25 @@ fn send(rt: &impl Abort, alloc: Global, book: &mut MemoryBook, row: &str) -> Res
     Ok(1)
 }
 
-/// Sends the rows of a story to a new book. No more than one allocation is refused, so no more than
-/// one row is sent twice.
-pub(crate) fn send_story(rt: &impl Abort, alloc: Global, story: &str) -> Result<MemoryBook, Fail> {
-    let mut book = MemoryBook::new(alloc);
+/// Sends the rows of a story. No more than one allocation is refused, so no more than one row is
+/// sent twice.
+fn send_rows(
+    rt: &impl Abort,
+    alloc: Global,
+    book: &mut MemoryBook,
+    story: &str,
+) -> Result<(), Fail> {
     let mut again = 0u32;
     for row in story.lines() {
-        again = again.saturating_add(send(rt, alloc, &mut book, row)?);
+        again = again.saturating_add(send(rt, alloc, book, row)?);
     }
     assert!(rt; again <= 1, "{story}");
+    Ok(())
+}
+
+/// Sends the rows of a story to a new book.
+pub(crate) fn send_story(rt: &impl Abort, alloc: Global, story: &str) -> Result<MemoryBook, Fail> {
+    let mut book = MemoryBook::new(alloc);
+    send_rows(rt, alloc, &mut book, story)?;
     Ok(book)
 }
