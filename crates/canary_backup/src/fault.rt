@@ -1,4 +1,6 @@
 //! Why a database was not copied.
+ghost use Rattle.std.specs.Prelude.{◌≡◌};
+
 use std::alloc::AllocError;
 use thiserror::Error;
 
@@ -20,6 +22,10 @@ pub enum BackupFault {
 }
 
 impl From<AllocError> for BackupFault {
+    ghost use Rattle.canary_backup.specs.declared.fault.BackupFault.TheVariants as fault;
+
+    ghost from_gives = { λ _ made. made ≡ fault.Memory };
+
     fn from(_: AllocError) -> BackupFault {
         BackupFault::Memory
     }

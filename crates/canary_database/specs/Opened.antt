@@ -1,5 +1,5 @@
 -- Why a desk's file was not opened, and which work on it settles nothing.
-use Rattle.std.specs.Prelude.{◌≡◌}
+use Rattle.std.specs.Prelude.{◌≡◌, Bool, true, false}
 use Rattle.canary_database.specs.declared.work.Work.{Work}
 use Rattle.canary_database.specs.declared.work.Work.TheVariants.{Export, History}
 use Rattle.canary_tables.specs.declared.fault.TableFault.{TableFault}
@@ -19,8 +19,12 @@ of_tables tables.BrokenRow = fault.BrokenRow
 abbrev pub IsOfTables : Fault → Type 0
 IsOfTables f = (cause : TableFault) × (f ≡ of_tables cause)
 
+-- whether work may settle requests
+abbrev pub settles : Work → Bool
+settles (Export service caller) = false
+settles (History service) = false
+settles _ = true
+
 -- work that settles nothing
 abbrev pub IsReading : Work → Type 0
-IsReading (Export service caller) = Unit {0}
-IsReading (History service) = Unit {0}
-IsReading _ = ⊥
+IsReading work = settles work ≡ false

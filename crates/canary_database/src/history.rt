@@ -3,10 +3,10 @@ ghost use Rattle.std.specs.Prelude.{◌≡◌, ◌≢◌, Err, IsTrue};
 ghost use Rattle.canary_base.specs.Names.{is_name};
 ghost use Rattle.canary_programs.specs.declared.fault.Fault.TheVariants as fault;
 
-use crate::work::{Work, on_file};
+use crate::work::{Work, without_input};
 use canary_programs::fault::Fault;
 use canary_programs::show::name_of;
-use std::io::{self, Write};
+use std::io::Write;
 
 /// Writes the history of a service in a file as it is stored: no time passes.
 ///
@@ -28,13 +28,5 @@ pub fn history<W: Write, F: Write>(
 {
     let service = name_of(service)?;
     let work = Work::History { service };
-    on_file(
-        rt,
-        file,
-        work,
-        &mut io::empty(),
-        output,
-        errors,
-        is_terminal,
-    )
+    without_input(rt, file, work, output, errors, is_terminal)
 }

@@ -13,8 +13,8 @@ const INPUT: &str = "-";
 ///
 /// # Errors
 /// `File` where the measurement file cannot be opened: the book is not opened then. What `open` and
-/// canary_programs' `import_rows` answer. `Storage` where the book's file fails as it is closed; what was settled is
-/// settled.
+/// canary_programs' `import_rows` answer. `Storage` where the book's file fails as it is closed;
+/// what was settled is settled.
 pub fn import<R: Read, W: Write, F: Write>(
     rt: &HostRuntime,
     file: &str,

@@ -1,9 +1,9 @@
 //! `serve`: the desk on a socket.
-use crate::work::{Work, on_file};
+use crate::work::{Work, without_input};
 use canary_listen::limits::Limits;
 use canary_programs::fault::Fault;
 use canary_programs::serve::{Listening, serve_memory};
-use std::io::{self, Write};
+use std::io::Write;
 
 /// Serves clients on the address that `listen` spells, after so many connections no more. The book
 /// is that of a file, which is opened before anybody can connect, or one in memory where none is
@@ -29,15 +29,7 @@ pub fn serve<W: Write, F: Write>(
     match file {
         Some(file) => {
             let work = Work::Serve(listening);
-            on_file(
-                rt,
-                file,
-                work,
-                &mut io::empty(),
-                output,
-                errors,
-                is_terminal,
-            )
+            without_input(rt, file, work, output, errors, is_terminal)
         }
         None => serve_memory(rt, listening, output, errors),
     }

@@ -1,6 +1,6 @@
 //! Work on the book in a file, from its opening to its end.
-ghost use Rattle.std.specs.Prelude.{◌≢◌, Err};
-ghost use Rattle.canary_database.specs.Opened.{IsReading};
+ghost use Rattle.std.specs.Prelude.{◌≡◌, ◌≢◌, Err};
+ghost use Rattle.canary_database.specs.Opened.{IsReading, settles};
 ghost use Rattle.canary_programs.specs.declared.fault.Fault.TheVariants as fault;
 
 use crate::open::open;
@@ -16,7 +16,7 @@ use canary_programs::history::write_history;
 use canary_programs::import::import_rows;
 use canary_programs::pipe::answer;
 use canary_programs::serve::{Listening, serve_book};
-use std::io::{Read, Write};
+use std::io::{self, Read, Write};
 
 /// What is done with a book.
 #[derive(Clone, Copy)]
@@ -36,7 +36,9 @@ pub(crate) enum Work {
 
 impl Work {
     // Whether it may settle requests.
-    fn settles(&self) -> bool {
+    fn settles(&self) -> bool
+        ensures { result ≡ settles self.now }
+    {
         !matches!(self, Work::Export { .. } | Work::History { .. })
     }
 }
@@ -66,6 +68,21 @@ pub(crate) fn on_file<R: Read, W: Write, F: Write>(
     let closed = book.into_connection().close();
     done?;
     closed.or(Err(Fault::Storage))
+}
+
+/// As `on_file`, of work that reads no input.
+pub(crate) fn without_input<W: Write, F: Write>(
+    rt: &HostRuntime,
+    file: &str,
+    work: Work,
+    output: &mut W,
+    errors: &mut F,
+    is_terminal: bool,
+) -> Result<(), Fault>
+    ensures { IsReading work → result ≢ Err fault.BadName }
+{
+    let mut nothing = io::empty();
+    on_file(rt, file, work, &mut nothing, output, errors, is_terminal)
 }
 
 // Does this work on a book.
