@@ -117,6 +117,16 @@ unreadable "count":1000001
 unreadable "count":"1000001"
 unreadable "count":-1
 unreadable "count":1.0
+reads "passAfter":2
+reads "passAfter":"2"
+reads "passAfter":0
+reads "passAfter":null
+reads "passAfter":1000000
+unreadable "passAfter":1000001
+unreadable "passAfter":-1
+unreadable "passAfter":"+2"
+unreadable "passAfter":2.0
+unreadable "passAfter":true
 unsupported "failureLimit":-1
 unsupported "failureLimit":"-1"
 unreadable "failureLimit":1000001

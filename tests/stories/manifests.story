@@ -58,6 +58,9 @@ between {"kind":"AnalysisTemplate","metadata":{"name":"t"},"spec":{"metrics":[{"
      expected a duration in a text, as 90s or 1h30m, up to 8760h
 "count":1000001 => spec.metrics[0].count (metric "errors"):
      expected 0 to 1,000,000, a whole number or a text of digits
+"passAfter":1000001 => spec.metrics[0].passAfter (metric "errors"):
+     expected 0 to 1,000,000, a whole number or a text of digits
+"interval":"1m","passAfter":2 => ok
 "count":2 => spec.metrics[0].interval (metric "errors"):
      expected an interval, since the count is above 1
 "failureLimit":-1 => spec.metrics[0].failureLimit (metric "errors"):

@@ -82,24 +82,24 @@ analysis
     "service":"web","stable":"v1","status":"Progressing","step":1,"version":"v2","weight":10}
 ? 0 run web 1 => {"closed":null,"code":"ok","metrics":[
     {"consecutive":0,"counted":0,"dryRun":false,"due":1767225600,"errors":0,"failed":0,
-    "inconclusive":0,"measurements":0,"name":"a","phase":"Pending"},
+    "inconclusive":0,"measurements":0,"name":"a","passes":0,"phase":"Pending"},
     {"consecutive":0,"counted":0,"dryRun":false,"due":1767225600,"errors":0,"failed":0,
-    "inconclusive":0,"measurements":0,"name":"b","phase":"Pending"}
+    "inconclusive":0,"measurements":0,"name":"b","passes":0,"phase":"Pending"}
     ],"run":1,"service":"web","started":1767225600,"step":1,"verdict":"Running"}
 ? 0 run web 2 => 404 unknown-run
 agent 1 0 report 1 a:1:0:1 => [web Progressing 1 10 | 1 Successful | Running]
 ? 0 run web 1 => {"closed":null,"code":"ok","metrics":[
     {"consecutive":0,"counted":1,"dryRun":false,"due":null,"errors":0,"failed":0,
-    "inconclusive":0,"measurements":1,"name":"a","phase":"Successful"},
+    "inconclusive":0,"measurements":1,"name":"a","passes":1,"phase":"Successful"},
     {"consecutive":0,"counted":0,"dryRun":false,"due":1767225600,"errors":0,"failed":0,
-    "inconclusive":0,"measurements":0,"name":"b","phase":"Pending"}
+    "inconclusive":0,"measurements":0,"name":"b","passes":0,"phase":"Pending"}
     ],"run":1,"service":"web","started":1767225600,"step":1,"verdict":"Running"}
 agent 2 0 report 1 b:1:0:1 => [web Paused 3 60 | 1 Successful | Successful]
 ? 0 run web 1 => {"closed":1767225600,"code":"ok","metrics":[
     {"consecutive":0,"counted":1,"dryRun":false,"due":null,"errors":0,"failed":0,
-    "inconclusive":0,"measurements":1,"name":"a","phase":"Successful"},
+    "inconclusive":0,"measurements":1,"name":"a","passes":1,"phase":"Successful"},
     {"consecutive":0,"counted":1,"dryRun":false,"due":null,"errors":0,"failed":0,
-    "inconclusive":0,"measurements":1,"name":"b","phase":"Successful"}
+    "inconclusive":0,"measurements":1,"name":"b","passes":1,"phase":"Successful"}
     ],"run":1,"service":"web","started":1767225600,"step":1,"verdict":"Successful"}
 
 ops 1 0 template t d,success=result==0 e dryRun:d => [t]
@@ -107,9 +107,9 @@ analysis
 agent 1 0 report 1 d:1:0:1 e:1:0:1 => [web Paused 3 60 | 1 Failed Successful | Successful]
 ? 7 run web 1 => {"closed":1767225600,"code":"ok","metrics":[
     {"consecutive":0,"counted":1,"dryRun":true,"due":null,"errors":0,"failed":1,
-    "inconclusive":0,"measurements":1,"name":"d","phase":"Failed"},
+    "inconclusive":0,"measurements":1,"name":"d","passes":0,"phase":"Failed"},
     {"consecutive":0,"counted":1,"dryRun":false,"due":null,"errors":0,"failed":0,
-    "inconclusive":0,"measurements":1,"name":"e","phase":"Successful"}
+    "inconclusive":0,"measurements":1,"name":"e","passes":1,"phase":"Successful"}
     ],"run":1,"service":"web","started":1767225600,"step":1,"verdict":"Successful"}
 
 
@@ -119,12 +119,12 @@ background
 agent 1 0 report 1 m:1:0:!down => [web Paused 1 20 | 1 Error | Running]
 ? 1 run web 1 => {"closed":null,"code":"ok","metrics":[
     {"consecutive":1,"counted":0,"dryRun":false,"due":1767225660,"errors":1,"failed":0,
-    "inconclusive":0,"measurements":1,"name":"m","phase":"Running"}
+    "inconclusive":0,"measurements":1,"name":"m","passes":0,"phase":"Running"}
     ],"run":1,"service":"web","started":1767225600,"step":null,"verdict":"Running"}
 ops 4 5 abort => [web Degraded 1 0]
 ? 9 run web 1 => {"closed":1767225605,"code":"ok","metrics":[
     {"consecutive":1,"counted":0,"dryRun":false,"due":null,"errors":1,"failed":0,
-    "inconclusive":0,"measurements":1,"name":"m","phase":"Successful"}
+    "inconclusive":0,"measurements":1,"name":"m","passes":0,"phase":"Successful"}
     ],"run":1,"service":"web","started":1767225600,"step":null,"verdict":"Successful"}
 ? 9 history web => {"code":"ok","lines":[
     "2026-01-01T00:00:00Z created v1","2026-01-01T00:00:00Z start v2",
@@ -139,11 +139,11 @@ ops 2 0 service v1 setWeight:20 pause:10 background:errs => [web Healthy 2 100]
 ops 3 0 start v2 => [web Paused 1 20]
 ? 9 run web 1 => {"closed":null,"code":"ok","metrics":[
     {"consecutive":0,"counted":0,"dryRun":false,"due":1767225600,"errors":0,"failed":0,
-    "inconclusive":0,"measurements":0,"name":"m","phase":"Pending"}
+    "inconclusive":0,"measurements":0,"name":"m","passes":0,"phase":"Pending"}
     ],"run":1,"service":"web","started":1767225600,"step":null,"verdict":"Running"}
 ? 15 run web 1 => {"closed":1767225610,"code":"ok","metrics":[
     {"consecutive":0,"counted":0,"dryRun":false,"due":null,"errors":0,"failed":0,
-    "inconclusive":0,"measurements":0,"name":"m","phase":"Successful"}
+    "inconclusive":0,"measurements":0,"name":"m","passes":0,"phase":"Successful"}
     ],"run":1,"service":"web","started":1767225600,"step":null,"verdict":"Successful"}
 ? 15 service web => {"code":"ok","hold":"none","moment":1767225615,"open":[],"runs":1,
     "service":"web","stable":"v2","status":"Healthy","step":2,"version":"v2","weight":100}
@@ -158,15 +158,15 @@ ops 3 0 start v2 => [web Paused 0 0]
 ? 9 run web 1 => 404 unknown-run
 ? 10 run web 1 => {"closed":null,"code":"ok","metrics":[
     {"consecutive":0,"counted":0,"dryRun":false,"due":1767225610,"errors":0,"failed":0,
-    "inconclusive":0,"measurements":0,"name":"a","phase":"Pending"},
+    "inconclusive":0,"measurements":0,"name":"a","passes":0,"phase":"Pending"},
     {"consecutive":0,"counted":0,"dryRun":false,"due":1767225610,"errors":0,"failed":0,
-    "inconclusive":0,"measurements":0,"name":"b","phase":"Pending"}
+    "inconclusive":0,"measurements":0,"name":"b","passes":0,"phase":"Pending"}
     ],"run":1,"service":"web","started":1767225610,"step":1,"verdict":"Running"}
 ? 15 run web 1 => {"closed":null,"code":"ok","metrics":[
     {"consecutive":0,"counted":0,"dryRun":false,"due":1767225610,"errors":0,"failed":0,
-    "inconclusive":0,"measurements":0,"name":"a","phase":"Pending"},
+    "inconclusive":0,"measurements":0,"name":"a","passes":0,"phase":"Pending"},
     {"consecutive":0,"counted":0,"dryRun":false,"due":1767225610,"errors":0,"failed":0,
-    "inconclusive":0,"measurements":0,"name":"b","phase":"Pending"}
+    "inconclusive":0,"measurements":0,"name":"b","passes":0,"phase":"Pending"}
     ],"run":1,"service":"web","started":1767225610,"step":1,"verdict":"Running"}
 ? 15 run web 2 => 404 unknown-run
 ? 15 service web => {"code":"ok","hold":"none","moment":1767225615,"open":[1],"runs":1,
@@ -183,9 +183,9 @@ ops 3 0 service v1 analysis:u+t => [web Healthy 1 100]
 ops 4 0 start v2 => [web Progressing 0 0]
 ? 0 run web 1 => {"closed":null,"code":"ok","metrics":[
     {"consecutive":0,"counted":0,"dryRun":false,"due":1767225600,"errors":0,"failed":0,
-    "inconclusive":0,"measurements":0,"name":"b","phase":"Pending"},
+    "inconclusive":0,"measurements":0,"name":"b","passes":0,"phase":"Pending"},
     {"consecutive":0,"counted":0,"dryRun":false,"due":1767225600,"errors":0,"failed":0,
-    "inconclusive":0,"measurements":0,"name":"a","phase":"Pending"}
+    "inconclusive":0,"measurements":0,"name":"a","passes":0,"phase":"Pending"}
     ],"run":1,"service":"web","started":1767225600,"step":0,"verdict":"Running"}
 
 
@@ -203,7 +203,7 @@ agent 2 0 report 1 m:1:0:7 => [web Paused 1 10 | 1 Inconclusive | Inconclusive]
     "service":"web","stable":"v1","status":"Paused","step":1,"version":"v2","weight":10}
 ? 0 run web 2 => {"closed":1767225600,"code":"ok","metrics":[
     {"consecutive":0,"counted":1,"dryRun":false,"due":null,"errors":0,"failed":0,
-    "inconclusive":1,"measurements":1,"name":"m","phase":"Inconclusive"}
+    "inconclusive":1,"measurements":1,"name":"m","passes":0,"phase":"Inconclusive"}
     ],"run":2,"service":"web","started":1767225600,"step":1,"verdict":"Inconclusive"}
 ops 4 0 promote => [web Paused 2 10]
 ? 0 service web => {"code":"ok","hold":"none","moment":1767225600,"open":[],"runs":2,

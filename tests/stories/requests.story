@@ -57,7 +57,27 @@ agent 8 420 report 1 m:8:420:!down => [web Paused 1 20 | 1 Error | Running]
 agent 9 480 report 1 m:9:480:!down => [web Paused 1 20 | 1 Error | Running]
 ? 480 run web 1 => {"closed":null,"code":"ok","metrics":[
     {"consecutive":4,"counted":1,"dryRun":false,"due":1767226140,"errors":8,"failed":0,
-    "inconclusive":0,"measurements":9,"name":"m","phase":"Running"}
+    "inconclusive":0,"measurements":9,"name":"m","passes":0,"phase":"Running"}
+    ],"run":1,"service":"web","started":1767225600,"step":null,"verdict":"Running"}
+
+
+# Two successes in a row complete a metric that asks for them, and an error between begins anew.
+ops 1 0 template errs m,success=result==0,interval=60,failureLimit=1,passAfter=2 => [errs]
+background
+agent 1 0 report 1 m:1:0:0 => [web Paused 1 20 | 1 Successful | Running]
+agent 2 60 report 1 m:2:60:1 => [web Paused 1 20 | 1 Failed | Running]
+agent 3 120 report 1 m:3:120:0 => [web Paused 1 20 | 1 Successful | Running]
+agent 4 180 report 1 m:4:180:0 => [web Paused 1 20 | 1 Successful | Successful]
+agent 5 240 report 1 m:5:240:0 => 422 run-closed
+
+ops 1 0 template errs m,success=result==0,interval=60,failureLimit=1,passAfter=2 => [errs]
+background
+agent 1 0 report 1 m:1:0:0 => [web Paused 1 20 | 1 Successful | Running]
+agent 2 60 report 1 m:2:60:!down => [web Paused 1 20 | 1 Error | Running]
+agent 3 120 report 1 m:3:120:0 => [web Paused 1 20 | 1 Successful | Running]
+? 120 run web 1 => {"closed":null,"code":"ok","metrics":[
+    {"consecutive":0,"counted":2,"dryRun":false,"due":1767225780,"errors":1,"failed":0,
+    "inconclusive":0,"measurements":3,"name":"m","passes":1,"phase":"Running"}
     ],"run":1,"service":"web","started":1767225600,"step":null,"verdict":"Running"}
 
 
@@ -149,9 +169,9 @@ analysis
 agent 1 5 report 1 a:1:5:7 => [web Paused 1 10 | 1 Inconclusive | Inconclusive]
 ? 5 run web 1 => {"closed":1767225605,"code":"ok","metrics":[
     {"consecutive":0,"counted":1,"dryRun":false,"due":null,"errors":0,"failed":0,
-    "inconclusive":1,"measurements":1,"name":"a","phase":"Inconclusive"},
+    "inconclusive":1,"measurements":1,"name":"a","passes":0,"phase":"Inconclusive"},
     {"consecutive":0,"counted":0,"dryRun":false,"due":null,"errors":0,"failed":0,
-    "inconclusive":0,"measurements":0,"name":"b","phase":"Successful"}
+    "inconclusive":0,"measurements":0,"name":"b","passes":0,"phase":"Successful"}
     ],"run":1,"service":"web","started":1767225600,"step":1,"verdict":"Inconclusive"}
 
 ops 1 0 template t a,consecutiveErrorLimit=0 b => [t]
@@ -227,9 +247,9 @@ agent 1 0 report 1 d:1:0:1 e:1:0:1 => [web Progressing 1 10 | 1 Failed Successfu
 ops 4 5 promoteFull => [web Healthy 4 100]
 ? 5 run web 1 => {"closed":1767225605,"code":"ok","metrics":[
     {"consecutive":0,"counted":1,"dryRun":true,"due":null,"errors":0,"failed":1,
-    "inconclusive":0,"measurements":1,"name":"d","phase":"Failed"},
+    "inconclusive":0,"measurements":1,"name":"d","passes":0,"phase":"Failed"},
     {"consecutive":0,"counted":1,"dryRun":false,"due":null,"errors":0,"failed":0,
-    "inconclusive":0,"measurements":1,"name":"e","phase":"Successful"}
+    "inconclusive":0,"measurements":1,"name":"e","passes":1,"phase":"Successful"}
     ],"run":1,"service":"web","started":1767225600,"step":1,"verdict":"Successful"}
 
 
@@ -433,7 +453,7 @@ agent 2 9 report 1 m:1:9:5 => [web Paused 0 0 | 1 Successful | Running]
 ops 4 25 tick => [web Healthy 1 100]
 ? 25 run web 1 => {"closed":1767225610,"code":"ok","metrics":[
     {"consecutive":0,"counted":1,"dryRun":false,"due":null,"errors":0,"failed":0,
-    "inconclusive":0,"measurements":1,"name":"m","phase":"Successful"}
+    "inconclusive":0,"measurements":1,"name":"m","passes":1,"phase":"Successful"}
     ],"run":1,"service":"web","started":1767225600,"step":null,"verdict":"Successful"}
 
 
@@ -474,7 +494,7 @@ agent 1 25 report 1 m:1:9:5 => 422 {"at":0,"code":"too-early","due":1767225610}
 agent 2 25 report 1 m:1:10:5 => [web Paused 1 0 | 1 Successful | Running]
 ? 25 run web 1 => {"closed":null,"code":"ok","metrics":[
     {"consecutive":0,"counted":1,"dryRun":false,"due":1767225670,"errors":0,"failed":0,
-    "inconclusive":0,"measurements":1,"name":"m","phase":"Running"}
+    "inconclusive":0,"measurements":1,"name":"m","passes":1,"phase":"Running"}
     ],"run":1,"service":"web","started":1767225610,"step":null,"verdict":"Running"}
 
 

@@ -53,6 +53,7 @@ fn measured() -> Option<(Metric, Moment)> {
         interval: Seconds::new(60),
         initial_delay: None,
         count: None,
+        pass_after: None,
         failure_limit: Some(1_000_000),
         inconclusive_limit: Some(1_000_000),
         consecutive_error_limit: Some(4),

@@ -24,8 +24,8 @@ use Rattle.canary_plan.specs.declared.report.Entry.{Entry}
 use Rattle.canary_plan.specs.declared.report.Report.{Report}
 use Rattle.canary_plan.specs.declared.command.Command.{Command}
 use Rattle.canary_plan.specs.declared.command.Command.TheVariants as command
-use Rattle.canary_canonical.specs.Texts.{whole_data, signed_data, data_or_null, list_data, metric_data, template_data, step_data, background_data, service_data, result_data, entry_with, entry_data, report_data, start_data, service_alone, command_data, command_text}
-use Rattle.canary_canonical.specs.Forms.{◌⊛◌, at, is_object_of, name_in, label_in, number_up_to, signed_in, null_or, each, list_of}
+use Rattle.canary_canonical.specs.Texts.{whole_data, signed_data, data_or_null, list_data, metric_data, metric_data_with, template_data, step_data, background_data, service_data, result_data, entry_with, entry_data, report_data, start_data, service_alone, command_data, command_text}
+use Rattle.canary_canonical.specs.Forms.{◌⊛◌, at, at_if, is_object_of, name_in, label_in, number_up_to, signed_in, null_or, each, list_of}
 use Rattle.canary_canonical.specs.Readings.{seconds_in, moment_in, word_in, metric_with, metric_in, template_with, template_in, step_in, background_with, background_in, service_with, service_in, values_with, result_in, outcome_in, entry_of, entry_in, report_with, report_in, start_with, start_in, named_in, plain_of_kind, command_of_kind, command_in, if_text_of, canonical_in}
 use Rattle.canary_canonical.specs.Laws.{is_duration, is_word, is_signed_word, all_of, keeps_metric, keeps_template, keeps_step, keeps_background, keeps_service, keeps_outcome, keeps_entry, keeps_report, keeps_limits, KeepsLimits, ReadsBack, OneText}
 use Rattle.canary_canonical.proofs.Kept.{made_where_kept}
@@ -90,21 +90,32 @@ names_back = each_back string name_in is_name name_back
 
 -- ---- templates
 
+passes_back : (o : Option ℕ) (m : MetricSpec) → IsTrue (all_of is_word o) → at_if (codes "passAfter") word_in (metric_data_with o m) ≡ Some o
+unfolding metric_data_with
+passes_back None m h = refl
+passes_back (Some n) m h = ap (option_map Some) (word_back n h)
+
+success_back : (o : Option ℕ) (m : MetricSpec) → at (codes "successCondition") (null_or as_str) (metric_data_with o m) ≡ Some m.success
+unfolding metric_data_with
+success_back None m = text_or_null m.success
+success_back (Some n) m = text_or_null m.success
+
 metric_back : (m : MetricSpec) → IsTrue (keeps_metric m) → metric_in (metric_data m) ≡ Some m
-unfolding metric_data metric_in keeps_metric
+unfolding metric_data_with metric_in keeps_metric
 metric_back m h =
     let numbers = metric_numbers m in
     let times = both (both h).1 in
     let name : at (codes "name") label_in (metric_data m) ≡ Some m.name = label_back m.name (both h).0 in
-    let success : at (codes "successCondition") (null_or as_str) (metric_data m) ≡ Some m.success = text_or_null m.success in
+    let success : at (codes "successCondition") (null_or as_str) (metric_data m) ≡ Some m.success = success_back m.pass_after m in
     let failure : at (codes "failureCondition") (null_or as_str) (metric_data m) ≡ Some m.failure = text_or_null m.failure in
     let interval : at (codes "interval") (null_or seconds_in) (metric_data m) ≡ Some m.interval = seconds_or_null m.interval times.0 in
     let delay : at (codes "initialDelay") seconds_in (metric_data m) ≡ Some m.initial_delay = seconds_back m.initial_delay times.1 in
     let count : at (codes "count") (null_or word_in) (metric_data m) ≡ Some m.count = word_or_null m.count numbers.count in
+    let passes : at_if (codes "passAfter") word_in (metric_data m) ≡ Some m.pass_after = passes_back m.pass_after m numbers.passes in
     let failed : at (codes "failureLimit") word_in (metric_data m) ≡ Some m.failure_limit = word_back m.failure_limit numbers.failed in
     let inconclusive : at (codes "inconclusiveLimit") word_in (metric_data m) ≡ Some m.inconclusive_limit = word_back m.inconclusive_limit numbers.inconclusive in
     let errors : at (codes "consecutiveErrorLimit") word_in (metric_data m) ≡ Some m.consecutive_error_limit = word_back m.consecutive_error_limit numbers.errors in
-    (λ i. option_flatten (Some metric_with ⊛ name i ⊛ success i ⊛ failure i ⊛ interval i ⊛ delay i ⊛ count i ⊛ failed i ⊛ inconclusive i ⊛ errors i)) ∙ sym (made_where_kept _ _ m.within)
+    (λ i. option_flatten (Some metric_with ⊛ name i ⊛ success i ⊛ failure i ⊛ interval i ⊛ delay i ⊛ count i ⊛ passes i ⊛ failed i ⊛ inconclusive i ⊛ errors i)) ∙ sym (made_where_kept _ _ m.within)
 
 template_back : (t : TemplateSpec) → IsTrue (keeps_template t) → template_in (template_data t) ≡ Some t
 unfolding template_data template_in keeps_template

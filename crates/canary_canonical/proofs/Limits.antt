@@ -3,7 +3,7 @@ use Rattle.std.proofs.Common.{ℕ, ℤ, pos, negsuc, ◌<◌, ◌^◌, List, [],
 use Rattle.std.specs.Prelude.{nat_le, ◌&&◌}
 use Rattle.std.specs.List.{list_all}
 use Rattle.std.proofs.lemmas.Bool.{and_parts}
-use Rattle.serde_json.specs.Data.{Data, string}
+use Rattle.serde_json.specs.Data.{Data, Members, string}
 use Rattle.serde_json.specs.View.{items_of}
 use Rattle.canary_condition.specs.declared.outcome.Value.TheVariants.{Whole, List as ListResult}
 use Rattle.canary_condition.specs.declared.outcome.Outcome.{Outcome}
@@ -19,9 +19,9 @@ use Rattle.canary_plan.specs.declared.report.Report.{Report}
 use Rattle.canary_plan.specs.declared.command.Command.{Command}
 use Rattle.canary_plan.specs.declared.command.Command.TheVariants as command
 use Rattle.canary_plan.specs.Limits.{is_limit, is_count}
-use Rattle.canary_canonical.specs.Texts.{whole_data, signed_data, data_or_null, list_data, metric_data, template_data, step_data, background_data, service_data, entry_with, entry_data, report_data, start_data, command_data}
+use Rattle.canary_canonical.specs.Texts.{whole_data, signed_data, data_or_null, list_data, passing, metric_data, metric_data_with, template_data, step_data, background_data, service_data, entry_with, entry_data, report_data, start_data, command_data}
 use Rattle.canary_canonical.specs.Laws.{is_duration, is_word, is_signed_word, all_of, keeps_metric, keeps_template, keeps_step, keeps_background, keeps_service, keeps_outcome, keeps_entry, keeps_report, keeps_limits, KeepsLimits}
-use Rattle.canary_canonical.proofs.Regular.{NumbersFit, ItemsFit}
+use Rattle.canary_canonical.proofs.Regular.{NumbersFit, ItemsFit, MembersFit}
 
 -- ---- tests
 
@@ -37,6 +37,7 @@ weaker n less most h k = grind (arith, h, k)
 -- the numbers of a metric, at most a million each
 pub record MetricNumbers (m : MetricSpec) : Type 0 where
   pub count : IsTrue (all_of is_word m.count)
+  pub passes : IsTrue (all_of is_word m.pass_after)
   pub failed : IsTrue (is_word m.failure_limit)
   pub inconclusive : IsTrue (is_word m.inconclusive_limit)
   pub errors : IsTrue (is_word m.consecutive_error_limit)
@@ -51,10 +52,12 @@ count_is_word (Some n) h = limit_is_word n (both h).1
 pub metric_numbers : (m : MetricSpec) → MetricNumbers m
 metric_numbers m =
     let counts = (both (both m.within).1).1 in
-    let failed = (both counts).1 in
+    let passes = (both counts).1 in
+    let failed = (both passes).1 in
     let rest = (both failed).1 in
     record {
       count = count_is_word m.count (both counts).0;
+      passes = count_is_word m.pass_after (both passes).0;
       failed = limit_is_word _ (both failed).0;
       inconclusive = limit_is_word _ (both rest).0;
       errors = limit_is_word _ (both rest).1;
@@ -99,8 +102,12 @@ texts_fit (x ∷ xs) = (tt, texts_fit xs)
 
 -- ---- templates
 
+passing_fits : (o : Option ℕ) (rest : Members) → IsTrue (all_of is_word o) → MembersFit rest → MembersFit (passing o rest)
+passing_fits None rest h fit = fit
+passing_fits (Some n) rest h fit = (word_fits n h, fit)
+
 metric_fits : (m : MetricSpec) → IsTrue (keeps_metric m) → NumbersFit (metric_data m)
-unfolding metric_data keeps_metric
+unfolding metric_data_with keeps_metric
 metric_fits m h =
     let numbers = metric_numbers m in
     let times = both (both h).1 in (
@@ -115,7 +122,7 @@ metric_fits m h =
               word_fits _ numbers.inconclusive,
               (
                 duration_fits _ times.1,
-                (or_null_fits whole_data is_duration duration_fits m.interval times.0, (tt, (text_or_null_fits m.success, tt))),
+                (or_null_fits whole_data is_duration duration_fits m.interval times.0, (tt, passing_fits m.pass_after _ numbers.passes (text_or_null_fits m.success, tt))),
               ),
             ),
           ),

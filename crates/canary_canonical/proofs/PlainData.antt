@@ -19,7 +19,7 @@ use Rattle.canary_plan.specs.declared.report.Entry.{Entry}
 use Rattle.canary_plan.specs.declared.report.Report.{Report}
 use Rattle.canary_plan.specs.declared.command.Command.{Command}
 use Rattle.canary_plan.specs.declared.command.Command.TheVariants as command
-use Rattle.canary_canonical.specs.Texts.{whole_data, signed_data, data_or_null, list_data, only, metric_data, template_data, step_data, background_data, service_data, result_data, entry_with, entry_data, report_data, start_data, service_alone, command_data}
+use Rattle.canary_canonical.specs.Texts.{whole_data, signed_data, data_or_null, list_data, only, passing, metric_data, metric_data_with, template_data, step_data, background_data, service_data, result_data, entry_with, entry_data, report_data, start_data, service_alone, command_data}
 use Rattle.canary_canonical.proofs.Regular.{rebuilt, IsInOrder, ItemsInOrder, MembersInOrder}
 
 -- no float, in order, and at most so deep
@@ -86,12 +86,26 @@ plain_only most key d h = plain_object most _ refl (h, tt)
 
 -- ---- templates
 
+passing_plain : (o : Option ℕ) (rest : Members) → ArePlain 0 rest → ArePlain 0 (passing o rest)
+passing_plain None rest h = h
+passing_plain (Some n) rest h = (plain_whole 0 n, h)
+
+-- the keys of a metric stand in order, with a number of successes in a row and without one
+abbrev members_of : Data → Members
+members_of (object ms) = ms
+members_of d = no_members
+
+metric_sorted : (o : Option ℕ) (m : MetricSpec) → rebuilt (members_of (metric_data_with o m)) no_members ≡ members_of (metric_data_with o m)
+unfolding metric_data_with
+metric_sorted None m = refl
+metric_sorted (Some n) m = refl
+
 plain_metric : (m : MetricSpec) → IsPlain 1 (metric_data m)
-unfolding metric_data
+unfolding metric_data_with
 plain_metric m =
     let number = plain_whole 0 in
     let text = plain_text 0 in
-    plain_object 0 _ refl (
+    plain_object 0 _ (metric_sorted m.pass_after m) (
       number _,
       (
         plain_or_null 0 whole_data number m.count,
@@ -103,7 +117,7 @@ plain_metric m =
               number _,
               (
                 number _,
-                (plain_or_null 0 whole_data number m.interval, (text _, (plain_or_null 0 string text m.success, tt))),
+                (plain_or_null 0 whole_data number m.interval, (text _, passing_plain m.pass_after _ (plain_or_null 0 string text m.success, tt))),
               ),
             ),
           ),

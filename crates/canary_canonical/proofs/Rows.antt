@@ -12,7 +12,7 @@ use Rattle.canary_plan.specs.declared.template_spec.MetricSpec.{MetricSpec}
 use Rattle.canary_plan.specs.declared.report.Entry.{Entry}
 use Rattle.canary_plan.specs.declared.command.Command.{Command}
 use Rattle.canary_plan.specs.declared.command.Command.TheVariants as command
-use Rattle.canary_canonical.specs.Texts.{metric_data, template_data, step_data, background_data, service_data, entry_data, report_data, start_data, command_data, command_text}
+use Rattle.canary_canonical.specs.Texts.{metric_data_with, template_data, step_data, background_data, service_data, entry_data, report_data, start_data, command_data, command_text}
 use Rattle.canary_canonical.specs.Readings.{service_in, step_in, entry_in, report_in, start_in, plain_of_kind, command_of_kind, spelt_in, canonical_in}
 
 abbrev web : List ℕ
@@ -28,6 +28,7 @@ metric = record {
   interval = Some 60;
   initial_delay = 0;
   count = None;
+  pass_after = None;
   failure_limit = 0;
   inconclusive_limit = 0;
   consecutive_error_limit = 4;
@@ -37,7 +38,7 @@ metric = record {
 template :
     command_text (command.Template (record { name = codes "t"; metrics = metric ∷ []; dry_run = codes "m" ∷ []; within = refl }))
     ≡ codes "{\"template\":{\"dryRun\":[\"m\"],\"metrics\":[{\"consecutiveErrorLimit\":4,\"count\":null,\"failureCondition\":null,\"failureLimit\":0,\"inconclusiveLimit\":0,\"initialDelay\":0,\"interval\":60,\"name\":\"m\",\"successCondition\":\"result == 0\"}],\"name\":\"t\"}}"
-unfolding json_on_literals digits command_text command_data template_data metric_data
+unfolding json_on_literals digits command_text command_data template_data metric_data_with
 template = refl
 
 -- what is absent and what is written out change places
@@ -48,8 +49,14 @@ other_metric : command_text (command.Template (record {
   within = refl;
 }))
     ≡ codes "{\"template\":{\"dryRun\":[],\"metrics\":[{\"consecutiveErrorLimit\":4,\"count\":3,\"failureCondition\":\"result < 5\",\"failureLimit\":1,\"inconclusiveLimit\":2,\"initialDelay\":5,\"interval\":null,\"name\":\"m\",\"successCondition\":null}],\"name\":\"t\"}}"
-unfolding json_on_literals digits command_text command_data template_data metric_data
+unfolding json_on_literals digits command_text command_data template_data metric_data_with
 other_metric = refl
+
+-- a number of successes in a row has a member of its own
+passed_metric : command_text (command.Template (record { name = codes "t"; metrics = record metric { pass_after = Some 2; within = refl } ∷ []; dry_run = []; within = refl }))
+    ≡ codes "{\"template\":{\"dryRun\":[],\"metrics\":[{\"consecutiveErrorLimit\":4,\"count\":null,\"failureCondition\":null,\"failureLimit\":0,\"inconclusiveLimit\":0,\"initialDelay\":0,\"interval\":60,\"name\":\"m\",\"passAfter\":2,\"successCondition\":\"result == 0\"}],\"name\":\"t\"}}"
+unfolding json_on_literals digits command_text command_data template_data metric_data_with
+passed_metric = refl
 
 -- Services.
 

@@ -16,6 +16,14 @@ None ⊛ part = None
 abbrev pub at : {A : Type 0} → List ℕ → (Data → Option A) → Data → Option A
 at key form value = option_and_then form (get key value)
 
+abbrev pub if_given : {A : Type 0} → (Data → Option A) → Option Data → Option (Option A)
+if_given form None = Some None
+if_given form (Some value) = option_map Some (form value)
+
+-- the same, or none where there is no member of that key
+abbrev pub at_if : {A : Type 0} → List ℕ → (Data → Option A) → Data → Option (Option A)
+at_if key form value = if_given form (get key value)
+
 -- an object with so many members; each key is there once, so that no key is beside those asked for
 abbrev pub is_object_of : ℕ → Data → Bool
 is_object_of count value =

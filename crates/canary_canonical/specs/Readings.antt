@@ -21,7 +21,7 @@ use Rattle.canary_plan.specs.declared.report.Report.{Report}
 use Rattle.canary_plan.specs.declared.command.Command.{Command}
 use Rattle.canary_plan.specs.declared.command.Command.TheVariants as command
 use Rattle.canary_plan.specs.Limits.{are_metric_limits, is_metric_count, is_ordinal, are_report_limits}
-use Rattle.canary_canonical.specs.Forms.{◌⊛◌, at, in_object_of, by_key, name_in, label_in, number_up_to, signed_in, null_or, list_of, where_kept}
+use Rattle.canary_canonical.specs.Forms.{◌⊛◌, at, at_if, in_object_of, by_key, name_in, label_in, number_up_to, signed_in, null_or, list_of, where_kept}
 use Rattle.canary_canonical.specs.Texts.{command_text}
 
 -- a duration, in seconds
@@ -38,10 +38,10 @@ word_in = number_up_to 4294967295
 
 -- ---- templates
 
-abbrev pub metric_with : List ℕ → Option (List ℕ) → Option (List ℕ) → Option ℕ → ℕ → Option ℕ → ℕ
-    → ℕ → ℕ → Option MetricSpec
-metric_with name success failure interval delay count failed inconclusive errors =
-    where_kept (are_metric_limits success failure count failed inconclusive errors)
+abbrev pub metric_with : List ℕ → Option (List ℕ) → Option (List ℕ) → Option ℕ → ℕ → Option ℕ
+    → Option ℕ → ℕ → ℕ → ℕ → Option MetricSpec
+metric_with name success failure interval delay count passes failed inconclusive errors =
+    where_kept (are_metric_limits success failure count passes failed inconclusive errors)
     (λ kept. record {
       name = name;
       success = success;
@@ -49,6 +49,7 @@ metric_with name success failure interval delay count failed inconclusive errors
       interval = interval;
       initial_delay = delay;
       count = count;
+      pass_after = passes;
       failure_limit = failed;
       inconclusive_limit = inconclusive;
       consecutive_error_limit = errors;
@@ -63,6 +64,7 @@ metric_in d = option_flatten (Some metric_with
     ⊛ at (codes "interval") (null_or seconds_in) d
     ⊛ at (codes "initialDelay") seconds_in d
     ⊛ at (codes "count") (null_or word_in) d
+    ⊛ at_if (codes "passAfter") word_in d
     ⊛ at (codes "failureLimit") word_in d
     ⊛ at (codes "inconclusiveLimit") word_in d
     ⊛ at (codes "consecutiveErrorLimit") word_in d)

@@ -1,6 +1,6 @@
 -- The canonical text of a command: one text for one command, in JSON.
 use Rattle.std.specs.Prelude.{ℕ, ℤ, List, map, Option, Some, None, codes}
-use Rattle.serde_json.specs.Data.{Data, unsigned, null, number, string, array, object, no_members, member}
+use Rattle.serde_json.specs.Data.{Data, unsigned, null, number, string, array, object, Members, no_members, member}
 use Rattle.serde_json.specs.Find.{of_integer}
 use Rattle.serde_json.specs.View.{items_of}
 use Rattle.serde_json.specs.Written.{compact_text}
@@ -20,7 +20,7 @@ use Rattle.canary_plan.specs.declared.command.Command.{Command}
 use Rattle.canary_plan.specs.declared.command.Command.TheVariants as command
 
 -- The members of each object stand in ascending order of the bytes of their keys. What is absent is
--- null.
+-- null, but for a metric's `passAfter`, which has no member then.
 
 abbrev pub whole_data : ℕ → Data
 whole_data n = number (unsigned n)
@@ -41,8 +41,13 @@ only key value = object (member key value no_members)
 
 -- Templates.
 
-unfoldable pub metric_data : MetricSpec → Data
-metric_data m = object
+-- how many successes in a row are asked for, where a number is; where none is, there is no member
+abbrev pub passing : Option ℕ → Members → Members
+passing None rest = rest
+passing (Some n) rest = member (codes "passAfter") (whole_data n) rest
+
+unfoldable pub metric_data_with : Option ℕ → MetricSpec → Data
+metric_data_with passes m = object
     (member (codes "consecutiveErrorLimit") (whole_data m.consecutive_error_limit)
     (member (codes "count") (data_or_null whole_data m.count)
     (member (codes "failureCondition") (data_or_null string m.failure)
@@ -51,7 +56,11 @@ metric_data m = object
     (member (codes "initialDelay") (whole_data m.initial_delay)
     (member (codes "interval") (data_or_null whole_data m.interval)
     (member (codes "name") (string m.name)
-    (member (codes "successCondition") (data_or_null string m.success) no_members)))))))))
+    (passing passes
+    (member (codes "successCondition") (data_or_null string m.success) no_members))))))))))
+
+abbrev pub metric_data : MetricSpec → Data
+metric_data m = metric_data_with m.pass_after m
 
 unfoldable pub template_data : TemplateSpec → Data
 template_data t = object

@@ -1,8 +1,9 @@
 //! Templates in JSON.
-ghost use Rattle.std.specs.Prelude.{◌≡◌, IsTrue, IfOk};
+ghost use Rattle.std.specs.Prelude.{◌≡◌, IsTrue, IfOk, Some, None};
 ghost use Rattle.std.specs.List.{list_all};
 ghost use Rattle.serde_json.specs.View.{view};
-ghost use Rattle.canary_canonical.specs.Texts.{list_data, metric_data, template_data};
+ghost use Rattle.canary_canonical.specs.Texts.{list_data, metric_data, metric_data_with};
+ghost use Rattle.canary_canonical.specs.Texts.{template_data};
 ghost use Rattle.canary_canonical.specs.Laws.{keeps_metric, keeps_template};
 
 use crate::parts::{number_or_null, seconds_or_null, text_or_null, texts};
@@ -32,9 +33,42 @@ fn metric_values(alloc: Global, metrics: &[MetricSpec]) -> Result<Value, AllocEr
     Ok(Value::Array(values))
 }
 
-#[tactic(auto, unfolding(crate::specs::Texts::metric_data, crate::specs::Laws::keeps_metric))]
 fn metric_value(alloc: Global, metric: &MetricSpec) -> Result<Value, AllocError>
     ensures value { IfOk result (λ value. view value ≡ metric_data metric.now) }
+    ensures kept { IfOk result (λ _. IsTrue (keeps_metric metric.now)) }
+{
+    match metric.pass_after {
+        None => value_without_passes(alloc, metric),
+        Some(passes) => value_with_passes(alloc, metric, passes),
+    }
+}
+
+#[tactic(auto, unfolding(crate::specs::Texts::metric_data_with, crate::specs::Laws::keeps_metric))]
+fn value_with_passes(alloc: Global, metric: &MetricSpec, passes: u32) -> Result<Value, AllocError>
+    ensures value { IfOk result (λ value. view value ≡ metric_data_with (Some passes) metric.now) }
+    ensures kept { IfOk result (λ _. IsTrue (keeps_metric metric.now)) }
+{
+    let success = text_or_null(alloc, &metric.success)?;
+    let failure = text_or_null(alloc, &metric.failure)?;
+    let interval = seconds_or_null(metric.interval);
+    let name = metric.name.as_str();
+    json!(in alloc; {
+        "consecutiveErrorLimit": metric.consecutive_error_limit,
+        "count": number_or_null(metric.count),
+        "failureCondition": failure,
+        "failureLimit": metric.failure_limit,
+        "inconclusiveLimit": metric.inconclusive_limit,
+        "initialDelay": metric.initial_delay.get(),
+        "interval": interval,
+        "name": name,
+        "passAfter": passes,
+        "successCondition": success
+    })
+}
+
+#[tactic(auto, unfolding(crate::specs::Texts::metric_data_with, crate::specs::Laws::keeps_metric))]
+fn value_without_passes(alloc: Global, metric: &MetricSpec) -> Result<Value, AllocError>
+    ensures value { IfOk result (λ value. view value ≡ metric_data_with None metric.now) }
     ensures kept { IfOk result (λ _. IsTrue (keeps_metric metric.now)) }
 {
     let success = text_or_null(alloc, &metric.success)?;

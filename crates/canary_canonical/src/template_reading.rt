@@ -3,7 +3,7 @@ ghost use Rattle.std.specs.Prelude.{◌≡◌};
 ghost use Rattle.serde_json.specs.Find.{as_str};
 ghost use Rattle.serde_json.specs.View.{view, items_view};
 ghost use Rattle.canary_plan.specs.Limits.{is_condition_asked, is_count};
-ghost use Rattle.canary_canonical.specs.Forms.{at, each, list_of, null_or};
+ghost use Rattle.canary_canonical.specs.Forms.{at, at_if, each, list_of, null_or};
 ghost use Rattle.canary_canonical.specs.Readings.{seconds_in, word_in, metric_with, metric_in};
 ghost use Rattle.canary_canonical.specs.Readings.{template_with, template_in};
 ghost use Rattle.canary_canonical.specs.Reads.{IsRead};
@@ -91,6 +91,7 @@ fn metric_in(alloc: Global, value: &Value) -> Result<MetricSpec, FormFault>
     let interval = interval_at(value, "interval").ok_or(FormFault::Unreadable)?;
     let delay = seconds_at(value, "initialDelay").ok_or(FormFault::Unreadable)?;
     let count = count_at(value, "count").ok_or(FormFault::Unreadable)?;
+    let passes = number_at_if(value, "passAfter").ok_or(FormFault::Unreadable)?;
     let failed = number_at(value, "failureLimit", u32::MAX).ok_or(FormFault::Unreadable)?;
     let inconclusive = number_at(value, "inconclusiveLimit", u32::MAX).ok_or(
         FormFault::Unreadable,
@@ -103,6 +104,7 @@ fn metric_in(alloc: Global, value: &Value) -> Result<MetricSpec, FormFault>
         interval,
         delay,
         count,
+        passes,
         failed,
         inconclusive,
         errors,
@@ -110,8 +112,9 @@ fn metric_in(alloc: Global, value: &Value) -> Result<MetricSpec, FormFault>
     .ok_or(FormFault::Unreadable)
 }
 
-/// The metric, where its conditions, its count and its limits keep their limits: a condition is not
-/// empty, a count is 1 to 1,000,000, and a limit is at most 1,000,000.
+/// The metric, where its conditions, its counts and its limits keep their limits: a condition is not
+/// empty, a count, of measurements or of successes in a row, is 1 to 1,000,000, and a limit is at most
+/// 1,000,000.
 pub fn metric_with(
     name: Label,
     success: Option<Text>,
@@ -119,16 +122,18 @@ pub fn metric_with(
     interval: Option<Seconds>,
     initial_delay: Seconds,
     count: Option<u32>,
+    pass_after: Option<u32>,
     failure_limit: u32,
     inconclusive_limit: u32,
     consecutive_error_limit: u32,
 ) -> Option<MetricSpec>
-    ensures { result ≡ metric_with name success failure interval initial_delay count
+    ensures { result ≡ metric_with name success failure interval initial_delay count pass_after
         failure_limit inconclusive_limit consecutive_error_limit }
 {
     let is_within = is_condition_asked(&success)
         && is_condition_asked(&failure)
         && is_count(count)
+        && is_count(pass_after)
         && failure_limit <= GREATEST_LIMIT
         && inconclusive_limit <= GREATEST_LIMIT
         && consecutive_error_limit <= GREATEST_LIMIT;
@@ -142,6 +147,7 @@ pub fn metric_with(
         interval,
         initial_delay,
         count,
+        pass_after,
         failure_limit,
         inconclusive_limit,
         consecutive_error_limit,
@@ -195,6 +201,16 @@ fn count_at(value: &Value, key: &str) -> Option<Option<u32>>
         return Some(None);
     }
     Some(Some(number_up_to(member, u32::MAX)?))
+}
+
+// A number, or none where there is no such member.
+fn number_at_if(value: &Value, key: &str) -> Option<Option<u32>>
+    ensures { result ≡ at_if key.now word_in (view value.now) }
+{
+    match value.get(key) {
+        None => Some(None),
+        Some(member) => Some(Some(number_up_to(member, u32::MAX)?)),
+    }
 }
 
 fn texts_of(alloc: Global, value: &Value) -> Result<Listed<Text>, FormFault>

@@ -11,7 +11,7 @@ use Rattle.canary_plan.specs.Plans.{template_of}
 use Rattle.canary_check.specs.Taken.{plain_metric, stand_in, Known, with_stand_ins}
 
 -- the code's value has another proof of its limits
-pub plain_is : (name : List ℕ) (delay : ℕ) (kept : IsTrue (are_metric_limits None None None 0 0 4)) → delay ≡ 0
+pub plain_is : (name : List ℕ) (delay : ℕ) (kept : IsTrue (are_metric_limits None None None None 0 0 4)) → delay ≡ 0
     → ◌≡◌ {A = MetricSpec} (record {
       name = name;
       success = None;
@@ -19,6 +19,7 @@ pub plain_is : (name : List ℕ) (delay : ℕ) (kept : IsTrue (are_metric_limits
       interval = None;
       initial_delay = delay;
       count = None;
+      pass_after = None;
       failure_limit = 0;
       inconclusive_limit = 0;
       consecutive_error_limit = 4;
@@ -32,10 +33,11 @@ plain_is name delay kept e = λ i.
       interval = None;
       initial_delay = e i;
       count = None;
+      pass_after = None;
       failure_limit = 0;
       inconclusive_limit = 0;
       consecutive_error_limit = 4;
-      within = is_prop→PathP (λ j. IsTrue (are_metric_limits None None None 0 0 4)) (λ j. hlevel props) kept refl i;
+      within = is_prop→PathP (λ j. IsTrue (are_metric_limits None None None None 0 0 4)) (λ j. hlevel props) kept refl i;
     }
 
 pub stand_in_is : (name : List ℕ) (metrics : List MetricSpec) (dry_run : List (List ℕ)) (kept : IsTrue (is_metric_count (length metrics))) → metrics ≡ plain_metric name ∷ [] → dry_run ≡ []

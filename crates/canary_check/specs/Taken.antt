@@ -30,6 +30,7 @@ plain_metric name =
       interval = None;
       initial_delay = 0;
       count = None;
+      pass_after = None;
       failure_limit = 0;
       inconclusive_limit = 0;
       consecutive_error_limit = 4;

@@ -131,6 +131,7 @@ pub(crate) fn plain_metric(name: Label) -> MetricSpec
         interval: None,
         initial_delay: Seconds::new(0).unwrap(),
         count: None,
+        pass_after: None,
         failure_limit: 0,
         inconclusive_limit: 0,
         consecutive_error_limit: 4,

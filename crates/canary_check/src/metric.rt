@@ -69,7 +69,7 @@ fn tell_text(
     }
 }
 
-// Adds what is found in how often a metric is measured.
+// Adds what is found in when, how often and until when a metric is measured.
 fn tell_times(
     alloc: Global,
     lines: &mut Lines,
@@ -84,6 +84,9 @@ fn tell_times(
     }
     if count_at(metric, "count").is_none() {
         lines.tell(place, "count", LIMIT)?;
+    }
+    if count_at(metric, "passAfter").is_none() {
+        lines.tell(place, "passAfter", LIMIT)?;
     }
     if needs_interval(alloc, metric)? {
         lines.tell(place, "interval", "an interval, since the count is above 1")?;

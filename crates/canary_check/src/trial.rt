@@ -29,6 +29,7 @@ pub(crate) fn refusal_of_times(
         interval,
         plain.initial_delay,
         count,
+        None,
         0,
         0,
         4,

@@ -26,6 +26,7 @@ plain = record {
   interval = None;
   initial_delay = 0;
   count = None;
+  pass_after = None;
   failure_limit = 0;
   inconclusive_limit = 0;
   consecutive_error_limit = 4;
@@ -71,6 +72,34 @@ greatest_count = refl
 count_above_a_million : metric_in (codes "{\"name\":\"m\",\"count\":\"1000001\"}") ≡ None
 unfolding serde_json_on_literals metric_of
 count_above_a_million = refl
+
+passes_in_a_number : metric_in (codes "{\"name\":\"m\",\"passAfter\":2}") ≡ Some (record plain { pass_after = Some 2; within = refl })
+unfolding serde_json_on_literals metric_of
+passes_in_a_number = refl
+
+passes_in_digits : metric_in (codes "{\"name\":\"m\",\"passAfter\":\"02\"}") ≡ Some (record plain { pass_after = Some 2; within = refl })
+unfolding serde_json_on_literals metric_of
+passes_in_digits = refl
+
+most_passes : metric_in (codes "{\"name\":\"m\",\"passAfter\":1000000}") ≡ Some (record plain { pass_after = Some 1000000; within = refl })
+unfolding serde_json_on_literals metric_of
+most_passes = refl
+
+no_passes : metric_in (codes "{\"name\":\"m\",\"passAfter\":0}") ≡ Some plain
+unfolding serde_json_on_literals metric_of
+no_passes = refl
+
+null_for_passes : metric_in (codes "{\"name\":\"m\",\"passAfter\":null}") ≡ Some plain
+unfolding serde_json_on_literals metric_of
+null_for_passes = refl
+
+passes_above_a_million : metric_in (codes "{\"name\":\"m\",\"passAfter\":1000001}") ≡ None
+unfolding serde_json_on_literals metric_of
+passes_above_a_million = refl
+
+passes_below_none : metric_in (codes "{\"name\":\"m\",\"passAfter\":-1}") ≡ None
+unfolding serde_json_on_literals metric_of
+passes_below_none = refl
 
 count_with_a_sign : metric_in (codes "{\"name\":\"m\",\"count\":\"+5\"}") ≡ None
 unfolding serde_json_on_literals metric_of

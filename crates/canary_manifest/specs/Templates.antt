@@ -19,6 +19,7 @@ metric_of metric = option_flatten (Some metric_with
     ⊛ in_member_or (codes "interval") None duration_in metric
     ⊛ in_member_or (codes "initialDelay") 0 delay_in metric
     ⊛ in_member_or (codes "count") None count_in metric
+    ⊛ in_member_or (codes "passAfter") None count_in metric
     ⊛ in_member_or (codes "failureLimit") 0 limit_in metric
     ⊛ in_member_or (codes "inconclusiveLimit") 0 limit_in metric
     ⊛ in_member_or (codes "consecutiveErrorLimit") 4 limit_in metric)

@@ -67,6 +67,7 @@ fn metric_of(alloc: Global, metric: &Value) -> Result<MetricSpec, FormFault>
     let interval = duration_at(metric, "interval").ok_or(FormFault::Unreadable)?;
     let delay = delay_at(metric, "initialDelay").ok_or(FormFault::Unreadable)?;
     let count = count_at(metric, "count").ok_or(FormFault::Unreadable)?;
+    let passes = count_at(metric, "passAfter").ok_or(FormFault::Unreadable)?;
     let failed = limit_at(metric, "failureLimit", 0).ok_or(FormFault::Unreadable)?;
     let inconclusive = limit_at(metric, "inconclusiveLimit", 0).ok_or(FormFault::Unreadable)?;
     let errors = limit_at(metric, "consecutiveErrorLimit", 4).ok_or(FormFault::Unreadable)?;
@@ -77,6 +78,7 @@ fn metric_of(alloc: Global, metric: &Value) -> Result<MetricSpec, FormFault>
         interval,
         delay,
         count,
+        passes,
         failed,
         inconclusive,
         errors,

@@ -162,7 +162,7 @@ looked_at_runs_replies : answers_of no_contents looked_at_runs ≡
     ∷ ok (codes "{\"code\":\"ok\",\"service\":\"web\",\"status\":\"Healthy\",\"step\":1,\"weight\":100}")
     ∷ ok (codes "{\"code\":\"ok\",\"service\":\"web\",\"status\":\"Progressing\",\"step\":0,\"weight\":0}")
     ∷ ok (codes "{\"code\":\"ok\",\"hold\":\"none\",\"moment\":1767225602,\"open\":[1],\"runs\":1,\"service\":\"web\",\"stable\":\"v1\",\"status\":\"Progressing\",\"step\":0,\"version\":\"v2\",\"weight\":0}")
-    ∷ ok (codes "{\"closed\":null,\"code\":\"ok\",\"metrics\":[{\"consecutive\":0,\"counted\":0,\"dryRun\":false,\"due\":1767225601,\"errors\":0,\"failed\":0,\"inconclusive\":0,\"measurements\":0,\"name\":\"m\",\"phase\":\"Pending\"}],\"run\":1,\"service\":\"web\",\"started\":1767225601,\"step\":0,\"verdict\":\"Running\"}")
+    ∷ ok (codes "{\"closed\":null,\"code\":\"ok\",\"metrics\":[{\"consecutive\":0,\"counted\":0,\"dryRun\":false,\"due\":1767225601,\"errors\":0,\"failed\":0,\"inconclusive\":0,\"measurements\":0,\"name\":\"m\",\"passes\":0,\"phase\":\"Pending\"}],\"run\":1,\"service\":\"web\",\"started\":1767225601,\"step\":0,\"verdict\":\"Running\"}")
     ∷ missing (codes "{\"code\":\"unknown-run\"}")
     ∷ []
 unfolding digits

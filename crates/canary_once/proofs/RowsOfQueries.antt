@@ -85,11 +85,11 @@ with_open_run : shown_after analysed (b + 3) (Service web) ≡ ok (codes "{\"cod
 unfolding digits
 with_open_run = service_then (shows (b + 3) (Service web)) analysed web _ refl
 
-open_run : shown_after analysed (b + 3) (Run web 1) ≡ ok (codes "{\"closed\":null,\"code\":\"ok\",\"metrics\":[{\"consecutive\":0,\"counted\":0,\"dryRun\":false,\"due\":1767225600,\"errors\":0,\"failed\":0,\"inconclusive\":0,\"measurements\":0,\"name\":\"m\",\"phase\":\"Pending\"}],\"run\":1,\"service\":\"web\",\"started\":1767225600,\"step\":1,\"verdict\":\"Running\"}")
+open_run : shown_after analysed (b + 3) (Run web 1) ≡ ok (codes "{\"closed\":null,\"code\":\"ok\",\"metrics\":[{\"consecutive\":0,\"counted\":0,\"dryRun\":false,\"due\":1767225600,\"errors\":0,\"failed\":0,\"inconclusive\":0,\"measurements\":0,\"name\":\"m\",\"passes\":0,\"phase\":\"Pending\"}],\"run\":1,\"service\":\"web\",\"started\":1767225600,\"step\":1,\"verdict\":\"Running\"}")
 unfolding digits
 open_run = service_then (shows (b + 3) (Run web 1)) analysed web _ refl
 
-closed_run : shown_after reported (b + 9) (Run web 1) ≡ ok (codes "{\"closed\":1767225605,\"code\":\"ok\",\"metrics\":[{\"consecutive\":0,\"counted\":1,\"dryRun\":false,\"due\":null,\"errors\":0,\"failed\":0,\"inconclusive\":0,\"measurements\":1,\"name\":\"m\",\"phase\":\"Successful\"}],\"run\":1,\"service\":\"web\",\"started\":1767225600,\"step\":1,\"verdict\":\"Successful\"}")
+closed_run : shown_after reported (b + 9) (Run web 1) ≡ ok (codes "{\"closed\":1767225605,\"code\":\"ok\",\"metrics\":[{\"consecutive\":0,\"counted\":1,\"dryRun\":false,\"due\":null,\"errors\":0,\"failed\":0,\"inconclusive\":0,\"measurements\":1,\"name\":\"m\",\"passes\":1,\"phase\":\"Successful\"}],\"run\":1,\"service\":\"web\",\"started\":1767225600,\"step\":1,\"verdict\":\"Successful\"}")
 unfolding digits
 closed_run = service_then (shows (b + 9) (Run web 1)) reported web _ refl
 
@@ -105,11 +105,11 @@ watched_release =
     ∷ (b, Start web v2)
     ∷ []
 
-open_background : shown_after watched_release (b + 9) (Run web 1) ≡ ok (codes "{\"closed\":null,\"code\":\"ok\",\"metrics\":[{\"consecutive\":0,\"counted\":0,\"dryRun\":false,\"due\":1767225600,\"errors\":0,\"failed\":0,\"inconclusive\":0,\"measurements\":0,\"name\":\"m\",\"phase\":\"Pending\"},{\"consecutive\":0,\"counted\":0,\"dryRun\":true,\"due\":1767225600,\"errors\":0,\"failed\":0,\"inconclusive\":0,\"measurements\":0,\"name\":\"n\",\"phase\":\"Pending\"}],\"run\":1,\"service\":\"web\",\"started\":1767225600,\"step\":null,\"verdict\":\"Running\"}")
+open_background : shown_after watched_release (b + 9) (Run web 1) ≡ ok (codes "{\"closed\":null,\"code\":\"ok\",\"metrics\":[{\"consecutive\":0,\"counted\":0,\"dryRun\":false,\"due\":1767225600,\"errors\":0,\"failed\":0,\"inconclusive\":0,\"measurements\":0,\"name\":\"m\",\"passes\":0,\"phase\":\"Pending\"},{\"consecutive\":0,\"counted\":0,\"dryRun\":true,\"due\":1767225600,\"errors\":0,\"failed\":0,\"inconclusive\":0,\"measurements\":0,\"name\":\"n\",\"passes\":0,\"phase\":\"Pending\"}],\"run\":1,\"service\":\"web\",\"started\":1767225600,\"step\":null,\"verdict\":\"Running\"}")
 unfolding digits
 open_background = service_then (shows (b + 9) (Run web 1)) watched_release web _ refl
 
-ended_background : shown_after watched_release (b + 10) (Run web 1) ≡ ok (codes "{\"closed\":1767225610,\"code\":\"ok\",\"metrics\":[{\"consecutive\":0,\"counted\":0,\"dryRun\":false,\"due\":null,\"errors\":0,\"failed\":0,\"inconclusive\":0,\"measurements\":0,\"name\":\"m\",\"phase\":\"Successful\"},{\"consecutive\":0,\"counted\":0,\"dryRun\":true,\"due\":null,\"errors\":0,\"failed\":0,\"inconclusive\":0,\"measurements\":0,\"name\":\"n\",\"phase\":\"Successful\"}],\"run\":1,\"service\":\"web\",\"started\":1767225600,\"step\":null,\"verdict\":\"Successful\"}")
+ended_background : shown_after watched_release (b + 10) (Run web 1) ≡ ok (codes "{\"closed\":1767225610,\"code\":\"ok\",\"metrics\":[{\"consecutive\":0,\"counted\":0,\"dryRun\":false,\"due\":null,\"errors\":0,\"failed\":0,\"inconclusive\":0,\"measurements\":0,\"name\":\"m\",\"passes\":0,\"phase\":\"Successful\"},{\"consecutive\":0,\"counted\":0,\"dryRun\":true,\"due\":null,\"errors\":0,\"failed\":0,\"inconclusive\":0,\"measurements\":0,\"name\":\"n\",\"passes\":0,\"phase\":\"Successful\"}],\"run\":1,\"service\":\"web\",\"started\":1767225600,\"step\":null,\"verdict\":\"Successful\"}")
 unfolding digits
 ended_background = service_then (shows (b + 10) (Run web 1)) watched_release web _ refl
 
@@ -125,6 +125,6 @@ then_analysed =
 not_yet_open : shown_after then_analysed (b + 9) (Run web 1) ≡ missing (codes "{\"code\":\"unknown-run\"}")
 not_yet_open = service_then (shows (b + 9) (Run web 1)) then_analysed web _ refl
 
-newly_open : shown_after then_analysed (b + 12) (Run web 1) ≡ ok (codes "{\"closed\":null,\"code\":\"ok\",\"metrics\":[{\"consecutive\":0,\"counted\":0,\"dryRun\":false,\"due\":1767225610,\"errors\":0,\"failed\":0,\"inconclusive\":0,\"measurements\":0,\"name\":\"m\",\"phase\":\"Pending\"}],\"run\":1,\"service\":\"web\",\"started\":1767225610,\"step\":1,\"verdict\":\"Running\"}")
+newly_open : shown_after then_analysed (b + 12) (Run web 1) ≡ ok (codes "{\"closed\":null,\"code\":\"ok\",\"metrics\":[{\"consecutive\":0,\"counted\":0,\"dryRun\":false,\"due\":1767225610,\"errors\":0,\"failed\":0,\"inconclusive\":0,\"measurements\":0,\"name\":\"m\",\"passes\":0,\"phase\":\"Pending\"}],\"run\":1,\"service\":\"web\",\"started\":1767225610,\"step\":1,\"verdict\":\"Running\"}")
 unfolding digits
 newly_open = service_then (shows (b + 12) (Run web 1)) then_analysed web _ refl

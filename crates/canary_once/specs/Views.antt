@@ -115,13 +115,15 @@ metric_middle t =
     ++ (decimal t.inconclusive
     ++ (codes ",\"measurements\":" ++ decimal (t.counted + t.errors)))))))
 
--- ,"name":NAME,"phase":PHASE}, the phase being that with closing where the run is closed
+-- ,"name":NAME,"passes":N,"phase":PHASE}, the phase being that with closing where the run is closed
 abbrev pub metric_back : RunRecord → MetricValue → Counts → List ℕ
 metric_back r m t =
     codes ",\"name\":\""
     ++ (m.name
-    ++ (codes "\",\"phase\":\""
-    ++ (phase_text (phase_of_counts m t (is_some r.closed)) ++ codes "\"}")))
+    ++ (codes "\",\"passes\":"
+    ++ (decimal t.passes
+    ++ (codes ",\"phase\":\""
+    ++ (phase_text (phase_of_counts m t (is_some r.closed)) ++ codes "\"}")))))
 
 abbrev pub metric_view : RunRecord → MetricValue × Counts → List ℕ
 metric_view r w = metric_front r w.0 w.1 ++ (metric_middle w.1 ++ metric_back r w.0 w.1)

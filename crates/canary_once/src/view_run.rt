@@ -194,7 +194,7 @@ fn metric_middle(alloc: Global, tally: &Tally) -> Result<String, Memory>
     )?)
 }
 
-// The name and the phase.
+// The name, the number of successes in a row, and the phase.
 fn metric_back(
     alloc: Global,
     run: &RunRecord,
@@ -205,6 +205,7 @@ fn metric_back(
         ≡ metric_back run.now metric.now tally.now) }
 {
     let name = metric.name();
+    let passes = tally.passes();
     let phase = tally.phase(metric, run.closed.is_some()).text();
-    Ok(format!(in alloc; ",\"name\":\"{name}\",\"phase\":\"{phase}\"}}")?)
+    Ok(format!(in alloc; ",\"name\":\"{name}\",\"passes\":{passes},\"phase\":\"{phase}\"}}")?)
 }

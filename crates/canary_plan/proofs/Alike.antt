@@ -72,7 +72,7 @@ names_decide = lists_decide bytes_eq bytes_eq-Decides
 
 MetricParts : MetricSpec → MetricSpec → Type 0
 MetricParts a b =
-    (a.name ≡ b.name) × ((a.success ≡ b.success) × ((a.failure ≡ b.failure) × (((a.interval ≡ b.interval) × ((a.initial_delay ≡ b.initial_delay) × (a.count ≡ b.count)))
+    (a.name ≡ b.name) × ((a.success ≡ b.success) × ((a.failure ≡ b.failure) × (((a.interval ≡ b.interval) × ((a.initial_delay ≡ b.initial_delay) × ((a.count ≡ b.count) × (a.pass_after ≡ b.pass_after))))
     × ((a.failure_limit ≡ b.failure_limit) × ((a.inconclusive_limit ≡ b.inconclusive_limit) × (a.consecutive_error_limit ≡ b.consecutive_error_limit))))))
 
 metric_parts_decide : (a b : MetricSpec) → Decides (same_metric a b) (MetricParts a b)
@@ -82,7 +82,8 @@ metric_parts_decide a b =
     (and_decides _ _ (texts_decide a.success b.success)
     (and_decides _ _ (texts_decide a.failure b.failure)
     (and_decides _ _
-    (and_decides _ _ (counts_decide a.interval b.interval) (and_decides _ _ (Decides-eqb a.initial_delay b.initial_delay) (counts_decide a.count b.count)))
+    (and_decides _ _ (counts_decide a.interval b.interval) (and_decides _ _ (Decides-eqb a.initial_delay b.initial_delay)
+    (and_decides _ _ (counts_decide a.count b.count) (counts_decide a.pass_after b.pass_after))))
     (and_decides _ _ (Decides-eqb a.failure_limit b.failure_limit)
     (and_decides _ _ (Decides-eqb a.inconclusive_limit b.inconclusive_limit) (Decides-eqb a.consecutive_error_limit b.consecutive_error_limit))))))
 
@@ -95,7 +96,13 @@ parts_of_metrics a b e = (
     (
       ap (λ (m : MetricSpec). m.failure) e,
       (
-        (ap (λ (m : MetricSpec). m.interval) e, (ap (λ (m : MetricSpec). m.initial_delay) e, ap (λ (m : MetricSpec). m.count) e)),
+        (
+          ap (λ (m : MetricSpec). m.interval) e,
+          (
+            ap (λ (m : MetricSpec). m.initial_delay) e,
+            (ap (λ (m : MetricSpec). m.count) e, ap (λ (m : MetricSpec). m.pass_after) e),
+          ),
+        ),
         (
           ap (λ (m : MetricSpec). m.failure_limit) e,
           (ap (λ (m : MetricSpec). m.inconclusive_limit) e, ap (λ (m : MetricSpec). m.consecutive_error_limit) e),
@@ -115,11 +122,12 @@ metrics_equal a b h =
       failure = h.1.1.0 i;
       interval = h.1.1.1.0.0 i;
       initial_delay = h.1.1.1.0.1.0 i;
-      count = h.1.1.1.0.1.1 i;
+      count = h.1.1.1.0.1.1.0 i;
+      pass_after = h.1.1.1.0.1.1.1 i;
       failure_limit = h.1.1.1.1.0 i;
       inconclusive_limit = h.1.1.1.1.1.0 i;
       consecutive_error_limit = h.1.1.1.1.1.1 i;
-      within = is_prop→PathP (λ j. IsTrue (are_metric_limits (h.1.0 j) (h.1.1.0 j) (h.1.1.1.0.1.1 j) (h.1.1.1.1.0 j) (h.1.1.1.1.1.0 j) (h.1.1.1.1.1.1 j))) (λ j. hlevel props) a.within b.within i;
+      within = is_prop→PathP (λ j. IsTrue (are_metric_limits (h.1.0 j) (h.1.1.0 j) (h.1.1.1.0.1.1.0 j) (h.1.1.1.0.1.1.1 j) (h.1.1.1.1.0 j) (h.1.1.1.1.1.0 j) (h.1.1.1.1.1.1 j))) (λ j. hlevel props) a.within b.within i;
     }
 
 metrics_decide : (a b : MetricSpec) → Decides (same_metric a b) (a ≡ b)

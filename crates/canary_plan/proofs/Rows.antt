@@ -45,6 +45,7 @@ metric name =
       interval = None;
       initial_delay = 0;
       count = None;
+      pass_after = None;
       failure_limit = 0;
       inconclusive_limit = 0;
       consecutive_error_limit = 4;
@@ -150,6 +151,13 @@ metrics_behind = refl
 
 endless_in_a_step : strategy_refusal known (web (step_of (codes "errs" ∷ [])) None) ≡ Some EndlessMetric
 endless_in_a_step = refl
+
+-- where so many successes in a row complete it, it may be in a step
+abbrev passing : Templates
+passing name = Some (template_of (one (record (metric (codes "e")) { interval = Some 60; pass_after = Some 2; within = refl })))
+
+passed_in_a_step : strategy_refusal passing (web (step_of (codes "errs" ∷ [])) None) ≡ None
+passed_in_a_step = refl
 
 -- in order: a name twice, a template that is not there, a metric without end, a bad strategy
 duplicate_first : strategy_refusal known (web (SetWeight 101 ∷ Analysis (codes "errs" ∷ codes "u" ∷ codes "errs" ∷ []) ∷ []) None) ≡ Some DuplicateMetric

@@ -22,7 +22,7 @@ abbrev v2 : List ℕ
 v2 = codes "v2"
 
 -- a metric that succeeds where this holds, with this limit of failures
-abbrev metric : (success : List ℕ) (limit : ℕ) → IsTrue (are_metric_limits (Some success) None (Some 5) limit 0 4) → MetricSpec
+abbrev metric : (success : List ℕ) (limit : ℕ) → IsTrue (are_metric_limits (Some success) None (Some 5) None limit 0 4) → MetricSpec
 metric success limit within =
     record {
       name = codes "errors";
@@ -31,6 +31,7 @@ metric success limit within =
       interval = Some 60;
       initial_delay = 0;
       count = Some 5;
+      pass_after = None;
       failure_limit = limit;
       inconclusive_limit = 0;
       consecutive_error_limit = 4;

@@ -14,16 +14,18 @@ count_kept : (count : Option ℕ) → is_count count ≡ true → is_within_limi
 count_kept None h = refl
 count_kept (Some n) h = second (nat_le 1 n) (is_limit n) h
 
-all_kept : (a b c d f i e : Bool) → (a && (b && (c && (f && (i && e))))) ≡ true → (c ≡ true → d ≡ true) → (d && f && i && e) ≡ true
-all_kept true true true true true true e h k = h
-all_kept true true true true true false e h k = cc h
-all_kept true true true true false i e h k = cc h
-all_kept true true true false f i e h k = cc (k refl)
-all_kept true true false d f i e h k = cc h
-all_kept true false c d f i e h k = cc h
-all_kept false b c d f i e h k = cc h
+all_kept : (a b c d p q f i e : Bool) → (a && (b && (c && (p && (f && (i && e)))))) ≡ true → (c ≡ true → d ≡ true) → (p ≡ true → q ≡ true) → (d && q && f && i && e) ≡ true
+all_kept true true true true true true true true e h k l = h
+all_kept true true true true true true true false e h k l = cc h
+all_kept true true true true true true false i e h k l = cc h
+all_kept true true true true true false f i e h k l = cc (l refl)
+all_kept true true true true false q f i e h k l = cc h
+all_kept true true true false p q f i e h k l = cc (k refl)
+all_kept true true false d p q f i e h k l = cc h
+all_kept true false c d p q f i e h k l = cc h
+all_kept false b c d p q f i e h k l = cc h
 
 pub within_limits : (dry_run : List (List ℕ)) (m : MetricSpec) → are_within_limits (settings_of dry_run m) ≡ true
 within_limits dry_run m =
-    all_kept (is_condition_asked m.success) (is_condition_asked m.failure) (is_count m.count) (is_within_limit m.count) (is_limit m.failure_limit) (is_limit m.inconclusive_limit)
-    (is_limit m.consecutive_error_limit) m.within (count_kept m.count)
+    all_kept (is_condition_asked m.success) (is_condition_asked m.failure) (is_count m.count) (is_within_limit m.count) (is_count m.pass_after) (is_within_limit m.pass_after) (is_limit m.failure_limit) (is_limit m.inconclusive_limit)
+    (is_limit m.consecutive_error_limit) m.within (count_kept m.count) (count_kept m.pass_after)

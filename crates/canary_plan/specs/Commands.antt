@@ -102,11 +102,13 @@ same_limits a b =
     && (a.inconclusive_limit == b.inconclusive_limit
     && a.consecutive_error_limit == b.consecutive_error_limit)
 
--- measured as often, and at the same times
+-- measured as often, at the same times, and until as many succeed in a row
 abbrev pub same_times : MetricSpec → MetricSpec → Bool
 same_times a b =
     same_option same_number a.interval b.interval
-    && (a.initial_delay == b.initial_delay && same_option same_number a.count b.count)
+    && (a.initial_delay == b.initial_delay
+    && (same_option same_number a.count b.count
+    && same_option same_number a.pass_after b.pass_after))
 
 abbrev pub same_metric : MetricSpec → MetricSpec → Bool
 same_metric a b =

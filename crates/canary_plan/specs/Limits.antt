@@ -1,5 +1,5 @@
 -- The limits of what templates and reports are made of.
-use Rattle.std.specs.Prelude.{ℕ, nat_le, nat_lt, ◌==◌, ◌&&◌, not, Bool, true, if◌then◌else◌, List, length, Option, Some, None}
+use Rattle.std.specs.Prelude.{ℕ, nat_le, nat_lt, ◌&&◌, Bool, true, List, length, Option, Some, None}
 
 -- at most 1,000,000
 abbrev pub is_limit : ℕ → Bool
@@ -15,12 +15,13 @@ abbrev pub is_condition_asked : Option (List ℕ) → Bool
 is_condition_asked None = true
 is_condition_asked (Some text) = nat_lt 0 (length text)
 
--- the conditions, the count and the limits of a metric
-abbrev pub are_metric_limits : Option (List ℕ) → Option (List ℕ) → Option ℕ → ℕ → ℕ → ℕ → Bool
-are_metric_limits success failure count failed inconclusive errors =
+-- the conditions, the counts, of measurements and of successes in a row, and the limits of a metric
+abbrev pub are_metric_limits : Option (List ℕ) → Option (List ℕ) → Option ℕ → Option ℕ → ℕ → ℕ → ℕ → Bool
+are_metric_limits success failure count passes failed inconclusive errors =
     is_condition_asked success
     && (is_condition_asked failure
-    && (is_count count && (is_limit failed && (is_limit inconclusive && is_limit errors))))
+    && (is_count count
+    && (is_count passes && (is_limit failed && (is_limit inconclusive && is_limit errors)))))
 
 -- 1 to 32 metrics of a template, or entries of a report
 abbrev pub is_metric_count : ℕ → Bool

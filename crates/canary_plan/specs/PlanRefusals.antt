@@ -77,10 +77,14 @@ repeats_metric known names =
 abbrev pub has_unknown : Templates → List (List ℕ) → Bool
 has_unknown known names = list_any (λ name. is_none (known name)) names
 
--- a metric that has no effective count, dry-run or not
+-- a metric that has no effective count, and that no number of successes in a row completes
+abbrev pub is_without_end : MetricValue → Bool
+is_without_end m = is_none (effective_count m) && is_none m.pass_after
+
+-- a metric without end, dry-run or not
 abbrev pub is_endless : Templates → List (List ℕ) → Bool
 is_endless known names =
-    list_any (λ (m : MetricValue). is_none (effective_count m)) (metrics_named known names)
+    list_any is_without_end (metrics_named known names)
 
 -- no template or more than 8, or not 1 to 32 metrics
 abbrev pub is_misfit : Templates → List (List ℕ) → Bool

@@ -41,6 +41,7 @@ settings_of dry_run m =
       interval = m.interval;
       initial_delay = Some m.initial_delay;
       count = m.count;
+      pass_after = m.pass_after;
       failure_limit = Some m.failure_limit;
       inconclusive_limit = Some m.inconclusive_limit;
       consecutive_error_limit = Some m.consecutive_error_limit;
@@ -125,17 +126,21 @@ abbrev pub fits_background : Option Background → List MetricValue → Bool
 fits_background None ms = true
 fits_background (Some b) ms = are_metrics_of_run ms
 
--- no count, or one of at least 1
+-- no number, or one of at least 1
 abbrev pub is_at_least_one : Option ℕ → Bool
 is_at_least_one None = true
 is_at_least_one (Some n) = nat_le 1 n
 
--- the count of each of these metrics is one
-abbrev pub have_counts : List MetricValue → Bool
-have_counts ms = list_all (λ (m : MetricValue). is_at_least_one m.count) ms
+-- what the metric asks for, of measurements and of successes in a row, is at least 1 of them
+abbrev pub asks_for_some : MetricValue → Bool
+asks_for_some m = is_at_least_one m.count && is_at_least_one m.pass_after
 
--- at most 64 steps, no weight above 100, 1 to 32 metrics for each analysis, and each count of a
--- metric at least 1
+-- each of these metrics does
+abbrev pub have_counts : List MetricValue → Bool
+have_counts ms = list_all asks_for_some ms
+
+-- at most 64 steps, no weight above 100, 1 to 32 metrics for each analysis, and each of them asks for
+-- 1 measurement or success at least, where it asks for a number
 abbrev pub is_accepted : CheckedStrategy → Bool
 is_accepted s =
     nat_le (length s.steps) 64

@@ -2,11 +2,11 @@
 ghost use Rattle.std.specs.Prelude.{◌≡◌, [], ◌∷◌, ◌++◌, is_none, length, map, IfOk};
 ghost use Rattle.std.specs.List.{list_any, filter_map};
 ghost use Rattle.std.specs.FinMap.{get};
-ghost use Rattle.canary_metric.specs.Metrics.{MetricValue, effective_count};
 ghost use Rattle.canary_plan.specs.Plans.{metrics_in, metrics_named, are_metrics_of_run};
 ghost use Rattle.canary_plan.specs.PlanRefusals.{names_of_step, step_analyses, analyses};
 ghost use Rattle.canary_plan.specs.PlanRefusals.{repeats_metric, has_unknown};
-ghost use Rattle.canary_plan.specs.PlanRefusals.{is_endless, is_misfit};
+ghost use Rattle.canary_metric.specs.Metrics.{MetricValue};
+ghost use Rattle.canary_plan.specs.PlanRefusals.{is_endless, is_misfit, is_without_end};
 
 use crate::labels::has_duplicate;
 use crate::service::{Background, ServiceSpec};
@@ -158,7 +158,8 @@ pub(crate) fn has_unknown(known: &Templates, names: &[Name]) -> bool
     names.iter().any(|name| known.get(*name).is_none())
 }
 
-/// Whether a metric of these templates has no effective count.
+/// Whether a metric of these templates has neither an effective count nor a number of successes in a
+/// row.
 pub(crate) fn is_endless(known: &Templates, names: &[Name]) -> bool
     ensures { result ≡ is_endless (get known.now) names.now }
 {
@@ -171,11 +172,16 @@ pub(crate) fn is_endless(known: &Templates, names: &[Name]) -> bool
 }
 
 fn has_endless(metrics: &[Metric]) -> bool
-    ensures { result ≡ list_any (λ (m : MetricValue). is_none (effective_count m)) metrics.now }
+    ensures { result ≡ list_any is_without_end metrics.now }
 {
-    metrics
-        .iter()
-        .any(|metric| effective_count(metric).is_none())
+    metrics.iter().any(is_without_end)
+}
+
+// Whether it has neither an effective count nor a number of successes in a row.
+fn is_without_end(metric: &Metric) -> bool
+    ensures { result ≡ is_without_end metric.now }
+{
+    effective_count(metric).is_none() && metric.pass_after().is_none()
 }
 
 /// Whether there is no template, or more than 8, or not 1 to 32 metrics.

@@ -147,7 +147,8 @@ pub(crate) fn strategy_of(
     })
 }
 
-/// A metric's count, where it has one, is at least 1: what each metric promises, said of them all.
+/// What a metric asks for, of measurements and of successes in a row, is at least 1 of them: what each
+/// metric promises, said of them all.
 pub(crate) fn counts_stand(checked: &CheckedStrategy)
     ensures steps { IsTrue (list_all have_counts checked.now.step_metrics) }
     ensures background { IsTrue (have_counts checked.now.background_metrics) }
@@ -163,6 +164,7 @@ fn metric_counts_stand(metrics: &[Metric])
 {
     for metric in metrics {
         let _ = metric.count();
+        let _ = metric.pass_after();
     }
 }
 

@@ -122,6 +122,7 @@ fn have_same_times(ours: &MetricSpec, theirs: &MetricSpec) -> bool
     ours.interval == theirs.interval
         && ours.initial_delay == theirs.initial_delay
         && ours.count == theirs.count
+        && ours.pass_after == theirs.pass_after
 }
 
 fn have_same_limits(ours: &MetricSpec, theirs: &MetricSpec) -> bool

@@ -97,9 +97,10 @@ impl Strategy {
     /// # Errors
     /// `Refused` with the first of these that holds: `DuplicateMetric` where two metrics of one
     /// analysis have one name, among the templates that are known; `UnknownTemplate` where a
-    /// template of an analysis is not; `EndlessMetric` where a step's analysis has a metric with no
-    /// effective count; `BadStrategy` where there are more than 64 steps, a weight above 100, or an
-    /// analysis with no template, more than 8 or more than 32 metrics. `Memory` in place of any.
+    /// template of an analysis is not; `EndlessMetric` where a step's analysis has a metric with
+    /// neither an effective count nor a number of successes in a row; `BadStrategy` where there are
+    /// more than 64 steps, a weight above 100, or an analysis with no template, more than 8 or more
+    /// than 32 metrics. `Memory` in place of any.
     pub fn check(
         alloc: Global,
         spec: &ServiceSpec,

@@ -160,6 +160,7 @@ fn bound_metric(alloc: Global, spec: &MetricSpec, dry_run: &[Text]) -> Result<Me
         interval: spec.interval,
         initial_delay: Some(spec.initial_delay),
         count: spec.count,
+        pass_after: spec.pass_after,
         failure_limit: Some(spec.failure_limit),
         inconclusive_limit: Some(spec.inconclusive_limit),
         consecutive_error_limit: Some(spec.consecutive_error_limit),

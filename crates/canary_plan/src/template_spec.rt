@@ -9,7 +9,8 @@ use canary_base::names::{Label, Name};
 use std::alloc::Global;
 
 /// A metric as a template asks for it, with its defaults filled in. A condition is not empty, a
-/// count is not 0, and the count and the limits are at most 1,000,000.
+/// count and a number of successes in a row are not 0, and these and the limits are at most
+/// 1,000,000.
 #[derive(Drop)]
 pub struct MetricSpec {
     pub name: Label,
@@ -20,11 +21,13 @@ pub struct MetricSpec {
     pub interval: Option<Seconds>,
     pub initial_delay: Seconds,
     pub count: Option<u32>,
+    /// `passAfter`: with so many successes in a row the metric is successful.
+    pub pass_after: Option<u32>,
     pub failure_limit: u32,
     pub inconclusive_limit: u32,
     pub consecutive_error_limit: u32,
-    ghost within: { IsTrue (are_metric_limits success failure count failure_limit inconclusive_limit
-        consecutive_error_limit) },
+    ghost within: { IsTrue (are_metric_limits success failure count pass_after failure_limit
+        inconclusive_limit consecutive_error_limit) },
 }
 
 impl MetricSpec {
@@ -41,6 +44,7 @@ impl MetricSpec {
             interval: self.interval,
             initial_delay: self.initial_delay,
             count: self.count,
+            pass_after: self.pass_after,
             failure_limit: self.failure_limit,
             inconclusive_limit: self.inconclusive_limit,
             consecutive_error_limit: self.consecutive_error_limit,

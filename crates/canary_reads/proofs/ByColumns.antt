@@ -34,8 +34,8 @@ same_whole m n e = cc
 
 -- counts are told by the columns behind the first two
 pub counts_same : (row : Row) (c d : Counts) (first second : Value) → row ≡ first ∷ second ∷ counts_cells c → column row 2 ≡ whole d.counted → column row 3 ≡ whole d.failed → column row 4 ≡ whole d.inconclusive → column row 5 ≡ whole d.errors
-    → column row 6 ≡ whole d.consecutive → column row 7 ≡ whole_or_null d.last → c ≡ d
-counts_same row c d first second is counted failed inconclusive errors consecutive last =
+    → column row 6 ≡ whole d.consecutive → column row 7 ≡ whole d.passes → column row 8 ≡ whole_or_null d.last → c ≡ d
+counts_same row c d first second is counted failed inconclusive errors consecutive passes last =
     let cell : (at : ℕ) → column (first ∷ second ∷ counts_cells c) at ≡ column row at = λ at. ap (λ (r : Row). column r at) (sym is) in
     λ j. record {
       counted = same_whole c.counted d.counted (cell 2 ∙ counted) j;
@@ -43,5 +43,6 @@ counts_same row c d first second is counted failed inconclusive errors consecuti
       inconclusive = same_whole c.inconclusive d.inconclusive (cell 4 ∙ inconclusive) j;
       errors = same_whole c.errors d.errors (cell 5 ∙ errors) j;
       consecutive = same_whole c.consecutive d.consecutive (cell 6 ∙ consecutive) j;
-      last = same_number c.last d.last (cell 7 ∙ last) j;
+      passes = same_whole c.passes d.passes (cell 7 ∙ passes) j;
+      last = same_number c.last d.last (cell 8 ∙ last) j;
     }

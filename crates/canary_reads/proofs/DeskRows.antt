@@ -139,28 +139,28 @@ pub runs_denied : (old new : State) → IsFormed old.now → (row : Row) (rows :
 runs_denied old new formed row rows shown has = denied run_cells [] runs_columns runs_make (λ v. refl) runs_tell (λ x. refl) runs_below_text 9 2 (3 ∷ 4 ∷ 5 ∷ 6 ∷ 7 ∷ []) refl runs_below old new formed row rows shown has
 
 abbrev tallies_columns : List Holding
-tallies_columns = text (codes "service") ∷ number (codes "run") ∷ number (codes "metric") ∷ number (codes "counted") ∷ number (codes "failed") ∷ number (codes "inconclusive") ∷ number (codes "errors") ∷ number (codes "consecutive") ∷ number_or_none (codes "last") ∷ []
+tallies_columns = text (codes "service") ∷ number (codes "run") ∷ number (codes "metric") ∷ number (codes "counted") ∷ number (codes "failed") ∷ number (codes "inconclusive") ∷ number (codes "errors") ∷ number (codes "consecutive") ∷ number (codes "passes") ∷ number_or_none (codes "last") ∷ []
 
 abbrev tallies_make : Told tallies_columns → TallyRow
-tallies_make v = record { service = v.0; run = v.1.0; metric = v.1.1.0; counts = record { counted = v.1.1.1.0; failed = v.1.1.1.1.0; inconclusive = v.1.1.1.1.1.0; errors = v.1.1.1.1.1.1.0; consecutive = v.1.1.1.1.1.1.1.0; last = v.1.1.1.1.1.1.1.1.0 } }
+tallies_make v = record { service = v.0; run = v.1.0; metric = v.1.1.0; counts = record { counted = v.1.1.1.0; failed = v.1.1.1.1.0; inconclusive = v.1.1.1.1.1.0; errors = v.1.1.1.1.1.1.0; consecutive = v.1.1.1.1.1.1.1.0; passes = v.1.1.1.1.1.1.1.1.0; last = v.1.1.1.1.1.1.1.1.1.0 } }
 
 abbrev tallies_tell : TallyRow → Told tallies_columns
-tallies_tell x = (x.service, (x.run, (x.metric, (x.counts.counted, (x.counts.failed, (x.counts.inconclusive, (x.counts.errors, (x.counts.consecutive, (x.counts.last, tt)))))))))
+tallies_tell x = (x.service, (x.run, (x.metric, (x.counts.counted, (x.counts.failed, (x.counts.inconclusive, (x.counts.errors, (x.counts.consecutive, (x.counts.passes, (x.counts.last, tt))))))))))
 
 tallies_raw : (db : Database) → IsDatabase db → IsDeskSchema db.schema → HasWholeTallies db.trees → AllByRecursion (AreRaw [] tallies_columns) (db.trees 11)
 tallies_raw db sound schema whole =
     all_both _ _ (AreRaw [] tallies_columns) (λ row long more. more long) (db.trees 11) whole
-    (all_both _ _ (λ row. length row ≡ 10 → AreRaw [] tallies_columns row) (λ row typed present long. plain_row tallies_columns row (and_first _ _ typed) present (ten row long)) (db.trees 11) (typed_rows db sound schema).1.1.1.1.1.1.0 (present_rows db sound schema).1.1.1.1.1.1.0)
+    (all_both _ _ (λ row. length row ≡ 11 → AreRaw [] tallies_columns row) (λ row typed present long. plain_row tallies_columns row (and_first _ _ typed) present (eleven row long)) (db.trees 11) (typed_rows db sound schema).1.1.1.1.1.1.0 (present_rows db sound schema).1.1.1.1.1.1.0)
   where
-    ten : (row : Row) → length row ≡ 10 → length (drop 1 row) ≡ 9
-    ten [] e = absurd (omega (arith, e))
-    ten (v ∷ vs) e = omega (arith, e)
+    eleven : (row : Row) → length row ≡ 11 → length (drop 1 row) ≡ 10
+    eleven [] e = absurd (omega (arith, e))
+    eleven (v ∷ vs) e = omega (arith, e)
 
 pub tallies_assured : (old new : State) → IsDatabase old.now → IsFormed old.now → HasWholeTallies old.now.trees → Shown tallies_below_text [] old new [] → HasCells tally_cells (old.now.trees 11)
-tallies_assured old new sound formed whole shown = assured tally_cells [] tallies_columns tallies_make (λ v. refl) tallies_tell (λ x. refl) tallies_below_text 11 2 (3 ∷ 4 ∷ 5 ∷ 6 ∷ 7 ∷ 8 ∷ 9 ∷ []) refl tallies_below old new formed (tallies_raw old.now sound formed.schema whole) shown
+tallies_assured old new sound formed whole shown = assured tally_cells [] tallies_columns tallies_make (λ v. refl) tallies_tell (λ x. refl) tallies_below_text 11 2 (3 ∷ 4 ∷ 5 ∷ 6 ∷ 7 ∷ 8 ∷ 9 ∷ 10 ∷ []) refl tallies_below old new formed (tallies_raw old.now sound formed.schema whole) shown
 
 pub tallies_denied : (old new : State) → IsFormed old.now → (row : Row) (rows : List Row) → Shown tallies_below_text [] old new (row ∷ rows) → HasCells tally_cells (old.now.trees 11) → ⊥
-tallies_denied old new formed row rows shown has = denied tally_cells [] tallies_columns tallies_make (λ v. refl) tallies_tell (λ x. refl) tallies_below_text 11 2 (3 ∷ 4 ∷ 5 ∷ 6 ∷ 7 ∷ 8 ∷ 9 ∷ []) refl tallies_below old new formed row rows shown has
+tallies_denied old new formed row rows shown has = denied tally_cells [] tallies_columns tallies_make (λ v. refl) tallies_tell (λ x. refl) tallies_below_text 11 2 (3 ∷ 4 ∷ 5 ∷ 6 ∷ 7 ∷ 8 ∷ 9 ∷ 10 ∷ []) refl tallies_below old new formed row rows shown has
 
 abbrev measurements_columns : List Holding
 measurements_columns = text (codes "service") ∷ number (codes "run") ∷ number (codes "metric") ∷ number (codes "ordinal") ∷ number (codes "taken") ∷ number (codes "phase") ∷ text (codes "outcome") ∷ []

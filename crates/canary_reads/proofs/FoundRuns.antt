@@ -27,7 +27,7 @@ pub run_back : (x : RunRow) → run_in (run_cells x) ≡ Some x
 run_back x = ap₂ (λ step closed. run_with x.service x.number step x.started closed x.ending.outside x.ending.verdict) (number_back x.step) (number_back x.ending.closed)
 
 pub tally_back : (x : TallyRow) → tally_in (tally_cells x) ≡ Some x
-tally_back x = ap (tally_with x.service x.run x.metric x.counts.counted x.counts.failed x.counts.inconclusive x.counts.errors x.counts.consecutive) (number_back x.counts.last)
+tally_back x = ap (tally_with x.service x.run x.metric x.counts.counted x.counts.failed x.counts.inconclusive x.counts.errors x.counts.consecutive x.counts.passes) (number_back x.counts.last)
 
 -- the cells of a run, by the name of its service
 abbrev of_service : List ℕ → RunRow → Row

@@ -4,7 +4,6 @@ pub mod TypedRows
 pub mod Tests
 pub mod ByColumns
 pub mod Breaking
-pub mod Consistent
 pub mod Asking
 pub mod Ordering
 pub mod Texts

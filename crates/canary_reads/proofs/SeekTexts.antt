@@ -62,13 +62,13 @@ runs_below = record {
 }
 
 abbrev pub tallies_below_text : List ℕ
-tallies_below_text = codes "SELECT 1 FROM tally WHERE run < 0 OR metric < 0 OR counted < 0 OR failed < 0 OR inconclusive < 0 OR errors < 0 OR consecutive < 0 OR last < 0 LIMIT 1"
+tallies_below_text = codes "SELECT 1 FROM tally WHERE run < 0 OR metric < 0 OR counted < 0 OR failed < 0 OR inconclusive < 0 OR errors < 0 OR consecutive < 0 OR passes < 0 OR last < 0 LIMIT 1"
 
 pub tallies_below_query : IsQuery tallies_below_text
 unfolding everything
 tallies_below_query = tt
 
-pub tallies_below : SeeksBoth tallies_below_text 11 (or_below (below 2) (3 ∷ 4 ∷ 5 ∷ 6 ∷ 7 ∷ 8 ∷ 9 ∷ []))
+pub tallies_below : SeeksBoth tallies_below_text 11 (or_below (below 2) (3 ∷ 4 ∷ 5 ∷ 6 ∷ 7 ∷ 8 ∷ 9 ∷ 10 ∷ []))
 unfolding understood everything
 tallies_below = record {
   whole = record { names = _; is = refl; plain = (refl, refl); unlisted = refl };

@@ -152,13 +152,13 @@ unfolding understood everything
 run_asks = record { names = _; is = refl; plain = (refl, refl); unlisted = refl }
 
 abbrev pub tallies_text : List ℕ
-tallies_text = codes "SELECT run, metric, counted, failed, inconclusive, errors, consecutive, last FROM tally WHERE service = ?1 AND run = ?2 ORDER BY metric"
+tallies_text = codes "SELECT run, metric, counted, failed, inconclusive, errors, consecutive, passes, last FROM tally WHERE service = ?1 AND run = ?2 ORDER BY metric"
 
 abbrev pub tallies_tests : List Term
 tallies_tests = equals 1 0 ∷ equals 2 1 ∷ []
 
 abbrev pub tallies_shown : List Term
-tallies_shown = col 1 2 ∷ col 1 3 ∷ col 1 4 ∷ col 1 5 ∷ col 1 6 ∷ col 1 7 ∷ col 1 8 ∷ col 1 9 ∷ []
+tallies_shown = col 1 2 ∷ col 1 3 ∷ col 1 4 ∷ col 1 5 ∷ col 1 6 ∷ col 1 7 ∷ col 1 8 ∷ col 1 9 ∷ col 1 10 ∷ []
 
 pub tallies_query : IsQuery tallies_text
 unfolding everything

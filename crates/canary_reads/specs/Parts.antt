@@ -14,4 +14,4 @@ standing_cells s =
 abbrev pub counts_cells : Counts → Row
 counts_cells c =
     whole c.counted ∷ whole c.failed ∷ whole c.inconclusive ∷ whole c.errors ∷ whole c.consecutive
-    ∷ whole_or_null c.last ∷ []
+    ∷ whole c.passes ∷ whole_or_null c.last ∷ []

@@ -192,8 +192,8 @@ pub fn tallies<S: Alter>(
 {
     let rows = query::rows_of(
         conn,
-        "SELECT run, metric, counted, failed, inconclusive, errors, consecutive, last FROM tally \
-         WHERE service = ?1 AND run = ?2 ORDER BY metric",
+        "SELECT run, metric, counted, failed, inconclusive, errors, consecutive, passes, last \
+         FROM tally WHERE service = ?1 AND run = ?2 ORDER BY metric",
         params![service.as_str(), run],
     )?;
     shown::all(alloc, service, rows.as_slice())

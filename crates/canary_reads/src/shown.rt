@@ -192,7 +192,7 @@ impl Shown for TallyRow {
     ghost Within = { IsTallyWithin };
 
     fn read(name: &Name, row: &Row) -> Result<TallyRow, ReadFault> {
-        columns::has_width(row, 8)?;
+        columns::has_width(row, 9)?;
         Ok(TallyRow {
             service: *name,
             run: columns::number_at(row, 0)?,
@@ -204,21 +204,30 @@ impl Shown for TallyRow {
 
 // The counts, behind the run and the metric.
 fn counts(row: &Row) -> Result<Tally, ReadFault>
-    requires { length row.now ≡ 8 }
+    requires { length row.now ≡ 9 }
     ensures found { IfOk result (λ c. row.now
         ≡ column row.now 0 ∷ column row.now 1 ∷ counts_cells c) }
     ensures broken { result ≡ Err ReadFault.Broken → (tally : OfTally)
         → row.now ≡ number tally.run ∷ number tally.metric ∷ counts_cells tally.counts
         → ¬ IsTallyWithin tally }
 {
-    laws::one_more();
+    laws::consistent();
     let counted = columns::number_at(row, 2)?;
     let failed = columns::number_at(row, 3)?;
     let inconclusive = columns::number_at(row, 4)?;
     let errors = columns::number_at(row, 5)?;
     let consecutive = columns::number_at(row, 6)?;
-    let last = columns::maybe_moment_at(row, 7)?;
-    match Tally::from_counts(counted, failed, inconclusive, errors, consecutive, last) {
+    let passes = columns::number_at(row, 7)?;
+    let last = columns::maybe_moment_at(row, 8)?;
+    match Tally::from_counts(
+        counted,
+        failed,
+        inconclusive,
+        errors,
+        consecutive,
+        passes,
+        last,
+    ) {
         Some(counts) => Ok(counts),
         None => Err(ReadFault::Broken),
     }

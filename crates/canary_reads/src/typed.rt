@@ -188,7 +188,7 @@ fn tallies_typed<S: Alter>(conn: &mut Connection<S>) -> Result<(), ReadFault>
         conn,
         "SELECT 1 FROM tally \
          WHERE run < 0 OR metric < 0 OR counted < 0 OR failed < 0 OR inconclusive < 0 \
-         OR errors < 0 OR consecutive < 0 OR last < 0 LIMIT 1",
+         OR errors < 0 OR consecutive < 0 OR passes < 0 OR last < 0 LIMIT 1",
     )
 }
 

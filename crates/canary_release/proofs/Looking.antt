@@ -12,7 +12,7 @@ use Rattle.canary_plan.specs.declared.command.Command.TheVariants.{Template, Ser
 use Rattle.canary_plan.specs.declared.refusal.Refusal.TheVariants.{DuplicateMetric, UnknownTemplate, EndlessMetric, BadStrategy}
 use Rattle.canary_plan.specs.Plans.{Templates, metrics_in, metrics_named, has_weight_in_range, are_metrics_of_run, step_metrics, background_metrics, strategy_of}
 use Rattle.canary_plan.specs.Refusals.{first_that_holds}
-use Rattle.canary_plan.specs.PlanRefusals.{has_duplicate, has_unknown, repeats_metric, is_endless, is_misfit, names_of_step, names_of_background, step_analyses, analyses, strategy_refusal}
+use Rattle.canary_plan.specs.PlanRefusals.{has_duplicate, has_unknown, repeats_metric, is_endless, is_misfit, names_of_step, names_of_background, step_analyses, analyses, strategy_refusal, is_without_end}
 use Rattle.canary_release.specs.Courses.{Course}
 use Rattle.canary_release.specs.Commands.{unless, leads}
 use Rattle.canary_release.specs.Desks.{rules, rule_template, act_new, new_service, rule_service}
@@ -46,7 +46,7 @@ repeats : (known other : Templates) (names : List (List ℕ)) → Agree known ot
 repeats known other names h = ap (λ (ms : List MetricValue). has_duplicate (map (λ (m : MetricValue). m.name) ms)) (named known other names h)
 
 endless : (known other : Templates) (names : List (List ℕ)) → Agree known other names → is_endless known names ≡ is_endless other names
-endless known other names h = ap (λ (ms : List MetricValue). list_any (λ (m : MetricValue). is_none (effective_count m)) ms) (named known other names h)
+endless known other names h = ap (λ (ms : List MetricValue). list_any is_without_end ms) (named known other names h)
 
 misfit : (known other : Templates) (names : List (List ℕ)) → Agree known other names → is_misfit known names ≡ is_misfit other names
 misfit known other names h = ap (λ (ms : List MetricValue). nat_lt (length names) 1 || (nat_lt 8 (length names) || not (are_metrics_of_run ms))) (named known other names h)

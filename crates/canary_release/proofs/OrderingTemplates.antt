@@ -14,7 +14,7 @@ use Rattle.canary_plan.specs.declared.template.Template.{Template}
 use Rattle.canary_plan.specs.declared.strategy.CheckedStrategy.{CheckedStrategy}
 use Rattle.canary_plan.specs.declared.refusal.Refusal.{Refusal}
 use Rattle.canary_plan.specs.declared.refusal.Refusal.TheVariants.{DuplicateMetric, UnknownTemplate, EndlessMetric, BadStrategy}
-use Rattle.canary_plan.specs.Plans.{Templates, template_of, bound_metric, metrics_in, metrics_named, step_metrics, background_metrics, strategy_of, has_weight_in_range, are_metrics_of_run, fit_steps, fits_background, is_at_least_one, have_counts, is_accepted}
+use Rattle.canary_plan.specs.Plans.{Templates, template_of, bound_metric, metrics_in, metrics_named, step_metrics, background_metrics, strategy_of, has_weight_in_range, are_metrics_of_run, fit_steps, fits_background, is_at_least_one, asks_for_some, have_counts, is_accepted}
 use Rattle.canary_plan.specs.PlanRefusals.{has_unknown, repeats_metric, is_endless, is_misfit, is_bad_strategy, names_of_step, names_of_background, step_analyses, analyses, strategy_refusal}
 use Rattle.canary_release.specs.Laws.{Agree}
 use Rattle.canary_release.proofs.Looking.{all_left, all_right, refusal_alike, strategy_alike}
@@ -95,7 +95,9 @@ stands (Some n) = at_zero n
 
 bound_counts : (dry_run : List (List ℕ)) (ms : List MetricSpec) → have_counts (map (bound_metric dry_run) ms) ≡ true
 bound_counts dry_run [] = refl
-bound_counts dry_run (m ∷ ms) = and_both (is_at_least_one (count_that_stands m.count)) (have_counts (map (bound_metric dry_run) ms)) (stands m.count) (bound_counts dry_run ms)
+bound_counts dry_run (m ∷ ms) =
+    let some = and_both (is_at_least_one (count_that_stands m.count)) (is_at_least_one (count_that_stands m.pass_after)) (stands m.count) (stands m.pass_after) in
+    and_both (asks_for_some (bound_metric dry_run m)) (have_counts (map (bound_metric dry_run) ms)) some (bound_counts dry_run ms)
 
 template_counts : (known : Templates) → AreBound known → (name : List ℕ) → have_counts (metrics_in (known name)) ≡ true
 template_counts known bound name = by (known name) refl
@@ -106,7 +108,7 @@ template_counts known bound name = by (known name) refl
 
 named_counts : (known : Templates) → AreBound known → (names : List (List ℕ)) → have_counts (metrics_named known names) ≡ true
 named_counts known bound [] = refl
-named_counts known bound (name ∷ names) = all_append (λ (m : MetricValue). is_at_least_one m.count) (metrics_in (known name)) (metrics_named known names) (template_counts known bound name) (named_counts known bound names)
+named_counts known bound (name ∷ names) = all_append asks_for_some (metrics_in (known name)) (metrics_named known names) (template_counts known bound name) (named_counts known bound names)
 
 steps_counts : (known : Templates) → AreBound known → (steps : List Step) → list_all have_counts (map (step_metrics known) steps) ≡ true
 steps_counts known bound [] = refl

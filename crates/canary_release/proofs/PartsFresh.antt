@@ -13,7 +13,7 @@ use Rattle.canary_plan.specs.declared.step.Step.{Step}
 use Rattle.canary_plan.specs.declared.step.Step.TheVariants.{Analysis}
 use Rattle.canary_plan.specs.declared.service.Background.{Background}
 use Rattle.canary_plan.specs.declared.strategy.CheckedStrategy.{CheckedStrategy}
-use Rattle.canary_plan.specs.Plans.{metrics_at, has_weight_in_range, are_metrics_of_run, fits_step, fit_steps, fits_background, is_at_least_one, have_counts, is_accepted}
+use Rattle.canary_plan.specs.Plans.{metrics_at, has_weight_in_range, are_metrics_of_run, fits_step, fit_steps, fits_background, is_at_least_one, asks_for_some, have_counts, is_accepted}
 use Rattle.canary_release.specs.declared.runs.OpenRun.{OpenRun}
 use Rattle.canary_release.specs.Watching.{opened_now}
 use Rattle.canary_release.specs.Courses.{run_metrics, run_verdict}
@@ -31,9 +31,9 @@ unreached None (Some d) h = refl
 none_below : (n : ℕ) → nat_lt n 0 ≡ false
 none_below n = grind (arith, nat_tests)
 
--- a metric with no measurements is pending
-pending : (m : MetricValue) → is_at_least_one m.count ≡ true → phase_of_counts m nothing false ≡ Pending
-pending m h = rw (none_below m.failure_limit, none_below m.inconclusive_limit, none_below m.consecutive_error_limit, unreached m.count m.interval h) refl
+unpassed : (o : Option ℕ) → is_at_least_one o ≡ true → is_reached o 0 ≡ false
+unpassed (Some n) h = grind (arith, nat_tests)
+unpassed None h = refl
 
 pub and_left : (a b : Bool) → (a && b) ≡ true → a ≡ true
 and_left true b h = refl
@@ -43,6 +43,13 @@ pub and_right : (a b : Bool) → (a && b) ≡ true → b ≡ true
 and_right true b h = h
 and_right false b h = cc h
 
+-- a metric with no measurements is pending
+pending : (m : MetricValue) → asks_for_some m ≡ true → phase_of_counts m nothing false ≡ Pending
+pending m h =
+    let counted = and_left (is_at_least_one m.count) (is_at_least_one m.pass_after) h in
+    let passed = and_right (is_at_least_one m.count) (is_at_least_one m.pass_after) h in
+    rw (none_below m.failure_limit, none_below m.inconclusive_limit, none_below m.consecutive_error_limit, unpassed m.pass_after passed, unreached m.count m.interval counted) refl
+
 -- metrics with no measurements
 abbrev unmeasured : List MetricValue → List MetricCounts
 unmeasured ms = zip ms (replicate (length ms) nothing)
@@ -50,14 +57,14 @@ unmeasured ms = zip ms (replicate (length ms) nothing)
 none_bad : (ms : List MetricValue) → have_counts ms ≡ true → list_any (λ w. is_bad (counted_phase false w)) (judging (unmeasured ms)) ≡ false
 none_bad [] h = refl
 none_bad (m ∷ ms) h =
-    let rest = none_bad ms (and_right (is_at_least_one m.count) (have_counts ms) h) in
-    let first = pending m (and_left (is_at_least_one m.count) (have_counts ms) h) in
+    let rest = none_bad ms (and_right (asks_for_some m) (have_counts ms) h) in
+    let first = pending m (and_left (asks_for_some m) (have_counts ms) h) in
     elim m.dry_run as (λ b. list_any (λ w. is_bad (counted_phase false w)) (cond (not b) ((m, nothing) ∷ judging (unmeasured ms)) (judging (unmeasured ms))) ≡ false)
     [ true ↦ rest | false ↦ ap (λ p. is_bad p || list_any (λ w. is_bad (counted_phase false w)) (judging (unmeasured ms))) first ∙ rest ]
 
 some_incomplete : (ms : List MetricValue) → 1 ≤ length ms → have_counts ms ≡ true → are_completed (unmeasured ms) ≡ false
 some_incomplete [] some h = absurd (omega arith)
-some_incomplete (m ∷ ms) some h = ap (λ p. is_completed p && are_completed (unmeasured ms)) (pending m (and_left (is_at_least_one m.count) (have_counts ms) h))
+some_incomplete (m ∷ ms) some h = ap (λ p. is_completed p && are_completed (unmeasured ms)) (pending m (and_left (asks_for_some m) (have_counts ms) h))
 
 undecided : (closing completed : Bool) (p : Bool → Phase) → closing ≡ false → completed ≡ false → (if closing || completed then p closing else Running) ≡ Running
 undecided closing completed p g h = rw (g, h) refl

@@ -6,6 +6,7 @@ use Rattle.canary_base.specs.Moments.{moment_text}
 use Rattle.canary_condition.specs.declared.outcome.Value.TheVariants.{List as ListResult}
 use Rattle.canary_condition.specs.declared.outcome.Outcome.TheVariants.{Result as Brought}
 use Rattle.canary_plan.specs.declared.step.Step.TheVariants.{Analysis}
+use Rattle.canary_plan.specs.declared.template_spec.MetricSpec.{MetricSpec}
 use Rattle.canary_plan.specs.declared.command.Command.{Command}
 use Rattle.canary_plan.specs.declared.command.Command.TheVariants.{Start, Promote, PromoteFull, Retry}
 use Rattle.canary_release.specs.Desks.{machine, no_desk}
@@ -87,8 +88,55 @@ errors_apart = replies_then background_setup errors_apart_requests _ refl
 
 -- The tally of these.
 
-errors_apart_tally : tallies_of (service_after (background_setup ++ errors_apart_requests) web) ≡ (record { counted = 1; failed = 0; inconclusive = 0; errors = 8; consecutive = 4; last = Some (b + 480) } ∷ []) ∷ []
+errors_apart_tally : tallies_of (service_after (background_setup ++ errors_apart_requests) web) ≡ (record { counted = 1; failed = 0; inconclusive = 0; errors = 8; consecutive = 4; passes = 0; last = Some (b + 480) } ∷ []) ∷ []
 errors_apart_tally = service_then tallies_of (background_setup ++ errors_apart_requests) web _ refl
+
+-- Two successes in a row complete a metric that asks for so many, though one failed before.
+
+abbrev passed_by_two : MetricSpec
+passed_by_two = record (zero_is_good m) { interval = Some 60; failure_limit = 1; pass_after = Some 2; within = refl }
+
+abbrev passing_setup : List (ℕ × Command)
+passing_setup = background_setup_with passed_by_two
+
+abbrev passing_requests : List (ℕ × Command)
+passing_requests =
+    (b, report (result m 1 b 0 refl))
+    ∷ (b + 60, report (result m 2 (b + 60) 1 refl))
+    ∷ (b + 120, report (result m 3 (b + 120) 0 refl))
+    ∷ (b + 180, report (result m 4 (b + 180) 0 refl))
+    ∷ (b + 240, report (result m 5 (b + 240) 0 refl))
+    ∷ []
+
+passing : replies_after passing_setup passing_requests ≡
+    ok (codes "{\"code\":\"ok\",\"phases\":[\"Successful\"],\"run\":1,\"service\":\"web\",\"status\":\"Paused\",\"step\":1,\"verdict\":\"Running\",\"weight\":20}")
+    ∷ ok (codes "{\"code\":\"ok\",\"phases\":[\"Failed\"],\"run\":1,\"service\":\"web\",\"status\":\"Paused\",\"step\":1,\"verdict\":\"Running\",\"weight\":20}")
+    ∷ ok (codes "{\"code\":\"ok\",\"phases\":[\"Successful\"],\"run\":1,\"service\":\"web\",\"status\":\"Paused\",\"step\":1,\"verdict\":\"Running\",\"weight\":20}")
+    ∷ ok (codes "{\"code\":\"ok\",\"phases\":[\"Successful\"],\"run\":1,\"service\":\"web\",\"status\":\"Paused\",\"step\":1,\"verdict\":\"Successful\",\"weight\":20}")
+    ∷ no (codes "{\"code\":\"run-closed\"}")
+    ∷ []
+unfolding digits
+passing = replies_then passing_setup passing_requests _ refl
+
+-- An error between two successes starts their number anew.
+
+abbrev error_between_requests : List (ℕ × Command)
+error_between_requests =
+    (b, report (result m 1 b 0 refl))
+    ∷ (b + 60, report (failure m 2 (b + 60) refl))
+    ∷ (b + 120, report (result m 3 (b + 120) 0 refl))
+    ∷ []
+
+error_between : replies_after passing_setup error_between_requests ≡
+    ok (codes "{\"code\":\"ok\",\"phases\":[\"Successful\"],\"run\":1,\"service\":\"web\",\"status\":\"Paused\",\"step\":1,\"verdict\":\"Running\",\"weight\":20}")
+    ∷ ok (codes "{\"code\":\"ok\",\"phases\":[\"Error\"],\"run\":1,\"service\":\"web\",\"status\":\"Paused\",\"step\":1,\"verdict\":\"Running\",\"weight\":20}")
+    ∷ ok (codes "{\"code\":\"ok\",\"phases\":[\"Successful\"],\"run\":1,\"service\":\"web\",\"status\":\"Paused\",\"step\":1,\"verdict\":\"Running\",\"weight\":20}")
+    ∷ []
+unfolding digits
+error_between = replies_then passing_setup error_between_requests _ refl
+
+error_between_tally : tallies_of (service_after (passing_setup ++ error_between_requests) web) ≡ (record { counted = 2; failed = 0; inconclusive = 0; errors = 1; consecutive = 0; passes = 1; last = Some (b + 120) } ∷ []) ∷ []
+error_between_tally = service_then tallies_of (passing_setup ++ error_between_requests) web _ refl
 
 -- An inconclusive step run holds the release, and a promotion leads to the next step.
 

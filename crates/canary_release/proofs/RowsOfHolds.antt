@@ -50,7 +50,7 @@ background_stays_open : replies_after both_open step_inconclusive ≡
 unfolding digits
 background_stays_open = replies_then both_open step_inconclusive _ refl
 
-background_is_counted : tallies_of (service_after (both_open ++ step_inconclusive) web) ≡ (record { counted = 1; failed = 0; inconclusive = 0; errors = 0; consecutive = 0; last = Some (b + 2) } ∷ []) ∷ []
+background_is_counted : tallies_of (service_after (both_open ++ step_inconclusive) web) ≡ (record { counted = 1; failed = 0; inconclusive = 0; errors = 0; consecutive = 0; passes = 1; last = Some (b + 2) } ∷ []) ∷ []
 background_is_counted = service_then tallies_of (both_open ++ step_inconclusive) web _ refl
 
 step_hold_alone : holds_of (service_after (both_open ++ step_inconclusive) web) ≡ (true, false) ∷ []

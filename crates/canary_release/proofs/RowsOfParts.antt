@@ -52,7 +52,7 @@ parts s n runs = record { stand = s; runs = record { count = n; open_runs = runs
 
 -- so many successful measurements
 abbrev tally : ℕ → Counts
-tally n = record { counted = n; failed = 0; inconclusive = 0; errors = 0; consecutive = 0; last = None }
+tally n = record { counted = n; failed = 0; inconclusive = 0; errors = 0; consecutive = 0; passes = n; last = None }
 
 abbrev with_tallies : ℕ → Option ℕ → List Counts → OpenRun
 with_tallies number step tallies = record { number = number; step = step; started = b; tallies = tallies }

@@ -352,7 +352,7 @@ measured n =
           number = 1;
           step = None;
           started = b;
-          tallies = record { counted = n; failed = 0; inconclusive = 0; errors = 0; consecutive = 0; last = Some b } ∷ [];
+          tallies = record { counted = n; failed = 0; inconclusive = 0; errors = 0; consecutive = 0; passes = n; last = Some b } ∷ [];
         } ∷ [];
       };
     }

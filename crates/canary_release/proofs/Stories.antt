@@ -105,16 +105,17 @@ metric name =
       interval = None;
       initial_delay = 0;
       count = None;
+      pass_after = None;
       failure_limit = 0;
       inconclusive_limit = 0;
       consecutive_error_limit = 4;
       within = refl;
     }
 
-abbrev pub with_success : (m : MetricSpec) (text : List ℕ) → IsTrue (are_metric_limits (Some text) m.failure m.count m.failure_limit m.inconclusive_limit m.consecutive_error_limit) → MetricSpec
+abbrev pub with_success : (m : MetricSpec) (text : List ℕ) → IsTrue (are_metric_limits (Some text) m.failure m.count m.pass_after m.failure_limit m.inconclusive_limit m.consecutive_error_limit) → MetricSpec
 with_success m text h = record m { success = Some text; within = h }
 
-abbrev pub with_failure : (m : MetricSpec) (text : List ℕ) → IsTrue (are_metric_limits m.success (Some text) m.count m.failure_limit m.inconclusive_limit m.consecutive_error_limit) → MetricSpec
+abbrev pub with_failure : (m : MetricSpec) (text : List ℕ) → IsTrue (are_metric_limits m.success (Some text) m.count m.pass_after m.failure_limit m.inconclusive_limit m.consecutive_error_limit) → MetricSpec
 with_failure m text h = record m { failure = Some text; within = h }
 
 abbrev pub every : MetricSpec → ℕ → MetricSpec

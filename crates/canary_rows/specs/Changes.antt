@@ -1,7 +1,7 @@
 -- What one statement changes of the tables.
 use Rattle.std.specs.Prelude.{◌≡◌, ◌+◌, ◌≤◌, ℕ, zero, suc, Bool, if◌then◌else◌, List, [], ◌∷◌, ◌++◌, map, filter}
 use Rattle.canary_condition.specs.declared.outcome.Phase.{Phase}
-use Rattle.canary_metric.specs.Counts.{counts, size, with_one_more, AreConsistent}
+use Rattle.canary_metric.specs.Counts.{Counts, counts, size, with_one_more}
 use Rattle.canary_rows.specs.declared.rows.CallerRow.{CallerRow}
 use Rattle.canary_rows.specs.declared.rows.KeptRow.{KeptRow}
 use Rattle.canary_rows.specs.declared.rows.TemplateRow.{TemplateRow}
@@ -101,9 +101,18 @@ HasService name t = IsOne (is_service name) t.services
 abbrev pub HasRun : List ℕ → ℕ → Tables → Type 0
 HasRun service number t = IsOne (is_run service number) t.runs
 
--- the tally is there, is one of some measurements, and has room
+-- no number of these is above 1,000,000
+pub record AreFew (c : Counts) : Type 0 where
+  pub counted : c.counted ≤ 1000000
+  pub failed : c.failed ≤ 1000000
+  pub inconclusive : c.inconclusive ≤ 1000000
+  pub errors : c.errors ≤ 1000000
+  pub consecutive : c.consecutive ≤ 1000000
+  pub passes : c.passes ≤ 1000000
+
+-- the tally is there, and its numbers have room for one more measurement
 pub record HasTally (service : List ℕ) (run metric : ℕ) (t : Tables) : Type 0 where
   pub row : TallyRow
   pub one : filter (is_tally service run metric) t.tallies ≡ row ∷ []
-  pub consistent : AreConsistent row.counts
+  pub few : AreFew row.counts
   pub room : size row.counts + 1 ≤ 1000000

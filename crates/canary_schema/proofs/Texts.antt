@@ -29,7 +29,7 @@ pub makes_run : IsTableText with_service (codes "CREATE TABLE run (service TEXT 
 unfolding understood everything
 makes_run = record { table = run; command = refl; whole = refl; plain = (refl, refl); defined = refl; next_is = refl }
 
-pub makes_tally : IsTableText with_run (codes "CREATE TABLE tally (service TEXT NOT NULL, run INTEGER NOT NULL, metric INTEGER NOT NULL, counted INTEGER NOT NULL, failed INTEGER NOT NULL, inconclusive INTEGER NOT NULL, errors INTEGER NOT NULL, consecutive INTEGER NOT NULL, last INTEGER, PRIMARY KEY (service, run, metric)) STRICT") with_tally
+pub makes_tally : IsTableText with_run (codes "CREATE TABLE tally (service TEXT NOT NULL, run INTEGER NOT NULL, metric INTEGER NOT NULL, counted INTEGER NOT NULL, failed INTEGER NOT NULL, inconclusive INTEGER NOT NULL, errors INTEGER NOT NULL, consecutive INTEGER NOT NULL, passes INTEGER NOT NULL, last INTEGER, PRIMARY KEY (service, run, metric)) STRICT") with_tally
 unfolding understood everything
 makes_tally = record { table = tally; command = refl; whole = refl; plain = (refl, refl); defined = refl; next_is = refl }
 

@@ -50,7 +50,8 @@ abbrev pub tally_cells : TallyRow → Row
 tally_cells r =
     let c = r.counts in
     Words r.service ∷ whole r.run ∷ whole r.metric ∷ whole c.counted ∷ whole c.failed
-    ∷ whole c.inconclusive ∷ whole c.errors ∷ whole c.consecutive ∷ whole_or_null c.last ∷ []
+    ∷ whole c.inconclusive ∷ whole c.errors ∷ whole c.consecutive ∷ whole c.passes
+    ∷ whole_or_null c.last ∷ []
 
 -- the first column is the place, which is the rowid
 abbrev pub measurement_cells : MeasurementRow → Row
@@ -122,8 +123,9 @@ run_in (Words service ∷ Int (pos number) ∷ step ∷ Int (pos started) ∷ cl
     run_with service number (number_or_null step) started (number_or_null closed) outside verdict
 run_in cells = None
 
-abbrev pub tally_with : List ℕ → ℕ → ℕ → ℕ → ℕ → ℕ → ℕ → ℕ → Option (Option ℕ) → Option TallyRow
-tally_with service run metric counted failed inconclusive errors consecutive (Some last) =
+abbrev pub tally_with : List ℕ → ℕ → ℕ → ℕ → ℕ → ℕ → ℕ → ℕ → ℕ → Option (Option ℕ)
+    → Option TallyRow
+tally_with service run metric counted failed inconclusive errors consecutive passes (Some last) =
     Some (record {
       service = service;
       run = run;
@@ -134,15 +136,17 @@ tally_with service run metric counted failed inconclusive errors consecutive (So
         inconclusive = inconclusive;
         errors = errors;
         consecutive = consecutive;
+        passes = passes;
         last = last;
       };
     })
-tally_with service run metric counted failed inconclusive errors consecutive None = None
+tally_with service run metric counted failed inconclusive errors consecutive passes None = None
 
 abbrev pub tally_in : Row → Option TallyRow
 tally_in (Words service ∷ Int (pos run) ∷ Int (pos metric) ∷ Int (pos counted) ∷ Int (pos failed)
-    ∷ Int (pos inconclusive) ∷ Int (pos errors) ∷ Int (pos consecutive) ∷ last ∷ []) =
-    tally_with service run metric counted failed inconclusive errors consecutive
+    ∷ Int (pos inconclusive) ∷ Int (pos errors) ∷ Int (pos consecutive) ∷ Int (pos passes)
+    ∷ last ∷ []) =
+    tally_with service run metric counted failed inconclusive errors consecutive passes
     (number_or_null last)
 tally_in cells = None
 

@@ -27,4 +27,4 @@ HasRows db = (t : Tables) × Holds db.schema db t
 -- nine more. A row that was written before a column was added is shorter, and a query shows NULL
 -- for what it lacks.
 abbrev pub HasWholeTallies : Trees → Type 0
-HasWholeTallies trees = AllByRecursion (λ row. length row ≡ 10) (trees 11)
+HasWholeTallies trees = AllByRecursion (λ row. length row ≡ 11) (trees 11)

@@ -132,7 +132,8 @@ abbrev pub tally : Table
 tally = keyed (codes "tally")
     (words (codes "service") ∷ whole (codes "run") ∷ whole (codes "metric")
     ∷ whole (codes "counted") ∷ whole (codes "failed") ∷ whole (codes "inconclusive")
-    ∷ whole (codes "errors") ∷ whole (codes "consecutive") ∷ maybe (codes "last") ∷ [])
+    ∷ whole (codes "errors") ∷ whole (codes "consecutive") ∷ whole (codes "passes")
+    ∷ maybe (codes "last") ∷ [])
     (1 ∷ 2 ∷ 3 ∷ []) []
 
 abbrev pub measurement : Table

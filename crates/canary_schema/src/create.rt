@@ -103,7 +103,7 @@ fn add_services<S: Alter>(tx: &mut Transaction<'_, S>) -> Result<(), Error>
         "CREATE TABLE tally (service TEXT NOT NULL, run INTEGER NOT NULL, \
         metric INTEGER NOT NULL, counted INTEGER NOT NULL, failed INTEGER NOT NULL, \
         inconclusive INTEGER NOT NULL, errors INTEGER NOT NULL, consecutive INTEGER NOT NULL, \
-        last INTEGER, PRIMARY KEY (service, run, metric)) STRICT",
+        passes INTEGER NOT NULL, last INTEGER, PRIMARY KEY (service, run, metric)) STRICT",
     )?;
     add_table(
         tx,

@@ -115,6 +115,7 @@ fn is_tally(table: &Table) -> bool
                 Layout::Whole(b"inconclusive"),
                 Layout::Whole(b"errors"),
                 Layout::Whole(b"consecutive"),
+                Layout::Whole(b"passes"),
                 Layout::Maybe(b"last"),
             ],
         )

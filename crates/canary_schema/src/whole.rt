@@ -13,7 +13,7 @@ use std::alloc::Global;
 const TALLY: u32 = 11;
 
 // Its rowid, and a value for each column.
-const CELLS: usize = 10;
+const CELLS: usize = 11;
 
 // Reads one row after another into the one that is given.
 fn read_tallies<S: Store>(store: &mut S, row: &mut Row) -> Result<bool, StoreError>

@@ -21,10 +21,10 @@ use Rattle.sqlite_value.specs.declared.keys.Collation.TheVariants.{Binary}
 use Rattle.sqlite_tied.specs.Compute.{everything}
 use Rattle.canary_condition.specs.declared.outcome.Phase.{Phase}
 use Rattle.canary_condition.specs.declared.outcome.Phase.TheVariants.{Pending, Running, Successful, Inconclusive, Error, Failed}
-use Rattle.canary_metric.specs.Counts.{Counts, AreConsistent, with_one_more}
+use Rattle.canary_metric.specs.Counts.{with_one_more}
 use Rattle.canary_rows.specs.declared.rows.TallyRow.{TallyRow}
 use Rattle.canary_rows.specs.Tables.{Tables, is_tally}
-use Rattle.canary_rows.specs.Changes.{HasTally, change_where, with_counted}
+use Rattle.canary_rows.specs.Changes.{AreFew, HasTally, change_where, with_counted}
 use Rattle.canary_schema.specs.Schema.{desk_schema, tally}
 use Rattle.canary_schema.specs.Cells.{whole, tally_cells}
 use Rattle.canary_schema.specs.Stores.{IsReady}
@@ -36,10 +36,11 @@ use Rattle.canary_statements.proofs.UpdateTests.{and_true, equal_words, equal_nu
 
 -- the statement for a phase
 abbrev pub counting : Phase → List ℕ
-counting Error = codes "UPDATE tally SET errors = errors + 1, consecutive = consecutive + 1, last = ?4 WHERE service = ?1 AND run = ?2 AND metric = ?3"
-counting Failed = codes "UPDATE tally SET counted = counted + 1, failed = failed + 1, consecutive = 0, last = ?4 WHERE service = ?1 AND run = ?2 AND metric = ?3"
-counting Inconclusive = codes "UPDATE tally SET counted = counted + 1, inconclusive = inconclusive + 1, consecutive = 0, last = ?4 WHERE service = ?1 AND run = ?2 AND metric = ?3"
-counting phase = codes "UPDATE tally SET counted = counted + 1, consecutive = 0, last = ?4 WHERE service = ?1 AND run = ?2 AND metric = ?3"
+counting Error = codes "UPDATE tally SET errors = errors + 1, consecutive = consecutive + 1, passes = 0, last = ?4 WHERE service = ?1 AND run = ?2 AND metric = ?3"
+counting Failed = codes "UPDATE tally SET counted = counted + 1, failed = failed + 1, consecutive = 0, passes = 0, last = ?4 WHERE service = ?1 AND run = ?2 AND metric = ?3"
+counting Inconclusive = codes "UPDATE tally SET counted = counted + 1, inconclusive = inconclusive + 1, consecutive = 0, passes = 0, last = ?4 WHERE service = ?1 AND run = ?2 AND metric = ?3"
+counting Successful = codes "UPDATE tally SET counted = counted + 1, consecutive = 0, passes = passes + 1, last = ?4 WHERE service = ?1 AND run = ?2 AND metric = ?3"
+counting phase = codes "UPDATE tally SET counted = counted + 1, consecutive = 0, passes = 0, last = ?4 WHERE service = ?1 AND run = ?2 AND metric = ?3"
 
 abbrev tests : List Term
 tests = op2 (Compare Eq Binary) (col 1 1) (col 0 0) ∷ op2 (Compare Eq Binary) (col 1 2) (col 0 1) ∷ op2 (Compare Eq Binary) (col 1 3) (col 0 2) ∷ []
@@ -51,10 +52,11 @@ abbrev none : Term
 none = lit (Int (pos 0))
 
 abbrev shown : Phase → List Term
-shown Error = col 1 0 ∷ col 1 0 ∷ col 1 1 ∷ col 1 2 ∷ col 1 3 ∷ col 1 4 ∷ col 1 5 ∷ col 1 6 ∷ more 7 ∷ more 8 ∷ col 0 3 ∷ []
-shown Failed = col 1 0 ∷ col 1 0 ∷ col 1 1 ∷ col 1 2 ∷ col 1 3 ∷ more 4 ∷ more 5 ∷ col 1 6 ∷ col 1 7 ∷ none ∷ col 0 3 ∷ []
-shown Inconclusive = col 1 0 ∷ col 1 0 ∷ col 1 1 ∷ col 1 2 ∷ col 1 3 ∷ more 4 ∷ col 1 5 ∷ more 6 ∷ col 1 7 ∷ none ∷ col 0 3 ∷ []
-shown phase = col 1 0 ∷ col 1 0 ∷ col 1 1 ∷ col 1 2 ∷ col 1 3 ∷ more 4 ∷ col 1 5 ∷ col 1 6 ∷ col 1 7 ∷ none ∷ col 0 3 ∷ []
+shown Error = col 1 0 ∷ col 1 0 ∷ col 1 1 ∷ col 1 2 ∷ col 1 3 ∷ col 1 4 ∷ col 1 5 ∷ col 1 6 ∷ more 7 ∷ more 8 ∷ none ∷ col 0 3 ∷ []
+shown Failed = col 1 0 ∷ col 1 0 ∷ col 1 1 ∷ col 1 2 ∷ col 1 3 ∷ more 4 ∷ more 5 ∷ col 1 6 ∷ col 1 7 ∷ none ∷ none ∷ col 0 3 ∷ []
+shown Inconclusive = col 1 0 ∷ col 1 0 ∷ col 1 1 ∷ col 1 2 ∷ col 1 3 ∷ more 4 ∷ col 1 5 ∷ more 6 ∷ col 1 7 ∷ none ∷ none ∷ col 0 3 ∷ []
+shown Successful = col 1 0 ∷ col 1 0 ∷ col 1 1 ∷ col 1 2 ∷ col 1 3 ∷ more 4 ∷ col 1 5 ∷ col 1 6 ∷ col 1 7 ∷ none ∷ more 9 ∷ col 0 3 ∷ []
+shown phase = col 1 0 ∷ col 1 0 ∷ col 1 1 ∷ col 1 2 ∷ col 1 3 ∷ more 4 ∷ col 1 5 ∷ col 1 6 ∷ col 1 7 ∷ none ∷ none ∷ col 0 3 ∷ []
 
 abbrev table : Table
 table = record tally { tree = 11 }
@@ -100,40 +102,24 @@ sum_of : (n : ℕ) → n ≤ 1000000 → binary (Arith Add) (Int (pos n)) (Int (
 unfolding binary
 sum_of n few = rw (below n few) refl
 
--- each count is one of at most so many measurements
-record AreFew (c : Counts) : Type 0 where
-  counted : c.counted ≤ 1000000
-  failed : c.failed ≤ 1000000
-  inconclusive : c.inconclusive ≤ 1000000
-  errors : c.errors ≤ 1000000
-  consecutive : c.consecutive ≤ 1000000
-
-are_few : (c : Counts) → AreConsistent c → AreFew c
-are_few c h = record {
-  counted = omega (arith, h.within);
-  failed = omega (arith, h.within, h.kinds);
-  inconclusive = omega (arith, h.within, h.kinds);
-  errors = omega (arith, h.within);
-  consecutive = omega (arith, h.within, h.trailing);
-}
-
 -- the row that the statement shows, stored
 as_given : (phase : Phase) (service : List ℕ) (run metric taken : ℕ) (row : TallyRow) (n : ℤ) → AreFew row.counts
     → cast_row table (drop 1 (shows (shown phase) (counting_given service run metric taken) (Int n ∷ tally_cells row))) ≡ Int n ∷ tally_cells (change phase taken row)
 as_given phase service run metric taken row n few = go phase
   where
-    other : cast_row table (drop 1 (shows (shown Successful) (counting_given service run metric taken) (Int n ∷ tally_cells row))) ≡ Int n ∷ tally_cells (change Successful taken row)
-    other =
+    unmeasured : cast_row table (drop 1 (shows (shown Pending) (counting_given service run metric taken) (Int n ∷ tally_cells row))) ≡ Int n ∷ tally_cells (change Pending taken row)
+    unmeasured =
         rw (sum_of row.counts.counted few.counted, cast_whole n, cast_whole (pos row.run), cast_whole (pos row.metric), cast_whole (pos (row.counts.counted + 1)), cast_whole (pos row.counts.failed), cast_whole (pos row.counts.inconclusive), cast_whole (pos row.counts.errors), cast_whole (pos 0), cast_whole (pos taken)) refl
 
     go : (phase : Phase) → cast_row table (drop 1 (shows (shown phase) (counting_given service run metric taken) (Int n ∷ tally_cells row))) ≡ Int n ∷ tally_cells (change phase taken row)
-    go Pending = other
-    go Running = other
-    go Successful = other
+    go Pending = unmeasured
+    go Running = unmeasured
+    go Successful =
+        rw (sum_of row.counts.counted few.counted, sum_of row.counts.passes few.passes, cast_whole n, cast_whole (pos row.run), cast_whole (pos row.metric), cast_whole (pos (row.counts.counted + 1)), cast_whole (pos row.counts.failed), cast_whole (pos row.counts.inconclusive), cast_whole (pos row.counts.errors), cast_whole (pos 0), cast_whole (pos (row.counts.passes + 1)), cast_whole (pos taken)) refl
     go Inconclusive =
         rw (sum_of row.counts.counted few.counted, sum_of row.counts.inconclusive few.inconclusive, cast_whole n, cast_whole (pos row.run), cast_whole (pos row.metric), cast_whole (pos (row.counts.counted + 1)), cast_whole (pos row.counts.failed), cast_whole (pos (row.counts.inconclusive + 1)), cast_whole (pos row.counts.errors), cast_whole (pos 0), cast_whole (pos taken)) refl
     go Error =
-        rw (sum_of row.counts.errors few.errors, sum_of row.counts.consecutive few.consecutive, cast_whole n, cast_whole (pos row.run), cast_whole (pos row.metric), cast_whole (pos row.counts.counted), cast_whole (pos row.counts.failed), cast_whole (pos row.counts.inconclusive), cast_whole (pos (row.counts.errors + 1)), cast_whole (pos (row.counts.consecutive + 1)), cast_whole (pos taken)) refl
+        rw (sum_of row.counts.errors few.errors, sum_of row.counts.consecutive few.consecutive, cast_whole n, cast_whole (pos row.run), cast_whole (pos row.metric), cast_whole (pos row.counts.counted), cast_whole (pos row.counts.failed), cast_whole (pos row.counts.inconclusive), cast_whole (pos (row.counts.errors + 1)), cast_whole (pos (row.counts.consecutive + 1)), cast_whole (pos 0), cast_whole (pos taken)) refl
     go Failed =
         rw (sum_of row.counts.counted few.counted, sum_of row.counts.failed few.failed, cast_whole n, cast_whole (pos row.run), cast_whole (pos row.metric), cast_whole (pos (row.counts.counted + 1)), cast_whole (pos (row.counts.failed + 1)), cast_whole (pos row.counts.inconclusive), cast_whole (pos row.counts.errors), cast_whole (pos 0), cast_whole (pos taken)) refl
 
@@ -150,15 +136,15 @@ pub tally_counted : (old new : State) (t : Tables) (service : List ℕ) (run met
 tally_counted old new t service run metric phase taken (Err e) ready one h = tt
 tally_counted old new t service run metric phase taken (Ok count) ready one h =
     let given = counting_given service run metric taken in
-    let few = are_few one.row.counts one.consistent in
+    let few = one.few in
     let u = updated (counting phase) 6 tests (shown phase) table given (is_update phase) (is_plain phase) stands old new count ready.stores.schema h tally_cells (is_tally service run metric) (change phase taken)
     (fits service run metric taken) t.tallies one.row (same_rowid phase service run metric taken one.row) (λ n. as_given phase service run metric taken one.row n few) ready.stores.numbered.1.1.1.1.1.1.0 ready.stores.tallies one.one in
     tallies_now old new t ready h.1.mode u.schema u.spares u.numbered (change_where (is_tally service run metric) (change phase taken) t.tallies) u.stored
 
-pub counting_others : (phase : Phase) → (phase ≡ Error → ⊥) → (phase ≡ Failed → ⊥) → (phase ≡ Inconclusive → ⊥) → counting Running ≡ counting phase
-counting_others Pending h k l = refl
-counting_others Running h k l = refl
-counting_others Successful h k l = refl
-counting_others Inconclusive h k l = absurd (l refl)
-counting_others Error h k l = absurd (h refl)
-counting_others Failed h k l = absurd (k refl)
+pub counting_others : (phase : Phase) → (phase ≡ Error → ⊥) → (phase ≡ Failed → ⊥) → (phase ≡ Inconclusive → ⊥) → (phase ≡ Successful → ⊥) → counting Running ≡ counting phase
+counting_others Pending h k l m = refl
+counting_others Running h k l m = refl
+counting_others Successful h k l m = absurd (m refl)
+counting_others Inconclusive h k l m = absurd (l refl)
+counting_others Error h k l m = absurd (h refl)
+counting_others Failed h k l m = absurd (k refl)

@@ -183,7 +183,7 @@ pub fn insert_tally<S: Alter>(
 {
     tx.execute(
         "INSERT INTO tally (service, run, metric, counted, failed, inconclusive, errors, \
-         consecutive) VALUES (?1, ?2, ?3, 0, 0, 0, 0, 0)",
+         consecutive, passes) VALUES (?1, ?2, ?3, 0, 0, 0, 0, 0, 0)",
         params![service.as_str(), run, metric],
     )
 }

@@ -116,19 +116,24 @@ pub fn count_measurement<S: Alter>(
 {
     let statement = match phase {
         Phase::Error => {
-            "UPDATE tally SET errors = errors + 1, consecutive = consecutive + 1, last = ?4 \
-             WHERE service = ?1 AND run = ?2 AND metric = ?3"
+            "UPDATE tally SET errors = errors + 1, consecutive = consecutive + 1, passes = 0, \
+             last = ?4 WHERE service = ?1 AND run = ?2 AND metric = ?3"
         }
         Phase::Failed => {
             "UPDATE tally SET counted = counted + 1, failed = failed + 1, consecutive = 0, \
-             last = ?4 WHERE service = ?1 AND run = ?2 AND metric = ?3"
+             passes = 0, last = ?4 WHERE service = ?1 AND run = ?2 AND metric = ?3"
         }
         Phase::Inconclusive => {
             "UPDATE tally SET counted = counted + 1, inconclusive = inconclusive + 1, \
-             consecutive = 0, last = ?4 WHERE service = ?1 AND run = ?2 AND metric = ?3"
+             consecutive = 0, passes = 0, last = ?4 \
+             WHERE service = ?1 AND run = ?2 AND metric = ?3"
+        }
+        Phase::Successful => {
+            "UPDATE tally SET counted = counted + 1, consecutive = 0, passes = passes + 1, \
+             last = ?4 WHERE service = ?1 AND run = ?2 AND metric = ?3"
         }
         _ => {
-            "UPDATE tally SET counted = counted + 1, consecutive = 0, last = ?4 \
+            "UPDATE tally SET counted = counted + 1, consecutive = 0, passes = 0, last = ?4 \
              WHERE service = ?1 AND run = ?2 AND metric = ?3"
         }
     };

@@ -11,7 +11,7 @@ pub mod Filters
 pub mod RunsAt
 pub mod OneHappens
 pub mod RunsClosed
-pub mod Consistent
+pub mod Few
 pub mod RunsMeasured
 pub mod RunsOpened
 pub mod EffectsHappen

@@ -21,7 +21,7 @@ use Rattle.canary_stored.proofs.PastRows.{ArePastRows}
 use Rattle.canary_stored.proofs.Filters.{own_name, turned, passes_more, fails_more, changed_under, left_alone, first_holds, apart_by_name}
 use Rattle.canary_stored.proofs.RunsAt.{same_numbers, has_its_number, run_in_map, StandsThere, found_stands}
 use Rattle.canary_stored.proofs.OneHappens.{OneHappens, map_more}
-use Rattle.canary_stored.proofs.Consistent.{counts_consistent}
+use Rattle.canary_stored.proofs.Few.{counts_few}
 
 abbrev counts_more : Recorded → TallyRow → TallyRow
 counts_more x row = record row { counts = with_one_more row.counts x.phase x.taken }
@@ -153,7 +153,7 @@ tally_stands one name number metric t p r tally are there has room = record {
       are.tallies number metric
       ∙ ap (tally_rows_of name number metric) there
       ∙ ap (row_if (tally_of name number metric)) has.there;
-  consistent = counts_consistent one (map measurement_of has.list) (subst (λ (c : Counts). size c ≤ 1000000) (sym has.counted) (omega (arith, room)));
+  few = counts_few one (map measurement_of has.list) (subst (λ (c : Counts). size c ≤ 1000000) (sym has.counted) (omega (arith, room)));
   room = subst (λ (c : Counts). size c + 1 ≤ 1000000) (sym has.counted) room;
 }
 

@@ -102,6 +102,7 @@ fn metric(alloc: Global, metric: &str) -> Option<MetricSpec> {
         interval: seconds(member(metric, "interval")),
         initial_delay: Seconds::new(0)?,
         count: count(member(metric, "count")),
+        pass_after: count(member(metric, "passAfter")),
         failure_limit: limit(member(metric, "failureLimit")),
         inconclusive_limit: 0,
         consecutive_error_limit: 4,

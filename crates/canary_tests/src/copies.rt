@@ -186,6 +186,7 @@ fn settings(success: Condition) -> Option<MetricSettings> {
         interval: Seconds::new(60),
         initial_delay: None,
         count: None,
+        pass_after: None,
         failure_limit: None,
         inconclusive_limit: None,
         consecutive_error_limit: None,

@@ -12,4 +12,4 @@ invariant-rows g l =
     let old = g.S.Store.view l.fn.store in
     let now = g.S.Store.view l.store in
     IsSome (now.cursors 0) × (IsClean now → OnlyReads old now) × IsQuiet g.S.Store.view g.S.Store.faults g.S.Store.recovers g.S.Store.is_shielded l.fn.store l.store
-    × (IsClean now → HasWholeTallies old.trees ↔ AllByRecursion (λ row. length row ≡ 10) (left_of now 0))
+    × (IsClean now → HasWholeTallies old.trees ↔ AllByRecursion (λ row. length row ≡ 11) (left_of now 0))

@@ -1,4 +1,4 @@
-use Rattle.std.proofs.Common.{rules, sym}
+use Rattle.std.proofs.Common.{rules}
 use Rattle.std.specs.FinMap.{get}
 use Rattle.canary_plan.proofs.Accepting.{accepted}
 use Rattle.canary_plan.proofs.strategy.Strategy.check.Goals as goal
