@@ -51,6 +51,7 @@ class Metric:
     interval: int = None
     delay: int = 0
     count: int = 0
+    pass_after: int = 0
     failure_limit: int = 0
     inconclusive_limit: int = 0
     error_limit: int = 4
@@ -89,11 +90,13 @@ class Tally:
     inconclusive: int = 0
     errors: int = 0
     consecutive: int = 0
+    passes: int = 0
     last: int = None
 
     def add(self, phase, taken):
         """One measurement more."""
         self.last = taken
+        self.passes = self.passes + 1 if phase == "Successful" else 0
         if phase == "Error":
             self.errors += 1
             self.consecutive += 1
@@ -115,6 +118,8 @@ class Tally:
             return "Inconclusive"
         if self.consecutive > metric.error_limit:
             return "Error"
+        if metric.pass_after and self.passes >= metric.pass_after:
+            return "Successful"
         wanted = metric.effective()
         return "Successful" if wanted is not None and self.counted >= wanted else None
 

@@ -98,7 +98,7 @@ def fits(names, templates, step):
     if not 1 <= len(names) <= 8 or any(name not in templates for name in names):
         return False
     metrics = [metric for name in names for metric in templates[name]]
-    if step and any(metric.effective() is None for metric in metrics):
+    if step and any(metric.effective() is None and not metric.pass_after for metric in metrics):
         return False
     return len(metrics) <= 32 and len({metric.name for metric in metrics}) == len(metrics)
 
@@ -119,6 +119,7 @@ def metric_tree(chance, metric):
     """A metric of a manifest."""
     tree = {"name": metric.name}
     for key, number, default in (("count", metric.count, 0),
+                                 ("passAfter", metric.pass_after, 0),
                                  ("failureLimit", metric.failure_limit, 0),
                                  ("inconclusiveLimit", metric.inconclusive_limit, 0),
                                  ("consecutiveErrorLimit", metric.error_limit, 4)):
@@ -132,7 +133,8 @@ def metric_tree(chance, metric):
         if each:
             tree[key] = each.text
     empty = {"interval": "", "initialDelay": "", "successCondition": "", "failureCondition": None,
-             "count": None, "consecutiveSuccessLimit": None, "failureLimit": None}
+             "count": None, "passAfter": None, "consecutiveSuccessLimit": None,
+             "failureLimit": None}
     ignored(chance, tree, empty)
     if chance.random() < 0.3:
         tree["provider"] = PROVIDER
@@ -177,6 +179,7 @@ def random_metric(chance, name, endless):
         metric.count = chance.choice((1, 1, 2, 2, 3, 5))
     elif metric.interval is None:
         metric.count = chance.choice((0, 0, 1))
+    metric.pass_after = chance.choice((0, 0, 0, 0, 1, 2, 2, 3, 1_000_000))
     metric.delay = chance.choice((0, 0, 0, 0, 5, 30, 120))
     metric.failure_limit = chance.choice((0, 1, 1, 2, 3, 5, 1_000_000))
     metric.inconclusive_limit = chance.choice((0, 0, 1, 3))

@@ -43,6 +43,8 @@ METRICS = ({"name": ""}, {"name": 5}, {"name": "a" * 64}, {"name": "a/b"}, {"nam
            {"failureLimit": True}, {"inconclusiveLimit": -1}, {"inconclusiveLimit": "-1"},
            {"consecutiveErrorLimit": -1}, {"consecutiveErrorLimit": [4]}, {"successCondition": 5},
            {"failureCondition": ["x"]}, {"interval": 0}, {"count": {}},
+           {"passAfter": -1}, {"passAfter": 1_000_001}, {"passAfter": "+2"}, {"passAfter": True},
+           {"passAfter": Raw("2.0")}, {"passAfter": "2 "}, {"passAfter": []},
            {"failureLimit": Raw("1e2")})
 UNSUPPORTED_METRICS = ({"failureLimit": -1}, {"failureLimit": "-3"}, {"consecutiveSuccessLimit": 1},
                        {"consecutiveSuccessLimit": "x"}, {"consecutiveSuccessLimit": 0})

@@ -112,9 +112,8 @@ fn metric_in(alloc: Global, value: &Value) -> Result<MetricSpec, FormFault>
     .ok_or(FormFault::Unreadable)
 }
 
-/// The metric, where its conditions, its counts and its limits keep their limits: a condition is not
-/// empty, a count, of measurements or of successes in a row, is 1 to 1,000,000, and a limit is at most
-/// 1,000,000.
+/// The metric, if its conditions, its counts and its limits keep their limits: a condition is not
+/// empty, a count and `passAfter` are 1 to 1,000,000, and a limit is at most 1,000,000.
 pub fn metric_with(
     name: Label,
     success: Option<Text>,

@@ -13,8 +13,8 @@ use std::alloc::Global;
 
 const SERVICE_TITLES: [&str; 6] = ["NAME", "STATUS", "STEP", "WEIGHT", "VERSION", "STABLE"];
 
-const RUN_TITLES: [&str; 7] = [
-    "RUN", "SERVICE", "ANALYSIS", "METRIC", "PHASE", "COUNTED", "DUE",
+const RUN_TITLES: [&str; 8] = [
+    "RUN", "SERVICE", "ANALYSIS", "METRIC", "PHASE", "COUNTED", "PASSES", "DUE",
 ];
 
 // How many cells the bar of a weight has.
@@ -136,6 +136,7 @@ fn metric_row(
     row.push(String::from_str(alloc, metric.name().as_str())?)?;
     row.push(String::from_str(alloc, phase.text())?)?;
     row.push(format!(in alloc; "{counted}")?)?;
+    row.push(passes_text(alloc, metric.pass_after(), tally.passes())?)?;
     row.push(due_text(alloc, run, metric, tally, phase)?)?;
     Ok(row)
 }
@@ -144,6 +145,14 @@ fn analysis(alloc: Global, step: Option<u32>) -> Result<String, Memory> {
     match step {
         Some(step) => Ok(format!(in alloc; "step {step}")?),
         None => Ok(String::from_str(alloc, "background")?),
+    }
+}
+
+// How many successes in a row a metric has, of those that complete it; `-` if it has no `passAfter`.
+fn passes_text(alloc: Global, wanted: Option<u32>, passes: u32) -> Result<String, Memory> {
+    match wanted {
+        Some(wanted) => Ok(format!(in alloc; "{passes}/{wanted}")?),
+        None => Ok(String::from_str(alloc, "-")?),
     }
 }
 

@@ -131,7 +131,7 @@ abbrev pub is_at_least_one : Option ℕ → Bool
 is_at_least_one None = true
 is_at_least_one (Some n) = nat_le 1 n
 
--- what the metric asks for, of measurements and of successes in a row, is at least 1 of them
+-- the metric's count, and its number of successes in a row, are at least 1 where it has them
 abbrev pub asks_for_some : MetricValue → Bool
 asks_for_some m = is_at_least_one m.count && is_at_least_one m.pass_after
 
@@ -139,8 +139,8 @@ asks_for_some m = is_at_least_one m.count && is_at_least_one m.pass_after
 abbrev pub have_counts : List MetricValue → Bool
 have_counts ms = list_all asks_for_some ms
 
--- at most 64 steps, no weight above 100, 1 to 32 metrics for each analysis, and each of them asks for
--- 1 measurement or success at least, where it asks for a number
+-- at most 64 steps, no weight above 100, 1 to 32 metrics for each analysis, and each of them asks
+-- for at least 1 measurement and 1 success in a row, where it asks for a number
 abbrev pub is_accepted : CheckedStrategy → Bool
 is_accepted s =
     nat_le (length s.steps) 64

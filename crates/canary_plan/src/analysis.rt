@@ -5,7 +5,6 @@ ghost use Rattle.std.specs.FinMap.{get};
 ghost use Rattle.canary_plan.specs.Plans.{metrics_in, metrics_named, are_metrics_of_run};
 ghost use Rattle.canary_plan.specs.PlanRefusals.{names_of_step, step_analyses, analyses};
 ghost use Rattle.canary_plan.specs.PlanRefusals.{repeats_metric, has_unknown};
-ghost use Rattle.canary_metric.specs.Metrics.{MetricValue};
 ghost use Rattle.canary_plan.specs.PlanRefusals.{is_endless, is_misfit, is_without_end};
 
 use crate::labels::has_duplicate;
@@ -158,8 +157,7 @@ pub(crate) fn has_unknown(known: &Templates, names: &[Name]) -> bool
     names.iter().any(|name| known.get(*name).is_none())
 }
 
-/// Whether a metric of these templates has neither an effective count nor a number of successes in a
-/// row.
+/// Whether a metric of these templates has neither an effective count nor `passAfter`.
 pub(crate) fn is_endless(known: &Templates, names: &[Name]) -> bool
     ensures { result ≡ is_endless (get known.now) names.now }
 {
@@ -177,7 +175,7 @@ fn has_endless(metrics: &[Metric]) -> bool
     metrics.iter().any(is_without_end)
 }
 
-// Whether it has neither an effective count nor a number of successes in a row.
+// Whether it has neither an effective count nor `passAfter`.
 fn is_without_end(metric: &Metric) -> bool
     ensures { result ≡ is_without_end metric.now }
 {

@@ -147,8 +147,8 @@ pub(crate) fn strategy_of(
     })
 }
 
-/// What a metric asks for, of measurements and of successes in a row, is at least 1 of them: what each
-/// metric promises, said of them all.
+/// A metric's count and its `passAfter`, if it has them, are at least 1: what each metric promises,
+/// said of them all.
 pub(crate) fn counts_stand(checked: &CheckedStrategy)
     ensures steps { IsTrue (list_all have_counts checked.now.step_metrics) }
     ensures background { IsTrue (have_counts checked.now.background_metrics) }

@@ -21,7 +21,7 @@ pub struct MetricSpec {
     pub interval: Option<Seconds>,
     pub initial_delay: Seconds,
     pub count: Option<u32>,
-    /// `passAfter`: with so many successes in a row the metric is successful.
+    /// `passAfter`: so many successful measurements in a row complete the metric.
     pub pass_after: Option<u32>,
     pub failure_limit: u32,
     pub inconclusive_limit: u32,
