@@ -1,4 +1,4 @@
-desk 475
+desk 474
 
 # A doubled promotion acts once, a number ahead and another command under an old number change
 # nothing, and each kept reply comes again.
