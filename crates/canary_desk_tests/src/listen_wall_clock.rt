@@ -1,4 +1,4 @@
-//! The machine's clock, where it falls, is beyond the limits, or cannot be read.
+//! The machine's clock, if it falls, is beyond the limits, or cannot be read.
 use canary_base::moments::LAST_MOMENT;
 use canary_listen::wall_clock::WallClock;
 use canary_once::clock::Clock;
@@ -27,7 +27,7 @@ impl time::Clock for Machine {
 }
 
 #[test]
-fn never_goes_back(rt: HostRuntime) -> Result<(), Fail> {
+fn tells_the_machines_moment(rt: HostRuntime) -> Result<(), Fail> {
     let machine = Machine {
         seconds: Cell::new(None),
     };
@@ -36,16 +36,16 @@ fn never_goes_back(rt: HostRuntime) -> Result<(), Fail> {
     machine.seconds.set(Some(1_767_225_600));
     assert!(rt; clock.now().get() == 1_767_225_600);
     machine.seconds.set(Some(1_767_225_599));
-    assert!(rt; clock.now().get() == 1_767_225_600);
+    assert!(rt; clock.now().get() == 1_767_225_599);
     machine.seconds.set(None);
-    assert!(rt; clock.now().get() == 1_767_225_600);
+    assert!(rt; clock.now().get() == 1_767_225_599);
     machine.seconds.set(Some(1_767_225_601));
     assert!(rt; clock.now().get() == 1_767_225_601);
     machine.seconds.set(Some(u64::MAX));
-    assert!(rt; clock.now().get() == 1_767_225_601);
+    assert!(rt; clock.now().get() == LAST_MOMENT);
     machine.seconds.set(Some(LAST_MOMENT + 1));
     assert!(rt; clock.now().get() == LAST_MOMENT);
     machine.seconds.set(Some(5));
-    assert!(rt; clock.now().get() == LAST_MOMENT);
+    assert!(rt; clock.now().get() == 5);
     Ok(())
 }

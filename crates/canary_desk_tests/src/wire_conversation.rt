@@ -5,7 +5,7 @@ use canary_once::book::Book;
 use canary_once::clock::StepClock;
 use canary_once::memory::MemoryBook;
 use canary_testing::asked::name;
-use canary_wire::conversation::{Cause, Conversation, Routes, Wants};
+use canary_wire::conversation::{Cause, Conversation, Pace, Routes, Wants};
 use std::alloc::Global;
 use std::io;
 use std::io::{ErrorKind, Read, Write};
@@ -101,7 +101,36 @@ fn writing(alloc: Global, size: usize) -> Outgoing {
     }
 }
 
-// The turns behind which a conversation has no end.
+// How turns go on: with more than one message, and with queries.
+#[derive(Clone, Copy)]
+struct Paced {
+    goes_on: bool,
+    answers_queries: bool,
+}
+
+impl Pace for Paced {
+    fn goes_on(&mut self) -> bool {
+        self.goes_on
+    }
+
+    fn answers_queries(&self) -> bool {
+        self.answers_queries
+    }
+}
+
+// As far as a turn may go.
+const FAR: Paced = Paced {
+    goes_on: true,
+    answers_queries: true,
+};
+
+// One message a turn.
+const ONE_BY_ONE: Paced = Paced {
+    goes_on: false,
+    answers_queries: true,
+};
+
+// The turns after which a conversation has no end.
 const MOST_TURNS: u32 = 100_000;
 
 // The most that was owed, and the turns, of a conversation to the end of its input.
@@ -116,11 +145,12 @@ fn run(
     reader: &mut Incoming,
     writer: &mut Outgoing,
     most_owed: usize,
+    pace: Paced,
 ) -> Result<Ran, Memory> {
     let routes = Routes::new(alloc)?;
     let mut talk = Conversation::new(alloc, most_owed)?;
     let mut book = MemoryBook::new(alloc);
-    take_turns(alloc, &routes, &mut talk, reader, writer, &mut book)
+    take_turns(alloc, &routes, &mut talk, reader, writer, &mut book, pace)
 }
 
 // A clock that ticks by a second.
@@ -136,11 +166,12 @@ fn take_turns(
     reader: &mut Incoming,
     writer: &mut Outgoing,
     book: &mut MemoryBook,
+    pace: Paced,
 ) -> Result<Ran, Memory> {
-    let mut now = seconds();
+    let (mut now, mut pace) = (seconds(), pace);
     let mut owed = 0;
     for turns in 0..MOST_TURNS {
-        let wants = talk.turn(alloc, routes, reader, writer, &mut now, book);
+        let wants = talk.turn(alloc, routes, reader, writer, &mut now, book, &mut pace);
         owed = owed.max(talk.owes());
         if wants == Wants::Nothing(Cause::Memory) {
             return Err(Memory);
@@ -163,7 +194,7 @@ fn is_answered(alloc: Global, size: usize, out: usize, most: usize) -> Result<bo
         blocks: false,
     };
     let mut writer = writing(alloc, out);
-    let ran = run(alloc, &mut reader, &mut writer, most)?;
+    let ran = run(alloc, &mut reader, &mut writer, most, FAR)?;
     let is_bounded = ran.owed < most.max(1).saturating_add(300) && ran.turns < MOST_TURNS;
     Ok(is_bounded && writer.bytes.as_slice() == REPLIES.as_bytes())
 }
@@ -192,8 +223,20 @@ fn is_written_by_turns(alloc: Global, stream: &[u8]) -> Result<bool, Memory> {
         blocks: true,
     };
     let mut writer = writing(alloc, 1_000_000);
-    let ran = run(alloc, &mut reader, &mut writer, 1_000_000)?;
+    let ran = run(alloc, &mut reader, &mut writer, 1_000_000, FAR)?;
     Ok(writer.writes == 5 && ran.turns <= 8)
+}
+
+// Whether each of so many messages has a turn of its own, if a turn goes on with no other.
+fn is_written_one_by_one(alloc: Global, stream: &[u8], count: usize) -> Result<bool, Memory> {
+    let mut reader = Incoming {
+        rest: stream,
+        size: 100_000,
+        blocks: true,
+    };
+    let mut writer = writing(alloc, 1_000_000);
+    run(alloc, &mut reader, &mut writer, 1_000_000, ONE_BY_ONE)?;
+    Ok(writer.writes == count)
 }
 
 #[test]
@@ -205,6 +248,59 @@ fn answers_many_at_once(rt: HostRuntime) -> Result<(), Fail> {
     }
     let stream = stream.as_slice();
     assert!(rt; is_written_by_turns(alloc, stream)? || is_written_by_turns(alloc, stream)?);
+    assert!(rt;
+        is_written_one_by_one(alloc, stream, 300)? || is_written_one_by_one(alloc, stream, 300)?
+    );
+    Ok(())
+}
+
+// How many replies a conversation has after some turns, first while no query is answered and then
+// while each is: a request and a query were sent.
+fn replies_before_and_after(alloc: Global) -> Result<(usize, usize), Memory> {
+    let mut talk = Conversation::new(alloc, 16_384)?;
+    let mut reader = Incoming {
+        rest: concat!(
+            "PUT /callers/ops/requests/1 HTTP/1.1\r\nContent-Length: 26\r\n\r\n",
+            r#"{"tick":{"service":"web"}}"#,
+            "\r\nGET /services/web HTTP/1.1\r\n\r\n"
+        )
+        .as_bytes(),
+        size: 1000,
+        blocks: true,
+    };
+    let mut writer = writing(alloc, 1_000);
+    let waiting = Paced {
+        goes_on: true,
+        answers_queries: false,
+    };
+    take_ten_turns(alloc, &mut talk, &mut reader, &mut writer, waiting)?;
+    let before = count_of(&writer.bytes, "HTTP/1.1 ");
+    take_ten_turns(alloc, &mut talk, &mut reader, &mut writer, FAR)?;
+    Ok((before, count_of(&writer.bytes, "HTTP/1.1 ")))
+}
+
+// Ten turns at this pace, over a book of their own.
+fn take_ten_turns(
+    alloc: Global,
+    talk: &mut Conversation,
+    reader: &mut Incoming,
+    writer: &mut Outgoing,
+    pace: Paced,
+) -> Result<(), Memory> {
+    let routes = Routes::new(alloc)?;
+    let mut book = MemoryBook::new(alloc);
+    let (mut now, mut pace) = (seconds(), pace);
+    for _ in 0..10 {
+        talk.turn(
+            alloc, &routes, reader, writer, &mut now, &mut book, &mut pace,
+        );
+    }
+    Ok(())
+}
+
+#[test]
+fn queries_wait(rt: HostRuntime) -> Result<(), Fail> {
+    assert!(rt; replies_before_and_after(rt.alloc())? == (1, 2));
     Ok(())
 }
 
@@ -235,8 +331,17 @@ fn answer_new(alloc: Global, writer: &mut Outgoing, book: &mut MemoryBook) -> Re
         size: 1000,
         blocks: true,
     };
+    let mut pace = FAR;
     for _ in 0..10 {
-        talk.turn(alloc, &routes, &mut reader, writer, &mut now, book);
+        talk.turn(
+            alloc,
+            &routes,
+            &mut reader,
+            writer,
+            &mut now,
+            book,
+            &mut pace,
+        );
     }
     Ok(())
 }

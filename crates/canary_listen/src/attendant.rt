@@ -6,21 +6,28 @@ ghost use Rattle.canary_listen.specs.Crowd.{clients_attendance};
 use crate::client::{Client, Fate};
 use crate::clients::Clients;
 use crate::limits::Limits;
+use crate::reports::Reports;
+use crate::slice::Slice;
 use canary_base::error::Memory;
 use canary_once::book::Book;
 use canary_once::clock::Clock;
 use canary_wire::conversation::{Cause, Routes};
 use canary_wire::laws::going_on;
 use mio::net::{TcpListener, TcpStream};
-use mio::{Events, Poll, Token};
+use mio::{Events, Interest, Poll, Token};
 use std::alloc::Global;
 use std::io::{ErrorKind, Write};
+use std::net::IpAddr;
+use std::time::{self, Duration};
 
 // The token of the socket at which clients come.
 pub(crate) const SOCKET: Token = Token(usize::MAX);
 
 // The most clients that are accepted before those that are there have their turn.
 const MOST_ACCEPTED: u32 = 64;
+
+// How long the turns of all clients that are ready may go on after their first message, together.
+const ROUND: Duration = Duration::from_millis(20);
 
 // The socket at which clients come, and those that came.
 #[derive(Drop)]
@@ -30,6 +37,9 @@ pub(crate) struct Attendant {
     pub(crate) routes: Routes,
     pub(crate) limits: Limits,
     pub(crate) clients: Clients,
+    pub(crate) reports: Reports,
+    // Whether some query waits until others took what they are owed.
+    pub(crate) has_queries_waiting: bool,
     // How many more are accepted; none for as many as come.
     pub(crate) left: Option<u64>,
     // Whether somebody may wait to be accepted.
@@ -47,9 +57,12 @@ impl Attendant {
         self.left == Some(0) && self.clients.count() == 0
     }
 
-    // Whether somebody may be accepted now.
+    // Whether somebody may be accepted now: there is room for one more, or one is idle.
     pub(crate) fn may_accept(&self) -> bool {
-        self.has_waiting && self.left != Some(0) && self.now >= self.retry_at && self.has_room()
+        self.has_waiting
+            && self.left != Some(0)
+            && self.now >= self.retry_at
+            && (self.has_room() || self.clients.idlest(self.now).is_some())
     }
 
     fn has_room(&self) -> bool {
@@ -57,32 +70,32 @@ impl Attendant {
     }
 
     // Does what is to be done for each that was reported.
-    pub(crate) fn attend_all<C: Clock, B: Book, F: Write>(
+    pub(crate) fn attend_all<R: time::Clock + AllocGlobal, C: Clock, B: Book>(
         &mut self,
-        alloc: Global,
+        rt: &R,
         events: &Events<Global>,
         clock: &mut C,
         book: &mut B,
-        errors: &mut F,
     )
         ensures { Attends (point (C.tells clock.old) (B.state book.old))
             (point (C.tells clock.new) (B.state book.new))
             (clients_attendance self.old.clients) (clients_attendance self.new.clients) }
     {
         going_on::<C, B>();
+        let share = share_of(events.iter().count());
         'events: for event in events.iter() {
-            self.attend(alloc, event.token(), clock, book, errors);
+            self.attend(rt, event.token(), share, clock, book);
         }
     }
 
     // Does what is to be done where this token was reported.
-    fn attend<C: Clock, B: Book, F: Write>(
+    fn attend<R: time::Clock + AllocGlobal, C: Clock, B: Book>(
         &mut self,
-        alloc: Global,
+        rt: &R,
         token: Token,
+        share: Duration,
         clock: &mut C,
         book: &mut B,
-        errors: &mut F,
     )
         ensures { Attends (point (C.tells clock.old) (B.state book.old))
             (point (C.tells clock.new) (B.state book.new))
@@ -91,42 +104,87 @@ impl Attendant {
         if token == SOCKET {
             self.has_waiting = true;
         }
-        let number = token.0;
-        let now = self.now;
-        if let Some(fate) = self
-            .clients
-            .turn(number, alloc, &self.routes, clock, book, now)
-        {
-            self.settle(number, fate, errors);
+        let (number, now) = (token.0, self.now);
+        let mut pace = Slice::begun(rt, share, self.answers_queries());
+        if let Some(fate) = self.clients.turn(
+            number,
+            rt.alloc(),
+            &self.routes,
+            clock,
+            book,
+            &mut pace,
+            now,
+        ) {
+            self.settle(number, fate);
         }
     }
 
+    // Whether queries are answered: clients have not too much to take, all together.
+    fn answers_queries(&self) -> bool {
+        u64::try_from(self.clients.unsent()).unwrap_or(u64::MAX) < self.limits.unsent_total_bytes
+    }
+
     // Keeps a client, or lets it go.
-    fn settle<F: Write>(&mut self, number: usize, fate: Fate, errors: &mut F)
+    fn settle(&mut self, number: usize, fate: Fate)
         ensures { KeepsServed (clients_attendance self.old.clients)
             (clients_attendance self.new.clients) }
     {
         match fate {
-            Fate::Stays(interest) => {
-                if !self.clients.report(self.poll.registry(), number, interest) {
-                    self.clients.remove(number);
-                }
-            }
-            Fate::Goes(cause) => self.let_go(number, cause, errors),
+            Fate::Stays(interest) => self.await_ready(number, interest),
+            Fate::Waits => self.has_queries_waiting = true,
+            Fate::Goes(cause) => self.let_go(number, cause),
         }
     }
 
-    // Lets a client go, and tells the fault with which its connection ended.
-    fn let_go<F: Write>(&mut self, number: usize, cause: Cause, errors: &mut F)
+    // Has a client's next turn come when its connection is ready; lets it go if that cannot be.
+    fn await_ready(&mut self, number: usize, interest: Interest)
         ensures { KeepsServed (clients_attendance self.old.clients)
             (clients_attendance self.new.clients) }
     {
+        if !self.clients.report(self.poll.registry(), number, interest) {
+            self.clients.remove(number);
+        }
+    }
+
+    // Has the turns of those come whose queries waited, once queries are answered again.
+    pub(crate) fn resume_queries(&mut self)
+        ensures { KeepsServed (clients_attendance self.old.clients)
+            (clients_attendance self.new.clients) }
+    {
+        if !self.has_queries_waiting || !self.answers_queries() {
+            return;
+        }
+        self.has_queries_waiting = false;
+        let mut from = 0;
+        'waiting: for _ in 0..self.clients.count() {
+            let Some(number) = self.clients.waiting(from) else {
+                return;
+            };
+            self.await_ready(number, Interest::READABLE | Interest::WRITABLE);
+            from = number.saturating_add(1);
+        }
+    }
+
+    // Lets a client go, and notes the fault with which its connection ended.
+    fn let_go(&mut self, number: usize, cause: Cause)
+        ensures { KeepsServed (clients_attendance self.old.clients)
+            (clients_attendance self.new.clients) }
+    {
+        if let Some(address) = self.clients.address(number) {
+            self.reports.note(cause, address);
+        }
         self.clients.remove(number);
-        let _ = errors.write_all(line_of(cause).as_bytes());
+    }
+
+    // Writes what was noted in the seconds before this one.
+    pub(crate) fn report<F: Write>(&mut self, errors: &mut F)
+        ensures { clients_attendance self.new.clients ≡ clients_attendance self.old.clients }
+    {
+        self.reports.write_before(self.now, errors);
     }
 
     // Lets those go that take too long; each second this is asked once.
-    pub(crate) fn sweep<F: Write>(&mut self, errors: &mut F)
+    pub(crate) fn sweep(&mut self)
         ensures { KeepsServed (clients_attendance self.old.clients)
             (clients_attendance self.new.clients) }
     {
@@ -139,7 +197,7 @@ impl Attendant {
             let Some((number, cause)) = self.clients.overdue(from, self.limits, self.now) else {
                 return;
             };
-            self.let_go(number, cause, errors);
+            self.let_go(number, cause);
             from = number;
         }
     }
@@ -157,17 +215,31 @@ impl Attendant {
         }
     }
 
-    // Accepts one.
+    // Accepts one. If there is no room, it takes the place of the client that is idle longest.
     fn accept(&mut self, alloc: Global)
         ensures { KeepsServed (clients_attendance self.old.clients)
             (clients_attendance self.new.clients) }
     {
         match self.socket.accept() {
-            Ok((stream, _)) => {
+            Ok((stream, address)) => {
                 self.left = one_less(self.left);
-                let _ = self.welcome(alloc, stream);
+                self.make_place();
+                let _ = self.welcome(alloc, stream, address.ip());
             }
             Err(error) => self.wait_to_accept(error.kind()),
+        }
+    }
+
+    // Lets the client go that is idle longest, if there is no room for another.
+    fn make_place(&mut self)
+        ensures { KeepsServed (clients_attendance self.old.clients)
+            (clients_attendance self.new.clients) }
+    {
+        if self.has_room() {
+            return;
+        }
+        if let Some(number) = self.clients.idlest(self.now) {
+            self.clients.remove(number);
         }
     }
 
@@ -184,14 +256,14 @@ impl Attendant {
         }
     }
 
-    // Takes in a client that was accepted. Where that fails, its connection is closed.
-    fn welcome(&mut self, alloc: Global, stream: TcpStream) -> Result<(), Memory>
+    // Takes in a client that was accepted. If that fails, its connection is closed.
+    fn welcome(&mut self, alloc: Global, stream: TcpStream, address: IpAddr) -> Result<(), Memory>
         ensures { KeepsServed (clients_attendance self.old.clients)
             (clients_attendance self.new.clients) }
     {
         let most_owed = usize::try_from(self.limits.owed_bytes).unwrap_or(usize::MAX);
         let conversation = self.clients.conversation(alloc, most_owed)?;
-        let mut client = Client::new(stream, conversation, self.now);
+        let mut client = Client::new(stream, conversation, address, self.now);
         let token = Token(self.clients.next());
         if client.register(self.poll.registry(), token).is_err() {
             return Ok(());
@@ -209,13 +281,8 @@ fn one_less(left: Option<u64>) -> Option<u64> {
     }
 }
 
-// The line that tells why a connection ended; none where that is no fault.
-fn line_of(cause: Cause) -> &'static str {
-    match cause {
-        Cause::EndOfInput => "",
-        Cause::Truncated => "canary: truncated\n",
-        Cause::Read => "canary: read\n",
-        Cause::Write => "canary: write\n",
-        Cause::Memory => "canary: memory\n",
-    }
+// The time of each of so many turns, of that of a round.
+fn share_of(turns: usize) -> Duration {
+    let turns = u32::try_from(turns).unwrap_or(u32::MAX).max(1);
+    ROUND / turns
 }

@@ -8,14 +8,14 @@ ghost use Rattle.canary_listen.specs.Crowd.{client_talk};
 use crate::limits::Limits;
 use canary_once::book::Book;
 use canary_once::clock::Clock;
-use canary_wire::conversation::{Cause, Conversation, Routes, Wants};
+use canary_wire::conversation::{Cause, Conversation, Pace, Routes, Wants};
 use mio::net::TcpStream;
 use mio::{Interest, Registry, Token};
 use std::alloc::Global;
 use std::io::{self, ErrorKind, Read};
-use std::net::Shutdown;
+use std::net::{IpAddr, Shutdown};
 
-// The most bytes that are read of a client behind its last reply: 16 MiB.
+// The most bytes that are read of a client after its last reply: 16 MiB.
 const MOST_DRAINED: usize = 16_777_216;
 
 // How many of them at a time.
@@ -30,15 +30,19 @@ enum Awaited {
     Rest,
     // To take what it is owed.
     Reading,
-    // To end its sending side, behind its last reply.
+    // Nothing: its query waits until other clients took what they are owed.
+    Room,
+    // To end its sending side, after its last reply.
     Leaving,
 }
 
-// What becomes of a client behind its turn.
+// What becomes of a client after its turn.
 #[derive(Clone, Copy)]
 pub(crate) enum Fate {
     // It stays, and has its next turn when its connection is ready for this.
     Stays(Interest),
+    // It stays, and has its next turn when queries are answered again.
+    Waits,
     // It goes, and this is why.
     Goes(Cause),
 }
@@ -53,13 +57,20 @@ pub(crate) struct Client {
     since: u64,
     // How many of its messages were answered then.
     answered: u64,
-    // How many bytes were read behind its last reply.
+    // How many bytes were read after its last reply.
     drained: usize,
+    // Where it comes from.
+    address: IpAddr,
 }
 
 impl Client {
     // A client that came at this second, with whom this conversation is held.
-    pub(crate) fn new(stream: TcpStream, conversation: Conversation, now: u64) -> Client
+    pub(crate) fn new(
+        stream: TcpStream,
+        conversation: Conversation,
+        address: IpAddr,
+        now: u64,
+    ) -> Client
         ensures { client_talk result ≡ talk_of conversation }
     {
         Client {
@@ -69,7 +80,35 @@ impl Client {
             since: now,
             answered: 0,
             drained: 0,
+            address,
         }
+    }
+
+    // Where it comes from.
+    pub(crate) fn address(&self) -> IpAddr {
+        self.address
+    }
+
+    // How many bytes it has still to take.
+    pub(crate) fn unsent(&self) -> usize {
+        self.conversation.owes()
+    }
+
+    // Since which second it is idle: nothing is unsent, and no message has begun.
+    pub(crate) fn idle_since(&self) -> Option<u64> {
+        if self.awaited == Awaited::Message
+            && self.conversation.holds() == 0
+            && self.unsent() == 0
+        {
+            Some(self.since)
+        } else {
+            None
+        }
+    }
+
+    // Whether its query waits until queries are answered again.
+    pub(crate) fn waits_for_room(&self) -> bool {
+        self.awaited == Awaited::Room
     }
 
     // Its conversation, where the client has gone: its connection is closed.
@@ -98,12 +137,13 @@ impl Client {
     }
 
     // Its turn.
-    pub(crate) fn turn<C: Clock, B: Book>(
+    pub(crate) fn turn<C: Clock, B: Book, P: Pace>(
         &mut self,
         alloc: Global,
         routes: &Routes,
         clock: &mut C,
         book: &mut B,
+        pace: &mut P,
         now: u64,
     ) -> Fate
         ensures { TakesTurn None None None None
@@ -112,14 +152,20 @@ impl Client {
             (client_talk self.old) (client_talk self.new) }
     {
         let stream = &self.stream;
-        let wants = self
-            .conversation
-            .turn(alloc, routes, &mut &*stream, &mut &*stream, clock, book);
-        self.settle(wants, now)
+        let wants = self.conversation.turn(
+            alloc,
+            routes,
+            &mut &*stream,
+            &mut &*stream,
+            clock,
+            book,
+            pace,
+        );
+        self.settle(wants, pace.answers_queries(), now)
     }
 
     // What becomes of it where its conversation waits for this.
-    fn settle(&mut self, wants: Wants, now: u64) -> Fate
+    fn settle(&mut self, wants: Wants, answers_queries: bool, now: u64) -> Fate
         ensures { client_talk self.new ≡ client_talk self.old }
     {
         match wants {
@@ -131,6 +177,10 @@ impl Client {
             Wants::Write => {
                 self.wait_for(Awaited::Reading, now);
                 Fate::Stays(Interest::WRITABLE)
+            }
+            Wants::Turn if !answers_queries && self.conversation.holds_query() => {
+                self.wait_for(Awaited::Room, now);
+                Fate::Waits
             }
             Wants::Turn => {
                 self.wait_for(Awaited::Message, now);
@@ -188,13 +238,14 @@ impl Client {
         Fate::Stays(Interest::READABLE)
     }
 
-    // Why it is let go at this second, if it took too long.
+    // Why it is let go at this second, if it took too long. One that waits for others is not.
     pub(crate) fn overdue(&self, limits: Limits, now: u64) -> Option<Cause> {
         let (most, cause) = match self.awaited {
             Awaited::Message => (limits.idle_seconds, Cause::EndOfInput),
             Awaited::Rest => (limits.message_seconds, Cause::Truncated),
             Awaited::Reading => (limits.idle_seconds, Cause::Write),
             Awaited::Leaving => (limits.message_seconds, Cause::EndOfInput),
+            Awaited::Room => return None,
         };
         if now.saturating_sub(self.since) <= most {
             return None;

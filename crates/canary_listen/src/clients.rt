@@ -11,11 +11,12 @@ use crate::limits::Limits;
 use canary_base::error::Memory;
 use canary_once::book::Book;
 use canary_once::clock::Clock;
-use canary_wire::conversation::{Cause, Conversation, Routes};
+use canary_wire::conversation::{Cause, Conversation, Pace, Routes};
 use canary_wire::laws::{crowds, going_on};
 use mio::{Interest, Registry, Token};
 use std::alloc::Global;
 use std::collections::BTreeMap;
+use std::net::IpAddr;
 
 // The most conversations that are kept for clients to come: their buffers, five megabytes in all,
 // are neither taken nor cleared again.
@@ -27,6 +28,8 @@ pub(crate) struct Clients {
     by_number: BTreeMap<usize, Client>,
     next: usize,
     spare: Vec<Conversation>,
+    // How many bytes they have still to take, all together.
+    unsent: usize,
 }
 
 impl Clients {
@@ -38,6 +41,20 @@ impl Clients {
             by_number: BTreeMap::new(alloc),
             next: 0,
             spare: Vec::new(alloc),
+            unsent: 0,
+        }
+    }
+
+    // How many bytes they have still to take, all together.
+    pub(crate) fn unsent(&self) -> usize {
+        self.unsent
+    }
+
+    // Where a client comes from.
+    pub(crate) fn address(&self, number: usize) -> Option<IpAddr> {
+        match self.by_number.get(&number) {
+            Some(client) => Some(client.address()),
+            None => None,
         }
     }
 
@@ -91,13 +108,14 @@ impl Clients {
     }
 
     // The turn of a client; none where it has gone.
-    pub(crate) fn turn<C: Clock, B: Book>(
+    pub(crate) fn turn<C: Clock, B: Book, P: Pace>(
         &mut self,
         number: usize,
         alloc: Global,
         routes: &Routes,
         clock: &mut C,
         book: &mut B,
+        pace: &mut P,
         now: u64,
     ) -> Option<Fate>
         ensures { Attends (point (C.tells clock.old) (B.state book.old))
@@ -109,7 +127,10 @@ impl Clients {
         let Some(client) = self.by_number.get_mut(&number) else {
             return None;
         };
-        Some(client.turn(alloc, routes, clock, book, now))
+        let before = client.unsent();
+        let fate = client.turn(alloc, routes, clock, book, pace, now);
+        self.unsent = in_place_of(self.unsent, before, client.unsent());
+        Some(fate)
     }
 
     // Has a client's connection reported when it is ready for this. Says whether it could be done.
@@ -128,8 +149,34 @@ impl Clients {
     {
         crowds();
         if let Some(client) = self.by_number.remove(&number) {
+            self.unsent = in_place_of(self.unsent, client.unsent(), 0);
             self.keep(client);
         }
+    }
+
+    // The client that is idle longest, since a second before `now`.
+    pub(crate) fn idlest(&self, now: u64) -> Option<usize> {
+        let mut idlest = None;
+        let mut earliest = now;
+        'clients: for (number, client) in self.by_number.range(0..) {
+            if let Some(since) = client.idle_since()
+                && since < earliest
+            {
+                idlest = Some(*number);
+                earliest = since;
+            }
+        }
+        idlest
+    }
+
+    // The first client, from a number on, whose query waits until queries are answered again.
+    pub(crate) fn waiting(&self, from: usize) -> Option<usize> {
+        'clients: for (number, client) in self.by_number.range(from..) {
+            if client.waits_for_room() {
+                return Some(*number);
+            }
+        }
+        None
     }
 
     // The first client, from a number on, that takes too long, and why it is let go.
@@ -141,4 +188,9 @@ impl Clients {
         }
         None
     }
+}
+
+// A sum with this part in place of that one.
+fn in_place_of(sum: usize, old: usize, new: usize) -> usize {
+    sum.saturating_sub(old).saturating_add(new)
 }

@@ -17,4 +17,6 @@ mod client;
 mod clients;
 pub mod limits;
 pub mod listener;
+mod reports;
+mod slice;
 pub mod wall_clock;

@@ -13,14 +13,19 @@ pub struct Limits {
     /// While at least so many bytes are owed to a client, none of its messages is answered; from 1
     /// on.
     pub owed_bytes: u64,
+    /// While at least so many bytes are owed to all clients together, no query is answered; from 1
+    /// on.
+    pub unsent_total_bytes: u64,
 }
 
 impl Limits {
-    /// 10 seconds for a message, 60 seconds idle, 1,000 clients, and 65,536 bytes.
+    /// 10 seconds for a message, 60 seconds idle, 1,000 clients, 65,536 bytes for a client, and
+    /// 67,108,864 bytes (64 MiB) for all.
     pub const DEFAULT: Limits = Limits {
         message_seconds: 10,
         idle_seconds: 60,
         clients: 1_000,
         owed_bytes: 65_536,
+        unsent_total_bytes: 67_108_864,
     };
 }

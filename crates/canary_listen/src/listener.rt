@@ -7,6 +7,7 @@ ghost use Rattle.canary_listen.specs.Crowd.{attendance_of};
 use crate::attendant::{Attendant, SOCKET};
 use crate::clients::Clients;
 use crate::limits::Limits;
+use crate::reports::Reports;
 use canary_once::book::Book;
 use canary_once::clock::Clock;
 use canary_wire::conversation::Routes;
@@ -78,6 +79,8 @@ impl Listener {
             routes,
             limits,
             clients: Clients::new(rt.alloc()),
+            reports: Reports::new(rt.alloc()),
+            has_queries_waiting: false,
             left: None,
             has_waiting: false,
             retry_at: 0,
@@ -101,10 +104,16 @@ impl Listener {
 
     /// Serves so many connections to their ends, or as many as come.
     ///
-    /// A client that takes too long, by the limits, is let go. What a connection ended with is told
-    /// by a line on `errors` where that is a fault: `canary: truncated`, `read`, `write` or
-    /// `memory`; the others are served on. A fault of `errors` itself is ignored. Where the system
-    /// has no descriptor left, those that come wait, and are accepted once there is one.
+    /// A client that takes too long, by the limits, is let go. If there are as many clients as there
+    /// may be, one that waits takes the place of the client that is idle longest, and for a second
+    /// at least. If the system has no descriptor left, those that come wait, and are accepted once
+    /// there is one.
+    ///
+    /// A fault with which a connection ended is reported by a line on `errors`, within two seconds:
+    /// `canary: truncated ADDRESS`, or `read`, `write` or `memory`, and ` (N times)` for more of the
+    /// same in one second; the others are served on. A line that `errors` does not take at once is
+    /// dropped, and how many were is the next line: so nobody who leaves these lines unread stops
+    /// the desk, if a write on `errors` never waits. A fault of `errors` itself is ignored.
     ///
     /// # Errors
     /// `Accept` where the system tells no more of the connections.
@@ -128,6 +137,7 @@ impl Listener {
         let wait = Duration::from_secs(WAIT_SECONDS);
         'rounds: for _ in 0..u64::MAX {
             if self.attendant.is_done() {
+                self.attendant.reports.write_all(errors);
                 return Ok(());
             }
             if let Err(fault) = self.round(rt, wait, clock, book, errors) {
@@ -137,7 +147,8 @@ impl Listener {
         Ok(())
     }
 
-    /// Waits until something comes, at most so long, and gives each client that is ready one turn.
+    /// Waits until something comes, at most so long, and gives each client that is ready one turn:
+    /// one message at least, and more for at most 20 milliseconds, of which each has the same share.
     /// Then those that take too long are let go, and some of those that wait are accepted.
     ///
     /// # Errors
@@ -159,9 +170,10 @@ impl Listener {
             return Err(ListenFault::Accept);
         }
         self.look_at_clock(rt);
-        self.attendant
-            .attend_all(rt.alloc(), &self.events, clock, book, errors);
-        self.attendant.sweep(errors);
+        self.attendant.attend_all(rt, &self.events, clock, book);
+        self.attendant.sweep();
+        self.attendant.resume_queries();
+        self.attendant.report(errors);
         self.attendant.accept_some(rt.alloc());
         Ok(())
     }

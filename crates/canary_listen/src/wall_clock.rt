@@ -1,14 +1,13 @@
 //! The machine's clock.
-ghost use Rattle.std.specs.Prelude.{◌≡◌, ◌≤◌};
+ghost use Rattle.std.specs.Prelude.{◌≡◌};
 ghost use Rattle.canary_listen.specs.Moments.{next_moment};
 
 use canary_base::moments::{LAST_MOMENT, Moment};
 use canary_once::clock::Clock;
 use std::time::{self, SystemTime};
 
-/// The machine's clock, in whole seconds of UTC, held within the limits of a moment. It never goes
-/// back: where it cannot be read, or reads an earlier moment than before, it tells the last moment
-/// again, at first 0.
+/// The machine's clock, in whole seconds of UTC, held within the limits of a moment. It goes back as
+/// the machine's does. If that cannot be read, it tells the last moment again, at first 0.
 #[derive(Drop)]
 pub struct WallClock<'a, R> {
     machine: &'a R,
@@ -33,10 +32,9 @@ impl<'a, R: time::Clock> WallClock<'a, R> {
         self.last
     }
 
-    /// The present moment, at least the one that was told before.
+    /// The present moment.
     pub fn tell(&mut self) -> Moment
-        ensures forward { self.old.last ≤ result }
-        ensures kept { self.new.last ≡ result }
+        ensures { self.new.last ≡ result }
     {
         self.last = next_moment(self.last, read_seconds(self.machine));
         self.last
@@ -59,14 +57,12 @@ fn read_seconds<R: time::Clock>(machine: &R) -> Option<u64> {
     Some(since.as_secs())
 }
 
-// The moment that is told behind `last` where the machine's clock reads so many seconds, or none.
+// The moment that is told after `last` if the machine's clock reads so many seconds, or none.
 fn next_moment(last: Moment, read: Option<u64>) -> Moment
-    ensures value { result ≡ next_moment last read }
-    ensures forward { last ≤ result }
+    ensures { result ≡ next_moment last read }
 {
-    let Some(seconds) = read else {
-        return last;
-    };
-    let seconds = seconds.min(LAST_MOMENT).max(last.get());
-    Moment::new(seconds).unwrap()
+    match read {
+        Some(seconds) => Moment::new(seconds.min(LAST_MOMENT)).unwrap(),
+        None => last,
+    }
 }

@@ -26,6 +26,16 @@ use std::io::{Read, Write};
 // The most messages that are answered at a stretch, so that the others have their turn.
 const MOST_STEPS: u32 = 64;
 
+/// How long a turn goes on, and whether it answers queries. Whoever gives the turns decides it.
+pub trait Pace {
+    /// Whether the turn answers one more message. It is asked after each that was answered, and not
+    /// before the first.
+    fn goes_on(&mut self) -> bool;
+
+    /// Whether a query is answered: its reply may be long, and is held until the client takes it.
+    fn answers_queries(&self) -> bool;
+}
+
 /// The routes of the desk, which all conversations share.
 #[derive(Drop)]
 pub struct Routes {
@@ -64,7 +74,8 @@ pub enum Wants {
     Read,
     /// For the writer to take more of what is owed.
     Write,
-    /// For its next turn: it is open, nothing is owed, and more messages may be held.
+    /// For its next turn: it is open, nothing is owed, and more messages may be held. If the first
+    /// of them is a query (`holds_query`), it may be that queries were not answered.
     Turn,
     /// For nothing: the last reply was written. The client may still be sending: what it sends is
     /// to be read and thrown away for a while, so that it can read that reply.
@@ -150,6 +161,11 @@ impl Conversation {
         self.buffer.as_slice().len()
     }
 
+    /// Whether the message that stands first is a query, as far as it is held.
+    pub fn holds_query(&self) -> bool {
+        is_query(self.buffer.as_slice())
+    }
+
     /// How many messages were answered, the last not counted where it ended the conversation.
     pub fn answered(&self) -> u64 {
         self.answered
@@ -171,11 +187,15 @@ impl Conversation {
 
     /// A turn of this conversation, and what it waits for then.
     ///
-    /// What is owed is written first. Where nothing is owed then, up to 64 of the messages that are
-    /// held are answered, and their replies written by one write. Where that leaves no whole
-    /// message and nothing owed, it is read once, and up to 64 of the messages that are whole then
-    /// are answered and written in the same way. A reader or a writer that would block, or was
-    /// interrupted, ends the turn and is no fault.
+    /// What is owed is written first. If nothing is owed then, up to 64 of the messages that are
+    /// held are answered, and their replies written by one write. If that leaves no whole message
+    /// and nothing owed, it is read once, and up to 64 of the messages that are whole then are
+    /// answered and written in the same way. `pace` ends either of the two earlier, after its first
+    /// message. A reader or a writer that would block, or was interrupted, ends the turn and is no
+    /// fault.
+    ///
+    /// While `pace` answers no queries, a query that stands first is left where it is, and so is
+    /// what is held after it.
     ///
     /// For each message the clock is asked once, the register is asked where the message is a
     /// request or a query, and its reply is owed. Where there is no memory for one more reply to a
@@ -184,7 +204,7 @@ impl Conversation {
     ///
     /// After `Rest` or `Nothing` no further turn is needed. A turn after `Rest`, or where there was
     /// no memory for a reply, reads, writes and asks nothing.
-    pub fn turn<R: Read, W: Write, C: Clock, B: Book>(
+    pub fn turn<R: Read, W: Write, C: Clock, B: Book, P: Pace>(
         &mut self,
         alloc: Global,
         routes: &Routes,
@@ -192,6 +212,7 @@ impl Conversation {
         writer: &mut W,
         clock: &mut C,
         book: &mut B,
+        pace: &mut P,
     ) -> Wants
         ensures turn { TakesTurn (R.remaining reader.old) (R.remaining reader.new)
             (W.contents writer.old) (W.contents writer.new)
@@ -205,13 +226,13 @@ impl Conversation {
         if let Some(wants) = self.write_owed(writer) {
             return wants;
         }
-        if let Some(wants) = self.reply(alloc, routes, writer, clock, book) {
+        if let Some(wants) = self.reply(alloc, routes, writer, clock, book, pace) {
             return wants;
         }
         if let Some(wants) = self.read_more(reader) {
             return wants;
         }
-        if let Some(wants) = self.reply(alloc, routes, writer, clock, book) {
+        if let Some(wants) = self.reply(alloc, routes, writer, clock, book, pace) {
             return wants;
         }
         Wants::Read
@@ -249,13 +270,14 @@ impl Conversation {
     }
 
     // Answers what is held, and writes that: none where more bytes are needed.
-    fn reply<W: Write, C: Clock, B: Book>(
+    fn reply<W: Write, C: Clock, B: Book, P: Pace>(
         &mut self,
         alloc: Global,
         routes: &Routes,
         writer: &mut W,
         clock: &mut C,
         book: &mut B,
+        pace: &mut P,
     ) -> Option<Wants>
         ensures replies { Replies (W.contents writer.old) (W.contents writer.new)
             (point (C.tells clock.old) (B.state book.old))
@@ -266,7 +288,7 @@ impl Conversation {
         ensures rest { IsOver (talk_of self.old) → (result ≢ None)
             × (clock.new ≡ clock.old) × (book.new ≡ book.old) }
     {
-        let step = self.answer_all(alloc, routes, clock, book);
+        let step = self.answer_all(alloc, routes, clock, book, pace);
         if let Some(wants) = self.write_owed(writer) {
             return Some(wants);
         }
@@ -279,12 +301,13 @@ impl Conversation {
     }
 
     // Answers what is held: `Answered` where there may be more to answer.
-    fn answer_all<C: Clock, B: Book>(
+    fn answer_all<C: Clock, B: Book, P: Pace>(
         &mut self,
         alloc: Global,
         routes: &Routes,
         clock: &mut C,
         book: &mut B,
+        pace: &mut P,
     ) -> Step
         ensures answers { AnswersMore
             (point (C.tells clock.old) (B.state book.old))
@@ -294,25 +317,26 @@ impl Conversation {
         ensures rest { IsOver (talk_of self.old) → IsOver (talk_of self.new)
             × (clock.new ≡ clock.old) × (book.new ≡ book.old) }
     {
-        let mut step = self.advance(alloc, routes, clock, book);
+        let mut step = self.advance(alloc, routes, clock, book, pace);
         'steps: for _ in 1..MOST_STEPS {
-            if step != Step::Answered || self.owes() >= self.most_owed {
+            if step != Step::Answered || self.owes() >= self.most_owed || !pace.goes_on() {
                 return step;
             }
-            step = self.advance(alloc, routes, clock, book);
+            step = self.advance(alloc, routes, clock, book, pace);
         }
         step
     }
 
-    // Answers the message that stands first, if a whole one does. Where there is no room for the
-    // reply to a request, nothing is asked, and its next turn tries again, when less is owed: so
-    // none is settled whose reply would find no memory.
-    fn advance<C: Clock, B: Book>(
+    // Answers the message that stands first, if a whole one does. If there is no room for the reply
+    // to a request, nothing is asked, and its next turn tries again, when less is owed: so none is
+    // settled whose reply would find no memory. A query waits while none is to be answered.
+    fn advance<C: Clock, B: Book, P: Pace>(
         &mut self,
         alloc: Global,
         routes: &Routes,
         clock: &mut C,
         book: &mut B,
+        pace: &mut P,
     ) -> Step
         ensures answers { AnswersMore
             (point (C.tells clock.old) (B.state book.old))
@@ -326,6 +350,9 @@ impl Conversation {
             Stage::Open => {}
             Stage::Over => return Step::Closed,
             Stage::Broken => return Step::Broke,
+        }
+        if self.holds_query() && !pace.answers_queries() {
+            return Step::Answered;
         }
         if let Err(_) = self.make_room() {
             return Step::Answered;
@@ -385,6 +412,20 @@ fn count_after(count: u64, step: Step) -> u64 {
     match step {
         Step::Answered => count.saturating_add(1),
         Step::Waits | Step::Closed | Step::Broke => count,
+    }
+}
+
+// Whether these bytes begin with a query, after the empty lines that may stand before a message.
+fn is_query(bytes: &[u8]) -> bool {
+    let Some(begin) = bytes
+        .iter()
+        .position(|byte| *byte != b'\r' && *byte != b'\n')
+    else {
+        return false;
+    };
+    match bytes.get(begin..) {
+        Some(rest) => rest.starts_with(b"GET "),
+        None => false,
     }
 }
 

@@ -13,6 +13,9 @@ use std::io::Write;
 // with a service behind them.
 const ROOM: usize = 1_024;
 
+// The most memory that is kept once all is written: a long reply gives its memory back.
+const MOST_KEPT: usize = 16_384;
+
 // Bytes that are to be written, in order. As a writer it keeps what is written to it, and fails
 // where there is no memory.
 #[derive(Drop)]
@@ -33,11 +36,12 @@ impl Owed {
         Ok(Owed { bytes, sent: 0 })
     }
 
-    // Nothing is to be written any more; the room stays.
+    // Nothing is to be written any more; the room for the reply to a request stays.
     pub(crate) fn clear(&mut self)
         ensures { bytes_owed self.new ≡ [] }
     {
         self.bytes.clear();
+        self.bytes.shrink_to(MOST_KEPT);
         self.sent = 0;
     }
 
