@@ -19,4 +19,5 @@ pub mod limits;
 pub mod listener;
 mod reports;
 mod slice;
+pub mod unblocked;
 pub mod wall_clock;

@@ -8,6 +8,7 @@ use crate::fault::Fault;
 use crate::show::show;
 use canary_listen::limits::Limits;
 use canary_listen::listener::Listener;
+use canary_listen::unblocked::Unblocked;
 use canary_listen::wall_clock::WallClock;
 use canary_once::book::Book;
 use canary_once::clock::Clock;
@@ -62,7 +63,8 @@ pub fn serve_memory<W: Write, F: Write>(
 }
 
 /// Serves clients over a book, by the machine's clock. The notice goes to `errors` once the address
-/// is listened on, and then the line `listening IP:PORT` to `output`.
+/// is listened on, and then the line `listening IP:PORT` to `output`. `errors` has to be the standard
+/// error of the process: the lines of `Listener::serve` do not wait for whoever reads it.
 ///
 /// # Errors
 /// `Listen` where the address cannot be listened on; `Memory` where an allocation was refused;
@@ -78,7 +80,8 @@ pub fn serve_book<B: Book, W: Write, F: Write>(
     let mut listener = bind(rt, listening.address, listening.limits)?;
     let _ = errors.write_all(notice.as_bytes());
     announce(rt, &listener, output)?;
-    attend(rt, &mut listener, listening.connections, book, errors)
+    let mut errors = Unblocked::new(rt, errors);
+    attend(rt, &mut listener, listening.connections, book, &mut errors)
 }
 
 // A socket at that address.
