@@ -45,6 +45,7 @@ limits_of asked = record {
   idle_seconds = unwrap_or asked.idle_timeout 60;
   clients = unwrap_or asked.max_clients 1000;
   owed_bytes = unwrap_or asked.max_unsent 65536;
+  unsent_total_bytes = unwrap_or asked.max_unsent_total 67108864;
 }
 
 -- ---- what `pipe` does

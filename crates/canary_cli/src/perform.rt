@@ -221,6 +221,9 @@ fn limits_of(asked: AskedLimits) -> Limits
         idle_seconds: asked.idle_timeout.unwrap_or(standard.idle_seconds),
         clients: asked.max_clients.unwrap_or(standard.clients),
         owed_bytes: asked.max_unsent.unwrap_or(standard.owed_bytes),
+        unsent_total_bytes: asked
+            .max_unsent_total
+            .unwrap_or(standard.unsent_total_bytes),
     }
 }
 

@@ -71,7 +71,7 @@ pipe_options : AreOptions pipe.rules pipe.rules
 pipe_options = (record { own = refl; plain = refl; takes = inl (refl, refl) }, (record { own = refl; plain = refl; takes = inl (refl, refl) }, (record { own = refl; plain = refl; takes = inl (refl, refl) }, (record { own = refl; plain = refl; takes = inr refl }, tt))))
 
 serve_options : AreOptions serve.rules serve.rules
-serve_options = (record { own = refl; plain = refl; takes = inl (refl, refl) }, (record { own = refl; plain = refl; takes = inl (refl, refl) }, (record { own = refl; plain = refl; takes = inl (refl, refl) }, (record { own = refl; plain = refl; takes = inl (refl, refl) }, (record { own = refl; plain = refl; takes = inl (refl, refl) }, (record { own = refl; plain = refl; takes = inl (refl, refl) }, (record { own = refl; plain = refl; takes = inl (refl, refl) }, (record { own = refl; plain = refl; takes = inr refl }, tt))))))))
+serve_options = (record { own = refl; plain = refl; takes = inl (refl, refl) }, (record { own = refl; plain = refl; takes = inl (refl, refl) }, (record { own = refl; plain = refl; takes = inl (refl, refl) }, (record { own = refl; plain = refl; takes = inl (refl, refl) }, (record { own = refl; plain = refl; takes = inl (refl, refl) }, (record { own = refl; plain = refl; takes = inl (refl, refl) }, (record { own = refl; plain = refl; takes = inl (refl, refl) }, (record { own = refl; plain = refl; takes = inl (refl, refl) }, (record { own = refl; plain = refl; takes = inr refl }, tt)))))))))
 
 import_options : AreOptions import.rules import.rules
 import_options = (record { own = refl; plain = refl; takes = inl (refl, refl) }, (record { own = refl; plain = refl; takes = inl (refl, refl) }, (record { own = refl; plain = refl; takes = inr refl }, tt)))
@@ -138,6 +138,7 @@ serve_rows words none =
         number_passed 86400 (one_of (codes "idle-timeout") rows) (optional_text serve.rules (codes "idle-timeout") _ rows refl level.0),
         number_passed 65536 (one_of (codes "max-clients") rows) (optional_text serve.rules (codes "max-clients") _ rows refl level.0),
         number_passed 1073741824 (one_of (codes "max-unsent") rows) (optional_text serve.rules (codes "max-unsent") _ rows refl level.0),
+        number_passed 68719476736 (one_of (codes "max-unsent-total") rows) (optional_text serve.rules (codes "max-unsent-total") _ rows refl level.0),
       ),
     )
 

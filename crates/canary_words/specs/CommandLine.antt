@@ -66,10 +66,15 @@ abbrev pub with_timeouts : App → App
 with_timeouts a = with_rule (with_rule a (number_option (codes "read-timeout") 86400))
     (number_option (codes "idle-timeout") 86400)
 
--- `--max-clients N --max-unsent BYTES`, behind the timeouts
+-- `--max-unsent BYTES --max-unsent-total BYTES`
+abbrev pub with_unsent : App → App
+with_unsent a = with_rule (with_rule a (number_option (codes "max-unsent") 1073741824))
+    (number_option (codes "max-unsent-total") 68719476736)
+
+-- `--max-clients N` between the timeouts and what is unsent
 abbrev pub with_limits : App → App
-with_limits a = with_rule (with_rule (with_timeouts a) (number_option (codes "max-clients") 65536))
-    (number_option (codes "max-unsent") 1073741824)
+with_limits a =
+    with_unsent (with_rule (with_timeouts a) (number_option (codes "max-clients") 65536))
 
 -- `serve --listen ADDRESS --db FILE --connections N`, with limits
 abbrev pub serve_command : App
@@ -156,6 +161,7 @@ limits_of rows = record {
   idle_timeout = number_given (codes "idle-timeout") rows;
   max_clients = number_given (codes "max-clients") rows;
   max_unsent = number_given (codes "max-unsent") rows;
+  max_unsent_total = number_given (codes "max-unsent-total") rows;
 }
 
 abbrev pub serve_of : List Row → Option Program
@@ -249,6 +255,7 @@ HasLimits rows = MayHaveNumber (codes "read-timeout") 86400 rows
     × MayHaveNumber (codes "idle-timeout") 86400 rows
     × MayHaveNumber (codes "max-clients") 65536 rows
     × MayHaveNumber (codes "max-unsent") 1073741824 rows
+    × MayHaveNumber (codes "max-unsent-total") 68719476736 rows
 
 abbrev pub HasListener : List Row → Type 0
 HasListener rows = HasText (codes "listen") rows

@@ -7,7 +7,7 @@ ghost use Rattle.canary_words.specs.CommandLine.{history_command, export_command
 ghost use Rattle.canary_words.specs.CommandLine.{backup_command, check_command};
 ghost use Rattle.canary_words.specs.CommandLine.{moment_option, number_option, text_option};
 ghost use Rattle.canary_words.specs.CommandLine.{text_word, with_limits, with_numbers, with_timeouts};
-ghost use Rattle.canary_words.specs.CommandLine.{with_value};
+ghost use Rattle.canary_words.specs.CommandLine.{with_unsent, with_value};
 
 use crate::help;
 use canary_base::moments::LAST_MOMENT;
@@ -26,6 +26,9 @@ pub const MOST_CLIENTS: u64 = 65_536;
 
 /// The most unsent bytes that can be asked for: a gibibyte.
 pub const MOST_UNSENT: u64 = 1_073_741_824;
+
+/// The most unsent bytes of all clients together that can be asked for: 64 gibibytes.
+pub const MOST_UNSENT_TOTAL: u64 = 68_719_476_736;
 
 /// The most seconds between two looks at a desk: a day.
 pub const MOST_WATCH: u64 = 86_400;
@@ -118,13 +121,28 @@ fn with_limits<'a>(alloc: Global, serve: Command<'a>) -> Result<Command<'a>, All
         MOST_CLIENTS,
         help::MAX_CLIENTS_HELP,
     )?;
-    with_number(
+    with_unsent(alloc, serve)
+}
+
+// The command of `serve` with the options of the bytes that are unsent.
+fn with_unsent<'a>(alloc: Global, serve: Command<'a>) -> Result<Command<'a>, AllocError>
+    ensures { IfOk result (λ c. app_of c ≡ with_unsent (app_of serve.entry)) }
+{
+    let serve = with_number(
         alloc,
         serve,
         "max-unsent",
         "BYTES",
         MOST_UNSENT,
         help::MAX_UNSENT_HELP,
+    )?;
+    with_number(
+        alloc,
+        serve,
+        "max-unsent-total",
+        "BYTES",
+        MOST_UNSENT_TOTAL,
+        help::MAX_UNSENT_TOTAL_HELP,
     )
 }
 

@@ -83,6 +83,11 @@ pub(crate) const MAX_CLIENTS_HELP: &str =
 pub(crate) const MAX_UNSENT_HELP: &str =
     "Unsent reply bytes at which a client's requests wait, 1 to 1073741824 [default: 65536]";
 
+pub(crate) const MAX_UNSENT_TOTAL_HELP: &str = concat!(
+    "Unsent reply bytes of all clients at which queries wait, 1 to 68719476736 ",
+    "[default: 67108864]"
+);
+
 pub(crate) const SERVE_HELP: &str = with_records_faults!(
     "serve prints 'listening IP:PORT' on standard output once clients can connect. With --db\n",
     "each settled request is on disk before its reply goes out. Without --db the records are in\n",

@@ -31,6 +31,8 @@ pub struct AskedLimits {
     pub max_clients: Option<u64>,
     /// While at least so many bytes are unsent to a client, none of its messages is answered.
     pub max_unsent: Option<u64>,
+    /// While at least so many bytes are unsent to all clients together, no query is answered.
+    pub max_unsent_total: Option<u64>,
 }
 
 /// What a command line asks for. Where it has a `db`, that is the name of the file with the desk's
@@ -250,6 +252,7 @@ fn limits_of(serve: &ArgMatches<'_>) -> AskedLimits
         idle_timeout: number_given(serve, "idle-timeout"),
         max_clients: number_given(serve, "max-clients"),
         max_unsent: number_given(serve, "max-unsent"),
+        max_unsent_total: number_given(serve, "max-unsent-total"),
     }
 }
 
