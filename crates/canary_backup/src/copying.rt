@@ -16,8 +16,9 @@ ghost use Rattle.canary_backup.specs.declared.fault.BackupFault.TheVariants as f
 
 use crate::fault::BackupFault;
 use std::alloc::Global;
-use std::fs::{self, File, OpenFile, OpenOptions};
+use std::fs::{self, DirBuilder, File, OpenFile, OpenOptions};
 use std::io::{self, ErrorKind, Read};
+use std::os::unix::fs::{DirBuilderExt, MetadataExt, OpenOptionsExt};
 use std::process;
 
 // The bytes of a log's header.
@@ -25,6 +26,12 @@ const HEADER_BYTES: u64 = 32;
 
 // The most times that a copy is begun.
 const MOST_TRIES: u32 = 100;
+
+// Who may read and write a file, of its mode.
+const PERMISSION_BITS: u32 = 0o777;
+
+// A folder that its owner alone may read and change.
+const OWNER_ALONE: u32 = 0o700;
 
 /// The two files of a database: the database's own, and the log beside it.
 #[derive(Drop)]
@@ -76,6 +83,13 @@ impl Pair {
     pub fn remove(&self, rt: &HostRuntime) {
         let _ = fs::remove_file(rt, self.database.as_str());
         let _ = fs::remove_file(rt, self.log.as_str());
+    }
+
+    // Removes both, of a copy that is begun anew.
+    fn begin_anew(&self, rt: &HostRuntime, tries: u32) {
+        if tries > 0 {
+            self.remove(rt);
+        }
     }
 
     // Whether neither is there.
@@ -172,11 +186,54 @@ fn make(rt: &HostRuntime, from: &Pair, part: &Pair, to: &Pair) -> Result<(), Bac
     }
 }
 
+/// A folder that this process made for a copy, and the copy in it: nobody else can put a file or a
+/// link in its place.
+#[derive(Drop)]
+pub struct OwnFolder {
+    folder: String,
+    copy: Pair,
+}
+
+impl OwnFolder {
+    /// Makes the folder `name`.WORD-PROCESS beside the files of this name. Its owner alone may read
+    /// it.
+    ///
+    /// # Errors
+    /// `File` if something of that name is there, if only a link, or if no folder can be made;
+    /// `Memory` if an allocation was refused.
+    pub fn beside(rt: &HostRuntime, name: &str, word: &str) -> Result<OwnFolder, BackupFault> {
+        let process = process::id(rt.process());
+        let folder = format!(in rt.alloc(); "{name}.{word}-{process}")?;
+        let database = format!(in rt.alloc(); "{name}.{word}-{process}/desk.db")?;
+        let copy = Pair::of(rt.alloc(), database.as_str())?;
+        match make_folder(rt, folder.as_str()) {
+            Ok(()) => Ok(OwnFolder { folder, copy }),
+            Err(_) => Err(BackupFault::File),
+        }
+    }
+
+    /// The copy.
+    pub fn copy(&self) -> &Pair {
+        &self.copy
+    }
+
+    /// Removes the copy and the folder.
+    pub fn remove(&self, rt: &HostRuntime) {
+        self.copy.remove(rt);
+        let _ = fs::remove_dir(rt, self.folder.as_str());
+    }
+}
+
+// Makes a folder that its owner alone may read and change.
+fn make_folder(rt: &HostRuntime, folder: &str) -> io::Result<()> {
+    DirBuilder::new().mode(OWNER_ALONE).create(rt, folder)
+}
+
 /// Copies the files of the database of this name as they were at one moment, also while a desk
-/// writes them. Files of the copy's names are written over.
+/// writes them.
 ///
 /// # Errors
-/// As `backup`, but that none is there already.
+/// As `backup`: files of the copy's names must not be there.
 pub fn copy_database(rt: &HostRuntime, file: &str, copy: &Pair) -> Result<(), BackupFault> {
     let from = Pair::found(rt, file)?;
     copy_pair(rt, &from, copy)
@@ -184,7 +241,8 @@ pub fn copy_database(rt: &HostRuntime, file: &str, copy: &Pair) -> Result<(), Ba
 
 // Copies the files of a database as they were at one moment, also while a desk writes them.
 fn copy_pair(rt: &HostRuntime, from: &Pair, to: &Pair) -> Result<(), BackupFault> {
-    for _ in 0..MOST_TRIES {
+    for tries in 0..MOST_TRIES {
+        to.begin_anew(rt, tries);
         if is_copied_at_once(rt, from, to)? {
             return Ok(());
         }
@@ -212,15 +270,34 @@ fn copy_once(rt: &HostRuntime, from: &Pair, to: &Pair) -> Result<(), BackupFault
     copy_file(rt, from.log.as_str(), to.log.as_str())
 }
 
+// Copies a file to one that is new, and that just those may read who may read the first.
 fn copy_file(rt: &HostRuntime, from: &str, to: &str) -> Result<(), BackupFault> {
-    match fs::copy(rt, from, to) {
-        Ok(_) => Ok(()),
+    match copy_bytes(rt, from, to) {
+        Ok(()) => Ok(()),
+        Err(error) if error.kind() == ErrorKind::OutOfMemory => Err(BackupFault::Memory),
         Err(_) => Err(BackupFault::File),
     }
 }
 
+fn copy_bytes(rt: &HostRuntime, from: &str, to: &str) -> io::Result<()> {
+    let mut source = File::open(rt, from)?;
+    let mode = source.metadata()?.mode() & PERMISSION_BITS;
+    let mut copy = new_file(rt, to, mode)?;
+    io::copy(&mut source, &mut copy)?;
+    Ok(())
+}
+
+// Makes a file of this name, under which nothing is there, if only a link.
+fn new_file(rt: &HostRuntime, name: &str, mode: u32) -> io::Result<File> {
+    OpenOptions::new()
+        .write(true)
+        .create_new(true)
+        .mode(mode)
+        .open(rt, name)
+}
+
 fn make_empty(rt: &HostRuntime, name: &str) -> Result<(), BackupFault> {
-    match File::create(rt, name) {
+    match new_file(rt, name, 0o600) {
         Ok(_) => Ok(()),
         Err(_) => Err(BackupFault::File),
     }

@@ -1,6 +1,6 @@
 //! `status`: the services of a desk at a glance.
 use crate::open::{FileBook, names_of, open_found};
-use canary_backup::copying::{Pair, copy_database};
+use canary_backup::copying::{OwnFolder, Pair, copy_database};
 use canary_listen::wall_clock::WallClock;
 use canary_programs::fault::Fault;
 use canary_programs::overview::{Drawing, draw, text_of_book};
@@ -11,8 +11,9 @@ use std::thread;
 use std::time::Duration;
 
 /// Draws a table of the services in a file, and of their open runs, as they stand at the present
-/// moment. The file is opened as `open_found` does it, and no row of it is changed. Where a desk has
-/// it open, a copy is read, which stands beside the file meanwhile.
+/// moment. The file is opened as `open_found` does it, and no row of it is changed. If a desk has it
+/// open, a copy is read, which stands beside the file meanwhile, in a folder that its owner alone
+/// may read.
 ///
 /// # Errors
 /// `File` if there is no such file, and nothing is made then, or if no copy can be made beside it.
@@ -60,13 +61,14 @@ fn text_of_copy<F: Write>(
     errors: &mut F,
     is_terminal: bool,
 ) -> Result<String, Fault> {
-    let copy = Pair::beside(rt, file, "status-copy")?;
-    let text = text_behind_copy(rt, file, &copy, errors, is_terminal);
-    copy.remove(rt);
+    let folder = OwnFolder::beside(rt, file, "status-copy")?;
+    let text = text_of_own_copy(rt, file, folder.copy(), errors, is_terminal);
+    folder.remove(rt);
     text
 }
 
-fn text_behind_copy<F: Write>(
+// The same, by a copy of these names.
+fn text_of_own_copy<F: Write>(
     rt: &HostRuntime,
     file: &str,
     copy: &Pair,
