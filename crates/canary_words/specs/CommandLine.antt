@@ -61,15 +61,11 @@ abbrev pub pipe_command : App
 pipe_command = with_rule (with_rule (with_rule (new_app (codes "pipe"))
     (moment_option (codes "at"))) (moment_option (codes "step"))) optional_db
 
--- `--read-timeout SECONDS --idle-timeout SECONDS`
-abbrev pub with_timeouts : App → App
-with_timeouts a = with_rule (with_rule a (number_option (codes "read-timeout") 86400))
-    (number_option (codes "idle-timeout") 86400)
-
--- `--max-clients N --max-unsent BYTES`, behind the timeouts
+-- `--read-timeout SECONDS --idle-timeout SECONDS --max-clients N --max-unsent BYTES`
 abbrev pub with_limits : App → App
-with_limits a = with_rule (with_rule (with_timeouts a) (number_option (codes "max-clients") 65536))
-    (number_option (codes "max-unsent") 1073741824)
+with_limits a = with_rule (with_rule (with_rule (with_rule a
+    (number_option (codes "read-timeout") 86400)) (number_option (codes "idle-timeout") 86400))
+    (number_option (codes "max-clients") 65536)) (number_option (codes "max-unsent") 1073741824)
 
 -- `serve --listen ADDRESS --db FILE --connections N`, with limits
 abbrev pub serve_command : App
