@@ -61,20 +61,16 @@ abbrev pub pipe_command : App
 pipe_command = with_rule (with_rule (with_rule (new_app (codes "pipe"))
     (moment_option (codes "at"))) (moment_option (codes "step"))) optional_db
 
--- `--read-timeout SECONDS --idle-timeout SECONDS`
-abbrev pub with_timeouts : App → App
-with_timeouts a = with_rule (with_rule a (number_option (codes "read-timeout") 86400))
-    (number_option (codes "idle-timeout") 86400)
-
 -- `--max-unsent BYTES --max-unsent-total BYTES`
 abbrev pub with_unsent : App → App
 with_unsent a = with_rule (with_rule a (number_option (codes "max-unsent") 1073741824))
     (number_option (codes "max-unsent-total") 68719476736)
 
--- `--max-clients N` between the timeouts and what is unsent
+-- `--read-timeout SECONDS --idle-timeout SECONDS --max-clients N`, and the options of what is unsent
 abbrev pub with_limits : App → App
-with_limits a =
-    with_unsent (with_rule (with_timeouts a) (number_option (codes "max-clients") 65536))
+with_limits a = with_unsent (with_rule (with_rule (with_rule a
+    (number_option (codes "read-timeout") 86400)) (number_option (codes "idle-timeout") 86400))
+    (number_option (codes "max-clients") 65536))
 
 -- `serve --listen ADDRESS --db FILE --connections N`, with limits
 abbrev pub serve_command : App

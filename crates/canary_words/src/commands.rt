@@ -6,7 +6,7 @@ ghost use Rattle.canary_words.specs.CommandLine.{pipe_command, serve_command, im
 ghost use Rattle.canary_words.specs.CommandLine.{history_command, export_command, status_command};
 ghost use Rattle.canary_words.specs.CommandLine.{backup_command, check_command};
 ghost use Rattle.canary_words.specs.CommandLine.{moment_option, number_option, text_option};
-ghost use Rattle.canary_words.specs.CommandLine.{text_word, with_limits, with_numbers, with_timeouts};
+ghost use Rattle.canary_words.specs.CommandLine.{text_word, with_limits, with_numbers};
 ghost use Rattle.canary_words.specs.CommandLine.{with_unsent, with_value};
 
 use crate::help;
@@ -112,7 +112,23 @@ fn serve_command<'a>(alloc: Global) -> Result<Command<'a>, AllocError>
 fn with_limits<'a>(alloc: Global, serve: Command<'a>) -> Result<Command<'a>, AllocError>
     ensures { IfOk result (λ c. app_of c ≡ with_limits (app_of serve.entry)) }
 {
-    let serve = with_timeouts(alloc, serve)?;
+    let most = MOST_SECONDS;
+    let serve = with_number(
+        alloc,
+        serve,
+        "read-timeout",
+        "SECONDS",
+        most,
+        help::READ_TIMEOUT_HELP,
+    )?;
+    let serve = with_number(
+        alloc,
+        serve,
+        "idle-timeout",
+        "SECONDS",
+        most,
+        help::IDLE_TIMEOUT_HELP,
+    )?;
     let serve = with_number(
         alloc,
         serve,
@@ -143,28 +159,6 @@ fn with_unsent<'a>(alloc: Global, serve: Command<'a>) -> Result<Command<'a>, All
         "BYTES",
         MOST_UNSENT_TOTAL,
         help::MAX_UNSENT_TOTAL_HELP,
-    )
-}
-
-// The command of `serve` with the options of its timeouts.
-fn with_timeouts<'a>(alloc: Global, serve: Command<'a>) -> Result<Command<'a>, AllocError>
-    ensures { IfOk result (λ c. app_of c ≡ with_timeouts (app_of serve.entry)) }
-{
-    let serve = with_number(
-        alloc,
-        serve,
-        "read-timeout",
-        "SECONDS",
-        MOST_SECONDS,
-        help::READ_TIMEOUT_HELP,
-    )?;
-    with_number(
-        alloc,
-        serve,
-        "idle-timeout",
-        "SECONDS",
-        MOST_SECONDS,
-        help::IDLE_TIMEOUT_HELP,
     )
 }
 
