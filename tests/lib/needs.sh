@@ -2,8 +2,8 @@
 # missing. CHECK_WITHOUT, which ./check sets, names the tools whose parts are to be left out.
 
 # The tools without which nothing here runs, and those that `./check --without` may name.
-needed=(rt bash python3 awk)
-leavable=(cc strace sqlite3 curl)
+required=(rt bash python3 awk)
+optional=(cc strace sqlite3 curl)
 
 # The tool $1 is here, and does what the scripts ask of it; or the machine has IPv6.
 has() {
