@@ -22,7 +22,8 @@ PATH = re.compile(r"(?<![\w./$}~-])(?:\./|(?:tests|docs|crates|bench|examples|\.
                   r"[\w.*{},/@+-]*")
 # A file that is named by the end of its path.
 FILE = re.compile(r"(?<![\w./$}~*-])\w[\w-]*(?:/[\w-]+)*\.(?:md|py|sh|rt|antt|story)(?![\w/])")
-OF_THE_KIT = {"START-HERE.md"}
+# A page of the kit, and a file that a document says not to make.
+NOT_HERE = {"START-HERE.md", "proofs/Plain.antt"}
 # A word in capitals that stands for any name, as in `crates/CRATE/planted` and `src/NAME.rt`.
 ANY_NAME = re.compile(r"[A-Z]+(?=$|\.(?!md$))")
 FOREIGN = re.compile(r"\bshared/|\b[Ii]ssues? #?\d")
@@ -72,7 +73,7 @@ def faults_of_paths(root, name, codes, ends):
                 if not exists(root, one):
                     yield name, number, f"there is no {one}"
         for found in FILE.findall(code):
-            is_known = found in ends or found in OF_THE_KIT or "*" in general(found)
+            is_known = found in ends or found in NOT_HERE or "*" in general(found)
             if not is_known and not PATH.match(found):
                 yield name, number, f"there is no file {found}"
 
@@ -110,7 +111,7 @@ def faults_of_tests(root, files, pages):
     named = "".join(pages[root / name].text for name in NAMING if root / name in pages)
     for file in files:
         name = file.relative_to(root).as_posix()
-        is_run = name.startswith("tests/") and os.access(file, os.X_OK)
+        is_run = name.startswith("tests/") and not file.suffix and os.access(file, os.X_OK)
         if is_run and not re.search(rf"(?<![\w/.]){re.escape(name)}(?![\w/-])", named):
             yield name, 1, f"neither {' nor '.join(NAMING)} names it"
 
