@@ -1,17 +1,16 @@
 """Runs a program with one allocation refused, and once more for each further one, until a run meets
-no refusal: refused.py PROGRAM FOLDER LIBRARY STEP [CASE..]. LIBRARY is made of scripts/refusing.c,
-and of the allocations over a file each STEP-th is refused. tests/refused-allocations says what has
-to come of it."""
+no refusal: refused.py PROGRAM FOLDER LIBRARY STEP [CASE..]. LIBRARY is made of refusing.c. Of the
+allocations of a desk on a file each STEP-th is refused. The comment at the top of
+tests/allocations/run says what has to come of it."""
 import os
 import shutil
 import subprocess
 import sys
 
-sys.dont_write_bytecode = True
-from program_streams import STILL_AT_B, reply_of  # noqa: E402
-from story_words import Wrong, answer, expect, get, messages_of_story, query  # noqa: E402
+from conversation import STILL_AT_B, reply_of
+from story_words import Wrong, answer, expect, get, messages_of_story, query
 
-ROOT = os.path.join(os.path.dirname(os.path.realpath(__file__)), "..")
+ROOT = os.path.join(os.path.dirname(os.path.realpath(__file__)), "../..")
 MANIFESTS = ("rollouts/step-analysis.json", "templates/success-rate.json")
 MISTAKE = b"error: unexpected argument '-5' found"
 OUT_OF_MEMORY = b"canary: memory"
@@ -154,7 +153,7 @@ def try_line(trial, row, words, wanted, step=1):
 
 def try_lines(trial, _):
     """Command lines without a desk's file."""
-    with open(os.path.join(ROOT, "tests/cases/help.stdout"), "rb") as shown:
+    with open(os.path.join(ROOT, "tests/cli/cases/help.stdout"), "rb") as shown:
         try_line(trial, "help", ["--help"], (0, shown.read(), b""))
     try_line(trial, "mistake", ["pipe", "--at", "-5", "--step", "1"], (2, b"", MISTAKE))
     for name in MANIFESTS:
@@ -294,7 +293,7 @@ def main():
     program, folder, library, step, *wanted = sys.argv[1:]
     unknown = set(wanted) - {case.__name__ for case in CASES}
     if unknown:
-        sys.exit(f"refused: there is no case {' '.join(sorted(unknown))}")
+        sys.exit(f"refused: unknown case: {' '.join(sorted(unknown))}")
     trial = Trial(program, folder, library)
     try:
         for case in CASES:

@@ -1,7 +1,7 @@
-"""Runs a program on command lines: program.py PROGRAM FOLDER [PART..]. FOLDER/cases has the cases
-of tests/cases and of tests/examples, and the rows of tests/lines say what each line of words comes
-to; the streams are those of program_streams.py, the measurement files those of program_files.py,
-the terminals those of program_terminals.py. tests/program says what is tried."""
+"""Runs a program on command lines: cli.py PROGRAM FOLDER [PART..], where FOLDER is for files. The
+rows of tests/cli/lines say what each line of words comes to, those of tests/cli/cases among them.
+streams.py has the streams, files.py the measurement files, terminals.py the terminals. The comment
+at the top of tests/cli/run says what is tried."""
 import fcntl
 import os
 import re
@@ -14,17 +14,13 @@ import sys
 import termios
 import time
 
-sys.dont_write_bytecode = True
-import program_terminals  # noqa: E402
-from program_files import FILE_PARTS  # noqa: E402
-from program_streams import (  # noqa: E402
-    AT_B, REQUEST, STREAM_PARTS, limits_writes,
-)
-from story_words import (  # noqa: E402
-    B, Wrong, blocks, command, expanded, expect, get, put, wire,
-)
+import terminals
+from conversation import AT_B, limits_writes
+from files import FILE_PARTS
+from story_words import B, Wrong, blocks, command, expanded, expect, get, put, wire
+from streams import REQUEST, STREAM_PARTS
 
-LINES = os.path.join(os.path.dirname(os.path.realpath(__file__)), "../tests/lines")
+HERE = os.path.dirname(os.path.realpath(__file__))
 # What stands in desk.db of the rows' folders.
 STORY = ["template errs m,interval=60", "service v1 setWeight:20 pause background:errs", "start v2"]
 MANIFEST = b'{"kind":"Rollout","metadata":{"name":"web"},"spec":{"strategy":{"canary":{}}}}'
@@ -33,11 +29,11 @@ ROWS = (b"caller,number,service,run,metric,ordinal,taken,result,failure\n"
 
 
 def rows_of(name):
-    """The blocks of rows of a file of tests/lines, each row in its parts."""
-    with open(os.path.join(LINES, name), encoding="utf-8") as opened:
+    """The blocks of rows of a file of tests/cli/lines, each row in its parts."""
+    with open(os.path.join(HERE, "lines", name), encoding="utf-8") as opened:
         head, text = opened.read().split("\n", 1)
     found = [[re.split(" =>(?: |$)", row) for row in block] for block in blocks(text)]
-    expect(f"tests/lines/{name}: its rows", f"{name} {sum(map(len, found))}", head)
+    expect(f"tests/cli/lines/{name}: its rows", f"{name} {sum(map(len, found))}", head)
     return found
 
 
@@ -73,9 +69,9 @@ def run_unread(program, words):
     return done, left
 
 
-def try_cases(program, folder):
-    """The command lines of tests/cases, and the manifests of examples/."""
-    cases = os.path.join(folder, "cases")
+def try_cases(program, _):
+    """The command lines of tests/cli/cases."""
+    cases = os.path.join(HERE, "cases")
     rows = only_rows_of("cases")
     names = {name.split(".")[0] for name in os.listdir(cases)}
     expect("the cases", sorted(name for name, *_ in rows), sorted(names))
@@ -127,8 +123,8 @@ def try_ends(program, _):
 
 
 def try_faulty_streams(program, folder):
-    """An input that is no file of bytes, outputs and error streams that are full at once or behind
-    some bytes."""
+    """An input that is a directory; outputs and error streams that are full at once or after some
+    bytes."""
     with open("/dev/full", "wb") as full:
         for words in (["--help"], ["--version"], AT_B):
             done = run(program, words, input=REQUEST, stdout=full, stderr=subprocess.PIPE)
@@ -144,7 +140,7 @@ def try_faulty_streams(program, folder):
                 cut.truncate(0)
                 done = run(program, words, input=stream, stdout=cut, stderr=subprocess.PIPE,
                            preexec_fn=lambda: limits_writes(most))
-                row = f"{words}, cut off behind {most} bytes"
+                row = f"{words}, cut off after {most} bytes"
                 want(row, done, 1, None, b"canary: write\n")
                 expect(row, cut.seek(0, os.SEEK_END), most)
                 cut.seek(0)
@@ -264,7 +260,7 @@ def try_serving(program, folder):
     tried = 0
     for words, line, status in only_rows_of("serving"):
         if "::1" in words and not has_ipv6():
-            print(f"program: no IPv6 here: not tried: {words}", file=sys.stderr)
+            print(f"cli: left out: this machine has no IPv6: {words}", file=sys.stderr)
             continue
         try_row_that_goes_on(program, new_place(program, folder), words, line, status)
         tried += 1
@@ -277,7 +273,7 @@ def try_name(program, folder):
     os.mkdir(place)
     copied = os.path.join(place, b"canary")
     shutil.copy(program, copied)
-    with open(os.path.join(LINES, "../cases/help.stdout"), "rb") as shown:
+    with open(os.path.join(HERE, "cases/help.stdout"), "rb") as shown:
         want("a folder whose name is not UTF-8",
              run(copied, ["--help"], input=b"", capture_output=True), 0, shown.read(), b"")
     return 1
@@ -285,7 +281,7 @@ def try_name(program, folder):
 
 def try_terminals(program, folder):
     """What is shown where a stream is a terminal."""
-    return program_terminals.try_terminals(program, lambda: new_place(program, folder))
+    return terminals.try_terminals(program, lambda: new_place(program, folder))
 
 
 PARTS = (try_cases, try_mistakes, try_help, try_ends, try_faulty_streams, try_programs, try_serving,
@@ -294,6 +290,9 @@ PARTS = (try_cases, try_mistakes, try_help, try_ends, try_faulty_streams, try_pr
 
 def main():
     program, folder, *wanted = sys.argv[1:]
+    unknown = set(wanted) - {part.__name__ for part in PARTS}
+    if unknown:
+        sys.exit(f"cli: unknown part: {' '.join(sorted(unknown))}")
     program = os.path.realpath(program)
     rows = wrong = 0
     for part in PARTS:
@@ -302,9 +301,9 @@ def main():
         try:
             rows += part(program, folder)
         except (Wrong, subprocess.TimeoutExpired) as fault:
-            print(f"program: {part.__name__}: {fault}", file=sys.stderr)
+            print(f"cli: {part.__name__}: {fault}", file=sys.stderr)
             wrong += 1
-    print(f"program: {rows} rows did as they must, {wrong} parts did not", file=sys.stderr)
+    print(f"cli: {rows} rows did as they must, {wrong} parts did not", file=sys.stderr)
     sys.exit(1 if wrong or not rows else 0)
 
 

@@ -1,11 +1,12 @@
-"""Measurement files that are read and written by a program whose input breaks, or whose output is
-full: parts of program.py, each of which answers how many rows it had."""
+"""Measurement files of a program whose input breaks, or whose output is full: parts of cli.py, each
+of which returns how many rows it had."""
 import os
 import shutil
 import subprocess
 
-from program_streams import FAR, connection, joined, limits_writes, read_some, reset
+from conversation import limits_writes
 from story_words import B, Wrong, answer, command, expect, put
+from streams import FAR, connection, joined, read_some, reset
 
 HEADER = b"caller,number,service,run,metric,ordinal,taken,result,failure\n"
 # What begins a release of web that waits at a pause, whose background is measured every minute.

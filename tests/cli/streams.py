@@ -1,10 +1,9 @@
-"""Streams that are told to `pipe` of a program piece by piece, that end at any byte, over
-connections that break, and to outputs that are slow, full or closed: parts of program.py, each of
-which answers how many rows it had."""
+"""Streams that are sent to `pipe` piece by piece, that end at any byte, over connections that break,
+and to outputs that are slow, full or closed: parts of cli.py, each of which returns how many rows it
+had."""
 import fcntl
 import os
 import re
-import resource
 import select
 import signal
 import socket
@@ -13,42 +12,18 @@ import subprocess
 import termios
 import time
 
+from conversation import AT_B, STILL_AT_B, limits_writes
 from story_words import (
-    B, Wrong, blocks, command, expect, get, message, messages_of_story, put, query, reply,
+    Wrong, blocks, command, expect, get, message, messages_of_story, put, query, reply,
 )
 
-STORIES = os.path.join(os.path.dirname(os.path.realpath(__file__)), "../tests/stories")
-AT_B = ["pipe", "--at", str(B), "--step", "1"]
-STILL_AT_B = ["pipe", "--at", str(B), "--step", "0"]
+STORIES = os.path.join(os.path.dirname(os.path.realpath(__file__)), "../stories")
 REQUEST = put("ops", 1, b"{}")
 UNREADABLE = reply("400 Bad Request", b'{"code":"unreadable"}')
 MALFORMED = reply("400 Bad Request", b'{"code":"malformed"}', "Connection: close\r\n")
 NOWHERE = (get("/nope"), reply("404 Not Found", b'{"code":"no-route"}'))
-# Where an output begins that takes some bytes more: far behind the size of a desk's file.
+# Where an output begins that takes some bytes more: far beyond the size of a desk's file.
 FAR = 1 << 26
-
-
-def limits_writes(most):
-    """What a process does first that can write files of so many bytes at most: a full disk."""
-    signal.signal(signal.SIGXFSZ, signal.SIG_IGN)
-    resource.setrlimit(resource.RLIMIT_FSIZE, (most, resource.RLIM_INFINITY))
-
-
-def reply_of(process, message):
-    """The bytes with which a process answers a message; none where it has ended."""
-    try:
-        process.stdin.write(message)
-        process.stdin.flush()
-    except BrokenPipeError:
-        return b""
-    head, length = b"", 0
-    while line := process.stdout.readline():
-        head += line
-        if line.lower().startswith(b"content-length:"):
-            length = int(line.split(b":")[1])
-        if line == b"\r\n":
-            break
-    return head + process.stdout.read(length)
 
 
 def release():

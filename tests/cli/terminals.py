@@ -1,5 +1,5 @@
-"""What a program on a desk's file shows where a stream of it is a terminal: parts of program.py,
-each of which answers how many rows it had."""
+"""What a program on a desk's file shows if a stream of it is a terminal: parts of cli.py, each of
+which returns how many rows it had."""
 import os
 import re
 import select
@@ -11,7 +11,7 @@ from story_words import Wrong, expect
 
 ERASED = b"\r\x1b[K"
 CLEARED = b"\x1b[H\x1b[2J"
-# The rows of the desk that program.py makes: five receipts; a run, its tally and its measurement;
+# The rows of the desk that cli.py makes: five receipts; a run, its tally and its measurement;
 # five lines of web, one of them on the run, and one of help.
 DESK_ROWS = 14
 HEADER = b"caller,number,service,run,metric,ordinal,taken,result,failure\n"

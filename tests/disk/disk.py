@@ -1,18 +1,17 @@
-"""Tells the program a story over files whose disk fails: scripts/disk.py PROGRAM FOLDER. What was
+"""Sends the program a story over files whose disk fails: disk.py PROGRAM FOLDER [PART..]. What was
 answered is kept, what was not is as if it had not been sent, and the program goes on, or says that
-it does not. tests/disk says what is tried."""
+it does not. The comment at the top of tests/disk/run says what is tried."""
 import os
 import re
 import shutil
 import sqlite3
 import sys
 
-sys.dont_write_bytecode = True
-from disk_story import (  # noqa: E402
+from disk_story import (
     REFUSED, Desk, Well, copy, fail, history, remove, size, tell_behind, tell_failing, tell_whole,
     told_by, went_on,
 )
-from power_cuts import try_power_cuts  # noqa: E402
+from power_cuts import try_power_cuts
 
 NOBODY = 65534
 # The calls that read, write or sync a file.
@@ -20,7 +19,7 @@ CALLS = ("pread64", "pwrite64", "fsync", "fdatasync", "ftruncate")
 
 
 def try_full_disk(program, folder):
-    """A disk that takes so many bytes of a file, for each so many that the story needs."""
+    """A disk that takes so many bytes of a file, in steps up to what the story needs."""
     file = os.path.join(folder, "full")
     well = Well(program, file)
     tried = 0
@@ -32,7 +31,7 @@ def try_full_disk(program, folder):
         if REFUSED in desk.replies:
             tried += 1
             if not went_on(desk, counts):
-                fail(f"{row}: once there is room, message {min(counts) + 1} is answered 503")
+                fail(f"{row}: once there is room, the reply to message {min(counts) + 1} is 503")
         desk.want_end()
         tell_behind(program, file, row, well, counts)
     if tried == 0:
@@ -42,8 +41,8 @@ def try_full_disk(program, folder):
 
 
 def under_strace(file, log, failing=()):
-    """The words before those of a program whose calls on a file strace writes to a log. It counts
-    the calls of each name alone: of those that are named here, those that are counted fail."""
+    """The words that go before those of a program, so that strace writes its calls on a file to a
+    log. strace counts the calls of each name alone: of those named here, the counted ones fail."""
     words = ["strace", "-f", "-o", log, "-P", file, "-P", file + "-wal",
              "-e", "trace=" + ",".join(CALLS)]
     for call, when in failing:
@@ -63,8 +62,8 @@ def calls_of_story(program, folder):
 
 
 def fail_calls(program, folder, well, row, failing):
-    """Tells the story while such calls fail. Whether the desk answered 503, whether it went on, and
-    whether what it answered 503 to the end was settled."""
+    """Tells the story while such calls fail. Returns whether the desk answered 503, whether it went
+    on, and whether it had settled what it answered 503 to the end."""
     file, log = os.path.join(folder, "failing"), os.path.join(folder, "calls")
     remove(file)
     desk = Desk(program, file, row, front=under_strace(file, log, failing), log=log)
@@ -77,29 +76,26 @@ def fail_calls(program, folder, well, row, failing):
 
 
 def try_failing_calls(program, folder):
-    """Each call in turn that reads, writes or syncs a file fails, alone, and with all behind it."""
-    if shutil.which("strace") is None:
-        print("disk: no strace here: no call was made to fail", file=sys.stderr)
-        return
+    """Each call in turn that reads, writes or syncs a file fails, alone, and with all after it."""
     well = Well(program, os.path.join(folder, "failing"))
     names = calls_of_story(program, folder)
     alone = [[(name, names[:at + 1].count(name))] for at, name in enumerate(names)]
-    behind = [[(call, f"{names[:at].count(call) + 1}+") for call in CALLS]
-              for at in range(len(names))]
-    for how, rows in (("alone", alone), ("with all behind it", behind)):
+    after = [[(call, f"{names[:at].count(call) + 1}+") for call in CALLS]
+             for at in range(len(names))]
+    for how, rows in (("alone", alone), ("with all after it", after)):
         found = [fail_calls(program, folder, well, f"call {at + 1}, {names[at]}, fails {how}", row)
                  for at, row in enumerate(rows)]
         refused, on, settled = map(sum, zip(*found))
         if how == "alone" and on == 0:
-            fail("where a call fails alone, no desk goes on")
-        print(f"disk: {len(rows)} times a call failed {how}; 503 was answered in {refused}, of"
-              f" which the desk went on in {on}, and had settled the message in {settled}",
+            fail("no desk goes on after a call that fails alone")
+        print(f"disk: {len(rows)} times a call failed {how}; the desk answered 503 in {refused}, of"
+              f" which it went on in {on}, and had settled the message in {settled}",
               file=sys.stderr)
 
 
 def try_cut_files(program, folder):
-    """A file or its log that is cut short: no other history is told than a first part of what was
-    settled, and none at all where the file lacks a page."""
+    """A file or its log that is cut short: `history` prints a prefix of what was settled, and
+    nothing at all if the file lacks a page."""
     file, cut = os.path.join(folder, "whole"), os.path.join(folder, "cut")
     remove(file)
     tell_whole(Desk(program, file, "a whole file"))
@@ -119,7 +115,7 @@ def try_cut_files(program, folder):
             if not is_fault and not (status == 0 and lines.startswith(found) and told == ""):
                 fail(f"{row}: status {status}, {told!r}, {found!r}")
             if suffix == "" and k > 0 and status == 0 and found != lines:
-                fail(f"{row}: rows are missing, and nothing is told")
+                fail(f"{row}: rows are missing, and no fault is printed")
             tried += 1
     print(f"disk: cut short at {tried} places", file=sys.stderr)
 
@@ -179,22 +175,21 @@ def try_read_only(program, folder):
         if after.read() != bytes_before:
             fail(f"{row} was changed")
     os.chmod(place, 0o755)
-    print("disk: a file that may not be written is told as storage", file=sys.stderr)
+    print("disk: of a file that may not be written the fault is storage", file=sys.stderr)
 
 
-PARTS = (
-    try_foreign_files, try_read_only, try_cut_files, try_full_disk, try_failing_calls,
-    try_power_cuts,
-)
+STRACE_PARTS = (try_failing_calls, try_power_cuts)
+PARTS = (try_foreign_files, try_read_only, try_cut_files, try_full_disk, *STRACE_PARTS)
 
 
 def main():
     program, folder, *wanted = sys.argv[1:]
     unknown = set(wanted) - {part.__name__ for part in PARTS}
     if unknown:
-        fail(f"there is no part {' '.join(sorted(unknown))}")
+        fail(f"unknown part: {' '.join(sorted(unknown))}")
+    left_out = STRACE_PARTS if "strace" in os.environ.get("CHECK_WITHOUT", "").split() else ()
     for part in PARTS:
-        if not wanted or part.__name__ in wanted:
+        if part not in left_out and (not wanted or part.__name__ in wanted):
             part(program, folder)
 
 

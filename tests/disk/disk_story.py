@@ -1,5 +1,5 @@
-"""A story that is told to the program over a file whose disk fails, and what has to be there behind
-the fault. scripts/disk.py and scripts/power_cuts.py have the faults."""
+"""A story that is sent to the program over a file whose disk fails, and what has to be there after
+the fault. disk.py and power_cuts.py have the faults."""
 import os
 import resource
 import shutil
@@ -8,7 +8,7 @@ import subprocess
 import sys
 from contextlib import contextmanager
 
-from program_streams import limits_writes, reply_of
+from conversation import limits_writes, reply_of
 from story_words import STORY, B, answer, command, get, messages_of_story, put, query
 
 CALLERS = ("ops", "agent")

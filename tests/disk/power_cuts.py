@@ -1,10 +1,9 @@
-"""Power cuts: what the disk may hold as the power goes, at each call that changes a desk's file or
+"""Power cuts: what the disk may hold when the power fails, at each call that changes a desk's file or
 its log. What was synced is there; of what was written since, all, nothing, or any part. A part of
 disk.py."""
 import os
 import random
 import re
-import shutil
 import sys
 
 from disk_story import (
@@ -149,9 +148,6 @@ def try_image(program, file, row, well, counts):
 
 def try_power_cuts(program, folder):
     """At each call that changes the file or its log, and with each part of what was not synced."""
-    if shutil.which("strace") is None:
-        print("disk: no strace here: no power was cut", file=sys.stderr)
-        return
     file, log = os.path.join(folder, "cut-off"), os.path.join(folder, "calls")
     well = Well(program, os.path.join(folder, "powered"))
     trace_story(program, file, log)
@@ -167,7 +163,7 @@ def try_power_cuts(program, folder):
                 if (key := (*image, counts[0])) not in seen:
                     seen.add(key)
                     write_image(file, image)
-                    try_image(program, file, f"a power cut behind call {calls}", well, counts)
+                    try_image(program, file, f"a power cut after call {calls}", well, counts)
     if trace.told != sum(len(wanted) for _, wanted in MESSAGES):
         fail("a power cut: the log lacks replies")
     print(f"disk: the power was cut at {calls} calls, with {len(seen)} files left", file=sys.stderr)

@@ -1,15 +1,13 @@
-"""Checks the examples of the library crates: lib_examples.py ROOT (tests/lib-examples gives it).
+"""Checks the examples of the library crates, a part of documents.py.
 
 The page of a crate, the `//!` lines at the top of its src/lib.rt, has an example that says where it
-is taken from: `In use (CRATE, FILE):`, an empty line, and lines indented by four spaces. But for
+is taken from: `In use (CRATE, FILE):`, an empty line, and lines indented by four spaces. Apart from
 their indentation, these lines stand in that file one after another."""
 import itertools
-import pathlib
 import re
-import sys
 
 # The crates of tests, that of figures, and the program: no caller rests on them. Nor does any yet
-# on the laws over all senders.
+# rest on the laws over all senders.
 NO_LIBRARIES = {
     "canary_bench", "canary_desk", "canary_desk_tests", "canary_senders", "canary_testing",
     "canary_tests",
@@ -38,39 +36,32 @@ def fault_of(crates, crate, name, file, code):
     """What is wrong with an example of the crate, from that file of the crate of that name."""
     source = crates / name / file
     if name == crate or name == "canary_bench":
-        return f"{name} does not show that it runs"
+        return f"an example from {name} does not show that it runs"
     if not source.is_file():
         return f"there is no {name}/{file}"
     if not stands(code, lines_of(source)):
-        return f"its example does not stand in {name}/{file}"
+        return f"the example does not stand in {name}/{file}"
     return None
 
 
-def faults_of(crates, crate, examples, rest):
-    """What is wrong with the examples of the crate's page, and with the rest of the page."""
+def faults_of_page(crates, crate, page):
+    """What is wrong with the page of a crate, each with the number of its line."""
+    examples = list(EXAMPLE.finditer(page))
     if not examples:
-        yield "it has no example that names its source"
-    if CODE.search(rest):
-        yield "it has code that names no source"
+        yield 1, "the crate's page has no example that names its source"
+    if CODE.search(EXAMPLE.sub("", page)):
+        yield 1, "the crate's page has code that names no source"
     for example in examples:
-        fault = fault_of(crates, crate, *example)
+        fault = fault_of(crates, crate, *example.groups())
         if fault:
-            yield fault
+            yield page.count("\n", 0, example.start()) + 1, fault
 
 
-def main(root):
-    crates = pathlib.Path(root) / "crates"
-    count, faults = 0, []
+def faults_of(root):
+    """The faults of all library crates, each with its file and line."""
+    crates = root / "crates"
     for folder in sorted(crates.iterdir()):
-        if folder.name in NO_LIBRARIES:
-            continue
-        page = page_of(folder / "src" / "lib.rt")
-        examples = EXAMPLE.findall(page)
-        count += len(examples)
-        for fault in faults_of(crates, folder.name, examples, EXAMPLE.sub("", page)):
-            faults.append(f"lib-examples: {folder.name}: {fault}")
-    print("\n".join([*faults, f"lib-examples: {count} examples, {len(faults)} faults"]))
-    return 1 if faults or not count else 0
-
-
-sys.exit(main(sys.argv[1]))
+        page = folder / "src/lib.rt"
+        if folder.name not in NO_LIBRARIES and page.is_file():
+            for number, fault in faults_of_page(crates, folder.name, page_of(page)):
+                yield page.relative_to(root).as_posix(), number, fault

@@ -1,4 +1,4 @@
-"""Checks that the planted bugs fit the code: edits.py ROOT (tests/edits gives it).
+"""Checks that the planted bugs fit the code: edits.py ROOT (tests/edits/run gives it).
 
 A bug is a file of `crates/CRATE/must-fail` or `crates/CRATE/planted`, NAME.edit: the line
 `file: FILE`, which names a file of the crate, then pairs of lines `old: TEXT` and `new: TEXT`. The

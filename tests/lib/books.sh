@@ -1,5 +1,5 @@
-# Books in files: `source` it behind functions.sh and sockets.sh, and call `find_program`. `work` is
-# to be a folder that the caller removes; `at` and `step` are the moment of the first message and the
+# Books in files: `source` it after functions.sh and sockets.sh, and call `find_program`. `work` is to
+# be a folder that the caller removes; `at` and `step` are the moment of the first message and the
 # seconds from one to the next.
 
 # Answers standard input over the file $1, from the moment $2 on.
@@ -37,9 +37,19 @@ dump() {
     ask_sqlite "$work/seen" .dump
 }
 
-# How many requests the file $1 has kept, as sqlite3 reads a copy; nothing where sqlite3 is not here.
+# Sets `sqlite` to yes, or to nothing when CHECK_WITHOUT leaves out what needs sqlite3.
+find_sqlite() {
+    sqlite=''
+    if with sqlite3; then
+        sqlite=yes
+    else
+        echo "$script: left out: what sqlite3 reads and changes" >&2
+    fi
+}
+
+# How many requests the file $1 has kept, as sqlite3 reads a copy; nothing without sqlite3.
 count_kept() {
-    command -v sqlite3 > /dev/null || return 0
+    [ -n "$sqlite" ] || return 0
     copy_book "$1" "$work/seen"
     ask_sqlite "$work/seen" 'SELECT count(*) FROM kept' 2> /dev/null || echo 0
 }

@@ -1,22 +1,23 @@
-# What the rows of tests/listener say of a desk that listens and of its clients: `source` it behind
+# What the rows of tests/listener/run say of a desk that listens and of its clients: `source` it after
 # functions.sh and sockets.sh. `work` is the folder of a row, and `desk_program` the program.
 
 nobody='{"promote":{"service":"nobody"}}'
 
-# What a row ends with where the desk did not do as it must.
+# Ends a row in which the desk did not do as it must.
 miss() {
     echo "$1" > "$work/why"
     exit 1
 }
 
-# What a row ends with where something did not come in time, and nothing wrong came: other work on
-# the machine can be why, and the row is tried once more.
+# Ends a row in which something did not come in time, and nothing wrong came. Other work on the
+# machine can be the cause, so the row is tried once more.
 late() {
     miss "late: $1"
 }
 
-skip() {
-    echo "$1" > "$work/skipped"
+# Ends a row that needs the tool $1, which CHECK_WITHOUT names.
+leave_out() {
+    echo "$1" > "$work/left-out"
     exit 0
 }
 
@@ -28,7 +29,7 @@ start() {
         if [ ! -s "$work/told" ] && kill -0 "$desk" 2> /dev/null; then
             late "the desk does not say that it is listening"
         fi
-        miss "the desk ended, or says something else than that it is listening"
+        miss "the desk ended, or does not say that it is listening"
     fi
     files_at_first=$(files_of_desk)
 }
@@ -45,14 +46,14 @@ now() {
     echo $((${seconds:-$(date +%s%6N)} / 1000))
 }
 
-# A command that had a limit of time ended with the status $1, which is 124 where that was reached:
-# where it is not 0 the row ends by $2.
+# A command with a limit of time ended with the status $1, which is 124 if it reached the limit. If
+# the status is not 0, the row ends by $2.
 want_done() {
     [ "$1" -ne 124 ] || late "$2"
     [ "$1" -eq 0 ] || miss "$2"
 }
 
-# A byte comes on the connection $1 within $3 seconds, or else the row ends by $2.
+# A byte comes on the connection $1 within $3 seconds, or the row ends by $2.
 want_byte() {
     local status=0 byte
     IFS= read -r -N 1 -t "$3" -u "$1" byte 2> /dev/null || status=$?
@@ -60,21 +61,21 @@ want_byte() {
     [ "$status" -eq 0 ] || miss "$2"
 }
 
-# A reply comes on the connection $1 within $3 seconds, or else the row ends by $2: as late where
-# the connection is open still, and nothing of a reply has come.
+# A reply comes on the connection $1 within $3 seconds, or the row ends by $2: as late if the
+# connection is still open, and nothing of a reply has come.
 want_some_reply() {
     read_reply "$1" "$3" && return 0
     [ -n "$reply_status" ] || want_byte "$1" "$2" 0.01
     miss "$2"
 }
 
-# The next reply on the connection $1 has the status $2, within $3 seconds if these are given.
+# The next reply on the connection $1 has the status $2, and comes within $3 seconds (10).
 want_reply() {
     want_some_reply "$1" "${4:-no reply with status $2}" "${3:-10}"
     [ "$reply_status" = "$2" ] || miss "status $reply_status in place of $2: $reply_body"
 }
 
-# A client that comes now is answered within $1 milliseconds.
+# The desk answers a client that comes now within $1 milliseconds.
 want_service() {
     local client begun
     begun=$(now)
@@ -83,7 +84,7 @@ want_service() {
     want_reply "$client" 404
     hang_up "$client"
     local spent=$(($(now) - begun))
-    [ "$spent" -le "$1" ] || late "another client was answered after $spent ms"
+    [ "$spent" -le "$1" ] || late "another client got its reply after $spent ms"
 }
 
 # The connection $1 ends, without a byte, from $2 to $3 seconds after the moment $4.
@@ -91,13 +92,13 @@ want_end() {
     local status=0 byte
     IFS= read -r -N 1 -t "$3" -u "$1" byte 2> /dev/null || status=$?
     [ "$status" -ne 0 ] || miss "a byte of a reply in place of the end: ${byte@Q}"
-    [ "$status" -le 128 ] || late "not let go after $3 seconds"
+    [ "$status" -le 128 ] || late "the connection is open after $3 seconds"
     local spent=$(($(now) - $4))
-    [ "$spent" -ge "$(($2 * 1000 - 300))" ] || miss "let go after $spent ms already"
-    [ "$spent" -le "$(($3 * 1000))" ] || late "let go after $spent ms only"
+    [ "$spent" -ge "$(($2 * 1000 - 300))" ] || miss "the desk let the client go after $spent ms already"
+    [ "$spent" -le "$(($3 * 1000))" ] || late "the desk let the client go only after $spent ms"
 }
 
-# A line of standard error says $1, within three seconds.
+# A line of standard error is $1, within three seconds.
 want_line() {
     local tries
     for ((tries = 0; tries < 60; tries++)); do
@@ -107,8 +108,8 @@ want_line() {
     late "no line '$1' on standard error"
 }
 
-# The clients of this row hang up, and the desk lets them go, within five seconds. It answers one
-# more then, so that it is done with the others: it has one thread.
+# The clients of this row hang up, and the desk lets them go, within five seconds. Then it answers one
+# more, so it is done with the others: it has one thread.
 leave() {
     local client tries
     for client in "${connections[@]}"; do
@@ -145,7 +146,7 @@ want_exit() {
     [ "$status" -eq "$1" ] || miss "exit status $status in place of $1"
 }
 
-# The bytes of $1 queries, of the path $2 or else for a service that is not there.
+# The bytes of $1 queries, of the path $2 or for a service that is not there.
 write_queries() {
     awk -v count="$1" -v path="${2:-/services/nobody}" 'BEGIN {
         while (count-- > 0)
@@ -159,8 +160,8 @@ files_of_desk() {
     echo "${#files[@]}"
 }
 
-# A client that ends its sending side, and reads to the end: the bytes of standard input, and the
-# replies on standard output. Where it has waited for ten seconds its status is 124.
+# A client that sends standard input, ends its sending side, and writes the replies to standard
+# output up to the end. If it has waited for ten seconds its status is 124.
 half_closing='
 import socket, sys, time
 try:
@@ -174,16 +175,16 @@ except socket.timeout:
     sys.exit(124)
 '
 
-# Such a client sends the file $1 and comes to its end, or else the row ends by $2; `$work/replies`
-# has its replies.
+# Such a client sends the file $1 and comes to its end, or the row ends by $2; `$work/replies` has its
+# replies.
 half_close() {
     local status=0
     timeout 15 python3 -c "$half_closing" "$port" < "$1" > "$work/replies" || status=$?
     want_done "$status" "$2"
 }
 
-# A client with small buffers that sends what is on standard input, and reads nothing until there is
-# the file that its last word names.
+# A client with small buffers that sends standard input, and reads nothing until the file of its last
+# word is there.
 deaf='
 import os, socket, sys, threading, time
 def send():
@@ -200,7 +201,7 @@ while client.recv(65536):
     pass
 '
 
-# The request of the caller last is settled, if $1 is 422, or not yet, if it is 409.
+# The desk has settled the request of the caller last, if $1 is 422, or not yet, if it is 409.
 want_last() {
     local client tries
     for ((tries = 0; tries < 100; tries++)); do

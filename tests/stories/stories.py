@@ -1,5 +1,5 @@
-"""Tells a program the stories of tests/stories, and compares what it answers: story.py PROGRAM
-FILE.. (tests/story finds the program). tests/stories/README.md says what a file has."""
+"""Sends a program the stories of tests/stories, and compares its replies: stories.py PROGRAM FILE..
+(tests/stories/run finds the program). tests/stories/README.md says what a file has."""
 import itertools
 import json
 import math
@@ -10,8 +10,7 @@ import subprocess
 import sys
 import tempfile
 
-sys.dont_write_bytecode = True
-from story_words import (  # noqa: E402
+from story_words import (
     B, LINES, Wrong, answer, blocks, body, command, event, expanded, expect, get, message,
     put, query, replies, reply, wire,
 )
@@ -414,9 +413,9 @@ def main():
             try:
                 rows += tell_file(program, file)
             except Wrong as fault:
-                print(f"story: {file}: {fault}", file=sys.stderr)
+                print(f"stories: {file}: {fault}", file=sys.stderr)
                 wrong += 1
-    print(f"story: {rows} rows are as they say", file=sys.stderr)
+    print(f"stories: {rows} rows are as they say", file=sys.stderr)
     sys.exit(1 if wrong or not rows else 0)
 
 
