@@ -15,6 +15,7 @@ CLEARED = b"\x1b[H\x1b[2J"
 # five lines of web, one of them on the run, and one of help.
 DESK_ROWS = 14
 HEADER = b"caller,number,service,run,metric,ordinal,taken,result,failure\n"
+MADE = b"canary: made new.db, since there was no such file\n"
 
 
 def begin_on_terminal(program, words, place, stream, **streams):
@@ -40,7 +41,7 @@ def read_terminal(shown, seconds, is_enough=lambda found: False):
     return found
 
 
-def run_showing(program, words, place, text=b""):
+def run_showing(program, words, place, text=b"", status=0):
     """What the words wrote, and what they showed on their error stream, a terminal."""
     with open(os.path.join(place, "input"), "wb") as written:
         written.write(text)
@@ -50,7 +51,7 @@ def run_showing(program, words, place, text=b""):
                                            stdout=stdout)
         found = read_terminal(shown, 60)
         os.close(shown)
-        expect(f"{words}: its status", running.wait(timeout=60), 0)
+        expect(f"{words}: its status", running.wait(timeout=60), status)
         stdout.seek(0)
         return stdout.read(), found
 
@@ -113,12 +114,39 @@ def try_reading(program, place):
     return 2
 
 
-def try_no_rows(program, place):
-    """A new desk has no rows, and nothing is shown of them."""
-    words = ["status", "--db", "new.db"]
-    _, shown = run_showing(program, words, place)
-    expect(words, shown, b"")
-    return 1
+def try_missing(program, place):
+    """A name under which there is no file. `import`, `history` and `export` make the file, and say so
+    on a terminal alone; `pipe` makes it and does not; `status` and `backup` make nothing. Nothing is
+    shown of the rows of a new desk, which has none."""
+    new = ["--db", "new.db"]
+    unknown, missing = b"canary: unknown-service\n", b"canary: file\n"
+    nothing_read = b"\rcanary: 0 of 0 MB read" + ERASED
+    open(os.path.join(place, "no-rows.csv"), "wb").close()
+    rows = (
+        (["import", *new, "no-rows.csv"], 0, MADE + nothing_read, b""),
+        (["history", *new, "web"], 1, MADE + unknown, unknown),
+        (["export", *new, "--caller", "agent", "web"], 1, MADE + unknown, unknown),
+        (["pipe", "--at", "0", "--step", "0", *new], 0, b"", b""),
+        (["status", *new], 1, missing, missing),
+        (["backup", *new, "copy.db"], 1, missing, missing),
+    )
+    before = {*os.listdir(place), "input", "output"}
+    for words, status, on_terminal, elsewhere in rows:
+        written, shown = run_showing(program, words, place, status=status)
+        expect(f"{words}, on a terminal", (written, shown), (b"", on_terminal))
+        made = set(os.listdir(place)) - before
+        makes = missing not in elsewhere
+        expect(f"{words}: what is made", made, {"new.db", "new.db-wal"} & made if makes else set())
+        expect(f"{words}: whether the file is made", "new.db" in made, makes)
+        for name in made:
+            os.remove(os.path.join(place, name))
+        done = subprocess.run([program, *words], cwd=place, stdin=subprocess.DEVNULL, timeout=60,
+                              capture_output=True)
+        expect(f"{words}, on no terminal", (done.returncode, done.stdout, done.stderr),
+               (status, b"", elsewhere))
+        for name in set(os.listdir(place)) - before:
+            os.remove(os.path.join(place, name))
+    return len(rows)
 
 
 def try_watching(program, place):
@@ -146,5 +174,5 @@ def try_watching(program, place):
 
 def try_terminals(program, new_place):
     """Each of these in a new folder with a desk's file."""
-    parts = (try_judging, try_reading, try_no_rows, try_watching)
+    parts = (try_judging, try_reading, try_missing, try_watching)
     return sum(part(program, new_place()) for part in parts)

@@ -11,6 +11,9 @@
 //! Whoever opens the copy reads these frames over the file, and has the commits up to the last one
 //! that the copied log has whole. A log that is missing, or too short for a header, has no frames,
 //! and no checkpoint writes the file before one was written: it has to be as short afterwards.
+ghost use Rattle.std.specs.Prelude.{◌≡◌};
+ghost use Rattle.canary_backup.specs.declared.fault.BackupFault.TheVariants as fault;
+
 use crate::fault::BackupFault;
 use std::alloc::Global;
 use std::fs::{self, File, OpenFile, OpenOptions};
@@ -44,13 +47,12 @@ impl Pair {
     /// The files of the database that is there under this name, where all links lead.
     ///
     /// # Errors
-    /// `Storage` where there is no such file, or it cannot be reached, and `Memory` where an
+    /// `File` if there is no such file, `Storage` if it cannot be reached, and `Memory` if an
     /// allocation was refused.
     pub fn found(rt: &HostRuntime, name: &str) -> Result<Pair, BackupFault> {
         match fs::canonicalize(rt, name) {
             Ok(real) => Pair::of(rt.alloc(), real.as_str()),
-            Err(error) if error.kind() == ErrorKind::OutOfMemory => Err(BackupFault::Memory),
-            Err(_) => Err(BackupFault::Storage),
+            Err(error) => Err(unfound(error.kind())),
         }
     }
 
@@ -98,6 +100,20 @@ impl Pair {
     }
 }
 
+// Why the file of a database was not found.
+fn unfound(kind: ErrorKind) -> BackupFault
+    ensures missing { kind ≡ ErrorKind.NotFound → result ≡ fault.File }
+    ensures memory { kind ≡ ErrorKind.OutOfMemory → result ≡ fault.Memory }
+{
+    if kind == ErrorKind::NotFound {
+        BackupFault::File
+    } else if kind == ErrorKind::OutOfMemory {
+        BackupFault::Memory
+    } else {
+        BackupFault::Storage
+    }
+}
+
 fn is_missing(rt: &HostRuntime, name: &str) -> bool {
     match fs::symlink_metadata(rt, name) {
         Ok(_) => false,
@@ -115,9 +131,9 @@ fn sync(rt: &HostRuntime, name: &str) -> io::Result<()> {
 /// has its own once it is whole and on the disk.
 ///
 /// # Errors
-/// `File` where a file of these four names is there already, or a file cannot be read or written;
-/// `Storage` where there is no such file, or it cannot be reached; `InUse` where the log was begun
-/// anew each time while the file was copied; `Memory` where an allocation was refused. There is no
+/// `File` if there is no such file, if a file of these four names is there already, or if a file
+/// cannot be read or written; `Storage` if the file cannot be reached; `InUse` if the log was begun
+/// anew each time while the file was copied; `Memory` if an allocation was refused. There is no
 /// copy then.
 pub fn backup(rt: &HostRuntime, file: &str, copy: &str) -> Result<(), BackupFault> {
     let from = Pair::found(rt, file)?;

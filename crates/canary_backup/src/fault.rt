@@ -10,14 +10,14 @@ pub enum BackupFault {
     /// An allocation was refused.
     #[error("out of memory")]
     Memory,
-    /// There is no such database, or it cannot be reached.
+    /// The database cannot be reached.
     #[error("the database cannot be reached")]
     Storage,
     /// The database is written faster than it can be copied.
     #[error("the database changes too fast to be copied")]
     InUse,
-    /// A file cannot be read or written, or is there already.
-    #[error("a file cannot be read or written, or is there already")]
+    /// A file is not there, cannot be read or written, or is there already.
+    #[error("a file is missing, cannot be read or written, or exists already")]
     File,
 }
 

@@ -41,10 +41,10 @@ status_of (Err f) = 1
 -- the limits of a listener: those that were asked for, and the others as by default
 abbrev pub limits_of : AskedLimits → Limits
 limits_of asked = record {
-  message_seconds = unwrap_or asked.message_seconds 10;
-  idle_seconds = unwrap_or asked.idle_seconds 60;
-  clients = unwrap_or asked.clients 1000;
-  owed_bytes = unwrap_or asked.owed_bytes 65536;
+  message_seconds = unwrap_or asked.read_timeout 10;
+  idle_seconds = unwrap_or asked.idle_timeout 60;
+  clients = unwrap_or asked.max_clients 1000;
+  owed_bytes = unwrap_or asked.max_unsent 65536;
 }
 
 -- ---- what `pipe` does
@@ -115,7 +115,7 @@ IsPipedTo r new_r w new_w at step status = (piped : Result (Unit {0}) Fault)
     × (status ≡ status_of (outcome_of piped)) × IsPiped r new_r w new_w at step piped
 
 -- it may write on the error stream though it is done: what a desk in memory says of itself, how
--- connections ended, or how far it has come
+-- connections ended, how far it has come, or that it made a file
 abbrev pub MayTell : Program → Type 0
 MayTell (Pipe at step None) = ⊥
 MayTell (Backup db copy) = ⊥

@@ -60,8 +60,9 @@ pub struct Terminals {
 }
 
 /// Runs a command line, the words behind the program's name, on this input, output and error
-/// stream, with the machine's files, sockets and clocks, and answers the exit status. Long work
-/// shows on `errors` how far it has come, where that is a terminal.
+/// stream, with the machine's files, sockets and clocks, and answers the exit status. If `errors` is
+/// a terminal, long work shows there how far it has come, and `import`, `history` and `export` say
+/// there that they made a file that was not there.
 ///
 /// 0: what was asked was done, or help or the version was asked for, whose text is written to
 /// `output`. 1: a check found something, or a fault, which one line `canary: WORD` on `errors`
@@ -216,10 +217,10 @@ fn limits_of(asked: AskedLimits) -> Limits
 {
     let standard = Limits::DEFAULT;
     Limits {
-        message_seconds: asked.message_seconds.unwrap_or(standard.message_seconds),
-        idle_seconds: asked.idle_seconds.unwrap_or(standard.idle_seconds),
-        clients: asked.clients.unwrap_or(standard.clients),
-        owed_bytes: asked.owed_bytes.unwrap_or(standard.owed_bytes),
+        message_seconds: asked.read_timeout.unwrap_or(standard.message_seconds),
+        idle_seconds: asked.idle_timeout.unwrap_or(standard.idle_seconds),
+        clients: asked.max_clients.unwrap_or(standard.clients),
+        owed_bytes: asked.max_unsent.unwrap_or(standard.owed_bytes),
     }
 }
 

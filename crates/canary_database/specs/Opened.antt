@@ -1,7 +1,7 @@
--- Why a desk's file was not opened, and which work on it settles nothing.
-use Rattle.std.specs.Prelude.{◌≡◌, Bool, true, false}
+-- Why a desk's file was not opened, which work on it settles nothing, and which says that it made it.
+use Rattle.std.specs.Prelude.{◌≡◌, ◌⊎◌, Bool, true, false}
 use Rattle.canary_database.specs.declared.work.Work.{Work}
-use Rattle.canary_database.specs.declared.work.Work.TheVariants.{Export, History}
+use Rattle.canary_database.specs.declared.work.Work.TheVariants.{Pipe, Serve, Export, History}
 use Rattle.canary_tables.specs.declared.fault.TableFault.{TableFault}
 use Rattle.canary_tables.specs.declared.fault.TableFault.TheVariants as tables
 use Rattle.canary_programs.specs.declared.fault.Fault.{Fault}
@@ -19,11 +19,22 @@ of_tables tables.BrokenRow = fault.BrokenRow
 abbrev pub IsOfTables : Fault → Type 0
 IsOfTables f = (cause : TableFault) × (f ≡ of_tables cause)
 
+-- a fault is one of the tables', or says that there is no such file
+abbrev pub IsOfFoundTables : Fault → Type 0
+IsOfFoundTables f = IsOfTables f ⊎ (f ≡ fault.File)
+
 -- whether work may settle requests
 abbrev pub settles : Work → Bool
 settles (Export service caller) = false
 settles (History service) = false
 settles _ = true
+
+-- whether work says that it made the file: the work of `pipe` and `serve`, by which desks begin,
+-- does not
+abbrev pub tells_of_made : Work → Bool
+tells_of_made (Pipe at step) = false
+tells_of_made (Serve listening) = false
+tells_of_made _ = true
 
 -- work that settles nothing
 abbrev pub IsReading : Work → Type 0

@@ -1,6 +1,7 @@
 //! Opening the book in a file.
 ghost use Rattle.std.specs.Prelude.{◌≡◌, IfErr};
-ghost use Rattle.canary_database.specs.Opened.{IsOfTables, of_tables};
+ghost use Rattle.canary_database.specs.Opened.{IsOfFoundTables, IsOfTables, of_tables};
+ghost use Rattle.canary_programs.specs.declared.fault.Fault.TheVariants as fault;
 
 use crate::progress::Shown;
 use canary_base::names::Name;
@@ -8,6 +9,7 @@ use canary_programs::fault::Fault;
 use canary_tables::book::TableBook;
 use canary_tables::fault::TableFault;
 use sqlite::{Alter, File, FileStore};
+use std::fs::{self, Files};
 use std::io::Write;
 
 /// A book in a file.
@@ -36,6 +38,37 @@ pub fn open<F: Write>(
         Ok(book) => Ok(book),
         Err(fault) => Err(fault_of(fault)),
     }
+}
+
+/// Opens the file of SQLite of this name as `open` does, but makes none.
+///
+/// # Errors
+/// `File` if there is no such file, and nothing is made then. What `open` answers.
+pub fn open_found<F: Write>(
+    rt: &HostRuntime,
+    file: &str,
+    errors: &mut F,
+    is_terminal: bool,
+) -> Result<FileBook, Fault>
+    ensures { IfErr result IsOfFoundTables }
+{
+    find(rt, file)?;
+    open(rt, file, errors, is_terminal)
+}
+
+// Whether there is a file of this name, as far as the system says so.
+fn find<P: Files>(files: &P, file: &str) -> Result<(), Fault>
+    ensures { IfErr result (λ f. f ≡ fault.File) }
+{
+    if is_missing(files, file) {
+        return Err(Fault::File);
+    }
+    Ok(())
+}
+
+/// Whether there is no file of this name, where all links lead.
+pub(crate) fn is_missing<P: Files>(files: &P, file: &str) -> bool {
+    matches!(fs::exists(files, file), Ok(false))
 }
 
 // The fault of the tables, under the name that it has on the command line.

@@ -1,4 +1,6 @@
-//! Showing how far a program has come.
+//! Showing on a terminal how far a program has come, and that it made a file.
+ghost use Rattle.std.specs.Prelude.{◌≡◌, false};
+
 use canary_adopting::progress::Progress;
 use std::alloc::{AllocError, Global};
 use std::io::{self, Read, Write};
@@ -149,5 +151,19 @@ impl<R: Read, F: Write> Read for Counted<'_, R, F> {
         let count = self.source.read(buf)?;
         self.shown.more(count as u64);
         Ok(count)
+    }
+}
+
+/// Says on a terminal that the file of this name was made. Nothing is written where it is no
+/// terminal. A fault of the terminal, and memory that is refused for the line, are ignored.
+pub fn tell_made<F: Write>(alloc: Global, file: &str, errors: &mut F, is_terminal: bool)
+    ensures { is_terminal ≡ false → errors.new ≡ errors.old }
+{
+    if !is_terminal {
+        return;
+    }
+    if let Ok(line) = format!(in alloc; "canary: made {file}, since there was no such file\n") {
+        let _ = errors.write_all(line.as_bytes());
+        let _ = errors.flush();
     }
 }

@@ -1,5 +1,5 @@
 //! `status`: the services of a desk at a glance.
-use crate::open::{FileBook, names_of, open};
+use crate::open::{FileBook, names_of, open_found};
 use canary_backup::copying::{Pair, copy_database};
 use canary_listen::wall_clock::WallClock;
 use canary_programs::fault::Fault;
@@ -11,12 +11,13 @@ use std::thread;
 use std::time::Duration;
 
 /// Draws a table of the services in a file, and of their open runs, as they stand at the present
-/// moment. The file is opened as `open` does it, and no row of it is changed. Where a desk has it
-/// open, a copy is read, which stands beside the file meanwhile.
+/// moment. The file is opened as `open_found` does it, and no row of it is changed. Where a desk has
+/// it open, a copy is read, which stands beside the file meanwhile.
 ///
 /// # Errors
-/// What `open` answers, but `InUse` only where the file changes too fast to be copied. `File` where
-/// no copy can be made beside it. `Write` where the output failed.
+/// `File` if there is no such file, and nothing is made then, or if no copy can be made beside it.
+/// What `open` answers, but `InUse` only if the file changes too fast to be copied. `Write` if the
+/// output failed.
 pub fn status<W: Write, F: Write>(
     rt: &HostRuntime,
     file: &str,
@@ -45,7 +46,7 @@ fn status_text<F: Write>(
     errors: &mut F,
     is_terminal: bool,
 ) -> Result<String, Fault> {
-    match open(rt, file, errors, is_terminal) {
+    match open_found(rt, file, errors, is_terminal) {
         Ok(book) => text_of_opened(rt, book),
         Err(Fault::InUse) => text_of_copy(rt, file, errors, is_terminal),
         Err(fault) => Err(fault),
@@ -73,7 +74,7 @@ fn text_behind_copy<F: Write>(
     is_terminal: bool,
 ) -> Result<String, Fault> {
     copy_database(rt, file, copy)?;
-    let book = open(rt, copy.database(), errors, is_terminal)?;
+    let book = open_found(rt, copy.database(), errors, is_terminal)?;
     text_of_opened(rt, book)
 }
 

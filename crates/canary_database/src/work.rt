@@ -1,10 +1,10 @@
 //! Work on the book in a file, from its opening to its end.
 ghost use Rattle.std.specs.Prelude.{◌≡◌, ◌≢◌, Err};
-ghost use Rattle.canary_database.specs.Opened.{IsReading, settles};
+ghost use Rattle.canary_database.specs.Opened.{IsReading, settles, tells_of_made};
 ghost use Rattle.canary_programs.specs.declared.fault.Fault.TheVariants as fault;
 
-use crate::open::open;
-use crate::progress::{Counted, Shown};
+use crate::open::{is_missing, open};
+use crate::progress::{Counted, Shown, tell_made};
 use canary_base::moments::Moment;
 use canary_base::names::Name;
 use canary_listen::wall_clock::WallClock;
@@ -41,9 +41,17 @@ impl Work {
     {
         !matches!(self, Work::Export { .. } | Work::History { .. })
     }
+
+    // Whether it says that it made the file: the work of `pipe` and `serve` does not.
+    fn tells_of_made(&self) -> bool
+        ensures { result ≡ tells_of_made self.now }
+    {
+        !matches!(self, Work::Pipe { .. } | Work::Serve(_))
+    }
 }
 
 /// Does this work on the book in a file, which is closed where the work may have settled requests.
+/// A terminal is told if the file was made, unless the work is that of `pipe` or `serve`.
 ///
 /// # Errors
 /// What `open` answers: nothing is read or written then. What canary_programs answers of the work.
@@ -59,7 +67,11 @@ pub(crate) fn on_file<R: Read, W: Write, F: Write>(
 ) -> Result<(), Fault>
     ensures { IsReading work → result ≢ Err fault.BadName }
 {
+    let makes = work.tells_of_made() && is_missing(rt, file);
     let mut book = open(rt, file, errors, is_terminal)?;
+    if makes {
+        tell_made(rt.alloc(), file, errors, is_terminal);
+    }
     let settles = work.settles();
     let done = on_book(rt, &mut book, work, input, output, errors, is_terminal);
     if !settles {

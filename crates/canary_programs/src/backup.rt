@@ -4,7 +4,8 @@ use crate::fault::Fault;
 /// Copies a desk's file of SQLite, with its log, to `copy` and `copy`-wal, as `canary_backup` does.
 ///
 /// # Errors
-/// `File`, `Storage`, `InUse` and `Memory`, each where `canary_backup` answers the same.
+/// `File`, also if there is no such file; `Storage`, `InUse` and `Memory`: each where
+/// `canary_backup` answers the same.
 pub fn backup(rt: &HostRuntime, file: &str, copy: &str) -> Result<(), Fault> {
     Ok(canary_backup::copying::backup(rt, file, copy)?)
 }

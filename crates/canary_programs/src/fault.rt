@@ -20,9 +20,9 @@ pub enum Fault {
     Memory,
     /// The database cannot be opened or made, or fails.
     Storage,
-    /// The database is none of a desk's.
+    /// The tables of the database are not a desk's.
     OtherSchema,
-    /// A row of the database is none that a desk leaves.
+    /// The database has a row that no desk writes.
     BrokenRow,
     /// Another program has the database open, or writes it faster than it can be copied.
     InUse,
@@ -42,13 +42,13 @@ pub enum Fault {
     TooMany,
     /// There is no such service.
     UnknownService,
-    /// A word is no name.
+    /// A word is not a valid name.
     BadName,
-    /// The address is none, or cannot be listened on.
+    /// The address is invalid, or the desk cannot listen on it.
     Listen,
     /// Waiting for clients failed.
     Accept,
-    /// A file cannot be read or written, is too long, or is there already.
+    /// A file is not there, cannot be read or written, is too long, or is there already.
     File,
 }
 
@@ -56,22 +56,23 @@ impl fmt::Display for Fault {
     fn fmt<W: fmt::Write>(&self, f: &mut fmt::Formatter<W>) -> fmt::Result {
         f.write_str(match self {
             Fault::Memory => "out of memory",
-            Fault::Storage => "the database cannot be opened or made, or fails",
-            Fault::OtherSchema => "the database is none of a desk's",
-            Fault::BrokenRow => "a row of the database is none that a desk leaves",
+            Fault::Storage => "cannot open, make, read or write the database",
+            Fault::OtherSchema => "the tables of the database are not a desk's",
+            Fault::BrokenRow => "the database has a row that no desk writes",
             Fault::InUse => "another program has the database open",
-            Fault::Read => "the input failed",
+            Fault::Read => "reading the input failed",
             Fault::Write => "the output failed or was closed",
-            Fault::Truncated => "the input ended in the midst of a message",
+            Fault::Truncated => "the input ended in the middle of a message",
             Fault::TurnsSpent => "the input went on after 1,000,000,000 reads",
             Fault::Header => "the first record is not the header of a measurement file",
             Fault::RowsSpent => "the file has more than 1,000,000 rows",
             Fault::TooMany => "the service has more than 1,000,000,000 measurements",
             Fault::UnknownService => "there is no such service",
-            Fault::BadName => "a word is no name",
-            Fault::Listen => "the address is none, or cannot be listened on",
+            Fault::BadName => "not a valid name",
+            Fault::Listen => "the address is invalid, or the desk cannot listen on it",
             Fault::Accept => "waiting for clients failed",
-            Fault::File => "a file cannot be read or written, is too long, or is there already",
+            Fault::File =>
+                "a file is missing, cannot be read or written, is too long, or exists already",
         })
     }
 }

@@ -17,7 +17,7 @@ use std::net::{Net, SocketAddr};
 use std::time;
 
 // What is said of a book in memory.
-const NOTICE: &str = "canary: what this desk holds is in memory, and ends with it\n";
+const NOTICE: &str = "canary: the records of this desk are in memory, and end with it\n";
 
 /// Where a desk listens, to how many connections, and within which limits.
 #[derive(Clone, Copy)]

@@ -134,10 +134,10 @@ serve_rows words none =
       (listen.0, listen.2),
       number_passed 1000000 (one_of (codes "connections") rows) (optional_text serve.rules (codes "connections") _ rows refl level.0),
       (
-        number_passed 86400 (one_of (codes "message") rows) (optional_text serve.rules (codes "message") _ rows refl level.0),
-        number_passed 86400 (one_of (codes "idle") rows) (optional_text serve.rules (codes "idle") _ rows refl level.0),
-        number_passed 65536 (one_of (codes "clients") rows) (optional_text serve.rules (codes "clients") _ rows refl level.0),
-        number_passed 1073741824 (one_of (codes "owed") rows) (optional_text serve.rules (codes "owed") _ rows refl level.0),
+        number_passed 86400 (one_of (codes "read-timeout") rows) (optional_text serve.rules (codes "read-timeout") _ rows refl level.0),
+        number_passed 86400 (one_of (codes "idle-timeout") rows) (optional_text serve.rules (codes "idle-timeout") _ rows refl level.0),
+        number_passed 65536 (one_of (codes "max-clients") rows) (optional_text serve.rules (codes "max-clients") _ rows refl level.0),
+        number_passed 1073741824 (one_of (codes "max-unsent") rows) (optional_text serve.rules (codes "max-unsent") _ rows refl level.0),
       ),
     )
 

@@ -61,11 +61,11 @@ abbrev pub pipe_command : App
 pipe_command = with_rule (with_rule (with_rule (new_app (codes "pipe"))
     (moment_option (codes "at"))) (moment_option (codes "step"))) optional_db
 
--- `--message SECONDS --idle SECONDS --clients N --owed BYTES`
+-- `--read-timeout SECONDS --idle-timeout SECONDS --max-clients N --max-unsent BYTES`
 abbrev pub with_limits : App → App
 with_limits a = with_rule (with_rule (with_rule (with_rule a
-    (number_option (codes "message") 86400)) (number_option (codes "idle") 86400))
-    (number_option (codes "clients") 65536)) (number_option (codes "owed") 1073741824)
+    (number_option (codes "read-timeout") 86400)) (number_option (codes "idle-timeout") 86400))
+    (number_option (codes "max-clients") 65536)) (number_option (codes "max-unsent") 1073741824)
 
 -- `serve --listen ADDRESS --db FILE --connections N`, with limits
 abbrev pub serve_command : App
@@ -148,10 +148,10 @@ pipe_of rows = piped (number_given (codes "at") rows) (number_given (codes "step
 -- the limits of a listener that were given
 abbrev pub limits_of : List Row → AskedLimits
 limits_of rows = record {
-  message_seconds = number_given (codes "message") rows;
-  idle_seconds = number_given (codes "idle") rows;
-  clients = number_given (codes "clients") rows;
-  owed_bytes = number_given (codes "owed") rows;
+  read_timeout = number_given (codes "read-timeout") rows;
+  idle_timeout = number_given (codes "idle-timeout") rows;
+  max_clients = number_given (codes "max-clients") rows;
+  max_unsent = number_given (codes "max-unsent") rows;
 }
 
 abbrev pub serve_of : List Row → Option Program
@@ -241,9 +241,10 @@ abbrev pub HasMoments : List Row → Type 0
 HasMoments rows = HasMoment (codes "at") rows × HasMoment (codes "step") rows
 
 abbrev pub HasLimits : List Row → Type 0
-HasLimits rows = MayHaveNumber (codes "message") 86400 rows
-    × MayHaveNumber (codes "idle") 86400 rows × MayHaveNumber (codes "clients") 65536 rows
-    × MayHaveNumber (codes "owed") 1073741824 rows
+HasLimits rows = MayHaveNumber (codes "read-timeout") 86400 rows
+    × MayHaveNumber (codes "idle-timeout") 86400 rows
+    × MayHaveNumber (codes "max-clients") 65536 rows
+    × MayHaveNumber (codes "max-unsent") 1073741824 rows
 
 abbrev pub HasListener : List Row → Type 0
 HasListener rows = HasText (codes "listen") rows

@@ -17,14 +17,14 @@ use std::alloc::{AllocError, Global};
 /// The most connections that can be asked for.
 pub const MOST_CONNECTIONS: u64 = 1_000_000;
 
-/// The most seconds that a client may be given: a day.
+/// The longest timeout that can be asked for, in seconds: a day.
 pub const MOST_SECONDS: u64 = 86_400;
 
-/// The most clients at a time.
+/// The most clients at a time that can be asked for.
 pub const MOST_CLIENTS: u64 = 65_536;
 
-/// The most bytes that may be owed to a client before it is answered no more: a gibibyte.
-pub const MOST_OWED: u64 = 1_073_741_824;
+/// The most unsent bytes that can be asked for: a gibibyte.
+pub const MOST_UNSENT: u64 = 1_073_741_824;
 
 /// The most seconds between two looks at a desk: a day.
 pub const MOST_WATCH: u64 = 86_400;
@@ -109,17 +109,38 @@ fn with_limits<'a>(alloc: Global, serve: Command<'a>) -> Result<Command<'a>, All
     ensures { IfOk result (λ c. app_of c ≡ with_limits (app_of serve.entry)) }
 {
     let most = MOST_SECONDS;
-    let serve = with_number(alloc, serve, "message", "SECONDS", most, help::MESSAGE_HELP)?;
-    let serve = with_number(alloc, serve, "idle", "SECONDS", most, help::IDLE_HELP)?;
     let serve = with_number(
         alloc,
         serve,
-        "clients",
+        "read-timeout",
+        "SECONDS",
+        most,
+        help::READ_TIMEOUT_HELP,
+    )?;
+    let serve = with_number(
+        alloc,
+        serve,
+        "idle-timeout",
+        "SECONDS",
+        most,
+        help::IDLE_TIMEOUT_HELP,
+    )?;
+    let serve = with_number(
+        alloc,
+        serve,
+        "max-clients",
         "N",
         MOST_CLIENTS,
-        help::CLIENTS_HELP,
+        help::MAX_CLIENTS_HELP,
     )?;
-    with_number(alloc, serve, "owed", "BYTES", MOST_OWED, help::OWED_HELP)
+    with_number(
+        alloc,
+        serve,
+        "max-unsent",
+        "BYTES",
+        MOST_UNSENT,
+        help::MAX_UNSENT_HELP,
+    )
 }
 
 // `import --db FILE CSV`.
@@ -163,7 +184,7 @@ fn status_command<'a>(alloc: Global) -> Result<Command<'a>, AllocError>
     let status = Command::new(alloc, "status")
         .about(help::STATUS_ABOUT)
         .after_help(help::STATUS_HELP);
-    let status = with_text(alloc, status, "db", "FILE", true, help::DB_OR_MADE_HELP)?;
+    let status = with_text(alloc, status, "db", "FILE", true, help::DB_HELP)?;
     with_number(
         alloc,
         status,

@@ -5,32 +5,32 @@ macro_rules! with_records_faults {
     ($($before:literal),+; $($after:literal),+) => {
         concat!(
             $($before,)+
-            "  canary: storage          FILE cannot be opened, is no database, or fails\n",
+            "  canary: storage          cannot open, read or write FILE, or it is not a database\n",
             "  canary: in-use           another program has FILE open\n",
             "  canary: other-schema     the tables of FILE are not a desk's\n",
-            "  canary: broken-row       FILE has a row that no desk leaves\n",
+            "  canary: broken-row       FILE has a row that no desk writes\n",
             $($after),+
         )
     };
 }
 
 pub(crate) const DESK_ABOUT: &str =
-    "Judges canary releases: settles numbered requests, each once, and answers them";
+    "Judges canary releases: settles each numbered request once, and answers it";
 
 pub(crate) const DESK_HELP: &str = concat!(
-    "Exit status: 0 when done, 1 for a fault or for what check finds, 2 for a mistake in the\n",
-    "words. Each command's own help says which faults it has, and has an example."
+    "Exit status: 0 for success, 1 for a fault or for findings of check, 2 for an invalid\n",
+    "command line. The help of each command lists its faults and has an example."
 );
 
 // ---- options that several commands have
 
-pub(crate) const DB_HELP: &str = "The file with the desk's records";
+pub(crate) const DB_HELP: &str = "The file with the desk's records, which must exist";
 
 pub(crate) const DB_OR_MEMORY_HELP: &str =
-    "The file with the desk's records, made if it is not there [default: in memory]";
+    "The file with the desk's records, made if it does not exist [default: in memory]";
 
 pub(crate) const DB_OR_MADE_HELP: &str =
-    "The file with the desk's records, made if it is not there";
+    "The file with the desk's records, made if it does not exist";
 
 pub(crate) const SERVICE_HELP: &str = "The name of the service";
 
@@ -46,17 +46,16 @@ pub(crate) const PIPE_USAGE: &str = concat!(
 pub(crate) const AT_HELP: &str =
     "The moment of the first request, in seconds since 1970-01-01T00:00:00Z (UTC)";
 
-pub(crate) const STEP_HELP: &str =
-    "How many seconds each further request comes after the one before it";
+pub(crate) const STEP_HELP: &str = "The seconds from each request to the next";
 
 pub(crate) const PIPE_HELP: &str = with_records_faults!(
-    "With --db each answer is on disk before it goes out; without it the records end with the\n",
-    "program.\n\n",
-    "Exit status: 0 when the input was answered to its end or a reply closed the stream, 2 for a\n",
-    "mistake in the words, and 1 for a fault, which a line on standard error names:\n",
-    "  canary: truncated        the input ended in the midst of a message\n",
+    "With --db each settled request is on disk before its reply goes out. Without --db the\n",
+    "records are in memory, and end with the program.\n\n",
+    "Exit status: 0 if pipe answered the input to its end or a reply closed the stream, 2 for an\n",
+    "invalid command line, and 1 for a fault, which a line on standard error names:\n",
+    "  canary: truncated        the input ended in the middle of a message\n",
     "  canary: turns-spent      the input went on after 1,000,000,000 reads\n",
-    "  canary: read             the input failed\n",
+    "  canary: read             reading the input failed\n",
     "  canary: write            the output failed or was closed\n",
     "  canary: memory           out of memory before the first read\n";
     "\nExample: canary pipe --at 1767225600 --step 1 < requests"
@@ -67,35 +66,36 @@ pub(crate) const PIPE_HELP: &str = with_records_faults!(
 pub(crate) const SERVE_ABOUT: &str = "Serves the desk over HTTP on ADDRESS";
 
 pub(crate) const LISTEN_HELP: &str =
-    "The IP address and port to listen on; the system chooses a port for 0";
+    "The IP address and port to listen on; for port 0 the system chooses a port";
 
 pub(crate) const CONNECTIONS_HELP: &str =
-    "How many connections to serve and then end, 1 to 1000000 [default: as many as come]";
+    "Connections after which serve ends, 1 to 1000000 [default: it does not end]";
 
-pub(crate) const MESSAGE_HELP: &str =
-    "Seconds in which a whole message has to come, 1 to 86400 [default: 10]";
+pub(crate) const READ_TIMEOUT_HELP: &str =
+    "Most seconds from a message's first byte to its last, 1 to 86400 [default: 10]";
 
-pub(crate) const IDLE_HELP: &str =
-    "Seconds for which a client may be idle, 1 to 86400 [default: 60]";
+pub(crate) const IDLE_TIMEOUT_HELP: &str =
+    "Most seconds that a client may be idle or leave replies unread, 1 to 86400 [default: 60]";
 
-pub(crate) const CLIENTS_HELP: &str =
-    "Clients at a time, 1 to 65536; further ones wait to be accepted [default: 1000]";
+pub(crate) const MAX_CLIENTS_HELP: &str =
+    "Most clients at a time, 1 to 65536; further clients wait to be accepted [default: 1000]";
 
-pub(crate) const OWED_HELP: &str =
-    "A client that is owed so many bytes waits for answers, 1 to 1073741824 [default: 65536]";
+pub(crate) const MAX_UNSENT_HELP: &str =
+    "Unsent reply bytes at which a client's requests wait, 1 to 1073741824 [default: 65536]";
 
 pub(crate) const SERVE_HELP: &str = with_records_faults!(
-    "It prints 'listening IP:PORT' on standard output once clients can connect. With --db each\n",
-    "answer is on disk before it goes out; without it the records end with the program, and\n",
-    "standard error says so. A client that takes longer than it may is let go. A connection that\n",
-    "ends with a fault is told on standard error, and the others are served on:\n",
+    "serve prints 'listening IP:PORT' on standard output once clients can connect. With --db\n",
+    "each settled request is on disk before its reply goes out. Without --db the records are in\n",
+    "memory and end with the program, and standard error says so. serve disconnects a client\n",
+    "that exceeds a timeout. If a connection ends with a fault, a line on standard error names\n",
+    "the fault, and serve goes on with the other clients:\n",
     "  canary: truncated        a message did not come to its end, or not in time\n",
-    "  canary: read             reading from it failed\n",
-    "  canary: write            writing to it failed, or it did not take its replies in time\n",
-    "  canary: memory           out of memory for it\n\n",
-    "Exit status: 0 after so many connections, 2 for a mistake in the words, and 1 for a fault,\n",
-    "which a line on standard error names:\n",
-    "  canary: listen           ADDRESS is no IP:PORT, or cannot be listened on\n",
+    "  canary: read             reading from the client failed\n",
+    "  canary: write            writing to the client failed, or it left replies unread too long\n",
+    "  canary: memory           out of memory for the client\n\n",
+    "Exit status: 0 after as many connections as --connections says, 2 for an invalid command\n",
+    "line, and 1 for a fault, which a line on standard error names:\n",
+    "  canary: listen           ADDRESS is not IP:PORT, or serve cannot listen on it\n",
     "  canary: accept           waiting for clients failed\n",
     "  canary: write            the line on standard output could not be written\n",
     "  canary: memory           out of memory before the first connection\n";
@@ -104,19 +104,21 @@ pub(crate) const SERVE_HELP: &str = with_records_faults!(
 
 // ---- import
 
-pub(crate) const IMPORT_ABOUT: &str = "Records the measurements that a CSV file has";
+pub(crate) const IMPORT_ABOUT: &str = "Records the measurements of a CSV file";
 
 pub(crate) const CSV_HELP: &str = "The file with the measurements; - is standard input";
 
 pub(crate) const IMPORT_HELP: &str = with_records_faults!(
     "The first record of CSV is the header\n",
     "  caller,number,service,run,metric,ordinal,taken,result,failure\n",
-    "and each further one is a row: a request of this caller, under this number, to record one\n",
-    "measurement. For each row it prints one line: the number of the row from 1 on, the HTTP\n",
-    "status of the answer, and its body. A measurement is not recorded twice: where its row is\n",
-    "imported again, the row has the answer that it had, unless that was 409 ahead or 503.\n\n",
-    "Exit status: 0 when each row has its line, 2 for a mistake in the words, and 1 for a fault,\n",
-    "which a line on standard error names; what was recorded before it stays:\n",
+    "and each further record is a row: a request of this caller, under this number, to record\n",
+    "one measurement. For each row import prints one line: the number of the row, counted from\n",
+    "1, the HTTP status of the reply, and its body. Importing a row again records no\n",
+    "measurement twice: the row gets the reply that it had, unless that was 409 ahead or 503.\n\n",
+    "If FILE does not exist, import makes it, with an empty desk, and says so if standard\n",
+    "error is a terminal.\n\n",
+    "Exit status: 0 if each row has its line, 2 for an invalid command line, and 1 for a fault,\n",
+    "which a line on standard error names; what import recorded before the fault stays:\n",
     "  canary: file             CSV cannot be opened\n",
     "  canary: header           the first record is not the header\n",
     "  canary: rows-spent       CSV has more than 1,000,000 rows\n",
@@ -133,12 +135,14 @@ pub(crate) const IMPORT_HELP: &str = with_records_faults!(
 pub(crate) const HISTORY_ABOUT: &str = "Prints what happened to a service";
 
 pub(crate) const HISTORY_HELP: &str = with_records_faults!(
-    "It prints one line for each thing that happened, the oldest first: its moment (UTC) and\n",
-    "what it was. These are the records of FILE; what time alone brings is not there until a\n",
-    "request on the service comes.\n\n",
-    "Exit status: 0 when the history was printed, 2 for a mistake in the words, and 1 for a\n",
+    "history prints one line for each event, the oldest first: its moment (UTC) and what\n",
+    "happened. It prints what FILE holds: an event that time alone brings is recorded with the\n",
+    "next request on the service.\n\n",
+    "If FILE does not exist, history makes it, with an empty desk, and says so if standard\n",
+    "error is a terminal.\n\n",
+    "Exit status: 0 if history printed all events, 2 for an invalid command line, and 1 for a\n",
     "fault, which a line on standard error names:\n",
-    "  canary: bad-name         SERVICE is no name\n",
+    "  canary: bad-name         SERVICE is not a valid name\n",
     "  canary: unknown-service  there is no such service\n",
     "  canary: write            the output failed or was closed\n",
     "  canary: memory           out of memory\n";
@@ -149,15 +153,17 @@ pub(crate) const HISTORY_HELP: &str = with_records_faults!(
 
 pub(crate) const EXPORT_ABOUT: &str = "Prints the measurements of a service as CSV";
 
-pub(crate) const CALLER_HELP: &str = "The caller whose requests the rows are to be";
+pub(crate) const CALLER_HELP: &str = "The caller that each row names";
 
 pub(crate) const EXPORT_HELP: &str = with_records_faults!(
-    "It prints a file that import reads: the header, and a row for each measurement, in the\n",
-    "order in which they were recorded, with NAME as its caller and the numbers 1, 2, 3 and\n",
-    "so on.\n\n",
-    "Exit status: 0 when all were printed, 2 for a mistake in the words, and 1 for a fault,\n",
-    "which a line on standard error names:\n",
-    "  canary: bad-name         SERVICE or NAME is no name\n",
+    "export prints a file that import reads: the header, and a row for each measurement, in\n",
+    "the order in which the desk recorded them. The caller of each row is NAME, and the\n",
+    "numbers are 1, 2, 3 and so on.\n\n",
+    "If FILE does not exist, export makes it, with an empty desk, and says so if standard\n",
+    "error is a terminal.\n\n",
+    "Exit status: 0 if export printed all measurements, 2 for an invalid command line, and 1 for\n",
+    "a fault, which a line on standard error names:\n",
+    "  canary: bad-name         SERVICE or NAME is not a valid name\n",
     "  canary: unknown-service  there is no such service\n",
     "  canary: too-many         it has more than 1,000,000,000 measurements\n",
     "  canary: write            the output failed or was closed\n",
@@ -167,23 +173,23 @@ pub(crate) const EXPORT_HELP: &str = with_records_faults!(
 
 // ---- status
 
-pub(crate) const STATUS_ABOUT: &str = "Prints how the services stand";
+pub(crate) const STATUS_ABOUT: &str = "Prints a table of the services and their open runs";
 
 pub(crate) const WATCH_HELP: &str =
-    "Prints it again after so many seconds, 1 to 86400 [default: once]";
+    "Seconds from one table to the next, 1 to 86400 [default: one table]";
 
 pub(crate) const STATUS_HELP: &str = concat!(
-    "It prints how each service stands. With --watch it goes on until it is stopped or has a\n",
-    "fault. Where a desk has FILE open, a copy is read, which stands beside FILE meanwhile.\n\n",
-    "Exit status: 0 when it was printed, 2 for a mistake in the words, and 1 for a fault,\n",
-    "which a line on standard error names:\n",
+    "With --watch, status goes on until it is stopped or has a fault. While a desk has FILE\n",
+    "open, status reads a copy, which it makes beside FILE and removes again.\n\n",
+    "Exit status: 0 if status printed the table, 2 for an invalid command line, and 1 for a\n",
+    "fault, which a line on standard error names:\n",
     "  canary: write            the output failed or was closed\n",
     "  canary: memory           out of memory\n",
-    "  canary: storage          FILE cannot be opened, is no database, or fails\n",
-    "  canary: in-use           FILE changes too fast to be copied\n",
-    "  canary: file             no copy can be made beside FILE\n",
+    "  canary: file             FILE does not exist, or no copy can be made beside it\n",
+    "  canary: storage          cannot open, read or write FILE, or it is not a database\n",
+    "  canary: in-use           FILE changes too fast for a copy\n",
     "  canary: other-schema     the tables of FILE are not a desk's\n",
-    "  canary: broken-row       FILE has a row that no desk leaves\n",
+    "  canary: broken-row       FILE has a row that no desk writes\n",
     "\nExample: canary status --db desk.db --watch 5"
 );
 
@@ -191,34 +197,36 @@ pub(crate) const STATUS_HELP: &str = concat!(
 
 pub(crate) const BACKUP_ABOUT: &str = "Copies the records of a desk to another file";
 
-pub(crate) const COPY_HELP: &str = "The file to write the copy to";
+pub(crate) const COPY_HELP: &str = "The file to write the copy to, which must not exist";
 
 pub(crate) const BACKUP_HELP: &str = concat!(
-    "The copy is COPY and its log COPY-wal, which belong together; neither may be there before.\n",
-    "A desk may serve FILE meanwhile. The rows are copied and not judged.\n\n",
-    "Exit status: 0 when the copy is whole, 2 for a mistake in the words, and 1 for a fault,\n",
+    "The copy is COPY and its log COPY-wal, which belong together; neither may exist before. A\n",
+    "desk may serve FILE meanwhile. backup copies the rows, and does not judge them.\n\n",
+    "Exit status: 0 if the copy is whole, 2 for an invalid command line, and 1 for a fault,\n",
     "which a line on standard error names:\n",
-    "  canary: file       COPY or COPY-wal is there, or a file cannot be read or written\n",
+    "  canary: file       FILE does not exist, or a file cannot be read or written, or COPY or\n",
+    "                     COPY-wal exists\n",
     "  canary: memory     out of memory\n",
-    "  canary: storage    FILE is not there, or cannot be reached\n",
-    "  canary: in-use     FILE changes too fast to be copied\n",
+    "  canary: storage    FILE cannot be reached\n",
+    "  canary: in-use     FILE changes too fast for a copy\n",
     "\nExample: canary backup --db desk.db desk-copy.db"
 );
 
 // ---- check
 
 pub(crate) const CHECK_ABOUT: &str =
-    "Says what the desk would refuse in a template or a Rollout, without a desk";
+    "Reports what a desk would refuse in a template or a Rollout, without a desk";
 
 pub(crate) const FILE_HELP: &str =
     "An AnalysisTemplate or a Rollout in JSON, as 'kubectl get -o json' prints it";
 
 pub(crate) const CHECK_HELP: &str = concat!(
-    "It prints 'ok', or what the desk would refuse or could not read, one thing a line, with\n",
-    "where it stands and what was expected. No desk is needed: whether the templates that a\n",
-    "Rollout names are registered is not looked at, nor that a desk takes 65536 bytes at most.\n\n",
-    "Exit status: 0 where it printed 'ok', 2 for a mistake in the words, and 1 where it printed\n",
-    "anything else, or for a fault, which a line on standard error names:\n",
+    "check prints 'ok', or what a desk would refuse or could not read: one line for each\n",
+    "finding, with its place and what a desk expects there. check needs no desk: it does not\n",
+    "look for the templates that a Rollout names, and ignores the limit of 65536 bytes for a\n",
+    "body.\n\n",
+    "Exit status: 0 if check printed 'ok', 2 for an invalid command line, and 1 if check printed\n",
+    "anything else or for a fault, which a line on standard error names:\n",
     "  canary: file    FILE cannot be read, or is longer than 16 MiB\n",
     "  canary: write   the output failed or was closed\n",
     "  canary: memory  out of memory\n\n",

@@ -23,14 +23,14 @@ use std::fmt;
 /// option.
 #[derive(Clone, Copy, Debug, PartialEq, Eq)]
 pub struct AskedLimits {
-    /// The most seconds in which a whole message has to come.
-    pub message_seconds: Option<u64>,
+    /// The most seconds from a message's first byte to its last.
+    pub read_timeout: Option<u64>,
     /// The most seconds for which a client may be idle.
-    pub idle_seconds: Option<u64>,
+    pub idle_timeout: Option<u64>,
     /// The most clients at a time.
-    pub clients: Option<u64>,
-    /// The bytes from which on a client that is owed them waits for answers.
-    pub owed_bytes: Option<u64>,
+    pub max_clients: Option<u64>,
+    /// While at least so many bytes are unsent to a client, none of its messages is answered.
+    pub max_unsent: Option<u64>,
 }
 
 /// What a command line asks for. Where it has a `db`, that is the name of the file with the desk's
@@ -246,10 +246,10 @@ fn limits_of(serve: &ArgMatches<'_>) -> AskedLimits
     ensures { result ≡ limits_of (rows_of (found_of serve.now)) }
 {
     AskedLimits {
-        message_seconds: number_given(serve, "message"),
-        idle_seconds: number_given(serve, "idle"),
-        clients: number_given(serve, "clients"),
-        owed_bytes: number_given(serve, "owed"),
+        read_timeout: number_given(serve, "read-timeout"),
+        idle_timeout: number_given(serve, "idle-timeout"),
+        max_clients: number_given(serve, "max-clients"),
+        max_unsent: number_given(serve, "max-unsent"),
     }
 }
 
