@@ -131,21 +131,21 @@ def copy(file, to):
 
 
 def is_cut_short(found, wanted):
-    """Whether memory ran out behind the first lines of what a command line has to write."""
+    """Whether memory ran out after the first lines of what a command line has to write."""
     status, output, told = found
     is_part = wanted.startswith(output) and (output == b"" or output.endswith(b"\n"))
     return is_part and (status, told) == (1, OUT_OF_MEMORY)
 
 
 def try_line(trial, row, words, wanted, step=1):
-    """A command line does as it must, or memory runs out on the way; and behind that, with nothing
+    """A command line does as it must, or memory runs out on the way; and after that, with nothing
     refused, it does as it must."""
     def refuse(number):
         found = trial.run(words, number)
         asked = trial.asked()
         if not is_cut_short(found, wanted[1]):
-            expect(f"{row}: where allocation {number} is refused", found, wanted)
-        expect(f"{row}: behind a refusal of allocation {number}", trial.run(words), wanted)
+            expect(f"{row}: when allocation {number} is refused", found, wanted)
+        expect(f"{row}: after a refusal of allocation {number}", trial.run(words), wanted)
         return asked
 
     refuse_each(row, step, refuse)
@@ -183,7 +183,7 @@ def try_stream(trial, _):
 
     def refuse(number):
         found = trial.converse(STILL_AT_B, asked, number)
-        expect_told(f"stream: where allocation {number} is refused", found, wanted)
+        expect_told(f"stream: when allocation {number} is refused", found, wanted)
         return trial.asked()
 
     refuse_each("a stream", 1, refuse)
@@ -199,9 +199,9 @@ def try_file(trial, step):
         remove(trial.file)
         found = trial.converse(words, requests, number)
         asked = trial.asked()
-        expect_told(f"file: where allocation {number} is refused", found, wanted)
+        expect_told(f"file: when allocation {number} is refused", found, wanted)
         found = trial.converse(words, requests)
-        expect_told(f"file: behind a refusal of allocation {number}", found, wanted)
+        expect_told(f"file: after a refusal of allocation {number}", found, wanted)
         return asked
 
     refuse_each("a stream over a file", step, refuse)
@@ -218,7 +218,7 @@ def make_files(trial):
 
 
 def lines_of(refused=None):
-    """The lines of an import, of which that row is answered 503: those behind it are ahead then."""
+    """The lines of an import, of which that row is answered 503: those after it are ahead then."""
     lines = []
     for number, told in enumerate(TOLD, 1):
         if number == refused:
@@ -241,8 +241,8 @@ def try_import(trial, step):
         found = trial.run(words, number)
         asked = trial.asked()
         if found not in may_be and not is_cut_short(found, lines_of()):
-            raise Wrong(f"import: where allocation {number} is refused: {found!r}")
-        expect(f"import: behind a refusal of allocation {number}", trial.run(words), may_be[0])
+            raise Wrong(f"import: when allocation {number} is refused: {found!r}")
+        expect(f"import: after a refusal of allocation {number}", trial.run(words), may_be[0])
         return asked
 
     refuse_each("an import", step, refuse)
@@ -262,7 +262,7 @@ def try_shown(trial, step):
 
 
 def try_backup(trial, _):
-    """A copy of a desk's file is made, or there is none."""
+    """`backup` makes a copy of a desk's file, or leaves none."""
     make_files(trial)
     words = ["backup", "--db", trial.begun, trial.copy]
     folder = os.path.dirname(trial.copy)
@@ -277,7 +277,7 @@ def try_backup(trial, _):
                 expect(f"backup: a copy{suffix}", read(trial.copy + suffix),
                        read(trial.begun + suffix))
         else:
-            expect(f"backup: where allocation {number} is refused", found, (1, b"", OUT_OF_MEMORY))
+            expect(f"backup: when allocation {number} is refused", found, (1, b"", OUT_OF_MEMORY))
             left = [name for name in sorted(os.listdir(folder)) if not name.endswith(".counted")]
             expect("backup: what is left", left,
                    [name for name in before if not name.endswith(".counted")])

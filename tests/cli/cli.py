@@ -97,7 +97,7 @@ def try_mistakes(program, _):
         done, left = run_unread(program, words_of(words))
         expect(words, (done.returncode, done.stdout, left), (2, b"", len(REQUEST)))
         if not done.stderr.startswith(b"error: ") or lines_of(why) not in done.stderr:
-            raise Wrong(f"{words}: it told {done.stderr.decode()}")
+            raise Wrong(f"{words}: standard error: {done.stderr.decode()}")
     return len(rows)
 
 
@@ -280,7 +280,7 @@ def try_name(program, folder):
 
 
 def try_terminals(program, folder):
-    """What is shown where a stream is a terminal."""
+    """What is shown if a stream is a terminal."""
     return terminals.try_terminals(program, lambda: new_place(program, folder))
 
 

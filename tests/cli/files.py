@@ -15,7 +15,7 @@ RELEASE = [
     ("service v1 setWeight:20 pause background:errs", "[web Healthy 2 100]"),
     ("start v2", "[web Paused 1 20]"),
 ]
-# Measurements, each with its phase: the last row tells a failure in quotes.
+# Measurements, each with its phase: the last row has a failure in quotes.
 ROWS = [
     (b"agent,1,web,1,m,1,%d,5,\n" % B, "Successful"),
     (b"agent,2,web,1,m,2,%d,[1;-2],\n" % (B + 60), "Successful"),
@@ -63,15 +63,16 @@ def want_imported(program, book, row):
 
 
 def lines_of(count):
-    """The lines of the rows that are whole in the first bytes of the file, up to the end of each."""
+    """The lines of the rows that are whole in the first bytes of the file, up to the end of
+    each."""
     whole = FILE[:count].count(b"\n") - 1
     return b"".join(LINES[:max(whole, 0)])
 
 
 def import_until_reset(program, book, count):
-    """So many bytes of the file come, and then the input fails: what is whole is answered, and the
-    fault is told."""
-    row = f"an import whose input fails behind {count} bytes"
+    """So many bytes of the file come, and then the input fails: whole rows are answered, and the
+    fault is printed."""
+    row = f"an import whose input fails after {count} bytes"
     want = lines_of(count)
     client, ours = connection()
     running = subprocess.Popen([program, "import", "--db", book, "-"], stdin=ours,
@@ -98,8 +99,8 @@ def try_failing_imports(program, folder):
 
 
 def written_to_full(program, words, output, most, given=None):
-    """What words come to whose output is full behind so many bytes: what it wrote, its exit status
-    and what it told."""
+    """What words come to whose output is full after so many bytes: the output, the exit status and
+    the standard error."""
     with open(output, "w+b") as written:
         written.seek(FAR - most)
         done = subprocess.run([program, *words], input=given, stdout=written,
@@ -111,7 +112,7 @@ def written_to_full(program, words, output, most, given=None):
 
 def try_full_outputs(program, folder):
     """A part of the lines of an import, and of the file of an export, goes out to an output that is
-    full behind so many bytes."""
+    full after so many bytes."""
     book, other = begun(program, folder), os.path.join(folder, "importing")
     output = os.path.join(folder, "output")
     lines = b"".join(LINES)

@@ -1,6 +1,6 @@
-"""Streams that are sent to `pipe` piece by piece, that end at any byte, over connections that break,
-and to outputs that are slow, full or closed: parts of cli.py, each of which returns how many rows it
-had."""
+"""Streams that are sent to `pipe` piece by piece, that end at any byte, over connections that
+break, and to outputs that are slow, full or closed: parts of cli.py, each of which returns how many
+rows it had."""
 import fcntl
 import os
 import re
@@ -46,8 +46,8 @@ def joined(messages):
 
 
 def whole_in(messages, count):
-    """The replies to the messages that are whole in the first so many bytes, and where the last of
-    these ends."""
+    """The replies to the messages that are whole in the first so many bytes, and the place at which
+    the last of these ends."""
     want, end = b"", 0
     for sent, told in messages:
         if end + len(sent) > count:
@@ -63,7 +63,7 @@ def begin(program, **more):
 
 
 def read_some(source, count, seconds=20):
-    """So many bytes of this descriptor; fewer where it ends, or gives none for some seconds."""
+    """So many bytes of this descriptor; fewer if it ends, or gives none for some seconds."""
     found = b""
     while len(found) < count and select.select([source], [], [], seconds)[0]:
         some = os.read(source, count - len(found))
@@ -84,7 +84,7 @@ def wait_until_taken(pipe):
 
 
 def want_end(row, running, status=0, errors=b"", rest=b""):
-    """It writes this rest, tells this, and ends so."""
+    """It writes this rest, these errors, and ends with this status."""
     try:
         written, told = running.communicate(timeout=30)
     except subprocess.TimeoutExpired:
@@ -94,7 +94,7 @@ def want_end(row, running, status=0, errors=b"", rest=b""):
 
 
 def try_turns(program, _):
-    """The reply to a message comes before anything behind the message is sent."""
+    """The reply to a message comes before anything after the message is sent."""
     conversations = ([NOWHERE] * 3, release())
     for messages in conversations:
         running = begin(program)
@@ -118,7 +118,7 @@ def tell_pieces(program, row, stream, pieces, want):
 
 
 def try_pieces(program, _):
-    """A stream is answered alike in whatever pieces it comes."""
+    """The replies to a stream are the same in whatever pieces it comes."""
     stream, want = joined(release())
     rows = {
         "a byte at a time": [1] * len(stream),
@@ -135,18 +135,18 @@ def try_pieces(program, _):
 
 
 def try_cuts(program, _):
-    """A stream is answered alike wherever it is cut in two."""
+    """The replies to a stream are the same wherever it is cut in two."""
     stream, want = joined(release())
     for at in range(len(stream) + 1):
         pieces = [at, len(stream) - at]
-        tell_pieces(program, f"cut in two behind {at} bytes", stream, pieces, want)
+        tell_pieces(program, f"cut in two after {at} bytes", stream, pieces, want)
     return len(stream) + 1
 
 
-def ends_behind(rest):
-    """How a stream may end whose input ends with these bytes behind the last whole message: the
-    bytes of a last reply, the exit status, and what is told. The rules leave it open whether what
-    ends inside a request's target is cut off or malformed."""
+def ends_after(rest):
+    """How a stream may end whose input ends with these bytes after the last whole message: the
+    bytes of a last reply, the exit status, and the standard error. The rules leave it open whether
+    what ends inside a request's target is cut off or malformed."""
     if not rest.strip(b"\r\n"):
         return [(b"", 0, b"")]
     ends = [(b"", 1, b"canary: truncated\n")]
@@ -162,13 +162,13 @@ def tell_until_end(program, messages, count):
     done = subprocess.run([program, *STILL_AT_B], input=stream[:count], capture_output=True,
                           timeout=60)
     found = (done.stdout, done.returncode, done.stderr)
-    ends = [(want + last, status, told) for last, status, told in ends_behind(stream[end:count])]
+    ends = [(want + last, status, told) for last, status, told in ends_after(stream[end:count])]
     if found not in ends:
         raise Wrong(f"an input of {count} bytes\n  wanted one of {ends!r}\n  and got {found!r}")
 
 
 def try_ended_inputs(program, _):
-    """The input ends behind each so many bytes of a stream."""
+    """The input ends after each so many bytes of a stream."""
     messages = story()
     counts = range(len(joined(messages)[0]) + 1)
     for count in counts:
@@ -177,7 +177,8 @@ def try_ended_inputs(program, _):
 
 
 def long_history():
-    """Messages behind which the history of web is asked for, with a reply of some 100,000 bytes."""
+    """Messages after which the history of web has some 100,000 bytes, a query for it, and its
+    reply."""
     steps = [f"step {at} setWeight 20" for at in range(64)]
     asked, lines = [put("ops", 1, command("service v0 64*setWeight:20"))], ["created v0"]
     for number in range(1, 41):
@@ -228,7 +229,7 @@ def read_slowly(source, running):
 
 def answer_in(program, book, stream, output, most):
     """Answers the stream over a book in a file, with so many bytes of the output. What it wrote,
-    its exit status and what it told."""
+    its exit status and its standard error."""
     with open(output, "w+b") as written:
         written.seek(FAR - most)
         done = subprocess.run([program, *AT_B, "--db", book], input=stream, stdout=written,
@@ -239,8 +240,8 @@ def answer_in(program, book, stream, output, most):
 
 
 def try_cut_outputs(program, folder):
-    """A part of the replies goes out to an output that is full behind so many bytes; and the stream
-    sent again is answered as if it came once."""
+    """A part of the replies goes out to an output that is full after so many bytes; and the stream
+    sent again gets its replies as if it came once."""
     stream, want = joined(release()[:4])
     output = os.path.join(folder, "output")
     counts = [*range(0, len(want), 97), len(want) - 1, len(want)]
@@ -255,7 +256,7 @@ def try_cut_outputs(program, folder):
 
 
 def try_closed_output(program, _):
-    """The reader of the replies goes away behind the first."""
+    """The reader of the replies goes away after the first."""
     running = begin(program)
     running.stdin.write(NOWHERE[0])
     expect("the first reply", read_some(running.stdout.fileno(), len(NOWHERE[1])), NOWHERE[1])
@@ -280,9 +281,9 @@ def reset(client):
 
 
 def tell_until_reset(program, messages, count):
-    """So many bytes of the messages come, and then the input fails: what is whole is answered, and
-    the fault is told."""
-    row = f"a connection that fails behind {count} bytes"
+    """So many bytes of the messages come, and then the input fails: whole messages are answered,
+    and the fault is printed."""
+    row = f"a connection that fails after {count} bytes"
     stream, _ = joined(messages)
     want, _ = whole_in(messages, count)
     client, ours = connection()

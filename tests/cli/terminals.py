@@ -68,8 +68,7 @@ def counts(row, shown, line):
 
 
 def judged(row, shown):
-    """What is shown behind the judging of the desk's rows: each receipt, then service by service.
-    """
+    """What is shown after the judging of the desk's rows: each receipt, then service by service."""
     end = shown.find(ERASED) + len(ERASED)
     found = counts(row, shown[:end], rb"canary: (\d+) of %d rows judged" % DESK_ROWS)
     expect(f"{row}: rows judged", (found[:5], found[-1]), ([1, 2, 3, 4, 5], DESK_ROWS))
@@ -78,7 +77,7 @@ def judged(row, shown):
 
 
 def try_judging(program, place):
-    """The judging of a desk's rows is shown, and what is written is as where it is not."""
+    """The judging of a desk's rows is shown, and the output is as if it were not."""
     rows = (["history", "--db", "desk.db", "web"], ["status", "--db", "desk.db"],
             ["export", "--db", "desk.db", "--caller", "agent", "web"])
     for words in rows:
@@ -91,7 +90,7 @@ def try_judging(program, place):
 
 
 def try_reading(program, place):
-    """How much of a measurement file is read: of so many megabytes, where that is known. Its two
+    """How much of a measurement file is read: of so many megabytes, if that is known. Its two
     rows are too long for any, and refused."""
     content = HEADER + 2 * (b"x" * 1_200_000 + b"\n")
     with open(os.path.join(place, "long.csv"), "wb") as file:
@@ -115,9 +114,9 @@ def try_reading(program, place):
 
 
 def try_missing(program, place):
-    """A name under which there is no file. `import`, `history` and `export` make the file, and say so
-    on a terminal alone; `pipe` makes it and does not; `status` and `backup` make nothing. Nothing is
-    shown of the rows of a new desk, which has none."""
+    """A name under which there is no file. `import`, `history` and `export` make the file, and say
+    so on a terminal alone; `pipe` makes it and does not; `status` and `backup` make nothing.
+    Nothing is shown of the rows of a new desk, which has none."""
     new = ["--db", "new.db"]
     unknown, missing = b"canary: unknown-service\n", b"canary: file\n"
     nothing_read = b"\rcanary: 0 of 0 MB read" + ERASED
@@ -150,8 +149,8 @@ def try_missing(program, place):
 
 
 def try_watching(program, place):
-    """A terminal is erased before each drawing where it is drawn on again and again, and not where
-    it is drawn on once."""
+    """`status` erases a terminal before each drawing if it draws again and again, and not if it
+    draws once."""
     words = ["status", "--db", "desk.db"]
     plain = subprocess.run([program, *words], cwd=place, stdin=subprocess.DEVNULL, timeout=60,
                            capture_output=True).stdout

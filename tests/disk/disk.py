@@ -8,7 +8,7 @@ import sqlite3
 import sys
 
 from disk_story import (
-    REFUSED, Desk, Well, copy, fail, history, remove, size, tell_behind, tell_failing, tell_whole,
+    REFUSED, Desk, Well, copy, fail, history, remove, size, tell_after, tell_failing, tell_whole,
     told_by, went_on,
 )
 from power_cuts import try_power_cuts
@@ -33,7 +33,7 @@ def try_full_disk(program, folder):
             if not went_on(desk, counts):
                 fail(f"{row}: once there is room, the reply to message {min(counts) + 1} is 503")
         desk.want_end()
-        tell_behind(program, file, row, well, counts)
+        tell_after(program, file, row, well, counts)
     if tried == 0:
         fail("no message met a full disk")
     print(f"disk: full at {tried} places, and in each the desk went on once there was room",
@@ -71,7 +71,7 @@ def fail_calls(program, folder, well, row, failing):
     desk.want_end()
     if desk.failed_calls() == 0:
         fail(f"{row}: it was not made")
-    settled = tell_behind(program, file, row, well, counts)
+    settled = tell_after(program, file, row, well, counts)
     return REFUSED in desk.replies, went_on(desk, counts), settled > min(counts)
 
 

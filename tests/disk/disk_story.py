@@ -16,7 +16,7 @@ REFUSED = answer("503 storage")
 # How long a program may take for a reply, or to end.
 SECONDS = 60
 MESSAGES = messages_of_story()
-# They change nothing: a number far ahead of each caller's turn tells its next one.
+# They change nothing: a number far ahead of each caller's turn gets its next one.
 QUESTIONS = [put(caller, 1_000_000_000, command("tick")) for caller in CALLERS]
 QUESTIONS.append(get(query("history web")))
 
@@ -27,7 +27,7 @@ def fail(text):
 
 @contextmanager
 def in_time(row, process):
-    """Where this takes too long the process is killed, and those that it started, and it fails."""
+    """If this takes too long, kills the process and those that it started, and fails."""
     def is_late(*_):
         os.killpg(process.pid, signal.SIGKILL)
         fail(f"{row}: the desk neither answers nor ends within {SECONDS} seconds")
@@ -53,7 +53,7 @@ class Desk:
             preexec_fn=first, start_new_session=True)
 
     def ask(self, message):
-        """The bytes of its reply; none where it has ended."""
+        """The bytes of its reply; none if it has ended."""
         with in_time(self.row, self.process):
             self.replies.append(reply_of(self.process, message))
         return self.replies[-1]
@@ -70,23 +70,23 @@ class Desk:
         with open(self.log) as told:
             return told.read().count("(INJECTED)")
 
-    def want(self, at, where):
-        """This message of the story is answered as it has to be."""
+    def want(self, at, when):
+        """The desk answers this message of the story as it must."""
         message, wanted = MESSAGES[at]
         found = self.ask(message)
         if found != wanted:
-            fail(f"{self.row}: {where} message {at + 1} is answered {found}")
+            fail(f"{self.row}: {when} the reply to message {at + 1} is {found}")
 
     def want_end(self):
-        """It is done; or it says that the file failed, where the last message got no reply or 503,
-        or where a call failed as the file was closed."""
+        """It is done; or it says that the file failed, if the last message got no reply or 503, or
+        if a call failed as the file was closed."""
         failed, last = self.failed_calls(), self.replies[-1]
         with in_time(self.row, self.process):
             told = self.process.communicate()[1].decode()
         is_done = last not in (b"", REFUSED) and self.failed_calls() == failed
         found, wanted = (self.process.returncode, told), (1, "canary: storage\n")
         if found != ((0, "") if is_done else wanted):
-            fail(f"{self.row}: it ended with {found}, behind {len(self.replies)} replies, the last"
+            fail(f"{self.row}: it ended with {found}, after {len(self.replies)} replies, the last"
                  f" of which is {last}")
 
 
@@ -108,7 +108,7 @@ def size(file):
 
 
 def told_by(row, *words, first=None):
-    """The exit status of a program, what it wrote, and what it told."""
+    """The exit status of a program, its standard output and its standard error."""
     try:
         done = subprocess.run(words, capture_output=True, preexec_fn=first, timeout=SECONDS)
     except subprocess.TimeoutExpired:
@@ -121,18 +121,18 @@ def history(program, file, row):
 
 
 def standing(desk):
-    """What it tells of what is settled."""
+    """Its replies to the questions, which depend on what is settled."""
     return [desk.ask(question) for question in QUESTIONS]
 
 
 def next_number(caller, count):
-    """What tells a caller's next number where so many messages of the story are settled."""
+    """The reply with a caller's next number when so many messages of the story are settled."""
     settled = sum(told.startswith(f"{caller} ") for told, _ in STORY[:count])
     return answer(f'409 {{"code":"ahead","expected":{settled + 1}}}')
 
 
 class Well:
-    """What the story comes to on a disk that is well: how the desk stands where so many messages
+    """What the story comes to on a disk that is well: how the desk stands when so many messages
     are settled, how long its files become, and the history."""
 
     def __init__(self, program, file):
@@ -144,53 +144,53 @@ class Well:
             self.standings.append(standing(desk))
         for count, (*numbers, _) in enumerate(self.standings):
             if numbers != [next_number(caller, count) for caller in CALLERS]:
-                fail(f"a well disk: behind {count} messages the next numbers are {numbers}")
+                fail(f"a well disk: after {count} messages the next numbers are {numbers}")
         self.most = max(size(file), size(file + "-wal"))
         desk.want_end()
         self.history = history(program, file, desk.row)
 
 
 def tell_whole(desk):
-    """Tells the whole story on a disk that is well: each answer is as it has to be."""
+    """Tells the whole story on a disk that is well: each reply is as it must be."""
     for at in range(len(MESSAGES)):
         desk.want(at, "on a well disk")
     desk.want_end()
 
 
 def tell_until_fault(desk, first=0):
-    """Tells the story from this message on until one is answered 503, or the desk has ended and has
-    answered nothing. The message that was not answered, and whether it was answered 503."""
+    """Tells the story from this message on until one gets 503, or the desk has ended and answers
+    nothing. Returns the message that did not get its reply, and whether it got 503."""
     for at in range(first, len(MESSAGES)):
         message, wanted = MESSAGES[at]
         found = desk.ask(message)
         if found == REFUSED or desk.replies == [b""]:
             return at, found == REFUSED
         if found != wanted:
-            fail(f"{desk.row}: message {at + 1} is answered {found}")
+            fail(f"{desk.row}: the reply to message {at + 1} is {found}")
     return len(MESSAGES), False
 
 
-def standing_behind_503(desk, wanted):
-    """What is told behind a 503: that its message did nothing, or 503 again."""
+def standing_after_503(desk, wanted):
+    """The replies after a 503: they say that its message did nothing, or are 503 again."""
     found = standing(desk)
     if any(reply not in (REFUSED, told) for reply, told in zip(found, wanted)):
-        fail(f"{desk.row}: behind a reply 503 the questions are answered {found}")
+        fail(f"{desk.row}: after a 503 the replies to the questions are {found}")
     return found
 
 
 def tell_failing(desk, well, is_full=False):
-    """Tells the story while the disk fails, and goes on behind the first 503; a disk that was full
-    has room then. How many messages may be settled: those that were answered, and one more where
-    it ends with 503 alone, as where the book was given up."""
+    """Tells the story while the disk fails, and goes on after the first 503; a disk that was full
+    has room then. Returns how many messages may be settled: those that were answered, and one more
+    if the desk gives up the book, and so ends with 503 alone."""
     at, is_refused = tell_until_fault(desk)
     if is_refused:
         if is_full:
             desk.lift()
-        standing_behind_503(desk, well.standings[at])
+        standing_after_503(desk, well.standings[at])
         at, is_refused = tell_until_fault(desk, at)
     if not is_refused:
         return [at]
-    found = standing_behind_503(desk, well.standings[at])
+    found = standing_after_503(desk, well.standings[at])
     is_given_up = all(reply == REFUSED for reply in found)
     return [at, at + 1] if is_given_up else [at]
 
@@ -200,16 +200,16 @@ def went_on(desk, counts):
     return REFUSED in desk.replies and counts == [len(MESSAGES)]
 
 
-def tell_behind(program, file, row, well, counts):
-    """Behind the fault the disk is well: what was answered is there, with its reply, and the rest
-    can be sent again. How many messages were settled, which is one of these counts."""
+def tell_after(program, file, row, well, counts):
+    """After the fault the disk is well: what was answered is there, with its reply, and the rest
+    can be sent again. Returns how many messages were settled, which is one of these counts."""
     desk = Desk(program, file, row)
     for at in reversed(range(min(counts))):
-        desk.want(at, "sent again behind the fault, from the last one back,")
+        desk.want(at, "sent again after the fault, from the last one back,")
     found = standing(desk)
     settled = [count for count in counts if well.standings[count] == found]
     if not settled:
-        fail(f"{row}: where {counts} messages may be settled the questions are answered {found}")
+        fail(f"{row}: {counts} messages may be settled, and the replies are {found}")
     tell_whole(desk)
     lines = history(program, file, row)
     if lines != well.history:

@@ -1,13 +1,13 @@
-"""Power cuts: what the disk may hold when the power fails, at each call that changes a desk's file or
-its log. What was synced is there; of what was written since, all, nothing, or any part. A part of
-disk.py."""
+"""Power cuts: what the disk may hold when the power fails, at each call that changes a desk's file
+or its log. What was synced is there; of what was written since, all, nothing, or any part. A part
+of disk.py."""
 import os
 import random
 import re
 import sys
 
 from disk_story import (
-    MESSAGES, Desk, Well, fail, remove, standing, tell_behind, tell_whole,
+    MESSAGES, Desk, Well, fail, remove, standing, tell_after, tell_whole,
 )
 
 # A disk writes a sector of so many bytes whole, or not at all.
@@ -30,7 +30,7 @@ class File:
         self.synced, self.changes = self.with_changes(self.changes), []
 
     def with_changes(self, changes):
-        """Its bytes with these changes; none where there is no such file."""
+        """Its bytes with these changes; none if there is no such file."""
         if self.synced is None and not changes:
             return None
         found = bytearray(self.synced or b"")
@@ -119,7 +119,7 @@ def trace_story(program, file, log):
 
 
 def settled_at(told):
-    """How many messages may be settled where so many bytes of replies went out: those that are
+    """How many messages may be settled when so many bytes of replies went out: those that are
     answered, and the next one."""
     answered = 0
     while answered < len(MESSAGES) and told >= len(MESSAGES[answered][1]):
@@ -142,8 +142,8 @@ def try_image(program, file, row, well, counts):
     found = standing(desk)
     desk.want_end()
     if found not in [well.standings[count] for count in counts]:
-        fail(f"{row}: where {counts} messages may be settled the questions are answered {found}")
-    tell_behind(program, file, row, well, counts)
+        fail(f"{row}: {counts} messages may be settled, and the replies are {found}")
+    tell_after(program, file, row, well, counts)
 
 
 def try_power_cuts(program, folder):

@@ -1,5 +1,5 @@
-"""Checks the documents: documents.py ROOT. It prints each fault as FILE:LINE: WHAT, and its status is
-1 if there are any.
+"""Checks the documents: documents.py ROOT. It prints each fault as FILE:LINE: WHAT, and its status
+is 1 if there are any.
 
 - each relative link of a document leads to a file, and its anchor to a heading
 - each path of this repository in backquotes or in a block of code exists, and so does each that a

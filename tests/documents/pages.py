@@ -12,7 +12,8 @@ CELL_END = re.compile(r"(?<!\\)\|")
 
 
 def split_fences(text):
-    """The text without its fenced blocks, and the blocks alone; what is not there is empty lines."""
+    """The text without its fenced blocks, and the blocks alone; what is not there is empty
+    lines."""
     prose, fenced, fence = [], [], None
     for line in text.split("\n"):
         mark = FENCE.match(line)

@@ -1,6 +1,6 @@
-# Books in files: `source` it after functions.sh and sockets.sh, and call `find_program`. `work` is to
-# be a folder that the caller removes; `at` and `step` are the moment of the first message and the
-# seconds from one to the next.
+# Books in files: `source` it after functions.sh and sockets.sh, and call `find_program`. `work` is
+# to be a folder that the caller removes; `at` and `step` are the moment of the first message and
+# the seconds from one to the next.
 
 # Answers standard input over the file $1, from the moment $2 on.
 serve_file() {

@@ -1,4 +1,5 @@
-"""A conversation with a program over its standard streams, on a clock that begins at the moment B."""
+"""A conversation with a program over its standard streams, on a clock that begins at the moment
+B."""
 import resource
 import signal
 

@@ -65,7 +65,7 @@ def get(path):
 
 
 def reply(status, body, fields=""):
-    """The bytes of a reply, with these header lines behind its length."""
+    """The bytes of a reply, with these header lines after its length."""
     head = f"HTTP/1.1 {status}\r\nContent-Type: application/json\r\nContent-Length: {len(body)}\r\n"
     return f"{head}{fields}\r\n".encode() + body
 
@@ -152,7 +152,7 @@ def entry(word):
 
 def command(asked, web="web"):
     """The body of the command that a compact text asks for, on the service that `on NAME` in front
-    of it names, or else on that one."""
+    of it names, or on that one."""
     if asked.startswith("on "):
         _, web, asked = asked.split(" ", 2)
     kind, *words = asked.split(" ")
@@ -189,7 +189,7 @@ def event(asked):
 
 
 def body(told):
-    """The body that an answer tells, in short or to the byte, as tests/stories/README.md says."""
+    """The body of an answer, which is short or to the byte, as tests/stories/README.md says."""
     if told.startswith("{"):
         return told.encode()
     if not told.startswith("["):
@@ -208,7 +208,7 @@ def body(told):
 
 
 def answer(told):
-    """The bytes that answer a row: its status, 200 where none stands, and its body."""
+    """The bytes that answer a row: its status, 200 if it has none, and its body."""
     status = 200
     if told[0] not in "[{":
         status, told = told.split(" ", 1)

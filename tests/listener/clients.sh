@@ -1,5 +1,5 @@
-# What the rows of tests/listener/run say of a desk that listens and of its clients: `source` it after
-# functions.sh and sockets.sh. `work` is the folder of a row, and `desk_program` the program.
+# What the rows of tests/listener/run say of a desk that listens and of its clients: `source` it
+# after functions.sh and sockets.sh. `work` is the folder of a row, and `desk_program` the program.
 
 nobody='{"promote":{"service":"nobody"}}'
 
@@ -94,8 +94,8 @@ want_end() {
     [ "$status" -ne 0 ] || miss "a byte of a reply in place of the end: ${byte@Q}"
     [ "$status" -le 128 ] || late "the connection is open after $3 seconds"
     local spent=$(($(now) - $4))
-    [ "$spent" -ge "$(($2 * 1000 - 300))" ] || miss "the desk let the client go after $spent ms already"
-    [ "$spent" -le "$(($3 * 1000))" ] || late "the desk let the client go only after $spent ms"
+    [ "$spent" -ge "$(($2 * 1000 - 300))" ] || miss "the client is let go after $spent ms already"
+    [ "$spent" -le "$(($3 * 1000))" ] || late "the client is let go after $spent ms only"
 }
 
 # A line of standard error is $1, within three seconds.
@@ -108,8 +108,8 @@ want_line() {
     late "no line '$1' on standard error"
 }
 
-# The clients of this row hang up, and the desk lets them go, within five seconds. Then it answers one
-# more, so it is done with the others: it has one thread.
+# The clients of this row hang up, and the desk lets them go, within five seconds. Then it answers
+# one more, so it is done with the others: it has one thread.
 leave() {
     local client tries
     for client in "${connections[@]}"; do
@@ -175,16 +175,16 @@ except socket.timeout:
     sys.exit(124)
 '
 
-# Such a client sends the file $1 and comes to its end, or the row ends by $2; `$work/replies` has its
-# replies.
+# Such a client sends the file $1 and comes to its end, or the row ends by $2; `$work/replies` has
+# its replies.
 half_close() {
     local status=0
     timeout 15 python3 -c "$half_closing" "$port" < "$1" > "$work/replies" || status=$?
     want_done "$status" "$2"
 }
 
-# A client with small buffers that sends standard input, and reads nothing until the file of its last
-# word is there.
+# A client with small buffers that sends standard input, and reads nothing until the file of its
+# last word is there.
 deaf='
 import os, socket, sys, threading, time
 def send():

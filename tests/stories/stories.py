@@ -64,7 +64,7 @@ class Program:
         return ran.stdout
 
     def fault(self, words, stream):
-        """What the program tells on standard error as it ends with status 1 and writes nothing."""
+        """The standard error of the program, which ends with status 1 and writes nothing."""
         ran = subprocess.run([self.path, *words], input=stream, capture_output=True, timeout=60)
         if ran.returncode != 1 or ran.stdout:
             raise Wrong(f"{words}: status {ran.returncode}: {ran.stdout.decode()}")
@@ -74,7 +74,7 @@ class Program:
         return self.run(["pipe", "--at", str(at), "--step", str(step), *book], stream, status)
 
     def in_memory(self, events):
-        """The replies to events at their moments by a book in memory; nothing where no clock of one
+        """The replies to events at their moments by a book in memory; nothing if no clock of one
         step has these moments."""
         first, rest = run_of_moments(events)
         if rest:
@@ -87,7 +87,7 @@ class Program:
         return os.path.join(self.folder, f"book{next(self.files)}")
 
     def in_file(self, events, file):
-        """The replies by a book in a file, which is opened anew where the pauses change."""
+        """The replies by a book in a file, which is opened anew when the pauses change."""
         found, rest = [], events
         while rest:
             first, rest = run_of_moments(rest)
@@ -200,8 +200,8 @@ def told_phases(program, rows):
 
 
 def told_stops(program, rows):
-    """Texts that are no condition, each with the byte where `canary check` says that it stops being
-    one, and what it expects there."""
+    """Texts that are not conditions, each with the byte at which, as `canary check` says, it stops
+    being one, and what is expected there."""
     file = os.path.join(program.folder, "manifest")
     for row in rows:
         text, told = row.split(" => ")
@@ -217,7 +217,8 @@ def told_stops(program, rows):
 
 
 def told_conditions(program, block):
-    """Conditions: which there are, where other texts stop being one, and the phases of results."""
+    """Conditions: valid ones, the places at which other texts stop being one, and the phases of
+    results."""
     head, *rows = block
     if head == "phases":
         return told_phases(program, rows)
@@ -265,7 +266,7 @@ class Streams:
 
 
 def between(head):
-    """What stands before and behind the texts of a block."""
+    """What stands before and after the texts of a block."""
     return head.removeprefix("between ").split("...", 1) if head != "between ..." else ("", "")
 
 
@@ -290,7 +291,7 @@ def told_bodies(program, block):
 
 
 def told_pairs(program, rows):
-    """Two bodies under one number: the second is answered as the first was where they are one."""
+    """Two bodies under one number: the second gets the reply of the first if they are one."""
     for row in rows:
         one, other = row.split(" = ")
         asked = [put("ops", 1, text.encode()) for text in (one, other)]
