@@ -1,0 +1,306 @@
+"""Runs a program with one allocation refused, and once more for each further one, until a run meets
+no refusal: refused.py PROGRAM FOLDER LIBRARY STEP [CASE..]. LIBRARY is made of refusing.c. Of the
+allocations of a desk on a file each STEP-th is refused. The comment at the top of
+tests/allocations/run says what has to come of it."""
+import os
+import shutil
+import subprocess
+import sys
+
+from conversation import STILL_AT_B, reply_of
+from story_words import Wrong, answer, expect, get, messages_of_story, query
+
+ROOT = os.path.join(os.path.dirname(os.path.realpath(__file__)), "../..")
+MANIFESTS = ("rollouts/step-analysis.json", "templates/success-rate.json")
+MISTAKE = b"error: unexpected argument '-5' found"
+OUT_OF_MEMORY = b"canary: memory"
+NO_MEMORY = answer("503 no-memory")
+QUERIES = [get(query(asked)) for asked in ("service web", "history web", "run web 1")]
+
+# A release of web that waits at a pause, and a measurement file of its run.
+BEGUN = messages_of_story()[:3]
+ROWS = b"""caller,number,service,run,metric,ordinal,taken,result,failure
+agent,1,web,1,m,1,1767225600,5,
+agent,2,web,1,m,3,1767225660,5,
+agent,3,web,1,m,2,1767225660,,timeout
+agent
+agent,4,web,1,m,3,1767225720,[1;2],
+"""
+REPORTED = (b'200 {"code":"ok","phases":["%s"],"run":1,"service":"web","status":"Paused","step":1,'
+            b'"verdict":"Running","weight":20}')
+TOLD = [
+    REPORTED % b"Successful",
+    b'422 {"at":0,"code":"out-of-turn","expected":2}',
+    REPORTED % b"Error",
+    b'400 {"code":"unreadable"}',
+    REPORTED % b"Successful",
+]
+# The row of the file that is no request; those before it have the numbers of their requests.
+NO_REQUEST = 4
+AHEAD = b'409 {"code":"ahead","expected":%d}'
+EXPORTED = b"""caller,number,service,run,metric,ordinal,taken,result,failure
+copy,1,web,1,m,1,1767225600,5,
+copy,2,web,1,m,2,1767225660,,timeout
+copy,3,web,1,m,3,1767225720,[1;2],
+"""
+HISTORY = b"""2026-01-01T00:00:00Z created v1
+2026-01-01T00:00:00Z start v2
+2026-01-01T00:00:00Z background run 1
+2026-01-01T00:00:00Z step 0 setWeight 20
+2026-01-01T00:00:00Z step 1 pause
+"""
+STATUS = b"""NAME  STATUS  STEP  WEIGHT          VERSION  STABLE
+web   Paused  1/2   ##-------- 20%  v2       v1
+
+RUN  SERVICE  ANALYSIS    METRIC  PHASE    COUNTED  PASSES  DUE
+1    web      background  m       Running  2        -       2026-01-01T00:03:00Z
+"""
+
+
+class Trial:
+    """A program, the library that refuses one of its allocations, and the names of its files."""
+
+    def __init__(self, program, folder, library):
+        self.program, self.library, self.counted = program, library, library + ".counted"
+        self.file, self.begun = os.path.join(folder, "book"), os.path.join(folder, "begun")
+        self.rows, self.copy = os.path.join(folder, "rows"), os.path.join(folder, "copy")
+
+    def refusing(self, number):
+        """The environment of a process whose allocation of that number is refused."""
+        return {**os.environ, "LD_PRELOAD": self.library, "REFUSED": str(number),
+                "COUNTED": self.counted}
+
+    def asked(self):
+        """How many allocations the last such process asked for."""
+        with open(self.counted, encoding="utf-8") as told:
+            return int(told.read())
+
+    def run(self, words, number=0):
+        """What a command line comes to: its exit status, the output, and the first line of standard
+        error."""
+        done = subprocess.run([self.program, *words], capture_output=True, timeout=60,
+                              stdin=subprocess.DEVNULL, env=self.refusing(number))
+        return done.returncode, done.stdout, done.stderr.split(b"\n")[0]
+
+    def converse(self, words, messages, number=0):
+        """Tells messages one after another, of which one may be answered 503 and is sent again. The
+        replies, as far as they come, and how the program ends."""
+        process = subprocess.Popen(
+            [self.program, *words], stdin=subprocess.PIPE, stdout=subprocess.PIPE,
+            stderr=subprocess.PIPE, env=self.refusing(number))
+        replies, may_be_refused = [], number > 0
+        for message in messages:
+            found = reply_of(process, message)
+            if found == NO_MEMORY and may_be_refused:
+                may_be_refused = False
+                found = reply_of(process, message)
+            if found == b"":
+                break
+            replies.append(found)
+        output, errors = process.communicate(timeout=60)
+        return replies, (process.returncode, output, errors.split(b"\n")[0])
+
+
+def refuse_each(row, step, refuse):
+    """Each STEP-th allocation in turn, until a run asks for fewer."""
+    tried, number = 0, 1
+    while refuse(number) >= number:
+        tried += 1
+        number += step
+    if tried == 0:
+        raise Wrong(f"{row}: the program asks for no memory that could be refused")
+    print(f"refused: {row}: {tried} allocations", file=sys.stderr)
+
+
+def read(file):
+    with open(file, "rb") as found:
+        return found.read()
+
+
+def remove(file):
+    for name in (file, file + "-wal"):
+        if os.path.exists(name):
+            os.remove(name)
+
+
+def copy(file, to):
+    remove(to)
+    for suffix in ("", "-wal"):
+        if os.path.exists(file + suffix):
+            shutil.copyfile(file + suffix, to + suffix)
+
+
+def is_cut_short(found, wanted):
+    """Whether memory ran out after the first lines of what a command line has to write."""
+    status, output, told = found
+    is_part = wanted.startswith(output) and (output == b"" or output.endswith(b"\n"))
+    return is_part and (status, told) == (1, OUT_OF_MEMORY)
+
+
+def try_line(trial, row, words, wanted, step=1):
+    """A command line does as it must, or memory runs out on the way; and after that, with nothing
+    refused, it does as it must."""
+    def refuse(number):
+        found = trial.run(words, number)
+        asked = trial.asked()
+        if not is_cut_short(found, wanted[1]):
+            expect(f"{row}: when allocation {number} is refused", found, wanted)
+        expect(f"{row}: after a refusal of allocation {number}", trial.run(words), wanted)
+        return asked
+
+    refuse_each(row, step, refuse)
+
+
+def try_lines(trial, _):
+    """Command lines without a desk's file."""
+    with open(os.path.join(ROOT, "tests/cli/cases/help.stdout"), "rb") as shown:
+        try_line(trial, "help", ["--help"], (0, shown.read(), b""))
+    try_line(trial, "mistake", ["pipe", "--at", "-5", "--step", "1"], (2, b"", MISTAKE))
+    for name in MANIFESTS:
+        manifest = os.path.join(ROOT, "examples", name)
+        try_line(trial, f"check {name}", ["check", manifest], (0, b"ok\n", b""))
+
+
+def expect_told(row, found, wanted):
+    """A conversation goes as it has to, or ends for memory before its first reply."""
+    if found != ([], (1, b"", OUT_OF_MEMORY)):
+        expect(row, found, (wanted, (0, b"", b"")))
+
+
+def with_queries(trial):
+    """The story, with queries between its messages, and what each is answered."""
+    messages = messages_of_story()
+    asked = [message for sent, _ in messages for message in (sent, *QUERIES)]
+    replies, end = trial.converse(STILL_AT_B, asked)
+    expect("the story, with nothing refused", (replies[::1 + len(QUERIES)], end),
+           ([told for _, told in messages], (0, b"", b"")))
+    return asked, replies
+
+
+def try_stream(trial, _):
+    """The story over a book in memory."""
+    asked, wanted = with_queries(trial)
+
+    def refuse(number):
+        found = trial.converse(STILL_AT_B, asked, number)
+        expect_told(f"stream: when allocation {number} is refused", found, wanted)
+        return trial.asked()
+
+    refuse_each("a stream", 1, refuse)
+
+
+def try_file(trial, step):
+    """The story over a new file, and then once more, with nothing refused: each request has the
+    reply that it had, or gets it now."""
+    words = [*STILL_AT_B, "--db", trial.file]
+    requests, wanted = map(list, zip(*messages_of_story()))
+
+    def refuse(number):
+        remove(trial.file)
+        found = trial.converse(words, requests, number)
+        asked = trial.asked()
+        expect_told(f"file: when allocation {number} is refused", found, wanted)
+        found = trial.converse(words, requests)
+        expect_told(f"file: after a refusal of allocation {number}", found, wanted)
+        return asked
+
+    refuse_each("a stream over a file", step, refuse)
+
+
+def make_files(trial):
+    """The file of a desk with a release, and a measurement file of it."""
+    remove(trial.begun)
+    requests, wanted = map(list, zip(*BEGUN))
+    found = trial.converse([*STILL_AT_B, "--db", trial.begun], requests)
+    expect("a release", found, (wanted, (0, b"", b"")))
+    with open(trial.rows, "wb") as rows:
+        rows.write(ROWS)
+
+
+def lines_of(refused=None):
+    """The lines of an import, of which that row is answered 503: those after it are ahead then."""
+    lines = []
+    for number, told in enumerate(TOLD, 1):
+        if number == refused:
+            told = b'503 {"code":"no-memory"}'
+        elif refused is not None and refused < NO_REQUEST and number > refused:
+            told = told if number == NO_REQUEST else AHEAD % refused
+        lines.append(b"%d %s\n" % (number, told))
+    return b"".join(lines)
+
+
+def try_import(trial, step):
+    """A measurement file is imported: one row may be answered 503; and once more, with nothing
+    refused."""
+    make_files(trial)
+    words = ["import", "--db", trial.file, trial.rows]
+    may_be = [(0, lines_of(row), b"") for row in (None, 1, 2, 3, 4, 5)]
+
+    def refuse(number):
+        copy(trial.begun, trial.file)
+        found = trial.run(words, number)
+        asked = trial.asked()
+        if found not in may_be and not is_cut_short(found, lines_of()):
+            raise Wrong(f"import: when allocation {number} is refused: {found!r}")
+        expect(f"import: after a refusal of allocation {number}", trial.run(words), may_be[0])
+        return asked
+
+    refuse_each("an import", step, refuse)
+
+
+def try_shown(trial, step):
+    """What the programs show of the file of a desk with measurements."""
+    make_files(trial)
+    copy(trial.begun, trial.file)
+    expect("an import", trial.run(["import", "--db", trial.file, trial.rows]), (0, lines_of(), b""))
+    of_file = ["--db", trial.file]
+    for row, words, shown in (
+            ("export", ["export", *of_file, "--caller", "copy", "web"], EXPORTED),
+            ("history", ["history", *of_file, "web"], HISTORY),
+            ("status", ["status", *of_file], STATUS)):
+        try_line(trial, row, words, (0, shown, b""), step)
+
+
+def try_backup(trial, _):
+    """`backup` makes a copy of a desk's file, or leaves none."""
+    make_files(trial)
+    words = ["backup", "--db", trial.begun, trial.copy]
+    folder = os.path.dirname(trial.copy)
+
+    def refuse(number):
+        remove(trial.copy)
+        before = sorted(os.listdir(folder))
+        found = trial.run(words, number)
+        asked = trial.asked()
+        if found == (0, b"", b""):
+            for suffix in ("", "-wal"):
+                expect(f"backup: a copy{suffix}", read(trial.copy + suffix),
+                       read(trial.begun + suffix))
+        else:
+            expect(f"backup: when allocation {number} is refused", found, (1, b"", OUT_OF_MEMORY))
+            left = [name for name in sorted(os.listdir(folder)) if not name.endswith(".counted")]
+            expect("backup: what is left", left,
+                   [name for name in before if not name.endswith(".counted")])
+        return asked
+
+    refuse_each("backup", 1, refuse)
+
+
+CASES = (try_lines, try_stream, try_file, try_import, try_shown, try_backup)
+
+
+def main():
+    program, folder, library, step, *wanted = sys.argv[1:]
+    unknown = set(wanted) - {case.__name__ for case in CASES}
+    if unknown:
+        sys.exit(f"refused: unknown case: {' '.join(sorted(unknown))}")
+    trial = Trial(program, folder, library)
+    try:
+        for case in CASES:
+            if not wanted or case.__name__ in wanted:
+                case(trial, int(step))
+    except (Wrong, subprocess.TimeoutExpired) as fault:
+        sys.exit(f"refused: {fault}")
+
+
+main()

@@ -1,0 +1,177 @@
+"""What a program on a desk's file shows if a stream of it is a terminal: parts of cli.py, each of
+which returns how many rows it had."""
+import os
+import re
+import select
+import subprocess
+import time
+import tty
+
+from story_words import Wrong, expect
+
+ERASED = b"\r\x1b[K"
+CLEARED = b"\x1b[H\x1b[2J"
+# The rows of the desk that cli.py makes: five receipts; a run, its tally and its measurement;
+# five lines of web, one of them on the run, and one of help.
+DESK_ROWS = 14
+HEADER = b"caller,number,service,run,metric,ordinal,taken,result,failure\n"
+MADE = b"canary: made new.db, since there was no such file\n"
+
+
+def begin_on_terminal(program, words, place, stream, **streams):
+    """A process whose stream of this name is a terminal, and the descriptor that shows it."""
+    shown, terminal = os.openpty()
+    tty.setraw(terminal)
+    running = subprocess.Popen([program, *words], cwd=place, **{**streams, stream: terminal})
+    os.close(terminal)
+    return running, shown
+
+
+def read_terminal(shown, seconds, is_enough=lambda found: False):
+    """What the terminal showed until it is enough, or nobody writes to it any more."""
+    found, end = b"", time.monotonic() + seconds
+    while not is_enough(found) and select.select([shown], [], [], end - time.monotonic())[0]:
+        try:
+            some = os.read(shown, 65536)
+        except OSError:
+            break
+        if not some:
+            break
+        found += some
+    return found
+
+
+def run_showing(program, words, place, text=b"", status=0):
+    """What the words wrote, and what they showed on their error stream, a terminal."""
+    with open(os.path.join(place, "input"), "wb") as written:
+        written.write(text)
+    with open(os.path.join(place, "input"), "rb") as stdin, \
+            open(os.path.join(place, "output"), "w+b") as stdout:
+        running, shown = begin_on_terminal(program, words, place, "stderr", stdin=stdin,
+                                           stdout=stdout)
+        found = read_terminal(shown, 60)
+        os.close(shown)
+        expect(f"{words}: its status", running.wait(timeout=60), status)
+        stdout.seek(0)
+        return stdout.read(), found
+
+
+def counts(row, shown, line):
+    """The counts of one line that is written anew as it goes, and erased at the end."""
+    form = rb"(?:\r" + line + rb")+" + re.escape(ERASED)
+    if not re.fullmatch(form, shown):
+        raise Wrong(f"{row}: it showed {shown!r}")
+    found = [int(count) for count in re.findall(line, shown)]
+    if found != sorted(set(found)):
+        raise Wrong(f"{row}: it counted {found}")
+    return found
+
+
+def judged(row, shown):
+    """What is shown after the judging of the desk's rows: each receipt, then service by service."""
+    end = shown.find(ERASED) + len(ERASED)
+    found = counts(row, shown[:end], rb"canary: (\d+) of %d rows judged" % DESK_ROWS)
+    expect(f"{row}: rows judged", (found[:5], found[-1]), ([1, 2, 3, 4, 5], DESK_ROWS))
+    expect(f"{row}: services judged", len(found), 7)
+    return shown[end:]
+
+
+def try_judging(program, place):
+    """The judging of a desk's rows is shown, and the output is as if it were not."""
+    rows = (["history", "--db", "desk.db", "web"], ["status", "--db", "desk.db"],
+            ["export", "--db", "desk.db", "--caller", "agent", "web"])
+    for words in rows:
+        plain = subprocess.run([program, *words], cwd=place, stdin=subprocess.DEVNULL, timeout=60,
+                               capture_output=True)
+        expect(f"{words}: no terminal", (plain.returncode, plain.stderr), (0, b""))
+        written, shown = run_showing(program, words, place)
+        expect(words, (written, judged(words, shown)), (plain.stdout, b""))
+    return len(rows)
+
+
+def try_reading(program, place):
+    """How much of a measurement file is read: of so many megabytes, if that is known. Its two
+    rows are too long for any, and refused."""
+    content = HEADER + 2 * (b"x" * 1_200_000 + b"\n")
+    with open(os.path.join(place, "long.csv"), "wb") as file:
+        file.write(content)
+    refused = b'1 400 {"code":"unreadable"}\n2 400 {"code":"unreadable"}\n'
+    words = ["import", "--db", "desk.db", "long.csv"]
+    written, shown = run_showing(program, words, place)
+    expect(words, written, refused)
+    shown = judged(words, shown)
+    found = re.findall(rb"\rcanary: (\d) of 3 MB read", shown)
+    expect(f"{words}: it showed", b"".join(b"\rcanary: %s of 3 MB read" % count for count in found)
+           + ERASED, shown)
+    expect(f"{words}: megabytes", sorted(set(found)), [b"0", b"1", b"2"])
+    expect(f"{words}: their order", found, sorted(found))
+    words = ["import", "--db", "desk.db", "-"]
+    written, shown = run_showing(program, words, place, content)
+    expect(words, written, refused)
+    found = counts(words, judged(words, shown), rb"canary: (\d+) MB read")
+    expect(f"{words}: megabytes", found, [0, 1, 2])
+    return 2
+
+
+def try_missing(program, place):
+    """A name under which there is no file. `import`, `history` and `export` make the file, and say
+    so on a terminal alone; `pipe` makes it and does not; `status` and `backup` make nothing.
+    Nothing is shown of the rows of a new desk, which has none."""
+    new = ["--db", "new.db"]
+    unknown, missing = b"canary: unknown-service\n", b"canary: file\n"
+    nothing_read = b"\rcanary: 0 of 0 MB read" + ERASED
+    open(os.path.join(place, "no-rows.csv"), "wb").close()
+    rows = (
+        (["import", *new, "no-rows.csv"], 0, MADE + nothing_read, b""),
+        (["history", *new, "web"], 1, MADE + unknown, unknown),
+        (["export", *new, "--caller", "agent", "web"], 1, MADE + unknown, unknown),
+        (["pipe", "--at", "0", "--step", "0", *new], 0, b"", b""),
+        (["status", *new], 1, missing, missing),
+        (["backup", *new, "copy.db"], 1, missing, missing),
+    )
+    before = {*os.listdir(place), "input", "output"}
+    for words, status, on_terminal, elsewhere in rows:
+        written, shown = run_showing(program, words, place, status=status)
+        expect(f"{words}, on a terminal", (written, shown), (b"", on_terminal))
+        made = set(os.listdir(place)) - before
+        makes = missing not in elsewhere
+        expect(f"{words}: what is made", made, {"new.db", "new.db-wal"} & made if makes else set())
+        expect(f"{words}: whether the file is made", "new.db" in made, makes)
+        for name in made:
+            os.remove(os.path.join(place, name))
+        done = subprocess.run([program, *words], cwd=place, stdin=subprocess.DEVNULL, timeout=60,
+                              capture_output=True)
+        expect(f"{words}, on no terminal", (done.returncode, done.stdout, done.stderr),
+               (status, b"", elsewhere))
+        for name in set(os.listdir(place)) - before:
+            os.remove(os.path.join(place, name))
+    return len(rows)
+
+
+def try_watching(program, place):
+    """`status` erases a terminal before each drawing if it draws again and again, and not if it
+    draws once."""
+    words = ["status", "--db", "desk.db"]
+    plain = subprocess.run([program, *words], cwd=place, stdin=subprocess.DEVNULL, timeout=60,
+                           capture_output=True).stdout
+    running, shown = begin_on_terminal(program, words, place, "stdout", stdin=subprocess.DEVNULL,
+                                       stderr=subprocess.PIPE)
+    once = read_terminal(shown, 60)
+    os.close(shown)
+    expect(words, (once, running.stderr.read(), running.wait()), (plain, b"", 0))
+    words = [*words, "--watch", "1"]
+    running, shown = begin_on_terminal(program, words, place, "stdout", stdin=subprocess.DEVNULL,
+                                       stderr=subprocess.PIPE)
+    wanted = 2 * (CLEARED + plain)
+    found = read_terminal(shown, 60, lambda found: len(found) >= len(wanted))
+    running.kill()
+    os.close(shown)
+    told = running.communicate()[1]
+    expect(words, (found[:len(wanted)], told), (wanted, b""))
+    return 2
+
+
+def try_terminals(program, new_place):
+    """Each of these in a new folder with a desk's file."""
+    parts = (try_judging, try_reading, try_missing, try_watching)
+    return sum(part(program, new_place()) for part in parts)

@@ -1,0 +1,196 @@
+"""Sends the program a story over files whose disk fails: disk.py PROGRAM FOLDER [PART..]. What was
+answered is kept, what was not is as if it had not been sent, and the program goes on, or says that
+it does not. The comment at the top of tests/disk/run says what is tried."""
+import os
+import re
+import shutil
+import sqlite3
+import sys
+
+from disk_story import (
+    REFUSED, Desk, Well, copy, fail, history, remove, size, tell_after, tell_failing, tell_whole,
+    told_by, went_on,
+)
+from power_cuts import try_power_cuts
+
+NOBODY = 65534
+# The calls that read, write or sync a file.
+CALLS = ("pread64", "pwrite64", "fsync", "fdatasync", "ftruncate")
+
+
+def try_full_disk(program, folder):
+    """A disk that takes so many bytes of a file, in steps up to what the story needs."""
+    file = os.path.join(folder, "full")
+    well = Well(program, file)
+    tried = 0
+    for limit in range(0, well.most + 4096, 4096):
+        row = f"a disk of {limit} bytes"
+        remove(file)
+        desk = Desk(program, file, row, most=limit)
+        counts = tell_failing(desk, well, is_full=True)
+        if REFUSED in desk.replies:
+            tried += 1
+            if not went_on(desk, counts):
+                fail(f"{row}: once there is room, the reply to message {min(counts) + 1} is 503")
+        desk.want_end()
+        tell_after(program, file, row, well, counts)
+    if tried == 0:
+        fail("no message met a full disk")
+    print(f"disk: full at {tried} places, and in each the desk went on once there was room",
+          file=sys.stderr)
+
+
+def under_strace(file, log, failing=()):
+    """The words that go before those of a program, so that strace writes its calls on a file to a
+    log. strace counts the calls of each name alone: of those named here, the counted ones fail."""
+    words = ["strace", "-f", "-o", log, "-P", file, "-P", file + "-wal",
+             "-e", "trace=" + ",".join(CALLS)]
+    for call, when in failing:
+        words += ["-e", f"inject={call}:error=EIO:when={when}"]
+    return words
+
+
+def calls_of_story(program, folder):
+    """The names of the calls that the story needs, one after another."""
+    file, log = os.path.join(folder, "traced"), os.path.join(folder, "calls")
+    tell_whole(Desk(program, file, "a traced desk", front=under_strace(file, log)))
+    with open(log) as told:
+        names = re.findall(r"^\d+ +(\w+)\(", told.read(), re.MULTILINE)
+    if not names:
+        fail("the story needs no calls")
+    return names
+
+
+def fail_calls(program, folder, well, row, failing):
+    """Tells the story while such calls fail. Returns whether the desk answered 503, whether it went
+    on, and whether it had settled what it answered 503 to the end."""
+    file, log = os.path.join(folder, "failing"), os.path.join(folder, "calls")
+    remove(file)
+    desk = Desk(program, file, row, front=under_strace(file, log, failing), log=log)
+    counts = tell_failing(desk, well)
+    desk.want_end()
+    if desk.failed_calls() == 0:
+        fail(f"{row}: it was not made")
+    settled = tell_after(program, file, row, well, counts)
+    return REFUSED in desk.replies, went_on(desk, counts), settled > min(counts)
+
+
+def try_failing_calls(program, folder):
+    """Each call in turn that reads, writes or syncs a file fails, alone, and with all after it."""
+    well = Well(program, os.path.join(folder, "failing"))
+    names = calls_of_story(program, folder)
+    alone = [[(name, names[:at + 1].count(name))] for at, name in enumerate(names)]
+    after = [[(call, f"{names[:at].count(call) + 1}+") for call in CALLS]
+             for at in range(len(names))]
+    for how, rows in (("alone", alone), ("with all after it", after)):
+        found = [fail_calls(program, folder, well, f"call {at + 1}, {names[at]}, fails {how}", row)
+                 for at, row in enumerate(rows)]
+        refused, on, settled = map(sum, zip(*found))
+        if how == "alone" and on == 0:
+            fail("no desk goes on after a call that fails alone")
+        print(f"disk: {len(rows)} times a call failed {how}; the desk answered 503 in {refused}, of"
+              f" which it went on in {on}, and had settled the message in {settled}",
+              file=sys.stderr)
+
+
+def try_cut_files(program, folder):
+    """A file or its log that is cut short: `history` prints a prefix of what was settled, and
+    nothing at all if the file lacks a page."""
+    file, cut = os.path.join(folder, "whole"), os.path.join(folder, "cut")
+    remove(file)
+    tell_whole(Desk(program, file, "a whole file"))
+    status, lines, _ = history(program, file, "a whole file")
+    if status != 0:
+        fail("the whole file has no history")
+    tried = 0
+    for suffix in ("", "-wal"):
+        whole = size(file + suffix)
+        for k in [*range(0, whole, 1531), *range(max(whole - 3, 0), whole)]:
+            row = f"cut{suffix} at {k}"
+            copy(file, cut)
+            os.truncate(cut + suffix, k)
+            status, found, told = history(program, cut, row)
+            faults = ("storage", "broken-row", "other-schema", "unknown-service")
+            is_fault = status == 1 and told in [f"canary: {word}\n" for word in faults]
+            if not is_fault and not (status == 0 and lines.startswith(found) and told == ""):
+                fail(f"{row}: status {status}, {told!r}, {found!r}")
+            if suffix == "" and k > 0 and status == 0 and found != lines:
+                fail(f"{row}: rows are missing, and no fault is printed")
+            tried += 1
+    print(f"disk: cut short at {tried} places", file=sys.stderr)
+
+
+def want_untouched(program, file, words, row):
+    """Each program on this file ends with this fault, and leaves it as it is."""
+    with open(file, "rb") as before:
+        bytes_before = before.read()
+    for asked in (("history", "--db", file, "web"), ("status", "--db", file),
+                  ("serve", "--listen", "127.0.0.1:0", "--db", file),
+                  ("export", "--db", file, "--caller", "a", "web")):
+        status, found, told = told_by(row, program, *asked)
+        if (status, found, told) not in [(1, "", f"canary: {word}\n") for word in words]:
+            fail(f"{row}: {asked[0]}: status {status}, {told!r}, {found!r}")
+    with open(file, "rb") as after:
+        if after.read() != bytes_before:
+            fail(f"{row}: the file was changed")
+
+
+def try_foreign_files(program, folder):
+    """Files that another program made."""
+    text = os.path.join(folder, "text")
+    with open(text, "w") as file:
+        file.write("no database\n" * 1000)
+    want_untouched(program, text, ["storage"], "a text")
+    for name, schema in (("songs", "CREATE TABLE song (title TEXT)"),
+                         ("views", "CREATE VIEW caller AS SELECT 1")):
+        path = os.path.join(folder, name)
+        with sqlite3.connect(path) as other:
+            other.execute(schema)
+        other.close()
+        want_untouched(program, path, ["other-schema"], f"another program's database: {name}")
+    print("disk: files of other programs are left alone", file=sys.stderr)
+
+
+def try_read_only(program, folder):
+    """A file that may not be written, in a folder that may not be either."""
+    row = "a file that may not be written"
+    place = os.path.join(folder, "read-only")
+    os.mkdir(place)
+    desk, file = os.path.join(place, "canary"), os.path.join(place, "desk")
+    shutil.copy(program, desk)
+    tell_whole(Desk(program, file, "a file"))
+    os.chmod(desk, 0o755)
+    for name in os.listdir(place):
+        if name != "canary":
+            os.chmod(os.path.join(place, name), 0o444)
+    os.chmod(place, 0o555)
+    os.chmod(folder, 0o755)
+    with open(file, "rb") as before:
+        bytes_before = before.read()
+    nobody = (lambda: os.setuid(NOBODY)) if os.getuid() == 0 else None
+    found = told_by(row, desk, "history", "--db", file, "web", first=nobody)
+    if found != (1, "", "canary: storage\n"):
+        fail(f"{row}: {found}")
+    with open(file, "rb") as after:
+        if after.read() != bytes_before:
+            fail(f"{row} was changed")
+    os.chmod(place, 0o755)
+    print("disk: of a file that may not be written the fault is storage", file=sys.stderr)
+
+
+STRACE_PARTS = (try_failing_calls, try_power_cuts)
+PARTS = (try_foreign_files, try_read_only, try_cut_files, try_full_disk, *STRACE_PARTS)
+
+
+def main():
+    program, folder, *wanted = sys.argv[1:]
+    unknown = set(wanted) - {part.__name__ for part in PARTS}
+    if unknown:
+        fail(f"unknown part: {' '.join(sorted(unknown))}")
+    left_out = STRACE_PARTS if "strace" in os.environ.get("CHECK_WITHOUT", "").split() else ()
+    for part in PARTS:
+        if part not in left_out and (not wanted or part.__name__ in wanted):
+            part(program, folder)
+
+
+main()

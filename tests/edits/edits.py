@@ -1,0 +1,42 @@
+"""Checks that the planted bugs fit the code: edits.py ROOT (tests/edits/run gives it).
+
+A bug is a file of `crates/CRATE/must-fail` or `crates/CRATE/planted`, NAME.edit: the line
+`file: FILE`, which names a file of the crate, then pairs of lines `old: TEXT` and `new: TEXT`. The
+pairs are applied one after another: each old text stands in the file once as it is replaced, and in
+the end the file has changed."""
+import pathlib
+import re
+import sys
+
+EDIT = re.compile(r"file: (\S+)\n((?:old: .+\nnew:(?: .*)?\n)+)")
+PAIR = re.compile(r"old: (.+)\nnew: ?(.*)\n")
+
+
+def fault_of(edit):
+    """Why the edit does not fit the code, or none."""
+    found = EDIT.fullmatch(edit.read_text(encoding="utf-8"))
+    if not found:
+        return "is not a file and pairs of an old and a new text"
+    name, pairs = found.groups()
+    file = edit.parent.parent / name
+    if not file.is_file():
+        return f"there is no {name}"
+    before = text = file.read_text(encoding="utf-8")
+    for old, new in PAIR.findall(pairs):
+        if text.count(old) != 1:
+            return f"{name} has {text.count(old)} times: {old}"
+        text = text.replace(old, new)
+    return "changes nothing" if text == before else None
+
+
+def main(root):
+    crates = pathlib.Path(root) / "crates"
+    edits = sorted([*crates.glob("*/must-fail/*.edit"), *crates.glob("*/planted/*.edit")])
+    faults = [(edit.relative_to(crates), fault) for edit in edits if (fault := fault_of(edit))]
+    for edit, fault in faults:
+        print(f"edits: {edit}: {fault}")
+    print(f"edits: {len(edits)} planted bugs, {len(faults)} do not fit the code")
+    return 1 if faults or not edits else 0
+
+
+sys.exit(main(sys.argv[1]))

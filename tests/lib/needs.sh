@@ -1,0 +1,80 @@
+# What the scripts need of a machine: functions.sh sources this. Every script fails when a tool is
+# missing. CHECK_WITHOUT, which ./check sets, names the tools whose parts are to be left out.
+
+# The tools without which nothing here runs, and those that `./check --without` may name.
+required=(rt bash python3 awk)
+optional=(cc strace sqlite3 curl)
+
+# The tool $1 is here, and does what the scripts ask of it; or the machine has IPv6.
+has() {
+    case $1 in
+        bash) [ "${BASH_VERSINFO[0]}" -ge 5 ] ;;
+        python3) python3 -c 'import sqlite3, sys; sys.exit(sys.version_info < (3, 10))' ;;
+        cc) cc -x c -o /dev/null - <<< $'#include <stdio.h>\nint main(void) { return 0; }' ;;
+        strace) strace -o /dev/null true ;;
+        ipv6) python3 -c 'import socket; socket.socket(socket.AF_INET6).bind(("::1", 0))' ;;
+        sqlite3) sqlite3 :memory: 'CREATE TABLE made (id INTEGER) STRICT' ;;
+        *) command -v "$1" ;;
+    esac > /dev/null 2>&1 < /dev/null
+}
+
+# What the tool $1 has to be.
+described() {
+    case $1 in
+        rt) echo "rt, the command of the Rattle kit" ;;
+        bash) echo "bash 5 or later" ;;
+        python3) echo "python3 3.10 or later, with its module sqlite3" ;;
+        cc) echo "cc, a C compiler with the C library's headers" ;;
+        strace) echo "strace, which has to be able to trace a process" ;;
+        sqlite3) echo "sqlite3 3.37 or later" ;;
+        *) echo "$1" ;;
+    esac
+}
+
+# The Debian packages with the tools $@, a line each.
+packages_of() {
+    local name
+    for name in "$@"; do
+        case $name in
+            rt) ;;
+            awk) echo mawk ;;
+            cc) printf '%s\n' gcc libc6-dev ;;
+            *) echo "$name" ;;
+        esac
+    done
+}
+
+# What the gate does not try without the tool $1.
+left_out_without() {
+    case $1 in
+        cc) echo "cc: refused allocations (tests/allocations/run)" ;;
+        strace) echo "strace: calls that fail, power cuts (tests/disk/run), and how much a desk" \
+            "writes at once (tests/listener/run)" ;;
+        sqlite3) echo "sqlite3: what it reads in a desk's file, and files that it changed" \
+            "(tests/tables/run, tests/files/run)" ;;
+        curl) echo "curl: its long request (tests/listener/run)" ;;
+    esac
+}
+
+# Of the tools $@ those that are missing, a line each.
+missing_of() {
+    local name
+    for name in "$@"; do
+        has "$name" || echo "$name"
+    done
+}
+
+# The script ends unless each of these tools is here.
+need() {
+    local name
+    for name in "$@"; do
+        has "$name" || fail "a tool is missing: $(described "$name")"
+    done
+}
+
+# The part of the script that needs the tool $1 is to be run. When CHECK_WITHOUT names the tool, the
+# part is left out. Otherwise the script ends if the tool is missing.
+with() {
+    [[ " ${CHECK_WITHOUT:-} " != *" $1 "* ]] || return 1
+    has "$1" || fail "a tool is missing: $(described "$1"); CHECK_WITHOUT=$1 leaves its part out"
+}
