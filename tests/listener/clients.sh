@@ -98,11 +98,11 @@ want_end() {
     [ "$spent" -le "$(($3 * 1000))" ] || late "the client is let go after $spent ms only"
 }
 
-# A line of standard error is $1, within three seconds.
+# A line of standard error is $1, within four seconds.
 want_line() {
     local tries
-    for ((tries = 0; tries < 60; tries++)); do
-        ! grep -qx "$1" "$work/errors" || return 0
+    for ((tries = 0; tries < 80; tries++)); do
+        ! grep -qxF "$1" "$work/errors" || return 0
         sleep 0.05
     done
     late "no line '$1' on standard error"
@@ -129,8 +129,25 @@ want_faults() {
     local wanted found
     leave
     wanted=$(printf '%s\n' "$@")
-    found=$(grep '^canary: [a-z-]*$' "$work/errors" || true)
+    # The desk writes the lines of a second once it has passed.
+    [ $# -eq 0 ] || want_line "${!#}"
+    found=$(grep -E '^canary: [a-z-]+( [0-9.]+( \([0-9]+ times\))?)?$' "$work/errors" || true)
     [ "$found" = "$wanted" ] || miss "other faults on standard error: ${found:-none}"
+}
+
+# The desk has told of $1 clients that were cut off, within four seconds, and of no other fault. Those
+# of one second are one line.
+want_truncated() {
+    local tries times=0
+    leave
+    for ((tries = 0; tries < 80 && times < $1; tries++)); do
+        sleep 0.05
+        times=$(awk '/^canary: truncated 127\.0\.0\.1$/ { sum += 1 }
+            /^canary: truncated 127\.0\.0\.1 \([0-9]+ times\)$/ { sum += substr($4, 2) }
+            END { print sum + 0 }' "$work/errors")
+    done
+    [ "$times" -eq "$1" ] || miss "$times clients were cut off in place of $1"
+    ! grep -E '^canary: (read|write|memory)' "$work/errors" > /dev/null || miss "another fault"
 }
 
 # The desk ends by itself with the status $1, within five seconds.

@@ -1,0 +1,80 @@
+"""A desk whose standard error nobody reads: unread.py PROGRAM. It has to serve on, to drop lines and
+to say how many. Prints what is wrong, and ends with status 1 then."""
+import fcntl
+import os
+import re
+import socket
+import subprocess
+import sys
+import time
+
+CLIENTS = 240
+LINE = re.compile(rb"canary: (truncated 127\.0\.0\.\d+( \(\d+ times\))?|\d+ lines dropped)\n")
+
+
+def cut_off(port, number):
+    """A client of an address of its own that goes in the midst of a message."""
+    with socket.create_connection(("127.0.0.1", port), 10, (f"127.0.0.{number}", 0)) as client:
+        client.sendall(b"GET /serv")
+
+
+def status_of_answer(port):
+    """The status of the answer to a client that comes now."""
+    with socket.create_connection(("127.0.0.1", port), 10) as client:
+        client.sendall(b"GET /services/nobody HTTP/1.1\r\nConnection: close\r\n\r\n")
+        return client.recv(65536).split(b" ")[1]
+
+
+def told(pipe, seconds):
+    """What is in the pipe, and comes within so many seconds."""
+    os.set_blocking(pipe, False)
+    found, end = b"", time.monotonic() + seconds
+    while time.monotonic() < end:
+        try:
+            found += os.read(pipe, 65536)
+        except BlockingIOError:
+            time.sleep(0.05)
+    return found
+
+
+def lines_of(text):
+    """The text as lines; what is no line of a desk is wrong."""
+    lines = text.splitlines(keepends=True)
+    for line in lines[1:]:
+        if not LINE.fullmatch(line):
+            sys.exit(f"no line of a desk, or a torn one: {line!r}")
+    return lines
+
+
+def try_desk(port, pipe):
+    """Fills the pipe, and reads it."""
+    for number in range(2, 2 + CLIENTS):
+        cut_off(port, number)
+        if number % 40 == 0:
+            time.sleep(1.1)
+    time.sleep(2.5)
+    if status_of_answer(port) != b"404":
+        sys.exit("the desk does not serve on while nobody reads its standard error")
+    before = lines_of(told(pipe, 0.2))
+    if not 50 < len(before) < CLIENTS:
+        sys.exit(f"{len(before)} lines are in a pipe of 4,096 bytes, of {CLIENTS}")
+    cut_off(port, 250)
+    after = b"".join(lines_of(b"first\n" + told(pipe, 4)))
+    if b" lines dropped\n" not in after or b"truncated 127.0.0.250\n" not in after:
+        sys.exit(f"no line says how many were dropped, or none of the last client: {after!r}")
+
+
+def main():
+    reads, writes = os.pipe()
+    fcntl.fcntl(writes, fcntl.F_SETPIPE_SZ, 4096)
+    with subprocess.Popen([sys.argv[1], "serve", "--listen", "127.0.0.1:0"], stdin=subprocess.DEVNULL,
+                          stdout=subprocess.PIPE, stderr=writes) as desk:
+        os.close(writes)
+        try:
+            port = int(desk.stdout.readline().split(b":")[1])
+            try_desk(port, reads)
+        finally:
+            desk.kill()
+
+
+main()
