@@ -1,4 +1,5 @@
 //! Clients are accepted, have their turns, and are let go.
+ghost use Rattle.std.specs.Prelude.{◌≡◌};
 ghost use Rattle.canary_wire.specs.Exchanges.{point};
 ghost use Rattle.canary_listen.specs.Attending.{Attends, KeepsServed};
 ghost use Rattle.canary_listen.specs.Crowd.{clients_attendance};
@@ -26,8 +27,9 @@ pub(crate) const SOCKET: Token = Token(usize::MAX);
 // The most clients that are accepted before those that are there have their turn.
 const MOST_ACCEPTED: u32 = 64;
 
-// How long the turns of all clients that are ready may go on after their first message, together.
-const ROUND: Duration = Duration::from_millis(20);
+// How many milliseconds the turns of all clients that are ready go on at most, together, with more
+// than one message each.
+const ROUND_MILLISECONDS: u64 = 20;
 
 // The socket at which clients come, and those that came.
 #[derive(Drop)]
@@ -284,5 +286,5 @@ fn one_less(left: Option<u64>) -> Option<u64> {
 // The time of each of so many turns, of that of a round.
 fn share_of(turns: usize) -> Duration {
     let turns = u32::try_from(turns).unwrap_or(u32::MAX).max(1);
-    ROUND / turns
+    Duration::from_millis(ROUND_MILLISECONDS) / turns
 }

@@ -3,6 +3,7 @@ use canary_wire::conversation::Pace;
 use std::time::{self, Duration, Instant};
 
 // A turn by the machine's steady clock, from its begin on.
+#[derive(Drop)]
 pub(crate) struct Slice<'a, R> {
     rt: &'a R,
     begin: Option<Instant>,

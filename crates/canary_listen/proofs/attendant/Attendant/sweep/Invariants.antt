@@ -3,4 +3,4 @@ use Rattle.canary_listen.specs.Crowd.{clients_attendance}
 use Rattle.canary_listen.proofs.attendant.Attendant.sweep.Given as goal
 
 abbrev pub invariant-late : goal.invariant-late
-invariant-late g l = KeepsServed (clients_attendance l.fn.self.clients) (clients_attendance l.self.clients)
+invariant-late l = KeepsServed (clients_attendance l.fn.self.clients) (clients_attendance l.self.clients)

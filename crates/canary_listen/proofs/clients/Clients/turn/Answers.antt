@@ -19,10 +19,10 @@ pub returns : goal.returns
 returns g c =
     let s = c.args.self.now in
     let old = c.in-Some.client.now in
-    let new = c.turn.new.self in
+    let new = c.turn-fate.new.self in
     let map : Map = c.get_mut.follows.lender new in
     turn_attends c.crowds.ensures.turn (point (g.C.Clock.tells c.args.clock.now) (g.B.Book.state c.args.book.now))
-    (point (g.C.Clock.tells c.turn.new.clock) (g.B.Book.state c.turn.new.book))
+    (point (g.C.Clock.tells c.turn-fate.new.clock) (g.B.Book.state c.turn-fate.new.book))
     (crowd_in s.by_number) (crowd_in map) c.args.number s.next (client_talk old) (client_talk new)
-    (there_is s.by_number c.args.number old c.in-Some.ensures.value) c.turn.ensures
+    (there_is s.by_number c.args.number old c.in-Some.ensures.value) c.turn-fate.ensures
     (written s.by_number map c.args.number old new c.in-Some.ensures.value (c.get_mut.follows.holds new))
