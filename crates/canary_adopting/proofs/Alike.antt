@@ -2,7 +2,7 @@
 use Rattle.std.proofs.Common.{◌≡◌, ℕ, List, [], ◌∷◌, ◌++◌, refl, ap}
 use Rattle.std.specs.Prelude.{◌||◌, nat_lt, not, Bool, length, map, Option, Some, None, is_none}
 use Rattle.std.specs.List.{AllByRecursion, list_any, list_all, filter_map}
-use Rattle.canary_metric.specs.Metrics.{MetricValue, effective_count}
+use Rattle.canary_metric.specs.Metrics.{MetricValue}
 use Rattle.canary_plan.specs.declared.step.Step.{Step}
 use Rattle.canary_plan.specs.declared.step.Step.TheVariants.{SetWeight, Pause, Analysis}
 use Rattle.canary_plan.specs.declared.service.Background.{Background}
@@ -11,7 +11,7 @@ use Rattle.canary_plan.specs.declared.refusal.Refusal.TheVariants.{DuplicateMetr
 use Rattle.canary_plan.specs.Plans.{Templates, metrics_in, metrics_named, has_weight_in_range, are_metrics_of_run, step_metrics, background_metrics, strategy_of}
 use Rattle.canary_plan.specs.Commands.{all_names}
 use Rattle.canary_plan.specs.Refusals.{first_that_holds}
-use Rattle.canary_plan.specs.PlanRefusals.{has_duplicate, has_unknown, repeats_metric, is_endless, is_misfit, names_of_step, names_of_background, step_analyses, analyses, strategy_refusal}
+use Rattle.canary_plan.specs.PlanRefusals.{has_duplicate, has_unknown, repeats_metric, is_endless, is_misfit, names_of_step, names_of_background, step_analyses, analyses, strategy_refusal, is_without_end}
 use Rattle.canary_release.specs.Laws.{Agree}
 
 all_left : {X : Type 0} (P : X → Type 0) (xs ys : List X) → AllByRecursion P (xs ++ ys) → AllByRecursion P xs
@@ -42,7 +42,7 @@ repeats : (known other : Templates) (names : List (List ℕ)) → Agree known ot
 repeats known other names h = ap (λ (ms : List MetricValue). has_duplicate (map (λ (m : MetricValue). m.name) ms)) (named known other names h)
 
 endless : (known other : Templates) (names : List (List ℕ)) → Agree known other names → is_endless known names ≡ is_endless other names
-endless known other names h = ap (λ (ms : List MetricValue). list_any (λ (m : MetricValue). is_none (effective_count m)) ms) (named known other names h)
+endless known other names h = ap (λ (ms : List MetricValue). list_any is_without_end ms) (named known other names h)
 
 misfit : (known other : Templates) (names : List (List ℕ)) → Agree known other names → is_misfit known names ≡ is_misfit other names
 misfit known other names h = ap (λ (ms : List MetricValue). nat_lt (length names) 1 || (nat_lt 8 (length names) || not (are_metrics_of_run ms))) (named known other names h)
