@@ -1,5 +1,5 @@
 -- Clients come, have turns and go, one after another.
-use Rattle.std.proofs.Common.{◌≡◌, ◌≢◌, ℕ, ◌+◌, ◌<◌, ◌≤◌, inl, inr, List, [], ◌∷◌, ◌++◌, refl, sym, ap, ◌∙◌, subst, arith}
+use Rattle.std.proofs.Common.{◌≡◌, ℕ, ◌+◌, ◌<◌, ◌≤◌, inl, inr, List, [], ◌∷◌, ◌++◌, refl, sym, ap, ◌∙◌, subst, arith}
 use Rattle.std.specs.Prelude.{Option, None, Some}
 use Rattle.std.specs.List.{AllByRecursion}
 use Rattle.std.proofs.lemmas.List.{append-nil, append_assoc}
@@ -7,7 +7,7 @@ use Rattle.std.proofs.lemmas.Grind.{flat_map-append}
 use Rattle.std.proofs.lemmas.Bool.{cases_lt}
 use Rattle.std.proofs.lemmas.Bool.Decides.{eqb_tells}
 use Rattle.canary_wire.specs.Conversing.{Talk, begun, so_far, TakesTurn}
-use Rattle.canary_wire.specs.Crowds.{Turn, Crowd, all_held, IsCrowd, IsNew, Becomes, Comes, HasTurn, Goes}
+use Rattle.canary_wire.specs.Crowds.{Turn, Crowd, all_held, IsNew, Becomes, Comes, HasTurn, Goes}
 use Rattle.canary_wire.specs.Exchanges.{Exchange, Point, Went, Holds}
 use Rattle.canary_listen.specs.Attending.{Attendance, attendance, nobody, IsServed, KeepsServed, Attends, ServesAll}
 

@@ -1,8 +1,8 @@
 -- A map of clients that changes at one number.
-use Rattle.std.proofs.Common.{◌≡◌, ◌≢◌, ℕ, ◌==◌, inl, inr, Bool, true, false, refl, sym, ap, ◌∙◌, subst}
-use Rattle.std.specs.Prelude.{Option, None, Some, option_map, IsSome}
+use Rattle.std.proofs.Common.{◌≡◌, ◌≢◌, ℕ, inl, inr, false, refl, sym, ap, ◌∙◌, subst}
+use Rattle.std.specs.Prelude.{Option, Some, option_map, IsSome}
 use Rattle.std.specs.Ordering.{nat_cmp}
-use Rattle.std.specs.BTreeMap.{BTreeMap, is_at, get, Updates, UpdatesBy, WritesThrough}
+use Rattle.std.specs.BTreeMap.{BTreeMap, is_at, get, Updates, WritesThrough}
 use Rattle.std.specs.Cmp.{unsigned_tied}
 use Rattle.std.specs.Map.{lookup}
 use Rattle.std.proofs.lemmas.Bool.Decides.{eqb_tells}

@@ -1,5 +1,5 @@
 -- The clients of the code as conversations.
-use Rattle.std.specs.Prelude.{ℕ, option_map}
+use Rattle.std.specs.Prelude.{option_map}
 use Rattle.std.specs.Ordering.{nat_cmp}
 use Rattle.std.specs.BTreeMap.{get}
 use Rattle.canary_wire.specs.Conversing.{Talk}
@@ -7,7 +7,6 @@ use Rattle.canary_wire.specs.Crowds.{Crowd}
 use Rattle.canary_wire.specs.Talks.{talk_of}
 use Rattle.canary_listen.specs.declared.client.Client.{Client}
 use Rattle.canary_listen.specs.declared.clients.Clients.{Clients}
-use Rattle.canary_listen.specs.declared.attendant.Attendant.{Attendant}
 use Rattle.canary_listen.specs.declared.listener.Listener.{Listener}
 use Rattle.canary_listen.specs.Attending.{Attendance, attendance}
 

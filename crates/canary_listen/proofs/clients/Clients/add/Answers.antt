@@ -1,4 +1,4 @@
-use Rattle.std.proofs.Common.{◌≡◌, ℕ, ◌+◌, rules, sym, subst}
+use Rattle.std.proofs.Common.{◌≡◌, ◌+◌, rules, subst}
 use Rattle.canary_listen.specs.Attending.{KeepsServed, attendance}
 use Rattle.canary_listen.proofs.Attended.{keeps_same, comes_keeps}
 use Rattle.canary_listen.proofs.CrowdMaps.{crowd_in, unchanged, comes_in}
