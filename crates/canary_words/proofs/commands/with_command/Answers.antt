@@ -1,4 +1,4 @@
-use Rattle.std.proofs.Common.{◌≡◌, ◌∙◌, ap}
+use Rattle.std.proofs.Common.{◌∙◌, ap}
 use Rattle.clap.specs.Words.{app_of, with_subcommand}
 use Rattle.canary_words.proofs.Chains.{none_global, ok_then, when_ok}
 use Rattle.canary_words.proofs.commands.with_command.Goals as goal

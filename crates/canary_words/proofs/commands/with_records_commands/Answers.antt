@@ -1,4 +1,4 @@
-use Rattle.std.proofs.Common.{◌≡◌, ◌∙◌, ap, refl}
+use Rattle.std.proofs.Common.{◌∙◌, ap, refl}
 use Rattle.clap.specs.Words.{with_subcommand}
 use Rattle.canary_words.specs.CommandLine.{import_command, history_command, export_command, status_command, backup_command}
 use Rattle.canary_words.proofs.Chains.{ok_then}
