@@ -26,7 +26,7 @@ FILE = re.compile(r"(?<![\w./$}~*-])\w[\w-]*(?:/[\w-]+)*\.(?:md|py|sh|rt|antt|st
 NOT_HERE = {"START-HERE.md", "proofs/Plain.antt"}
 # A word in capitals that stands for any name, as in `crates/CRATE/planted` and `src/NAME.rt`.
 ANY_NAME = re.compile(r"[A-Z]+(?=$|\.(?!md$))")
-FOREIGN = re.compile(r"\bshared/|\b[Ii]ssues? #?\d")
+FOREIGN = re.compile(r"\bshared/|\b[Ii]ssues? #?\d+")
 README_LINES = 199
 CELL_COLUMNS = 140
 NAMING = ("docs/TESTING.md", "docs/PROVING.md")
