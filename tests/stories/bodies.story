@@ -1,4 +1,4 @@
-bodies 268
+bodies 278
 
 # Bodies; other members and kinds; names and labels; and at the end what is unsupported before it is
 # unreadable, which holds in a body of one member alone. Then bytes: blanks round a body, blanks

@@ -1,4 +1,4 @@
-manifests 54
+manifests 56
 
 # Texts.
 between ...

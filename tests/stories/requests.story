@@ -1,4 +1,4 @@
-desk 422
+desk 474
 
 # A doubled promotion acts once, a number ahead and another command under an old number change
 # nothing, and each kept reply comes again.
@@ -79,6 +79,58 @@ agent 3 120 report 1 m:3:120:0 => [web Paused 1 20 | 1 Successful | Running]
     {"consecutive":0,"counted":2,"dryRun":false,"due":1767225780,"errors":1,"failed":0,
     "inconclusive":0,"measurements":3,"name":"m","passes":1,"phase":"Running"}
     ],"run":1,"service":"web","started":1767225600,"step":null,"verdict":"Running"}
+
+# The same in one stream over a book in memory, and over a file that is opened anew for each report
+# with its query.
+ops 1 0 template errs m,success=result==0,interval=60,failureLimit=1,passAfter=2 => [errs]
+ops 2 1 service v1 setWeight:20 pause background:errs => [web Healthy 2 100]
+ops 3 2 start v2 => [web Paused 1 20]
+agent 1 60 report 1 m:1:60:0 => [web Paused 1 20 | 1 Successful | Running]
+agent 2 120 report 1 m:2:120:1 => [web Paused 1 20 | 1 Failed | Running]
+agent 3 180 report 1 m:3:180:0 => [web Paused 1 20 | 1 Successful | Running]
+agent 4 240 report 1 m:4:240:0 => [web Paused 1 20 | 1 Successful | Successful]
+agent 5 300 report 1 m:5:300:0 => 422 run-closed
+
+ops 1 0 template errs m,success=result==0,interval=60,failureLimit=1,passAfter=2 => [errs]
+background
+agent 1 0 report 1 m:1:0:0 => [web Paused 1 20 | 1 Successful | Running]
+agent 2 60 report 1 m:2:60:1 => [web Paused 1 20 | 1 Failed | Running]
+? 60 run web 1 => {"closed":null,"code":"ok","metrics":[
+    {"consecutive":0,"counted":2,"dryRun":false,"due":1767225720,"errors":0,"failed":1,
+    "inconclusive":0,"measurements":2,"name":"m","passes":0,"phase":"Running"}
+    ],"run":1,"service":"web","started":1767225600,"step":null,"verdict":"Running"}
+agent 3 120 report 1 m:3:120:0 => [web Paused 1 20 | 1 Successful | Running]
+? 120 run web 1 => {"closed":null,"code":"ok","metrics":[
+    {"consecutive":0,"counted":3,"dryRun":false,"due":1767225780,"errors":0,"failed":1,
+    "inconclusive":0,"measurements":3,"name":"m","passes":1,"phase":"Running"}
+    ],"run":1,"service":"web","started":1767225600,"step":null,"verdict":"Running"}
+agent 4 180 report 1 m:4:180:0 => [web Paused 1 20 | 1 Successful | Successful]
+? 180 run web 1 => {"closed":1767225780,"code":"ok","metrics":[
+    {"consecutive":0,"counted":4,"dryRun":false,"due":null,"errors":0,"failed":1,
+    "inconclusive":0,"measurements":4,"name":"m","passes":2,"phase":"Successful"}
+    ],"run":1,"service":"web","started":1767225600,"step":null,"verdict":"Successful"}
+agent 5 240 report 1 m:5:240:0 => 422 run-closed
+
+# The limits come first: with no failure allowed the first one completes the metric. An Inconclusive
+# one begins the successes anew, too. A step's run ends early, and so may one without a count.
+ops 1 0 template errs m,success=result==0,interval=60,passAfter=2 => [errs]
+background
+agent 1 0 report 1 m:1:0:1 => [web Degraded 1 0 | 1 Failed | Failed]
+
+ops 1 0 template errs m,success=result>10,failure=result<5,interval=60,inconclusiveLimit=1,passAfter=2 => [errs]
+background
+agent 1 0 report 1 m:1:0:11 => [web Paused 1 20 | 1 Successful | Running]
+agent 2 60 report 1 m:2:60:7 => [web Paused 1 20 | 1 Inconclusive | Running]
+agent 3 120 report 1 m:3:120:11 => [web Paused 1 20 | 1 Successful | Running]
+agent 4 180 report 1 m:4:180:11 => [web Paused 1 20 | 1 Successful | Successful]
+
+ops 1 0 template t m,interval=60,count=9,passAfter=2 n,interval=60,passAfter=1 => [t]
+analysis
+agent 1 0 report 1 m:1:0:1 => [web Progressing 1 10 | 1 Successful | Running]
+agent 2 60 report 1 m:2:60:1 n:1:60:1 => [web Paused 3 60 | 1 Successful Successful | Successful]
+
+ops 1 0 template t m,interval=60 => [t]
+ops 2 0 service v1 setWeight:10 analysis:t => 422 endless-metric
 
 
 # Runs of a step.

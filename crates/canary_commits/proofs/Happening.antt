@@ -37,7 +37,7 @@ pub measured : {A B E F : Type 0} (name : List ℕ) (x : Recorded) (row : Measur
     → HasCleanDisk new → (t : Tables) → IsReady old t → HasTally name x.run x.metric t → IsReady new (with_counted name x.run x.metric x.phase x.taken (with_measurement (measurement_row name x) t))
 measured name x row old mid new r s a b row_is one two survives is it clean t ready tally =
     let first : IsReady mid (with_measurement (measurement_row name x) t) = subst (λ m. IsReady mid (with_measurement m t)) row_is (on_ok r a _ is (one (clean_before mid new survives clean) t ready)) in
-    on_ok s b _ it (two clean (with_measurement (measurement_row name x) t) first (record { row = tally.row; one = tally.one; consistent = tally.consistent; room = tally.room }))
+    on_ok s b _ it (two clean (with_measurement (measurement_row name x) t) first (record { row = tally.row; one = tally.one; few = tally.few; room = tally.room }))
 
 -- a run is closed so
 pub closed : {A E : Type 0} (name : List ℕ) (x : Closing) (outside verdict : ℕ) (old new : State) (r : Result A E) (a : A) → outside ≡ bit x.outside → verdict ≡ phase_column x.verdict

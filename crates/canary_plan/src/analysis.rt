@@ -2,6 +2,7 @@
 ghost use Rattle.std.specs.Prelude.{◌≡◌, [], ◌∷◌, ◌++◌, is_none, length, map, IfOk};
 ghost use Rattle.std.specs.List.{list_any, filter_map};
 ghost use Rattle.std.specs.FinMap.{get};
+ghost use Rattle.canary_metric.specs.Metrics.{MetricValue};
 ghost use Rattle.canary_plan.specs.Plans.{metrics_in, metrics_named, are_metrics_of_run};
 ghost use Rattle.canary_plan.specs.PlanRefusals.{names_of_step, step_analyses, analyses};
 ghost use Rattle.canary_plan.specs.PlanRefusals.{repeats_metric, has_unknown};

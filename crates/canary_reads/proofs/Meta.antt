@@ -1,7 +1,6 @@
 -- Whether meta has its one row, by what a query shows of it.
-use Rattle.std.proofs.Common.{◌≡◌, ◌↔◌, ◌&&◌, ℕ, suc, pos, List, [], ◌∷◌, length, map, filter, take, drop, codes, false, true, IsTrue, Some, ◌⊎◌, inl, inr, refl, sym, ap, ap₂, subst, ◌∙◌, arith}
+use Rattle.std.proofs.Common.{◌≡◌, ◌↔◌, ℕ, pos, List, [], ◌∷◌, map, take, codes, false, inl, inr, refl, sym, ap, ap₂, ◌∙◌, arith}
 use Rattle.std.specs.List.{AllByRecursion}
-use Rattle.sqlite.specs.declared.types.Value.{Value}
 use Rattle.sqlite.specs.declared.types.Value.TheVariants.{Null, Int}
 use Rattle.sqlite.specs.Order.{Row, column}
 use Rattle.sqlite.specs.Term.{Term, lit, col}
@@ -18,10 +17,10 @@ use Rattle.canary_schema.specs.Cells.{whole, meta_rows}
 use Rattle.canary_schema.specs.Formed.{IsDeskSchema}
 use Rattle.canary_schema.specs.Stores.{IsNumbered}
 use Rattle.canary_reads.specs.Queries.{IsQuery}
-use Rattle.canary_reads.proofs.Answer.{query_of, from_start, by_column, passes, shows, rowid_answer}
+use Rattle.canary_reads.proofs.Answer.{query_of, from_start, by_column, shows, rowid_answer}
 use Rattle.canary_reads.proofs.DeskRows.{typed_rows, present_rows}
 use Rattle.canary_reads.proofs.Holding.{all_pass}
-use Rattle.canary_reads.proofs.Holdings.{Holding, number, Raw, raw_cells}
+use Rattle.canary_reads.proofs.Holdings.{Holding, number, raw_cells}
 use Rattle.canary_reads.proofs.TableRows.{AreRaw, counted_row}
 use Rattle.canary_reads.proofs.Tests.{and_first}
 

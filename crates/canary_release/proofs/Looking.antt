@@ -2,7 +2,7 @@
 use Rattle.std.proofs.Common.{◌≡◌, ℕ, List, [], ◌∷◌, ◌++◌, refl, ap}
 use Rattle.std.specs.Prelude.{◌||◌, nat_lt, not, Bool, length, map, Option, Some, None, is_none}
 use Rattle.std.specs.List.{AllByRecursion, list_any, list_all, flat_map, filter_map}
-use Rattle.canary_metric.specs.Metrics.{MetricValue, effective_count}
+use Rattle.canary_metric.specs.Metrics.{MetricValue}
 use Rattle.canary_plan.specs.declared.step.Step.{Step}
 use Rattle.canary_plan.specs.declared.step.Step.TheVariants.{SetWeight, Pause, Analysis}
 use Rattle.canary_plan.specs.declared.service.Background.{Background}

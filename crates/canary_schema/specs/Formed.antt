@@ -24,7 +24,7 @@ abbrev pub HasRows : Database → Type 0
 HasRows db = (t : Tables) × Holds db.schema db t
 
 -- each row of tallies, whose last column may be NULL, has a value for each column: the rowid and
--- nine more. A row that was written before a column was added is shorter, and a query shows NULL
+-- ten more. A row that was written before a column was added is shorter, and a query shows NULL
 -- for what it lacks.
 abbrev pub HasWholeTallies : Trees → Type 0
 HasWholeTallies trees = AllByRecursion (λ row. length row ≡ 11) (trees 11)

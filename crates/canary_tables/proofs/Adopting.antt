@@ -31,15 +31,15 @@ count : List Row → ℕ
 count [] = 0
 count (row ∷ rows) = 1
 
-ten : (row : Row) (t : TallyRow) → drop 1 row ≡ tally_cells t → length row ≡ 10
-ten [] t e = grind (arith, ap length e)
-ten (x ∷ row) t e = grind (arith, ap length e)
+eleven : (row : Row) (t : TallyRow) → drop 1 row ≡ tally_cells t → length row ≡ 11
+eleven [] t e = grind (arith, ap length e)
+eleven (x ∷ row) t e = grind (arith, ap length e)
 
-whole_tallies : (rows : List Row) (ts : List TallyRow) → cells_of rows ≡ map tally_cells ts → AllByRecursion (λ row. length row ≡ 10) rows
+whole_tallies : (rows : List Row) (ts : List TallyRow) → cells_of rows ≡ map tally_cells ts → AllByRecursion (λ row. length row ≡ 11) rows
 unfolding first_of rest_of
 whole_tallies [] ts e = tt
 whole_tallies (row ∷ rows) [] e = grind (arith, ap count e)
-whole_tallies (row ∷ rows) (t ∷ ts) e = (ten row t (ap first_of e), whole_tallies rows ts (ap rest_of e))
+whole_tallies (row ∷ rows) (t ∷ ts) e = (eleven row t (ap first_of e), whole_tallies rows ts (ap rest_of e))
 
 pub whole : (db : Database) → HasRows db → HasWholeTallies db.trees
 whole db h = whole_tallies (db.trees 11) (h.0).tallies (h.1).tallies

@@ -1,4 +1,3 @@
-use Rattle.std.proofs.Common.{◌∙◌}
 use Rattle.sqlite.specs.Held.{state}
 use Rattle.canary_reads.proofs.Meta.{meta_query, meta_is}
 use Rattle.canary_reads.proofs.typed.has_meta.Goals as goal
