@@ -86,7 +86,7 @@ result > 0.5 => 10 result, a whole number, a bracket, a comparison, &&, || or !
 result => 6 [, ==, !=, <, <=, > or >=
 result > 1 1 => 11 &&, || or the end
 result[x] > 1 => 7 result, a whole number, a bracket, a comparison, &&, || or !
-result[result] > 1 => 7 the digits of a place in the list
+result[result] > 1 => 7 the digits of an index
 result[1 > 1 => 9 ]
 result 1 => 7 [, ==, !=, <, <=, > or >=
 1 => 1 ==, !=, <, <=, > or >=
@@ -105,10 +105,10 @@ stops
 <<1022*!>>0<1 => 1024 at most 1,024 bytes
 result > 9223372036854775808 @ => 29 result, a whole number, a bracket, a comparison, &&, || or !
 result > 1 || 2 @ => 16 result, a whole number, a bracket, a comparison, &&, || or !
-result 1 > 9223372036854775808 => 11 a number of 64 bits with a sign
-<<33*(>>result > 9223372036854775808<<33*)>> => 42 a number of 64 bits with a sign
-result > -9223372036854775809 => 9 a number of 64 bits with a sign
-9223372036854775808 => 0 a number of 64 bits with a sign
+result 1 > 9223372036854775808 => 11 a signed number of 64 bits
+<<33*(>>result > 9223372036854775808<<33*)>> => 42 a signed number of 64 bits
+result > -9223372036854775809 => 9 a signed number of 64 bits
+9223372036854775808 => 0 a signed number of 64 bits
 <<33*(>>result>0<<33*)>> => 32 at most 32 open brackets
 <<33*(>>result > => 32 at most 32 open brackets
 )))<<32*(>>result>0<<32*)>> => 0 result, a whole number, ( or !

@@ -51,7 +51,7 @@ between {"kind":"AnalysisTemplate","metadata":{"name":"t"},"spec":{"metrics":[{"
 "failureCondition":"(result > 1" => spec.metrics[0].failureCondition (metric "errors"), byte 11:
      expected &&, || or )
 "successCondition":"result > 9223372036854775808" => spec.metrics[0].successCondition
-     (metric "errors"), byte 9: expected a number of 64 bits with a sign
+     (metric "errors"), byte 9: expected a signed number of 64 bits
 "successCondition":95 => spec.metrics[0].successCondition (metric "errors"):
      expected a condition in a text
 "initialDelay":"1.5m" => spec.metrics[0].initialDelay (metric "errors"):
@@ -64,20 +64,20 @@ between {"kind":"AnalysisTemplate","metadata":{"name":"t"},"spec":{"metrics":[{"
 "count":2 => spec.metrics[0].interval (metric "errors"):
      expected an interval, since the count is above 1
 "failureLimit":-1 => spec.metrics[0].failureLimit (metric "errors"):
-     expected no limit below 0, which is unsupported
+     expected no limit below 0 (unsupported)
 "inconclusiveLimit":-1,"consecutiveErrorLimit":1.5,"consecutiveSuccessLimit":1 =>
      spec.metrics[0].inconclusiveLimit (metric "errors"):
      expected 0 to 1,000,000, a whole number or a text of digits |
      spec.metrics[0].consecutiveErrorLimit (metric "errors"):
      expected 0 to 1,000,000, a whole number or a text of digits |
      spec.metrics[0].consecutiveSuccessLimit (metric "errors"):
-     expected no such limit, which is unsupported
+     expected no such limit (unsupported)
 
 # Rollouts. Arrays of the last two lie 125 and 126 deep.
 between {"kind":"Rollout","metadata":{"name":"web"},"spec":{ ... }}
 "paused":true,"strategy":{"blueGreen":{}} =>
      spec.paused: expected false or none (true is unsupported) |
-     spec.strategy.blueGreen: expected no such member, which is unsupported |
+     spec.strategy.blueGreen: expected no such member (unsupported) |
      spec.strategy.canary: expected an object
 "strategy":{"canary":{"steps":5}} =>
      spec.strategy.canary.steps: expected a list of at most 64 steps
@@ -114,9 +114,9 @@ between {"kind":"Rollout","metadata":{"name":"web"},"spec":{"strategy":{"canary"
      expected exactly one of setWeight, pause and analysis |
      spec.strategy.canary.steps[1]: expected exactly one of setWeight, pause and analysis
 {"experiment":{}} => spec.strategy.canary.steps[0].experiment:
-     expected no member but setWeight, pause or analysis: others are unsupported
+     expected no member but setWeight, pause or analysis (others are unsupported)
 {"a\nb":{}} => spec.strategy.canary.steps[0]:
-     expected no member but setWeight, pause or analysis: others are unsupported
+     expected no member but setWeight, pause or analysis (others are unsupported)
 {"analysis":{"templates":[]}} => spec.strategy.canary.steps[0].analysis.templates:
      expected a list of 1 to 8 objects with templateName
 {"analysis":{}} => spec.strategy.canary.steps[0].analysis.templates:

@@ -6,7 +6,7 @@ pub(crate) fn expected(why: Why) -> &'static str {
     match why {
         Why::TooLong => "at most 1,024 bytes",
         Why::NoToken => "result, a whole number, a bracket, a comparison, &&, || or !",
-        Why::NumberRange => "a number of 64 bits with a sign",
+        Why::NumberRange => "a signed number of 64 bits",
         Why::TooDeep => "at most 32 open brackets",
         Why::Syntax(expected) => expected_next(expected),
     }
@@ -18,7 +18,7 @@ fn expected_next(expected: Expected) -> &'static str {
         Expected::Operand => "result or a whole number",
         Expected::Comparison => "==, !=, <, <=, > or >=",
         Expected::ItemOrComparison => "[, ==, !=, <, <=, > or >=",
-        Expected::Index => "the digits of a place in the list",
+        Expected::Index => "the digits of an index",
         Expected::CloseItem => "]",
         Expected::SignOrEnd => "&&, || or the end",
         Expected::SignOrClose => "&&, || or )",

@@ -108,11 +108,7 @@ fn needs_interval(alloc: Global, metric: &Value) -> Result<bool, Memory> {
 
 fn tell_limits(lines: &mut Lines, place: &Place, metric: &Value) -> Result<(), Memory> {
     if member_of(metric, "failureLimit").is_some_and(is_negative) {
-        lines.tell(
-            place,
-            "failureLimit",
-            "no limit below 0, which is unsupported",
-        )?;
+        lines.tell(place, "failureLimit", "no limit below 0 (unsupported)")?;
     } else {
         tell_limit(lines, place, metric, "failureLimit")?;
     }
@@ -122,7 +118,7 @@ fn tell_limits(lines: &mut Lines, place: &Place, metric: &Value) -> Result<(), M
         lines.tell(
             place,
             "consecutiveSuccessLimit",
-            "no such limit, which is unsupported",
+            "no such limit (unsupported)",
         )?;
     }
     Ok(())

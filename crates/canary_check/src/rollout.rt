@@ -36,11 +36,7 @@ fn tell_unsupported(alloc: Global, lines: &mut Lines, spec: &Value) -> Result<()
     }
     let blue_green = member_of(spec, "strategy").and_then(|s| member_of(s, "blueGreen"));
     if blue_green.is_some() {
-        lines.tell(
-            &place,
-            "strategy.blueGreen",
-            "no such member, which is unsupported",
-        )?;
+        lines.tell(&place, "strategy.blueGreen", "no such member (unsupported)")?;
     }
     Ok(())
 }

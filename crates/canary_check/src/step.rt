@@ -20,7 +20,7 @@ const TEMPLATES: &str = "a list of 1 to 8 objects with templateName";
 
 const FORM: &str = "exactly one of setWeight, pause and analysis";
 
-const OTHER: &str = "no member but setWeight, pause or analysis: others are unsupported";
+const OTHER: &str = "no member but setWeight, pause or analysis (others are unsupported)";
 
 const PAUSE: &str = "90s or 1h30m, or seconds as a number or a text of digits, 31,536,000 at most";
 
