@@ -115,8 +115,8 @@ def try_reading(program, place):
 
 def try_missing(program, place):
     """A name under which there is no file. `import`, `history` and `export` make the file, and say
-    so on a terminal alone; `pipe` makes it and does not; `status` and `backup` make nothing.
-    Nothing is shown of the rows of a new desk, which has none."""
+    so on a terminal alone; `pipe` makes it and says nothing; `status` and `backup` make nothing. A
+    new desk has no rows, and nothing is shown of them."""
     new = ["--db", "new.db"]
     unknown, missing = b"canary: unknown-service\n", b"canary: file\n"
     nothing_read = b"\rcanary: 0 of 0 MB read" + ERASED
@@ -134,9 +134,10 @@ def try_missing(program, place):
         written, shown = run_showing(program, words, place, status=status)
         expect(f"{words}, on a terminal", (written, shown), (b"", on_terminal))
         made = set(os.listdir(place)) - before
-        makes = missing not in elsewhere
-        expect(f"{words}: what is made", made, {"new.db", "new.db-wal"} & made if makes else set())
-        expect(f"{words}: whether the file is made", "new.db" in made, makes)
+        if elsewhere == missing:
+            expect(f"{words}: what is made", made, set())
+        else:
+            expect(f"{words}: what is made", made - {"new.db-wal"}, {"new.db"})
         for name in made:
             os.remove(os.path.join(place, name))
         done = subprocess.run([program, *words], cwd=place, stdin=subprocess.DEVNULL, timeout=60,
