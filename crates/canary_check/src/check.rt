@@ -1,25 +1,39 @@
-//! The check of a manifest without a desk.
+//! The check of a manifest, or of a request's body, without a desk.
 ghost use Rattle.std.specs.Prelude.{◌≡◌, ◌<◌, ◌++◌, false, IfOk, IsTrue, codes, length};
 ghost use Rattle.serde_json.specs.View.{view};
 ghost use Rattle.canary_manifest.specs.Commands.{body_reading};
 ghost use Rattle.canary_check.specs.Taken.{is_taken, is_manifest_taken, is_reading_taken};
 ghost use Rattle.canary_check.specs.Taken.{is_of_kind, template_body, service_body};
+ghost use Rattle.canary_check.specs.Taken.{is_request_taken};
 
-use crate::alone::is_command_taken;
+use crate::alone::{is_asked_taken, is_command_taken};
 use crate::lines::Lines;
-use crate::{rollout, template};
+use crate::place::Place;
+use crate::request::tell_body;
+use crate::rollout::tell_rollout;
+use crate::template::tell_template;
+use crate::text::{instead_of_manifest, instead_of_text};
+use crate::warning::{warn_of_length, warn_of_template};
 use canary_base::error::Memory;
+use canary_canonical::form::only_member;
 use canary_manifest::command::{WireFault, command_from_json};
 use canary_manifest::member::{is_other_text, member_of};
 use serde_json::{Error, Value};
 use std::alloc::Global;
 use std::marker::Model;
 
-/// What was found in a manifest: nothing, or findings, one a line. Contracts see whether nothing
-/// was found.
+// All that the members alone do not show: a command is JSON around the manifest.
+const DEPTH: &str = "manifest: expected arrays and objects nested at most 125 deep in a Rollout, \
+    and 126 deep in an AnalysisTemplate\n";
+
+// Nothing else is known that the members do not show.
+const COMMAND: &str = "body: expected a command\n";
+
+/// What was found: nothing, or findings. Contracts see whether nothing was found.
 #[derive(Drop)]
 pub struct Findings {
     lines: Option<String>,
+    warnings: String,
 }
 
 impl Model for Findings {
@@ -33,14 +47,16 @@ impl Model for Findings {
 }
 
 impl Findings {
-    /// Whether the desk takes the manifest.
+    /// Whether the desk takes what was checked.
     pub fn is_ok(&self) -> bool
         ensures { result ≡ self.now }
     {
         self.lines.is_none()
     }
 
-    /// The lines, each ended by a line feed: `ok`, or a finding a line.
+    /// The lines, each ended by a line feed: `ok`, or findings. A line that begins with four spaces
+    /// belongs to the finding before it. There are 100 findings at most, and then a line that
+    /// counts the others.
     pub fn text(&self) -> &str
         ensures ok { IsTrue self.now → result.now ≡ codes "ok\n" }
         ensures found { self.now ≡ false → 3 < length result.now }
@@ -51,10 +67,20 @@ impl Findings {
         }
     }
 
-    fn none() -> Findings
+    /// The lines of warnings, which keep the desk from nothing: as they are to stand on standard
+    /// error, each ended by a line feed; empty where there are none.
+    pub fn warnings(&self) -> &str {
+        self.warnings.as_str()
+    }
+
+    // Nothing but these warnings.
+    fn none(warnings: String) -> Findings
         ensures { IsTrue result }
     {
-        Findings { lines: None }
+        Findings {
+            lines: None,
+            warnings,
+        }
     }
 }
 
@@ -77,17 +103,96 @@ pub fn check(alloc: Global, text: &[u8]) -> Result<Findings, Memory>
     match Value::from_slice(alloc, text) {
         Ok(manifest) => check_manifest(alloc, text, &manifest),
         Err(fault) if fault.is_memory() => Err(Memory),
-        Err(fault) => no_json(alloc, &fault),
+        Err(fault) => no_json(alloc, text, &fault),
+    }
+}
+
+/// What keeps the desk from taking this body of a request.
+///
+/// It is ok exactly where the desk reads the body as a command, and refuses nothing that the
+/// command itself holds: a template and a service as `check` says of their manifests, and of a
+/// report that two entries name one metric. What depends on what a desk has, or on when it is
+/// asked, is no finding, and neither is a body of more than 65,536 bytes.
+///
+/// # Errors
+/// `Memory` where an allocation was refused.
+pub fn check_request(alloc: Global, body: &[u8]) -> Result<Findings, Memory>
+    ensures { IfOk result (λ findings. findings ≡ is_request_taken body.now) }
+{
+    let warnings = request_warnings(alloc, body)?;
+    if is_request_taken(alloc, body)? {
+        return Ok(Findings::none(warnings));
+    }
+    not_taken(alloc, body, warnings)
+}
+
+// Whether the body is read, and nothing that its command holds is refused.
+fn is_request_taken(alloc: Global, body: &[u8]) -> Result<bool, Memory>
+    ensures { IfOk result (λ taken. taken ≡ is_request_taken body.now) }
+{
+    match command_from_json(alloc, body) {
+        Ok(command) => is_asked_taken(alloc, &command),
+        Err(WireFault::Unreadable) => Ok(false),
+        Err(WireFault::Unsupported) => Ok(false),
+        Err(WireFault::Memory) => Err(Memory),
+    }
+}
+
+// What is found in a body that is not taken.
+fn not_taken(alloc: Global, body: &[u8], warnings: String) -> Result<Findings, Memory>
+    ensures { IfOk result (λ findings. findings ≡ false) }
+{
+    match Value::from_slice(alloc, body) {
+        Ok(value) => body_not_taken(alloc, &value, warnings),
+        Err(fault) if fault.is_memory() => Err(Memory),
+        Err(fault) => no_json(alloc, body, &fault),
+    }
+}
+
+fn body_not_taken(alloc: Global, body: &Value, warnings: String) -> Result<Findings, Memory>
+    ensures { IfOk result (λ findings. findings ≡ false) }
+{
+    let mut lines = Lines::new(alloc);
+    tell_body(alloc, &mut lines, body)?;
+    found(alloc, lines, COMMAND, warnings)
+}
+
+// The warnings of a body.
+fn request_warnings(alloc: Global, body: &[u8]) -> Result<String, Memory> {
+    let mut lines = Lines::new(alloc);
+    warn_of_length(alloc, &mut lines, "body", body.len())?;
+    match Value::from_slice(alloc, body) {
+        Ok(value) => warn_of_body(alloc, &mut lines, &value)?,
+        Err(fault) if fault.is_memory() => return Err(Memory),
+        Err(_) => (),
+    }
+    lines.warnings(alloc)
+}
+
+fn warn_of_body(alloc: Global, lines: &mut Lines, body: &Value) -> Result<(), Memory> {
+    match only_member(body) {
+        Some(("template", manifest)) => {
+            warn_of_template(alloc, lines, &Place::at(alloc, "template")?, manifest)
+        }
+        _ => Ok(()),
     }
 }
 
 // What is found in a text that is no JSON.
-fn no_json(alloc: Global, fault: &Error) -> Result<Findings, Memory>
+fn no_json(alloc: Global, text: &[u8], fault: &Error) -> Result<Findings, Memory>
     ensures { IfOk result (λ findings. findings ≡ false) }
 {
     let mut lines = Lines::new(alloc);
     lines.tell_no_json(alloc, fault.line(), fault.column())?;
-    found(alloc, lines)
+    tell_instead(&mut lines, instead_of_text(text))?;
+    found(alloc, lines, DEPTH, String::new(alloc))
+}
+
+fn tell_instead(lines: &mut Lines, what: Option<&str>) -> Result<(), Memory> {
+    match what {
+        Some(what) => lines.instead(what),
+        None => Ok(()),
+    }
 }
 
 fn check_manifest(alloc: Global, text: &[u8], manifest: &Value) -> Result<Findings, Memory>
@@ -100,9 +205,17 @@ fn check_manifest(alloc: Global, text: &[u8], manifest: &Value) -> Result<Findin
     if is_of_kind(manifest, "Rollout") {
         return check_rollout(alloc, text, manifest);
     }
+    other_kind(alloc, manifest)
+}
+
+// What is found in a manifest of another kind.
+fn other_kind(alloc: Global, manifest: &Value) -> Result<Findings, Memory>
+    ensures { IfOk result (λ findings. findings ≡ false) }
+{
     let mut lines = Lines::new(alloc);
-    lines.tell_kind()?;
-    found(alloc, lines)
+    lines.tell(&Place::root(alloc), "kind", "AnalysisTemplate or Rollout")?;
+    tell_instead(&mut lines, instead_of_manifest(manifest))?;
+    found(alloc, lines, DEPTH, String::new(alloc))
 }
 
 // Whether its `kind` is that text.
@@ -119,37 +232,56 @@ fn check_template(alloc: Global, text: &[u8], manifest: &Value) -> Result<Findin
     ensures { IfOk result
         (λ findings. findings ≡ is_reading_taken (body_reading (template_body text.now))) }
 {
+    let warnings = template_warnings(alloc, text, manifest)?;
     if is_body_taken(alloc, "{\"template\":", text, "}")? {
-        return Ok(Findings::none());
+        return Ok(Findings::none(warnings));
     }
     let mut lines = Lines::new(alloc);
-    template::tell_template(alloc, &mut lines, manifest)?;
-    found(alloc, lines)
+    tell_template(alloc, &mut lines, &Place::root(alloc), manifest)?;
+    found(alloc, lines, DEPTH, warnings)
+}
+
+fn template_warnings(alloc: Global, text: &[u8], manifest: &Value) -> Result<String, Memory> {
+    let mut lines = Lines::new(alloc);
+    warn_of_length(alloc, &mut lines, "manifest", text.len())?;
+    warn_of_template(alloc, &mut lines, &Place::root(alloc), manifest)?;
+    lines.warnings(alloc)
 }
 
 fn check_rollout(alloc: Global, text: &[u8], manifest: &Value) -> Result<Findings, Memory>
     ensures { IfOk result
         (λ findings. findings ≡ is_reading_taken (body_reading (service_body text.now))) }
 {
+    let warnings = rollout_warnings(alloc, text)?;
     if is_body_taken(
         alloc,
         "{\"service\":{\"version\":\"v1\",\"manifest\":",
         text,
         "}}",
     )? {
-        return Ok(Findings::none());
+        return Ok(Findings::none(warnings));
     }
     let mut lines = Lines::new(alloc);
-    rollout::tell_rollout(alloc, &mut lines, manifest)?;
-    found(alloc, lines)
+    tell_rollout(alloc, &mut lines, &Place::root(alloc), manifest)?;
+    found(alloc, lines, DEPTH, warnings)
 }
 
-// What was found, in lines.
-fn found(alloc: Global, lines: Lines) -> Result<Findings, Memory>
+fn rollout_warnings(alloc: Global, text: &[u8]) -> Result<String, Memory> {
+    let mut lines = Lines::new(alloc);
+    warn_of_length(alloc, &mut lines, "manifest", text.len())?;
+    lines.warnings(alloc)
+}
+
+// What was found, in lines, or a general finding where they have none.
+fn found(alloc: Global, lines: Lines, general: &str, warnings: String) -> Result<Findings, Memory>
+    requires { 3 < length general.now }
     ensures { IfOk result (λ findings. findings ≡ false) }
 {
-    let text = lines.finish(alloc)?;
-    Ok(Findings { lines: Some(text) })
+    let text = lines.finish(alloc, general)?;
+    Ok(Findings {
+        lines: Some(text),
+        warnings,
+    })
 }
 
 // Whether the body of this text, between a front and an end, is read and taken.
