@@ -16,13 +16,13 @@ const MOST_VALUES: usize = 16;
 
 const MOST_FAILURE_BYTES: usize = 200;
 
-const MEMBERS: &str = "service, run and entries alone";
+const MEMBERS: &str = "no member but service, run and entries";
 
 const NUMBER: &str = "a whole number, 1 to 1,000,000,000";
 
 const ENTRIES: &str = "a list of 1 to 32 entries";
 
-const ENTRY_MEMBERS: &str = "metric, ordinal, taken and one of result and failure alone";
+const ENTRY_MEMBERS: &str = "no member but metric, ordinal, taken and one of result and failure";
 
 const TAKEN: &str = "seconds from 1970 as a whole number, 0 to 253370764799";
 
@@ -92,30 +92,30 @@ fn tell_entry(lines: &mut Lines, place: &Place, entry: &Value) -> Result<(), Mem
     }
 }
 
-fn tell_result(lines: &mut Lines, place: &Place, result: &Value) -> Result<(), Memory> {
-    if is_result(result) {
+fn tell_result(lines: &mut Lines, place: &Place, measured: &Value) -> Result<(), Memory> {
+    if is_result(measured) {
         return Ok(());
     }
     lines.tell(place, "result", RESULT)?;
-    match instead_of_result(result) {
+    match instead_of_result(measured) {
         Some(what) => lines.instead(what),
         None => Ok(()),
     }
 }
 
-fn is_result(result: &Value) -> bool {
-    match result.as_array() {
+fn is_result(measured: &Value) -> bool {
+    match measured.as_array() {
         Some(list) => {
             !list.is_empty()
                 && list.len() <= MOST_VALUES
                 && list.iter().all(|item| item.as_i64().is_some())
         }
-        None => result.as_i64().is_some(),
+        None => measured.as_i64().is_some(),
     }
 }
 
-fn instead_of_result(result: &Value) -> Option<&'static str> {
-    match result {
+fn instead_of_result(measured: &Value) -> Option<&'static str> {
+    match measured {
         Value::Number(_) => Some("report whole numbers: a share of 0.95 as 95 hundredths"),
         Value::String(_) => Some("report 1 for the text that is wanted, and 0 for others"),
         Value::Bool(_) => Some("report 1 for true and 0 for false"),

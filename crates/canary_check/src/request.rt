@@ -70,7 +70,7 @@ fn tell_service(
         place,
         value,
         &["manifest", "version"],
-        "manifest and version alone",
+        "no member but manifest and version",
     )?;
     tell_label(lines, place, value, "version")?;
     match value.get("manifest") {
@@ -87,7 +87,7 @@ fn tell_start(lines: &mut Lines, place: &Place, value: &Value) -> Result<(), Mem
         place,
         value,
         &["service", "version"],
-        "service and version alone",
+        "no member but service and version",
     )?;
     tell_name(lines, place, value, "service")?;
     tell_label(lines, place, value, "version")
@@ -95,6 +95,6 @@ fn tell_start(lines: &mut Lines, place: &Place, value: &Value) -> Result<(), Mem
 
 // Adds what is found in a command of a service alone.
 fn tell_named(lines: &mut Lines, place: &Place, value: &Value) -> Result<(), Memory> {
-    tell_members(lines, place, value, &["service"], "service alone")?;
+    tell_members(lines, place, value, &["service"], "no member but service")?;
     tell_name(lines, place, value, "service")
 }
