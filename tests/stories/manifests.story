@@ -1,4 +1,4 @@
-manifests 113
+manifests 116
 
 # Texts.
 between ...
@@ -186,15 +186,18 @@ between ...
 apiVersion: argoproj.io/v1alpha1 => near line 1, column 1: expected JSON in UTF-8,
      with arrays and objects nested at most 127 deep
      |     instead: make JSON of YAML, by yq -o=json FILE
----<<x:0a>>kind: Rollout => near line 1, column 2: expected JSON in UTF-8,
-     with arrays and objects nested at most 127 deep
-     |     instead: make JSON of YAML, by yq -o=json FILE
 <<x:0a>>kind: Rollout => near line 2, column 1: expected JSON in UTF-8,
      with arrays and objects nested at most 127 deep
      |     instead: make JSON of YAML, by yq -o=json FILE
 <<x:efbbbf>>{"kind":"Rollout"} => near line 1, column 1: expected JSON in UTF-8,
      with arrays and objects nested at most 127 deep
      |     instead: save the file in UTF-8 without a byte order mark
+
+ends ...
+---<<x:0a>>kind: Rollout =>  |     instead: make JSON of YAML, by yq -o=json FILE
+<<x:23>> A template<<x:0a>>kind: AnalysisTemplate =>  |     instead: make JSON of YAML, by yq -o=json FILE
+<<x:fffe>>{<<x:00>> =>  |     instead: save the file in UTF-8 without a byte order mark
+{"kind":"Rollout"}} => with arrays and objects nested at most 127 deep
 
 # More than 100 findings: those beyond are counted. Of 101 the last is counted.
 ends {"kind":"Rollout","metadata":{"name":"web"},"spec":{"strategy":{"canary":{"steps":[ ... ]}}}}

@@ -1,4 +1,4 @@
-//! Why the desk refuses what a manifest itself holds.
+//! Why the desk refuses what a manifest, or the body of a request, itself holds.
 //!
 //! A strategy is checked as the desk checks it, among templates that stand in for those that it
 //! names: each has one metric, of the template's own name.

@@ -1,21 +1,18 @@
-//! The check of a manifest, or of a request's body, without a desk.
+//! The check of a manifest without a desk.
 ghost use Rattle.std.specs.Prelude.{◌≡◌, ◌<◌, ◌++◌, false, IfOk, IsTrue, codes, length};
 ghost use Rattle.serde_json.specs.View.{view};
 ghost use Rattle.canary_manifest.specs.Commands.{body_reading};
 ghost use Rattle.canary_check.specs.Taken.{is_taken, is_manifest_taken, is_reading_taken};
 ghost use Rattle.canary_check.specs.Taken.{is_of_kind, template_body, service_body};
-ghost use Rattle.canary_check.specs.Taken.{is_request_taken};
 
-use crate::alone::{is_asked_taken, is_command_taken};
+use crate::alone::is_command_taken;
 use crate::lines::Lines;
 use crate::place::Place;
-use crate::request::tell_body;
 use crate::rollout::tell_rollout;
 use crate::template::tell_template;
 use crate::text::{instead_of_manifest, instead_of_text};
 use crate::warning::{warn_of_length, warn_of_template};
 use canary_base::error::Memory;
-use canary_canonical::form::only_member;
 use canary_manifest::command::{WireFault, command_from_json};
 use canary_manifest::member::{is_other_text, member_of};
 use serde_json::{Error, Value};
@@ -25,9 +22,6 @@ use std::marker::Model;
 // All that the members alone do not show: a command is JSON around the manifest.
 const DEPTH: &str = "manifest: expected arrays and objects nested at most 125 deep in a Rollout, \
     and 126 deep in an AnalysisTemplate\n";
-
-// Nothing else is known that the members do not show.
-const COMMAND: &str = "body: expected a command\n";
 
 /// What was found: nothing, or findings. Contracts see whether nothing was found.
 #[derive(Drop)]
@@ -74,7 +68,7 @@ impl Findings {
     }
 
     // Nothing but these warnings.
-    fn none(warnings: String) -> Findings
+    pub(crate) fn none(warnings: String) -> Findings
         ensures { IsTrue result }
     {
         Findings {
@@ -107,79 +101,8 @@ pub fn check(alloc: Global, text: &[u8]) -> Result<Findings, Memory>
     }
 }
 
-/// What keeps the desk from taking this body of a request.
-///
-/// It is ok exactly where the desk reads the body as a command, and refuses nothing that the
-/// command itself holds: a template and a service as `check` says of their manifests, and of a
-/// report that two entries name one metric. What depends on what a desk has, or on when it is
-/// asked, is no finding, and neither is a body of more than 65,536 bytes.
-///
-/// # Errors
-/// `Memory` where an allocation was refused.
-pub fn check_request(alloc: Global, body: &[u8]) -> Result<Findings, Memory>
-    ensures { IfOk result (λ findings. findings ≡ is_request_taken body.now) }
-{
-    let warnings = request_warnings(alloc, body)?;
-    if is_request_taken(alloc, body)? {
-        return Ok(Findings::none(warnings));
-    }
-    not_taken(alloc, body, warnings)
-}
-
-// Whether the body is read, and nothing that its command holds is refused.
-fn is_request_taken(alloc: Global, body: &[u8]) -> Result<bool, Memory>
-    ensures { IfOk result (λ taken. taken ≡ is_request_taken body.now) }
-{
-    match command_from_json(alloc, body) {
-        Ok(command) => is_asked_taken(alloc, &command),
-        Err(WireFault::Unreadable) => Ok(false),
-        Err(WireFault::Unsupported) => Ok(false),
-        Err(WireFault::Memory) => Err(Memory),
-    }
-}
-
-// What is found in a body that is not taken.
-fn not_taken(alloc: Global, body: &[u8], warnings: String) -> Result<Findings, Memory>
-    ensures { IfOk result (λ findings. findings ≡ false) }
-{
-    match Value::from_slice(alloc, body) {
-        Ok(value) => body_not_taken(alloc, &value, warnings),
-        Err(fault) if fault.is_memory() => Err(Memory),
-        Err(fault) => no_json(alloc, body, &fault),
-    }
-}
-
-fn body_not_taken(alloc: Global, body: &Value, warnings: String) -> Result<Findings, Memory>
-    ensures { IfOk result (λ findings. findings ≡ false) }
-{
-    let mut lines = Lines::new(alloc);
-    tell_body(alloc, &mut lines, body)?;
-    found(alloc, lines, COMMAND, warnings)
-}
-
-// The warnings of a body.
-fn request_warnings(alloc: Global, body: &[u8]) -> Result<String, Memory> {
-    let mut lines = Lines::new(alloc);
-    warn_of_length(alloc, &mut lines, "body", body.len())?;
-    match Value::from_slice(alloc, body) {
-        Ok(value) => warn_of_body(alloc, &mut lines, &value)?,
-        Err(fault) if fault.is_memory() => return Err(Memory),
-        Err(_) => (),
-    }
-    lines.warnings(alloc)
-}
-
-fn warn_of_body(alloc: Global, lines: &mut Lines, body: &Value) -> Result<(), Memory> {
-    match only_member(body) {
-        Some(("template", manifest)) => {
-            warn_of_template(alloc, lines, &Place::at(alloc, "template")?, manifest)
-        }
-        _ => Ok(()),
-    }
-}
-
-// What is found in a text that is no JSON.
-fn no_json(alloc: Global, text: &[u8], fault: &Error) -> Result<Findings, Memory>
+/// What is found in a text that is no JSON, or `Memory`.
+pub(crate) fn no_json(alloc: Global, text: &[u8], fault: &Error) -> Result<Findings, Memory>
     ensures { IfOk result (λ findings. findings ≡ false) }
 {
     let mut lines = Lines::new(alloc);
@@ -272,8 +195,13 @@ fn rollout_warnings(alloc: Global, text: &[u8]) -> Result<String, Memory> {
     lines.warnings(alloc)
 }
 
-// What was found, in lines, or a general finding where they have none.
-fn found(alloc: Global, lines: Lines, general: &str, warnings: String) -> Result<Findings, Memory>
+/// What was found, in lines, or a general finding where they have none; or `Memory`.
+pub(crate) fn found(
+    alloc: Global,
+    lines: Lines,
+    general: &str,
+    warnings: String,
+) -> Result<Findings, Memory>
     requires { 3 < length general.now }
     ensures { IfOk result (λ findings. findings ≡ false) }
 {

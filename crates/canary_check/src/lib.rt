@@ -15,6 +15,7 @@
 #![tactic(auto)]
 
 mod alone;
+mod body;
 pub mod check;
 mod condition;
 mod excerpt;
@@ -25,7 +26,7 @@ mod members;
 mod metric;
 mod place;
 mod report;
-mod request;
+pub mod request;
 mod rollout;
 mod step;
 mod template;

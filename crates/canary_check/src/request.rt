@@ -1,100 +1,89 @@
-//! What is found in the body of a request.
+//! The check of the body of a request, without a desk.
+ghost use Rattle.std.specs.Prelude.{◌≡◌, false, IfOk};
+ghost use Rattle.canary_check.specs.Taken.{is_request_taken};
+
+use crate::alone::is_asked_taken;
+use crate::body::tell_body;
+use crate::check::{Findings, found, no_json};
 use crate::lines::Lines;
-use crate::members::{key_shown, tell_label, tell_members, tell_name};
 use crate::place::Place;
-use crate::report::tell_report;
-use crate::rollout::tell_rollout;
-use crate::template::tell_template;
+use crate::warning::{warn_of_length, warn_of_template};
 use canary_base::error::Memory;
 use canary_canonical::form::only_member;
-use canary_manifest::member::member_of;
+use canary_manifest::command::{WireFault, command_from_json};
 use serde_json::Value;
 use std::alloc::Global;
 
-const BODY: &str = "an object with exactly one member, whose key is the command";
+// Nothing else is known that the members do not show.
+const COMMAND: &str = "body: expected a command\n";
 
-const COMMANDS: &str =
-    "template, service, start, promote, promoteFull, abort, retry, tick or report";
+/// What keeps the desk from taking this body of a request.
+///
+/// It is ok exactly where the desk reads the body as a command, and refuses nothing that the
+/// command itself holds: a template and a service as `check` says of their manifests, and of a
+/// report that two entries name one metric. What depends on what a desk has, or on when it is
+/// asked, is no finding, and neither is a body of more than 65,536 bytes.
+///
+/// # Errors
+/// `Memory` where an allocation was refused.
+pub fn check_request(alloc: Global, body: &[u8]) -> Result<Findings, Memory>
+    ensures { IfOk result (λ findings. findings ≡ is_request_taken body.now) }
+{
+    let warnings = request_warnings(alloc, body)?;
+    if is_request_taken(alloc, body)? {
+        return Ok(Findings::none(warnings));
+    }
+    not_taken(alloc, body, warnings)
+}
 
-const MANIFEST: &str = "write {\"template\":MANIFEST}, \
-    or {\"service\":{\"version\":\"v1\",\"manifest\":MANIFEST}}";
+// Whether the body is read, and nothing that its command holds is refused.
+fn is_request_taken(alloc: Global, body: &[u8]) -> Result<bool, Memory>
+    ensures { IfOk result (λ taken. taken ≡ is_request_taken body.now) }
+{
+    match command_from_json(alloc, body) {
+        Ok(command) => is_asked_taken(alloc, &command),
+        Err(WireFault::Unreadable) => Ok(false),
+        Err(WireFault::Unsupported) => Ok(false),
+        Err(WireFault::Memory) => Err(Memory),
+    }
+}
 
-/// Adds what is found in the body, or `Memory`.
-pub(crate) fn tell_body(alloc: Global, lines: &mut Lines, body: &Value) -> Result<(), Memory> {
+// What is found in a body that is not taken.
+fn not_taken(alloc: Global, body: &[u8], warnings: String) -> Result<Findings, Memory>
+    ensures { IfOk result (λ findings. findings ≡ false) }
+{
+    match Value::from_slice(alloc, body) {
+        Ok(value) => body_not_taken(alloc, &value, warnings),
+        Err(fault) if fault.is_memory() => Err(Memory),
+        Err(fault) => no_json(alloc, body, &fault),
+    }
+}
+
+fn body_not_taken(alloc: Global, body: &Value, warnings: String) -> Result<Findings, Memory>
+    ensures { IfOk result (λ findings. findings ≡ false) }
+{
+    let mut lines = Lines::new(alloc);
+    tell_body(alloc, &mut lines, body)?;
+    found(alloc, lines, COMMAND, warnings)
+}
+
+// The warnings of a body.
+fn request_warnings(alloc: Global, body: &[u8]) -> Result<String, Memory> {
+    let mut lines = Lines::new(alloc);
+    warn_of_length(alloc, &mut lines, "body", body.len())?;
+    match Value::from_slice(alloc, body) {
+        Ok(value) => warn_of_body(alloc, &mut lines, &value)?,
+        Err(fault) if fault.is_memory() => return Err(Memory),
+        Err(_) => (),
+    }
+    lines.warnings(alloc)
+}
+
+fn warn_of_body(alloc: Global, lines: &mut Lines, body: &Value) -> Result<(), Memory> {
     match only_member(body) {
-        Some((kind, value)) => tell_command(alloc, lines, kind, value),
-        None => tell_no_command(alloc, lines, body),
-    }
-}
-
-fn tell_no_command(alloc: Global, lines: &mut Lines, body: &Value) -> Result<(), Memory> {
-    lines.tell(&Place::root(alloc), "body", BODY)?;
-    match member_of(body, "kind") {
-        Some(_) => lines.instead(MANIFEST),
-        None => Ok(()),
-    }
-}
-
-fn tell_command(alloc: Global, lines: &mut Lines, kind: &str, value: &Value) -> Result<(), Memory> {
-    match kind {
-        "template" => tell_template(alloc, lines, &Place::at(alloc, kind)?, value),
-        "service" => tell_service(alloc, lines, &Place::at(alloc, kind)?, value),
-        "start" => tell_start(lines, &Place::at(alloc, kind)?, value),
-        "promote" => tell_named(lines, &Place::at(alloc, kind)?, value),
-        "promoteFull" => tell_named(lines, &Place::at(alloc, kind)?, value),
-        "abort" => tell_named(lines, &Place::at(alloc, kind)?, value),
-        "retry" => tell_named(lines, &Place::at(alloc, kind)?, value),
-        "tick" => tell_named(lines, &Place::at(alloc, kind)?, value),
-        "report" => tell_report(alloc, lines, &Place::at(alloc, kind)?, value),
-        _ => tell_kind(alloc, lines, kind),
-    }
-}
-
-// Adds that no command has this key.
-fn tell_kind(alloc: Global, lines: &mut Lines, kind: &str) -> Result<(), Memory> {
-    let key = match key_shown(kind) {
-        "" => "body",
-        key => key,
-    };
-    lines.tell(&Place::root(alloc), key, COMMANDS)
-}
-
-fn tell_service(
-    alloc: Global,
-    lines: &mut Lines,
-    place: &Place,
-    value: &Value,
-) -> Result<(), Memory> {
-    tell_members(
-        lines,
-        place,
-        value,
-        &["manifest", "version"],
-        "no member but manifest and version",
-    )?;
-    tell_label(lines, place, value, "version")?;
-    match value.get("manifest") {
-        Some(manifest) => {
-            tell_rollout(alloc, lines, &place.member(alloc, "manifest")?, manifest)
+        Some(("template", manifest)) => {
+            warn_of_template(alloc, lines, &Place::at(alloc, "template")?, manifest)
         }
-        None => lines.tell(place, "manifest", "a Rollout"),
+        _ => Ok(()),
     }
-}
-
-fn tell_start(lines: &mut Lines, place: &Place, value: &Value) -> Result<(), Memory> {
-    tell_members(
-        lines,
-        place,
-        value,
-        &["service", "version"],
-        "no member but service and version",
-    )?;
-    tell_name(lines, place, value, "service")?;
-    tell_label(lines, place, value, "version")
-}
-
-// Adds what is found in a command of a service alone.
-fn tell_named(lines: &mut Lines, place: &Place, value: &Value) -> Result<(), Memory> {
-    tell_members(lines, place, value, &["service"], "no member but service")?;
-    tell_name(lines, place, value, "service")
 }
