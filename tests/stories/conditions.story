@@ -1,4 +1,4 @@
-conditions 171
+conditions 204
 
 # Conditions of success and failure, a result and its phase.
 phases
@@ -76,14 +76,17 @@ result[9223372036854775808] > 0
 result > 1and result < 5
 result > -1a
 
-# Texts that are no condition, the byte where each stops being one, and what is expected there.
+# Texts that are no condition, the byte where each stops being one, what is expected there, and what
+# to write instead, where it is known.
 stops
   => 1 result, a whole number, ( or !
 result > => 8 result or a whole number
 result >   => 10 result or a whole number
 result > 0.5 => 10 result, a whole number, a bracket, a comparison, &&, || or !
+     => report hundredths, and write result < 95 for result < 0.95
 (result > 1 => 11 &&, || or )
 result => 6 [, ==, !=, <, <=, > or >=
+     => report 1 for true and 0 for false, and write result == 1 for result
 result > 1 1 => 11 &&, || or the end
 result[x] > 1 => 7 result, a whole number, a bracket, a comparison, &&, || or !
 result[result] > 1 => 7 the digits of an index
@@ -91,12 +94,25 @@ result[1 > 1 => 9 ]
 result 1 => 7 [, ==, !=, <, <=, > or >=
 1 => 1 ==, !=, <, <=, > or >=
 1 > result > => 11 [, &&, || or the end
+     => write 1 < result && result < 5 for 1 < result < 5
 (1 > result => 11 [, &&, || or )
 (1 > result[0] => 14 &&, || or )
 result > 1) => 10 &&, || or the end
 not => 3 result, a whole number, ( or !
 result > 1 and ) => 15 result, a whole number, ( or !
 <<32*(>>result><<32*)>> => 39 result or a whole number
+result.5 > 1 => 6 result, a whole number, a bracket, a comparison, &&, || or !
+result > 95% => 11 result, a whole number, a bracket, a comparison, &&, || or !
+result > 95% or result < 5 => 11 result, a whole number, a bracket, a comparison, &&, || or !
+result === 1 => 9 result, a whole number, a bracket, a comparison, &&, || or !
+result[i] > 5 => 7 result, a whole number, a bracket, a comparison, &&, || or !
+if (result > 5) => 0 result, a whole number, a bracket, a comparison, &&, || or !
+(result > 5)[0] > 1 => 12 &&, || or the end
+(result > 5) == (result > 6) => 13 &&, || or the end
+result > 1 &&<<x:c3a9>><<x:09>>result > 1 <<40* || result > 1>> => 13
+     result, a whole number, a bracket, a comparison, &&, || or !
+<<20*result > 1 && >>result > 1 && é && <<20*result > 1 && >>result > 1 => 294
+     result, a whole number, a bracket, a comparison, &&, || or !
 
 # Which fault comes first: too long, no token, a number out of range, too deep, and all others.
 stops
@@ -106,9 +122,13 @@ stops
 result > 9223372036854775808 @ => 29 result, a whole number, a bracket, a comparison, &&, || or !
 result > 1 || 2 @ => 16 result, a whole number, a bracket, a comparison, &&, || or !
 result 1 > 9223372036854775808 => 11 a signed number of 64 bits
+     => report in a larger unit, in which the number is smaller
 <<33*(>>result > 9223372036854775808<<33*)>> => 42 a signed number of 64 bits
+     => report in a larger unit, in which the number is smaller
 result > -9223372036854775809 => 9 a signed number of 64 bits
+     => report in a larger unit, in which the number is smaller
 9223372036854775808 => 0 a signed number of 64 bits
+     => report in a larger unit, in which the number is smaller
 <<33*(>>result>0<<33*)>> => 32 at most 32 open brackets
 <<33*(>>result > => 32 at most 32 open brackets
 )))<<32*(>>result>0<<32*)>> => 0 result, a whole number, ( or !
@@ -135,46 +155,113 @@ refused
 <<1025* >>
 <<1024* >>
 
-# Forms of Argo Rollouts' conditions that are not read, each with what may be written instead.
-instead
+# Forms of Argo Rollouts' conditions that are not read, each with what may be written instead. The
+# head of a block has what `canary check` says of its rows.
+instead report hundredths, and write result < 95 for result < 0.95
 result >= 0.95 => result >= 95
+result > .5 => result > 50
+result > 1.5e3 => result > 1500
+
+instead report 1 for the text that is wanted, and write result == 1 for result == "up"
 result == "up" => result == 1
 result == 'up' => result == 1
+"up" == result => result == 1
+result == ["up"] => result == 1
+
+instead report 1 for true and 0 for false, and write result == 1 for result == true
 result == true => result == 1
+result != false => result != 0
+
+instead report 1 for true and 0 for false, and write result == 1 for result
 result => result == 1
+!result => result == 0
+result && result > 5 => result == 1 && result > 5
+(result or result > 5) => (result == 1 or result > 5)
+result[0] => result[0] == 1
+
+instead report a failure if there is no value, and write result < 5 for default(result, 0) < 5
 result == nil => result == 0
 result ?? 0 < 5 => result < 5
 default(result, 0) < 5 => result < 5
-len(result) == 2 => result == 2
-asInt(result) < 5 => result < 5
-asFloat(result[0]) < 5 => result[0] < 5
+
+instead report a failure if the value is no finite number, and leave isNaN and isInf out
 isNaN(result) => result == 1
 isInf(result) => result == 1
+!isNaN(result) && result > 5 => result > 5
+
+instead write result for asInt(result): a result is a whole number
+asInt(result) < 5 => result < 5
+asFloat(result[0]) < 5 => result[0] < 5
+
+instead report the length, and write result == 2 for len(result) == 2
+len(result) == 2 => result == 2
+
+instead write brackets round comparisons alone: result > 5 for (result) > 5
 (result) > 5 => result > 5
 (result[0]) > (5) => result[0] > 5
+result > (5) => result > 5
+
+instead count the places of a list from 0: result[0] is the first
 result[-1] > 5 => result[1] > 5
+
+instead name each place of the list: result[0] and result[1]
 result[0:2] == 5 => result[0] == 5 && result[1] == 5
+
+instead report one list of whole numbers, with no list inside it
 result[0][1] > 5 => result[1] > 5
+
+instead report the value, and write result > 5 for result.value > 5
 result.value > 5 => result > 5
 result["value"] > 5 => result[0] > 5
+result[0].value > 5 => result[0] > 5
+result?.value > 5 => result > 5
+
+instead report what the arithmetic gives, or write result > 6 for result - 1 > 5
 result + 1 > 5 => result > 4
 result - 1 > 5 => result > 6
+result -1 > 5 => result > 6
 result * 2 > 5 => result > 2
 result / 2 > 5 => result > 10
 result % 2 == 0 => result == 0
 result ** 2 > 5 => result > 2 || result < -2
+
+instead write the minus directly before its digits: -5 for - 5
 result > - 5 => result > -5
+
+instead write result < -5 for -result > 5
 -result > 5 => result < -5
+
+instead write 5 for +5
 result > +5 => result > 5
+
+instead write digits alone: 1000 for 1_000 and 1e3, 31 for 0x1F
 result > 1_000 => result > 1000
 result > 0x1F => result > 31
 result > 1e3 => result > 1000
+result > -1e3 => result > -1000
+
+instead report in a larger unit, in which the number is smaller
+result > 9223372036854775808 => result > 9223372036854775
+
+instead write 1 < result && result < 5 for 1 < result < 5
 1 < result < 5 => 1 < result && result < 5
+
+instead write result == 1 || result == 2 for result in [1, 2], and result >= 1 && result <= 5
+     for result in 1..5
 result in [1, 2] => result == 1 || result == 2
 result not in [1, 2] => not (result == 1 or result == 2)
 result in 1..5 => result >= 1 && result <= 5
+result == 1..5 => result >= 1 && result <= 5
+
+instead write result[0] == 1 && result[1] == 2 for result == [1, 2]
 result == [1, 2] => result[0] == 1 && result[1] == 2
+result == [1] => result[0] == 1
+
+instead write result > 5 for result > 5 ? true : false
 result > 5 ? true : false => result > 5
+
+instead report what the function gives, or write result[0] > 5 && result[1] > 5 for
+     all(result, {# > 5})
 all(result, {# > 5}) => result[0] > 5 && result[1] > 5
 any(result, # > 5) => result[0] > 5 || result[1] > 5
 none(result, {# > 5}) => result[0] <= 5 && result[1] <= 5
@@ -185,12 +272,33 @@ count(result, {# > 5}) == 2 => result[0] > 5 && result[1] > 5
 max(result) > 5 => result[0] > 5 || result[1] > 5
 min(result) > 5 => result[0] > 5 && result[1] > 5
 sum(result) > 5 => result > 5
+
+instead report 1 where the text passes the test, and write result == 1
 result matches "up" => result == 1
 result contains "up" => result == 1
 result startsWith "up" => result == 1
 result endsWith "up" => result == 1
+
+instead write || between two conditions, and report what a pipe gives
 result | len() == 2 => result == 2
+result > 5 | result < 1 => result > 5 || result < 1
+
+instead write && for &
+result > 1 & result < 5 => result > 1 && result < 5
+
+instead write == for =
+result = 5 => result == 5
+
+instead write result, and, or and not in small letters
+Result > 5 => result > 5
+result > 1 AND result < 5 => result > 1 and result < 5
+
+instead write result > 5 for let x = result; x > 5
 let x = result; x > 5 => result > 5
+
+instead leave the comment out
 result > 5 // high => result > 5
 result > 5 /* high */ => result > 5
+
+instead fill {{..}} in before the manifest is sent
 result > {{args.limit}} => result > 5

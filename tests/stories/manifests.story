@@ -1,4 +1,4 @@
-manifests 56
+manifests 116
 
 # Texts.
 between ...
@@ -7,6 +7,18 @@ between ...
 {"kind":"Rollout","metadata":{"name":"web"},"spec":{"strategy":{"canary":{}}}} => ok
 {"metadata":{"name":"t"}} => kind: expected AnalysisTemplate or Rollout
 {"kind":"List","items":[]} => kind: expected AnalysisTemplate or Rollout
+     |     instead: take one of its items, as kubectl get analysistemplate NAME -o json or
+     kubectl get rollout NAME -o json prints it
+{"kind":"RolloutList","items":[]} => kind: expected AnalysisTemplate or Rollout
+     |     instead: take one of its items, as kubectl get analysistemplate NAME -o json or
+     kubectl get rollout NAME -o json prints it
+{"kind":"ClusterAnalysisTemplate","metadata":{"name":"t"}} =>
+     kind: expected AnalysisTemplate or Rollout
+     |     instead: write AnalysisTemplate for ClusterAnalysisTemplate:
+     the desk has templates of one kind
+{"kind":"AnalysisRun"} => kind: expected AnalysisTemplate or Rollout
+{"promote":{"service":"web"}} => kind: expected AnalysisTemplate or Rollout
+     |     instead: check the body of a request by canary check --request FILE
 {"kind":null} => kind: expected AnalysisTemplate or Rollout
 [{"kind":"Rollout"}] => kind: expected AnalysisTemplate or Rollout
 {"kind":} => near line 1, column 9: expected JSON in UTF-8,
@@ -44,14 +56,32 @@ between {"kind":"AnalysisTemplate","metadata":{"name":"t"},"spec":{"metrics":[{"
 "name":"errors in a row" => spec.metrics[0].name: expected 1 to 63 bytes of A-Z a-z 0-9 . _ -
 "successCondition":"result < 0.95" => spec.metrics[0].successCondition (metric "errors"), byte 10:
      expected result, a whole number, a bracket, a comparison, &&, || or !
+     |     result < 0.95
+     |               ^
+     |     instead: report hundredths, and write result < 95 for result < 0.95
 "failureCondition":"result <" => spec.metrics[0].failureCondition (metric "errors"), byte 8:
      expected result or a whole number
+     |     result <
+     |             ^
 "failureCondition":"result" => spec.metrics[0].failureCondition (metric "errors"), byte 6:
      expected [, ==, !=, <, <=, > or >=
+     |     result
+     |           ^
+     |     instead: report 1 for true and 0 for false, and write result == 1 for result
 "failureCondition":"(result > 1" => spec.metrics[0].failureCondition (metric "errors"), byte 11:
      expected &&, || or )
+     |     (result > 1
+     |                ^
 "successCondition":"result > 9223372036854775808" => spec.metrics[0].successCondition
      (metric "errors"), byte 9: expected a signed number of 64 bits
+     |     result > 9223372036854775808
+     |              ^
+     |     instead: report in a larger unit, in which the number is smaller
+"successCondition":"result > 1 && result\u00a0\t< 50 && result >= 10 && result <= 20 || result == 30",
+    "failureCondition":"" => spec.metrics[0].successCondition (metric "errors"), byte 20:
+     expected result, a whole number, a bracket, a comparison, &&, || or !
+     |     result > 1 && result???< 50 && result >= 10 && result <= 20 ...
+     |                         ^
 "successCondition":95 => spec.metrics[0].successCondition (metric "errors"):
      expected a condition in a text
 "initialDelay":"1.5m" => spec.metrics[0].initialDelay (metric "errors"):
@@ -115,8 +145,28 @@ between {"kind":"Rollout","metadata":{"name":"web"},"spec":{"strategy":{"canary"
      spec.strategy.canary.steps[1]: expected exactly one of setWeight, pause and analysis
 {"experiment":{}} => spec.strategy.canary.steps[0].experiment:
      expected no member but setWeight, pause or analysis (others are unsupported)
+     |     instead: leave the step out, or write an analysis
+{"setCanaryScale":{"weight":5}} => spec.strategy.canary.steps[0].setCanaryScale:
+     expected no member but setWeight, pause or analysis (others are unsupported)
+     |     instead: leave the step out: the desk scales no pods
+{"setHeaderRoute":{}},{"setMirrorRoute":{}} => spec.strategy.canary.steps[0].setHeaderRoute:
+     expected no member but setWeight, pause or analysis (others are unsupported)
+     |     instead: leave the step out: the desk routes no requests |
+     spec.strategy.canary.steps[1].setMirrorRoute:
+     expected no member but setWeight, pause or analysis (others are unsupported)
+     |     instead: leave the step out: the desk routes no requests
+{"plugin":{}} => spec.strategy.canary.steps[0].plugin:
+     expected no member but setWeight, pause or analysis (others are unsupported)
+     |     instead: leave the step out
 {"a\nb":{}} => spec.strategy.canary.steps[0]:
      expected no member but setWeight, pause or analysis (others are unsupported)
+     |     instead: leave the step out
+{"setweight":5} => spec.strategy.canary.steps[0].setweight:
+     expected no member but setWeight, pause or analysis (others are unsupported)
+     |     instead: write setWeight
+{"setWeight":5,"plugin":{}} => spec.strategy.canary.steps[0].plugin:
+     expected no member but setWeight, pause or analysis (others are unsupported)
+     |     instead: leave the member out
 {"analysis":{"templates":[]}} => spec.strategy.canary.steps[0].analysis.templates:
      expected a list of 1 to 8 objects with templateName
 {"analysis":{}} => spec.strategy.canary.steps[0].analysis.templates:
@@ -130,3 +180,136 @@ between {"kind":"Rollout","metadata":{"name":"web"},"spec":{"strategy":{"canary"
 begins
 {"kind":"AnalysisTemplate","metadata":{"name":"t"},"spec":{"metrics":[{"name":"m"}]}},
     "template":{"metadata":{"name":"t"},"spec":{"metrics":[{"name":"m"}]}} => near line 1, column 8
+
+# Texts in another form, or with a byte order mark.
+between ...
+apiVersion: argoproj.io/v1alpha1 => near line 1, column 1: expected JSON in UTF-8,
+     with arrays and objects nested at most 127 deep
+     |     instead: make JSON of YAML, by yq -o=json FILE
+<<x:0a>>kind: Rollout => near line 2, column 1: expected JSON in UTF-8,
+     with arrays and objects nested at most 127 deep
+     |     instead: make JSON of YAML, by yq -o=json FILE
+<<x:efbbbf>>{"kind":"Rollout"} => near line 1, column 1: expected JSON in UTF-8,
+     with arrays and objects nested at most 127 deep
+     |     instead: save the file in UTF-8 without a byte order mark
+
+ends ...
+---<<x:0a>>kind: Rollout =>  |     instead: make JSON of YAML, by yq -o=json FILE
+<<x:23>> A template<<x:0a>>kind: AnalysisTemplate =>  |     instead: make JSON of YAML, by yq -o=json FILE
+<<x:fffe>>{<<x:00>> =>  |     instead: save the file in UTF-8 without a byte order mark
+{"kind":"Rollout"}} => with arrays and objects nested at most 127 deep
+
+# More than 100 findings: those beyond are counted. Of 101 the last is counted.
+ends {"kind":"Rollout","metadata":{"name":"web"},"spec":{"strategy":{"canary":{"steps":[ ... ]}}}}
+<<101*{"pause":5},>>{"pause":5} =>  | spec.strategy.canary.steps[98].pause:
+     expected an object, with or without a duration | and 3 more
+<<99*{"pause":5},>>{"pause":5} =>  | spec.strategy.canary.steps[98].pause:
+     expected an object, with or without a duration | and 1 more
+<<98*{"pause":5},>>{"pause":5} =>  | spec.strategy.canary.steps[97].pause:
+     expected an object, with or without a duration | spec.strategy.canary.steps[98].pause:
+     expected an object, with or without a duration
+
+# What is said behind a finding is not said behind one that is only counted.
+ends {"kind":"Rollout","metadata":{"name":"web"},"spec":{"strategy":{"canary":{"steps":[ ... ]}}}}
+<<99*{"pause":5},>>{"plugin":5} =>  | spec.strategy.canary.steps[98].pause:
+     expected an object, with or without a duration | and 1 more
+<<98*{"pause":5},>>{"plugin":5} =>  | spec.strategy.canary.steps[98].plugin:
+     expected no member but setWeight, pause or analysis (others are unsupported)
+     |     instead: leave the step out
+
+# Warnings, of manifests that are taken.
+warns {"kind":"AnalysisTemplate","metadata":{"name":"t"},"spec":{"metrics":[ ... ]}}
+{"name":"m"} => canary: warning: spec.metrics[0] (metric "m"): no condition,
+     so each result is Successful
+{"name":"a","failureCondition":"result > 5"},{"name":"b","successCondition":"","provider":{}} =>
+     canary: warning: spec.metrics[1] (metric "b"): no condition, so each result is Successful
+{"name":"a","successCondition":"result > 5"} => nothing
+{"name":"m","successCondition":"result > 5","x":"<<65536*x>>"} => canary: warning: manifest:
+     65660 bytes, and the body of a request has at most 65,536
+
+# Bodies of requests.
+request ...
+{"promote":{"service":"web"}} => ok
+{"promoteFull":{"service":"web"}} => ok
+{"abort":{"service":"web"}} => ok
+{"retry":{"service":"web"}} => ok
+{"tick":{"service":"web"}} => ok
+{"start":{"service":"web","version":"v2"}} => ok
+{"template":{"metadata":{"name":"t"},"spec":{"metrics":[{"name":"m"}]}}} => ok
+{"service":{"version":"v1","manifest":{"metadata":{"name":"web"},
+    "spec":{"strategy":{"canary":{}}}}}} => ok
+{"report":{"service":"web","run":1000000000,"entries":[{"metric":"a","ordinal":1,"taken":0,
+    "result":[-1,2]},{"metric":"b","ordinal":1000000000,"taken":253370764799,"failure":"x"}]}} => ok
+[] => body: expected an object with exactly one member, whose key is the command
+{"promote":{"service":"web"},"tick":{"service":"web"}} =>
+     body: expected an object with exactly one member, whose key is the command
+{"kind":"Rollout","metadata":{"name":"web"}} =>
+     body: expected an object with exactly one member, whose key is the command
+     |     instead: write {"template":MANIFEST},
+     or {"service":{"version":"v1","manifest":MANIFEST}}
+{"Promote":{"service":"web"}} => Promote: expected template, service, start, promote, promoteFull,
+     abort, retry, tick or report
+{"a b":{}} => body: expected template, service, start, promote, promoteFull,
+     abort, retry, tick or report
+{"promote":} => near line 1, column 12: expected JSON in UTF-8,
+     with arrays and objects nested at most 127 deep
+{"promote":{"service":"Web"}} =>
+     promote.service: expected 1 to 63 bytes of a-z 0-9 -, the first and the last no -
+{"tick":5} => tick.service: expected 1 to 63 bytes of a-z 0-9 -, the first and the last no -
+{"retry":{"service":"web","version":null}} => retry.version: expected no member but service
+{"start":{"service":"web"}} => start.version: expected 1 to 63 bytes of A-Z a-z 0-9 . _ -
+{"start":{"version":"v 2","run":1}} => start.run: expected no member but service and version |
+     start.service: expected 1 to 63 bytes of a-z 0-9 -, the first and the last no - |
+     start.version: expected 1 to 63 bytes of A-Z a-z 0-9 . _ -
+{"template":{"kind":"ClusterAnalysisTemplate","metadata":{"name":"t"},
+    "spec":{"metrics":[{"name":"m","successCondition":"result > 0.5"}]}}} =>
+     template.kind: expected AnalysisTemplate
+     |     instead: write AnalysisTemplate for ClusterAnalysisTemplate:
+     the desk has templates of one kind |
+     template.spec.metrics[0].successCondition (metric "m"), byte 10:
+     expected result, a whole number, a bracket, a comparison, &&, || or !
+     |     result > 0.5
+     |               ^
+     |     instead: report hundredths, and write result < 95 for result < 0.95
+{"service":{"manifest":{"kind":"AnalysisTemplate","spec":{"strategy":{"canary":{"steps":[
+    {"setWeight":101}]}}}}}} => service.version: expected 1 to 63 bytes of A-Z a-z 0-9 . _ - |
+     service.manifest.kind: expected Rollout |
+     service.manifest.metadata.name:
+     expected 1 to 63 bytes of a-z 0-9 -, the first and the last no - |
+     service.manifest.spec.strategy.canary.steps[0].setWeight: expected a whole number, 0 to 100
+{"service":{"version":"v1"}} => service.manifest: expected a Rollout
+
+# Reports.
+request {"report":{"service":"web","run":1,"entries":[ ... ]}}
+{"metric":"a","ordinal":1,"taken":5,"result":0.97} => report.entries[0].result:
+     expected a signed whole number of 64 bits, or a list of 1 to 16 of them
+     |     instead: report whole numbers: a share of 0.95 as 95 hundredths
+{"metric":"a","ordinal":1,"taken":5,"result":true} => report.entries[0].result:
+     expected a signed whole number of 64 bits, or a list of 1 to 16 of them
+     |     instead: report 1 for true and 0 for false
+{"metric":"a","ordinal":1,"taken":5,"result":"up"} => report.entries[0].result:
+     expected a signed whole number of 64 bits, or a list of 1 to 16 of them
+     |     instead: report 1 for the text that is wanted, and 0 for others
+{"metric":"a","ordinal":1,"taken":5,"result":null} => report.entries[0].result:
+     expected a signed whole number of 64 bits, or a list of 1 to 16 of them
+     |     instead: report a failure if there is no value
+{"metric":"a","ordinal":1,"taken":5,"result":[1,2,3,4,5,6,7,8,9,10,11,12,13,14,15,16,17]} =>
+     report.entries[0].result:
+     expected a signed whole number of 64 bits, or a list of 1 to 16 of them
+{"metric":"a","ordinal":0,"taken":-1,"failure":""} =>
+     report.entries[0].ordinal: expected a whole number, 1 to 1,000,000,000 |
+     report.entries[0].taken: expected seconds from 1970 as a whole number, 0 to 253370764799 |
+     report.entries[0].failure: expected a text of 1 to 200 bytes
+{"metric":"a","ordinal":1,"taken":5},{"metric":"b","ordinal":1,"taken":5,"result":1,"failure":"x"} =>
+     report.entries[0]: expected exactly one of result and failure |
+     report.entries[1]: expected exactly one of result and failure
+{"metric":"a","ordinal":1,"taken":5,"result":1},{"metric":"b","ordinal":1,"taken":5,"result":1},
+    {"metric":"a","ordinal":2,"taken":6,"result":1} =>
+     report.entries[2].metric: expected a metric that no entry before it names
+{"metric":"a","ordinal":1,"taken":5,"result":1,"unit":"ms"} => report.entries[0].unit:
+     expected no member but metric, ordinal, taken and one of result and failure
+ => report.entries: expected a list of 1 to 32 entries
+5 => report.entries[0].metric: expected 1 to 63 bytes of A-Z a-z 0-9 . _ - |
+     report.entries[0].ordinal: expected a whole number, 1 to 1,000,000,000 |
+     report.entries[0].taken: expected seconds from 1970 as a whole number, 0 to 253370764799 |
+     report.entries[0]: expected exactly one of result and failure

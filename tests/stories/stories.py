@@ -70,6 +70,13 @@ class Program:
             raise Wrong(f"{words}: status {ran.returncode}: {ran.stdout.decode()}")
         return ran.stderr.decode()
 
+    def warnings(self, words):
+        """What the program tells on standard error where it ends with status 0."""
+        ran = subprocess.run([self.path, *words], capture_output=True, timeout=60)
+        if ran.returncode:
+            raise Wrong(f"{words}: status {ran.returncode}: {ran.stderr.decode()}")
+        return ran.stderr
+
     def pipe(self, stream, at=B, step=1, status=0, book=()):
         return self.run(["pipe", "--at", str(at), "--step", str(step), *book], stream, status)
 
@@ -199,35 +206,57 @@ def told_phases(program, rows):
     return len(rows)
 
 
+def checked(program, condition):
+    """What `canary check` says of a template with that condition, which is none."""
+    file = os.path.join(program.folder, "manifest")
+    metric = {"name": "m", "successCondition": condition.decode()}
+    spec = {"metadata": {"name": "t"}, "spec": {"metrics": [metric]}}
+    with open(file, "w", encoding="utf-8") as manifest:
+        json.dump({"kind": "AnalysisTemplate", **spec}, manifest)
+    return program.run(["check", file], status=1).decode()
+
+
+def excerpt(text, at):
+    """The lines that show a text, or 60 of its bytes, with a caret under the byte at that place."""
+    start = min(max(at - 30, 0), max(len(text) - 60, 0))
+    shown = "".join(chr(byte) if 32 <= byte < 127 else "?" for byte in text[start:start + 60])
+    front, end = "..." if start else "", "..." if start + 60 < len(text) else ""
+    return f"    {front}{shown}{end}\n    {' ' * (len(front) + at - start)}^\n"
+
+
 def told_stops(program, rows):
     """Texts that are not conditions, each with the byte at which, as `canary check` says, it stops
-    being one, and what is expected there."""
-    file = os.path.join(program.folder, "manifest")
+    being one, what it expects there, and what it says to write instead, if it says so."""
+    where = 'spec.metrics[0].successCondition (metric "m"), byte'
     for row in rows:
-        text, told = row.split(" => ")
+        text, told, *instead = row.split(" => ")
         byte, expected = told.split(" ", 1)
-        metric = {"name": "m", "successCondition": expanded(text).decode()}
-        spec = {"metadata": {"name": "t"}, "spec": {"metrics": [metric]}}
-        with open(file, "w", encoding="utf-8") as manifest:
-            json.dump({"kind": "AnalysisTemplate", **spec}, manifest)
-        where = 'spec.metrics[0].successCondition (metric "m"), byte'
-        wanted = f"{where} {byte}: expected {expected}\n"
-        expect(row, program.run(["check", file], status=1).decode(), wanted)
+        wanted = f"{where} {byte}: expected {expected}\n{excerpt(expanded(text), int(byte))}"
+        wanted += "".join(f"    instead: {what}\n" for what in instead)
+        expect(row, checked(program, expanded(text)), wanted)
     return len(rows)
 
 
+def told_instead(program, rows, what):
+    """Texts that are no condition, each with one that may be written instead: `canary check` says
+    the same of all."""
+    forms, others = zip(*(row.split(" => ") for row in rows))
+    for row, form in zip(rows, forms):
+        expect(row, checked(program, expanded(form)).split("\n")[3:], [f"    instead: {what}", ""])
+    told_readings(program, rows, forms, False)
+    return told_readings(program, rows, others, True)
+
+
 def told_conditions(program, block):
-    """Conditions: valid ones, the places at which other texts stop being one, and the phases of
-    results."""
+    """Conditions: valid ones, the places at which other texts stop being one, what to write in their
+    place, and the phases of results."""
     head, *rows = block
     if head == "phases":
         return told_phases(program, rows)
     if head == "stops":
         return told_stops(program, rows)
-    if head == "instead":
-        forms, others = zip(*(row.split(" => ") for row in rows))
-        told_readings(program, rows, forms, False)
-        return told_readings(program, rows, others, True)
+    if head.startswith("instead "):
+        return told_instead(program, rows, head.removeprefix("instead "))
     return told_readings(program, rows, rows, {"accepted": True, "refused": False}[head])
 
 
@@ -301,21 +330,31 @@ def told_pairs(program, rows):
     return len(rows)
 
 
+def told_of_manifest(program, kind, file, wanted):
+    """What `canary check` says of a manifest, or of the body of a request; or the front or the end
+    of it that is as long as what is wanted, or what it warns of."""
+    if kind == "warns":
+        return program.warnings(["check", file])
+    words = ["check", "--request", file] if kind == "request" else ["check", file]
+    found = program.run(words, status=0 if wanted == b"ok\n" else 1)
+    if kind == "begins":
+        return found[:len(wanted)]
+    return found[-len(wanted):] if kind == "ends" else found
+
+
 def told_manifests(program, block):
-    """Manifests, each with what `canary check` finds in it."""
+    """Manifests, or bodies of requests, each with what `canary check` finds in it."""
     head, *rows = block
-    front, end = ("", "") if head == "begins" else (part.strip() for part in between(head))
+    kind, _, around = head.partition(" ")
+    front, end = (part.strip() for part in around.split("...", 1)) if around else ("", "")
+    file = os.path.join(program.folder, "manifest")
     for row in rows:
         text, told = row.split(" => ")
-        file = os.path.join(program.folder, "manifest")
         with open(file, "wb") as manifest:
             manifest.write(expanded(front + text + end))
-        wanted = told.replace(" | ", "\n").encode()
-        found = program.run(["check", file], status=0 if told == "ok" else 1)
-        if head == "begins":
-            expect(row, found[:len(wanted)], wanted)
-        else:
-            expect(row, found, wanted + b"\n")
+        wanted = told.replace(" | ", "\n") + ("" if kind == "begins" else "\n")
+        wanted = b"" if told == "nothing" else wanted.encode()
+        expect(row, told_of_manifest(program, kind, file, wanted), wanted)
     return len(rows)
 
 

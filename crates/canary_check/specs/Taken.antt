@@ -1,5 +1,7 @@
 -- Which manifests the desk takes, as far as the manifest alone says.
-use Rattle.std.specs.Prelude.{ℕ, refl, List, [], ◌∷◌, ◌++◌, Bool, false, not, Option, Some, None, is_none, if◌then◌else◌, codes}
+use Rattle.std.specs.Prelude.{ℕ, refl, List, [], ◌∷◌, ◌++◌, Bool, true, false, ◌||◌, not, Option, Some, None, is_none, if◌then◌else◌, codes}
+use Rattle.std.specs.List.{list_any}
+use Rattle.std.specs.Str.{bytes_eq}
 use Rattle.std.specs.FinMap as map
 use Rattle.std.specs.Ordering.{nat_cmp}
 use Rattle.std.specs.Cmp.Lexicographic.{slice_cmp}
@@ -8,6 +10,7 @@ use Rattle.canary_plan.specs.declared.template_spec.MetricSpec.{MetricSpec}
 use Rattle.canary_plan.specs.declared.template_spec.TemplateSpec.{TemplateSpec}
 use Rattle.canary_plan.specs.declared.template.Template.{Template}
 use Rattle.canary_plan.specs.declared.service.ServiceSpec.{ServiceSpec}
+use Rattle.canary_plan.specs.declared.report.Entry.{Entry}
 use Rattle.canary_plan.specs.declared.refusal.Refusal.{Refusal}
 use Rattle.canary_plan.specs.declared.command.Command.{Command}
 use Rattle.canary_plan.specs.declared.command.Command.TheVariants as command
@@ -98,3 +101,31 @@ is_json_taken text (Some manifest) = is_manifest_taken text manifest
 -- the desk takes the manifest of this text, as far as the text alone says
 abbrev pub is_taken : List ℕ → Bool
 is_taken text = is_json_taken text (json_in text)
+
+-- ---- bodies of requests
+
+-- the measurement of an entry is one of that metric
+abbrev pub names_metric : List ℕ → Entry → Bool
+names_metric name entry = bytes_eq entry.metric name
+
+-- two entries name one metric
+abbrev pub names_twice : List Entry → Bool
+names_twice [] = false
+names_twice (entry ∷ entries) =
+    list_any (names_metric entry.metric) entries || names_twice entries
+
+-- nothing that the command itself holds is refused, whatever a desk has
+abbrev pub is_asked_taken : Command → Bool
+is_asked_taken (command.Template spec) = is_command_taken (command.Template spec)
+is_asked_taken (command.Service spec) = is_command_taken (command.Service spec)
+is_asked_taken (command.Report report) = not (names_twice report.entries)
+is_asked_taken other = true
+
+abbrev pub is_asked_reading_taken : Reading Command → Bool
+is_asked_reading_taken unsupported = false
+is_asked_reading_taken unreadable = false
+is_asked_reading_taken (readable asked) = is_asked_taken asked
+
+-- the desk takes the request with this body, as far as the body alone says
+abbrev pub is_request_taken : List ℕ → Bool
+is_request_taken body = is_asked_reading_taken (body_reading body)

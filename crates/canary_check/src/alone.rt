@@ -1,4 +1,4 @@
-//! Why the desk refuses what a manifest itself holds.
+//! Why the desk refuses what a manifest, or the body of a request, itself holds.
 //!
 //! A strategy is checked as the desk checks it, among templates that stand in for those that it
 //! names: each has one metric, of the template's own name.
@@ -9,6 +9,8 @@ ghost use Rattle.std.specs.FinMap as map;
 ghost use Rattle.canary_plan.specs.Commands.{names_looked_up};
 ghost use Rattle.canary_check.specs.Taken.{plain_metric, stand_in, with_stand_ins};
 ghost use Rattle.canary_check.specs.Taken.{refusal_among, is_command_taken};
+ghost use Rattle.canary_check.specs.Taken.{is_asked_taken, names_twice, names_metric};
+ghost use Rattle.std.specs.List.{list_any};
 
 use canary_base::durations::Seconds;
 use canary_base::error::Memory;
@@ -17,6 +19,7 @@ use canary_base::names::{Label, Name};
 use canary_plan::command::Command;
 use canary_plan::fault::{BindFault, CheckFault};
 use canary_plan::refusal::Refusal;
+use canary_plan::report::Entry;
 use canary_plan::service::ServiceSpec;
 use canary_plan::strategy::Strategy;
 use canary_plan::template::Template;
@@ -34,6 +37,38 @@ pub(crate) fn is_command_taken(alloc: Global, command: &Command) -> Result<bool,
         Command::Service(spec) => is_service_taken(alloc, command, spec),
         _ => Ok(false),
     }
+}
+
+/// Whether nothing that the command itself holds is refused: of a template and of a service as
+/// above, and of a report that no two entries name one metric. Of any other command nothing is.
+pub(crate) fn is_asked_taken(alloc: Global, command: &Command) -> Result<bool, Memory>
+    ensures { IfOk result (λ taken. taken ≡ is_asked_taken command.now) }
+{
+    match command {
+        Command::Template(_) => is_command_taken(alloc, command),
+        Command::Service(_) => is_command_taken(alloc, command),
+        Command::Report(report) => Ok(!names_twice(report.entries.as_slice())),
+        _ => Ok(true),
+    }
+}
+
+// Whether two entries name one metric.
+fn names_twice(entries: &[Entry]) -> bool
+    ensures { result ≡ names_twice entries.now }
+{
+    for index in 0..entries.len() {
+        if names_metric(&entries[index + 1..], entries[index].metric) {
+            return true;
+        }
+    }
+    false
+}
+
+// Whether one of these entries names that metric.
+fn names_metric(entries: &[Entry], name: Label) -> bool
+    ensures { result ≡ list_any (names_metric name) entries.now }
+{
+    entries.iter().any(|entry| entry.metric == name)
 }
 
 // The same of the command that registers this service.

@@ -7,7 +7,11 @@ ghost use Rattle.canary_check.specs.Taken.{is_of_kind, template_body, service_bo
 
 use crate::alone::is_command_taken;
 use crate::lines::Lines;
-use crate::{rollout, template};
+use crate::place::Place;
+use crate::rollout::tell_rollout;
+use crate::template::tell_template;
+use crate::text::{instead_of_manifest, instead_of_text};
+use crate::warning::{warn_of_length, warn_of_template};
 use canary_base::error::Memory;
 use canary_manifest::command::{WireFault, command_from_json};
 use canary_manifest::member::{is_other_text, member_of};
@@ -15,11 +19,15 @@ use serde_json::{Error, Value};
 use std::alloc::Global;
 use std::marker::Model;
 
-/// What was found in a manifest: nothing, or findings, one a line. Contracts see whether nothing
-/// was found.
+// All that the members alone do not show: a command is JSON around the manifest.
+const DEPTH: &str = "manifest: expected arrays and objects nested at most 125 deep in a Rollout, \
+    and 126 deep in an AnalysisTemplate\n";
+
+/// What was found: nothing, or findings. Contracts see whether nothing was found.
 #[derive(Drop)]
 pub struct Findings {
     lines: Option<String>,
+    warnings: String,
 }
 
 impl Model for Findings {
@@ -33,14 +41,16 @@ impl Model for Findings {
 }
 
 impl Findings {
-    /// Whether the desk takes the manifest.
+    /// Whether the desk takes what was checked.
     pub fn is_ok(&self) -> bool
         ensures { result ≡ self.now }
     {
         self.lines.is_none()
     }
 
-    /// The lines, each ended by a line feed: `ok`, or a finding a line.
+    /// The lines, each ended by a line feed: `ok`, or findings. A line that begins with four spaces
+    /// belongs to the finding before it. There are 100 findings at most, and then a line that
+    /// counts the others.
     pub fn text(&self) -> &str
         ensures ok { IsTrue self.now → result.now ≡ codes "ok\n" }
         ensures found { self.now ≡ false → 3 < length result.now }
@@ -51,10 +61,20 @@ impl Findings {
         }
     }
 
-    fn none() -> Findings
+    /// The lines of warnings, which keep the desk from nothing: as they are to stand on standard
+    /// error, each ended by a line feed; empty where there are none.
+    pub fn warnings(&self) -> &str {
+        self.warnings.as_str()
+    }
+
+    // Nothing but these warnings.
+    pub(crate) fn none(warnings: String) -> Findings
         ensures { IsTrue result }
     {
-        Findings { lines: None }
+        Findings {
+            lines: None,
+            warnings,
+        }
     }
 }
 
@@ -77,17 +97,25 @@ pub fn check(alloc: Global, text: &[u8]) -> Result<Findings, Memory>
     match Value::from_slice(alloc, text) {
         Ok(manifest) => check_manifest(alloc, text, &manifest),
         Err(fault) if fault.is_memory() => Err(Memory),
-        Err(fault) => no_json(alloc, &fault),
+        Err(fault) => no_json(alloc, text, &fault),
     }
 }
 
-// What is found in a text that is no JSON.
-fn no_json(alloc: Global, fault: &Error) -> Result<Findings, Memory>
+/// What is found in a text that is no JSON, or `Memory`.
+pub(crate) fn no_json(alloc: Global, text: &[u8], fault: &Error) -> Result<Findings, Memory>
     ensures { IfOk result (λ findings. findings ≡ false) }
 {
     let mut lines = Lines::new(alloc);
     lines.tell_no_json(alloc, fault.line(), fault.column())?;
-    found(alloc, lines)
+    tell_instead(&mut lines, instead_of_text(text))?;
+    found(alloc, lines, DEPTH, String::new(alloc))
+}
+
+fn tell_instead(lines: &mut Lines, what: Option<&str>) -> Result<(), Memory> {
+    match what {
+        Some(what) => lines.instead(what),
+        None => Ok(()),
+    }
 }
 
 fn check_manifest(alloc: Global, text: &[u8], manifest: &Value) -> Result<Findings, Memory>
@@ -100,9 +128,17 @@ fn check_manifest(alloc: Global, text: &[u8], manifest: &Value) -> Result<Findin
     if is_of_kind(manifest, "Rollout") {
         return check_rollout(alloc, text, manifest);
     }
+    other_kind(alloc, manifest)
+}
+
+// What is found in a manifest of another kind.
+fn other_kind(alloc: Global, manifest: &Value) -> Result<Findings, Memory>
+    ensures { IfOk result (λ findings. findings ≡ false) }
+{
     let mut lines = Lines::new(alloc);
-    lines.tell_kind()?;
-    found(alloc, lines)
+    lines.tell(&Place::root(alloc), "kind", "AnalysisTemplate or Rollout")?;
+    tell_instead(&mut lines, instead_of_manifest(manifest))?;
+    found(alloc, lines, DEPTH, String::new(alloc))
 }
 
 // Whether its `kind` is that text.
@@ -119,37 +155,61 @@ fn check_template(alloc: Global, text: &[u8], manifest: &Value) -> Result<Findin
     ensures { IfOk result
         (λ findings. findings ≡ is_reading_taken (body_reading (template_body text.now))) }
 {
+    let warnings = template_warnings(alloc, text, manifest)?;
     if is_body_taken(alloc, "{\"template\":", text, "}")? {
-        return Ok(Findings::none());
+        return Ok(Findings::none(warnings));
     }
     let mut lines = Lines::new(alloc);
-    template::tell_template(alloc, &mut lines, manifest)?;
-    found(alloc, lines)
+    tell_template(alloc, &mut lines, &Place::root(alloc), manifest)?;
+    found(alloc, lines, DEPTH, warnings)
+}
+
+fn template_warnings(alloc: Global, text: &[u8], manifest: &Value) -> Result<String, Memory> {
+    let mut lines = Lines::new(alloc);
+    warn_of_length(alloc, &mut lines, "manifest", text.len())?;
+    warn_of_template(alloc, &mut lines, &Place::root(alloc), manifest)?;
+    lines.warnings(alloc)
 }
 
 fn check_rollout(alloc: Global, text: &[u8], manifest: &Value) -> Result<Findings, Memory>
     ensures { IfOk result
         (λ findings. findings ≡ is_reading_taken (body_reading (service_body text.now))) }
 {
+    let warnings = rollout_warnings(alloc, text)?;
     if is_body_taken(
         alloc,
         "{\"service\":{\"version\":\"v1\",\"manifest\":",
         text,
         "}}",
     )? {
-        return Ok(Findings::none());
+        return Ok(Findings::none(warnings));
     }
     let mut lines = Lines::new(alloc);
-    rollout::tell_rollout(alloc, &mut lines, manifest)?;
-    found(alloc, lines)
+    tell_rollout(alloc, &mut lines, &Place::root(alloc), manifest)?;
+    found(alloc, lines, DEPTH, warnings)
 }
 
-// What was found, in lines.
-fn found(alloc: Global, lines: Lines) -> Result<Findings, Memory>
+fn rollout_warnings(alloc: Global, text: &[u8]) -> Result<String, Memory> {
+    let mut lines = Lines::new(alloc);
+    warn_of_length(alloc, &mut lines, "manifest", text.len())?;
+    lines.warnings(alloc)
+}
+
+/// What was found, in lines, or a general finding where they have none; or `Memory`.
+pub(crate) fn found(
+    alloc: Global,
+    lines: Lines,
+    general: &str,
+    warnings: String,
+) -> Result<Findings, Memory>
+    requires { 3 < length general.now }
     ensures { IfOk result (λ findings. findings ≡ false) }
 {
-    let text = lines.finish(alloc)?;
-    Ok(Findings { lines: Some(text) })
+    let text = lines.finish(alloc, general)?;
+    Ok(Findings {
+        lines: Some(text),
+        warnings,
+    })
 }
 
 // Whether the body of this text, between a front and an end, is read and taken.

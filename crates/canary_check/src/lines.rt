@@ -1,69 +1,27 @@
-//! Findings, a line each.
+//! Findings, in lines.
+//!
+//! A finding is a line, behind which more may follow that begin with four spaces: a text with a
+//! caret, and what to write instead. Each is short, and there are 100 at most: those beyond are
+//! counted in a last line.
 ghost use Rattle.std.specs.Prelude.{◌<◌, IfOk, length, string_bytes};
 
+use crate::excerpt::write_excerpt;
+use crate::place::Place;
 use canary_base::error::Memory;
 use std::alloc::Global;
 
-/// Where an object of a manifest stands, and whose it is.
-#[derive(Drop)]
-pub(crate) struct Place {
-    /// The keys that lead to it, as `spec.metrics[1]`; empty for the manifest itself.
-    path: String,
-    /// ` (metric "errors")` in a metric that has a name, else empty.
-    whose: String,
-}
+const MOST_FINDINGS: u32 = 100;
 
-impl Place {
-    /// The place of the manifest itself.
-    pub(crate) fn root(alloc: Global) -> Place {
-        Place {
-            path: String::new(alloc),
-            whose: String::new(alloc),
-        }
-    }
+const WARNING: &str = "canary: warning: ";
 
-    /// The place to which these keys lead, or `Memory`.
-    pub(crate) fn at(alloc: Global, path: &str) -> Result<Place, Memory> {
-        Ok(Place {
-            path: String::from_str(alloc, path)?,
-            whose: String::new(alloc),
-        })
-    }
-
-    /// The place of an item of the list under this key, or `Memory`.
-    pub(crate) fn item(&self, alloc: Global, key: &str, index: usize) -> Result<Place, Memory> {
-        let path = self.path.as_str();
-        let path = match path {
-            "" => format!(in alloc; "{key}[{index}]")?,
-            _ => format!(in alloc; "{path}.{key}[{index}]")?,
-        };
-        self.with_path(alloc, path)
-    }
-
-    /// The place of the member under this key, or `Memory`.
-    pub(crate) fn member(&self, alloc: Global, key: &str) -> Result<Place, Memory> {
-        let path = self.path.as_str();
-        let path = format!(in alloc; "{path}.{key}")?;
-        self.with_path(alloc, path)
-    }
-
-    fn with_path(&self, alloc: Global, path: String) -> Result<Place, Memory> {
-        let whose = String::from_str(alloc, self.whose.as_str())?;
-        Ok(Place { path, whose })
-    }
-
-    /// The same place, in a metric of that name; or `Memory`.
-    pub(crate) fn of_metric(self, alloc: Global, name: &str) -> Result<Place, Memory> {
-        let Place { path, .. } = self;
-        let whose = format!(in alloc; " (metric \"{name}\")")?;
-        Ok(Place { path, whose })
-    }
-}
-
-/// Findings so far, a line each.
+/// Findings so far.
 #[derive(Drop)]
 pub(crate) struct Lines {
     text: String,
+    // How many findings the text has.
+    told: u32,
+    // How many came after these.
+    more: u64,
 }
 
 impl Lines {
@@ -71,13 +29,18 @@ impl Lines {
     pub(crate) fn new(alloc: Global) -> Lines {
         Lines {
             text: String::new(alloc),
+            told: 0,
+            more: 0,
         }
     }
 
-    /// Adds what stands under a key of the object there, or with an empty key of the object itself;
-    /// or `Memory`.
+    /// Adds what is expected under a key of the object there, or with an empty key of the object
+    /// itself; or `Memory`.
     pub(crate) fn tell(&mut self, place: &Place, key: &str, what: &str) -> Result<(), Memory> {
-        self.push_place(place, key)?;
+        if !self.has_room() {
+            return Ok(());
+        }
+        place.write(&mut self.text, key)?;
         self.push_end(what)
     }
 
@@ -90,8 +53,11 @@ impl Lines {
         byte: u32,
         what: &str,
     ) -> Result<(), Memory> {
+        if !self.has_room() {
+            return Ok(());
+        }
         let at = format!(in alloc; ", byte {byte}")?;
-        self.push_place(place, key)?;
+        place.write(&mut self.text, key)?;
         self.text.push_str(at.as_str())?;
         self.push_end(what)
     }
@@ -104,36 +70,84 @@ impl Lines {
         line: usize,
         column: usize,
     ) -> Result<(), Memory> {
+        if !self.has_room() {
+            return Ok(());
+        }
         let at = format!(in alloc; "near line {line}, column {column}")?;
         self.text.push_str(at.as_str())?;
         self.push_end(JSON)
     }
 
-    /// Adds that this is neither kind of manifest, or `Memory`.
-    pub(crate) fn tell_kind(&mut self) -> Result<(), Memory> {
-        self.text.push_str("kind")?;
-        self.push_end("AnalysisTemplate or Rollout")
+    /// Adds to the last finding the text of which it speaks, with a caret under that byte; or
+    /// `Memory`.
+    pub(crate) fn quote(&mut self, text: &[u8], at: usize) -> Result<(), Memory> {
+        if self.more > 0 {
+            return Ok(());
+        }
+        write_excerpt(&mut self.text, text, at)
     }
 
-    /// The lines, with a general finding in place of none; or `Memory`. No line is as short as `ok`
-    /// is.
-    pub(crate) fn finish(self, alloc: Global) -> Result<String, Memory>
+    /// Adds to the last finding what to write or to do instead, or `Memory`.
+    pub(crate) fn instead(&mut self, what: &str) -> Result<(), Memory> {
+        if self.more > 0 {
+            return Ok(());
+        }
+        self.text.push_str("    instead: ")?;
+        self.text.push_str(what)?;
+        self.text.push_str("\n")?;
+        Ok(())
+    }
+
+    /// Adds a warning of the object there, or `Memory`.
+    pub(crate) fn warn(&mut self, place: &Place, what: &str) -> Result<(), Memory> {
+        if !self.has_room() {
+            return Ok(());
+        }
+        self.text.push_str(WARNING)?;
+        place.write(&mut self.text, "")?;
+        self.text.push_str(": ")?;
+        self.text.push_str(what)?;
+        self.text.push_str("\n")?;
+        Ok(())
+    }
+
+    /// The findings, with a general one in place of none; or `Memory`. They are never as short as
+    /// `ok` is.
+    pub(crate) fn finish(self, alloc: Global, general: &str) -> Result<String, Memory>
+        requires { 3 < length general.now }
         ensures { IfOk result (λ text. 3 < length (string_bytes text)) }
     {
-        if self.text.len() > 3 {
-            return Ok(self.text);
+        let text = self.with_more(alloc, "")?;
+        if text.len() > 3 {
+            return Ok(text);
         }
-        Ok(String::from_str(alloc, DEPTH)?)
+        Ok(String::from_str(alloc, general)?)
     }
 
-    fn push_place(&mut self, place: &Place, key: &str) -> Result<(), Memory> {
-        self.text.push_str(place.path.as_str())?;
-        if !place.path.is_empty() && !key.is_empty() {
-            self.text.push_str(".")?;
+    /// The warnings, or `Memory`.
+    pub(crate) fn warnings(self, alloc: Global) -> Result<String, Memory> {
+        self.with_more(alloc, WARNING)
+    }
+
+    // The lines, and a last one that counts what was left out.
+    fn with_more(self, alloc: Global, front: &str) -> Result<String, Memory> {
+        let Lines { text, more, .. } = self;
+        let mut text = text;
+        if more > 0 {
+            let last = format!(in alloc; "{front}and {more} more\n")?;
+            text.push_str(last.as_str())?;
         }
-        self.text.push_str(key)?;
-        self.text.push_str(place.whose.as_str())?;
-        Ok(())
+        Ok(text)
+    }
+
+    // Whether a finding more is told; else it is counted alone.
+    fn has_room(&mut self) -> bool {
+        if self.told < MOST_FINDINGS {
+            self.told += 1;
+            return true;
+        }
+        self.more = self.more.saturating_add(1);
+        false
     }
 
     fn push_end(&mut self, what: &str) -> Result<(), Memory> {
@@ -145,7 +159,3 @@ impl Lines {
 }
 
 const JSON: &str = "JSON in UTF-8, with arrays and objects nested at most 127 deep";
-
-// All that the members alone do not show: a command is JSON around the manifest.
-const DEPTH: &str = "manifest: expected arrays and objects nested at most 125 deep in a Rollout, \
-    and 126 deep in an AnalysisTemplate\n";

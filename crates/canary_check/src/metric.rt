@@ -1,6 +1,9 @@
 //! What is found in a metric of a template.
 use crate::condition::expected;
-use crate::lines::{Lines, Place};
+use crate::instead::instead;
+use crate::lines::Lines;
+use crate::members::LABEL;
+use crate::place::Place;
 use crate::trial::refusal_of_times;
 use canary_base::error::Memory;
 use canary_base::names::Label;
@@ -30,7 +33,7 @@ pub(crate) fn tell_metric(
     metric: &Value,
 ) -> Result<(), Memory> {
     if metric_name(metric).is_none() {
-        lines.tell(place, "name", "1 to 63 bytes of A-Z a-z 0-9 . _ -")?;
+        lines.tell(place, "name", LABEL)?;
     }
     tell_condition(alloc, lines, place, metric, "successCondition")?;
     tell_condition(alloc, lines, place, metric, "failureCondition")?;
@@ -61,10 +64,13 @@ fn tell_text(
     key: &str,
     text: &str,
 ) -> Result<(), Memory> {
-    match explain(text) {
-        Some(explained) => {
-            lines.tell_byte(alloc, place, key, explained.at, expected(explained.why))
-        }
+    let Some(explained) = explain(text) else {
+        return Ok(());
+    };
+    lines.tell_byte(alloc, place, key, explained.at, expected(explained.why))?;
+    lines.quote(text.as_bytes(), explained.at as usize)?;
+    match instead(text.as_bytes(), explained) {
+        Some(what) => lines.instead(what),
         None => Ok(()),
     }
 }

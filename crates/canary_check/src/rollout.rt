@@ -1,7 +1,8 @@
 //! What is found in a Rollout.
-use crate::lines::{Lines, Place};
+use crate::lines::Lines;
+use crate::place::Place;
 use crate::step::{tell_background, tell_step};
-use crate::template::tell_name;
+use crate::template::{tell_metadata, tell_other_kind};
 use canary_base::error::Memory;
 use canary_manifest::member::{is_true, member_of};
 use canary_manifest::rollout::canary_of;
@@ -13,38 +14,45 @@ const CANARY: &str = "spec.strategy.canary";
 
 const STEPS: &str = "a list of at most 64 steps";
 
-/// Adds what is found in a Rollout, or `Memory`. Which templates a desk has is not looked at.
+/// Adds what is found in a Rollout there, or `Memory`. Which templates a desk has is not looked at.
 pub(crate) fn tell_rollout(
     alloc: Global,
     lines: &mut Lines,
+    place: &Place,
     manifest: &Value,
 ) -> Result<(), Memory> {
-    tell_name(alloc, lines, manifest)?;
+    tell_other_kind(lines, place, manifest, "Rollout")?;
+    tell_metadata(lines, place, manifest)?;
     if let Some(spec) = member_of(manifest, "spec") {
-        tell_unsupported(alloc, lines, spec)?;
+        tell_unsupported(lines, &place.member(alloc, "spec")?, spec)?;
     }
     match canary_of(manifest) {
-        Some(canary) if canary.is_object() => tell_canary(alloc, lines, canary),
-        _ => lines.tell(&Place::root(alloc), CANARY, "an object"),
+        Some(canary) if canary.is_object() => {
+            tell_canary(alloc, lines, &place.member(alloc, CANARY)?, canary)
+        }
+        _ => lines.tell(place, CANARY, "an object"),
     }
 }
 
-fn tell_unsupported(alloc: Global, lines: &mut Lines, spec: &Value) -> Result<(), Memory> {
-    let place = Place::at(alloc, "spec")?;
+fn tell_unsupported(lines: &mut Lines, place: &Place, spec: &Value) -> Result<(), Memory> {
     if member_of(spec, "paused").is_some_and(is_true) {
-        lines.tell(&place, "paused", "false or none (true is unsupported)")?;
+        lines.tell(place, "paused", "false or none (true is unsupported)")?;
     }
     let blue_green = member_of(spec, "strategy").and_then(|s| member_of(s, "blueGreen"));
     if blue_green.is_some() {
-        lines.tell(&place, "strategy.blueGreen", "no such member (unsupported)")?;
+        lines.tell(place, "strategy.blueGreen", "no such member (unsupported)")?;
     }
     Ok(())
 }
 
-fn tell_canary(alloc: Global, lines: &mut Lines, canary: &Value) -> Result<(), Memory> {
-    let place = Place::at(alloc, CANARY)?;
+fn tell_canary(
+    alloc: Global,
+    lines: &mut Lines,
+    place: &Place,
+    canary: &Value,
+) -> Result<(), Memory> {
     if let Some(steps) = member_of(canary, "steps") {
-        tell_steps(alloc, lines, &place, steps)?;
+        tell_steps(alloc, lines, place, steps)?;
     }
     match member_of(canary, "analysis") {
         Some(analysis) => {

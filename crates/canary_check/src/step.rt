@@ -1,9 +1,10 @@
 //! What is found in a step of a Rollout, and in an analysis.
-use crate::lines::{Lines, Place};
+use crate::lines::Lines;
+use crate::members::{NAME, key_shown};
+use crate::place::Place;
 use crate::template::tell_if_filled;
 use crate::trial::{refusal_of_background, refusal_of_step};
 use canary_base::error::Memory;
-use canary_base::names::Label;
 use canary_canonical::form::FormFault;
 use canary_manifest::member::member_of;
 use canary_manifest::rollout::{
@@ -23,8 +24,6 @@ const FORM: &str = "exactly one of setWeight, pause and analysis";
 const OTHER: &str = "no member but setWeight, pause or analysis (others are unsupported)";
 
 const PAUSE: &str = "90s or 1h30m, or seconds as a number or a text of digits, 31,536,000 at most";
-
-const NAME: &str = "1 to 63 bytes of a-z 0-9 -, the first and the last no -";
 
 /// Adds what is found in a step, or `Memory`.
 pub(crate) fn tell_step(
@@ -49,7 +48,7 @@ pub(crate) fn tell_step(
 // Adds each member that no step of the desk has, and answers whether there is one.
 fn tell_other_members(lines: &mut Lines, place: &Place, step: &Value) -> Result<bool, Memory> {
     match step.as_object() {
-        Some(members) => tell_others(lines, place, members),
+        Some(members) => tell_others(lines, place, step, members),
         None => Ok(false),
     }
 }
@@ -57,24 +56,39 @@ fn tell_other_members(lines: &mut Lines, place: &Place, step: &Value) -> Result<
 fn tell_others(
     lines: &mut Lines,
     place: &Place,
+    step: &Value,
     members: &Map<String, Value>,
 ) -> Result<bool, Memory> {
     let mut is_told = false;
     for (key, value) in members.iter() {
         if !is_step_key(key.as_str()) && !value.is_null() {
             lines.tell(place, key_shown(key.as_str()), OTHER)?;
+            lines.instead(instead_of_member(step, key.as_str()))?;
             is_told = true;
         }
     }
     Ok(is_told)
 }
 
-// The key where it is a plain word, else nothing.
-fn key_shown(key: &str) -> &str {
-    match Label::read(key.as_bytes()) {
-        Some(_) => key,
-        None => "",
+// What to write in place of a member that no step of the desk has.
+fn instead_of_member(step: &Value, key: &str) -> &'static str {
+    match key {
+        _ if has_step_key(step) => "leave the member out",
+        "setCanaryScale" => "leave the step out: the desk scales no pods",
+        "setHeaderRoute" => "leave the step out: the desk routes no requests",
+        "setMirrorRoute" => "leave the step out: the desk routes no requests",
+        "experiment" => "leave the step out, or write an analysis",
+        _ if key.eq_ignore_ascii_case("setWeight") => "write setWeight",
+        _ if key.eq_ignore_ascii_case("pause") => "write pause",
+        _ if key.eq_ignore_ascii_case("analysis") => "write analysis",
+        _ => "leave the step out",
     }
+}
+
+fn has_step_key(step: &Value) -> bool {
+    member_of(step, "setWeight").is_some()
+        || member_of(step, "pause").is_some()
+        || member_of(step, "analysis").is_some()
 }
 
 // Adds why a step is none, but for what its analysis holds.

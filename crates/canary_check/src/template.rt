@@ -1,12 +1,15 @@
 //! What is found in an AnalysisTemplate.
-use crate::lines::{Lines, Place};
+use crate::lines::Lines;
+use crate::members::NAME;
 use crate::metric::{metric_name, tell_metric};
+use crate::place::Place;
+use crate::text::instead_of_kind;
 use crate::trial::refusal_of_names;
 use canary_base::error::Memory;
 use canary_base::lists::{Listed, Text};
 use canary_base::names::Label;
 use canary_canonical::form::{FormFault, name_in};
-use canary_manifest::member::{is_no_empty_list, member_of};
+use canary_manifest::member::{is_no_empty_list, is_other_text, member_of};
 use canary_manifest::template::dry_run_name;
 use canary_plan::analysis::{LEAST_METRICS, MOST_METRICS};
 use canary_plan::refusal::Refusal;
@@ -17,36 +20,61 @@ const METRICS: &str = "a list of 1 to 32 metrics";
 
 const DRY_RUN: &str = "the name of a metric of the template, or .* for all";
 
-/// Adds what is found in an AnalysisTemplate, or `Memory`.
+/// Adds what is found in an AnalysisTemplate there, or `Memory`.
 pub(crate) fn tell_template(
     alloc: Global,
     lines: &mut Lines,
+    place: &Place,
     manifest: &Value,
 ) -> Result<(), Memory> {
-    tell_name(alloc, lines, manifest)?;
+    tell_other_kind(lines, place, manifest, "AnalysisTemplate")?;
+    tell_metadata(lines, place, manifest)?;
     match member_of(manifest, "spec") {
-        Some(spec) => tell_spec(alloc, lines, spec),
-        None => lines.tell(&Place::root(alloc), "spec.metrics", METRICS),
+        Some(spec) => tell_spec(alloc, lines, &place.member(alloc, "spec")?, spec),
+        None => lines.tell(place, "spec.metrics", METRICS),
+    }
+}
+
+/// Adds that a manifest says another kind, if it says one; or `Memory`.
+pub(crate) fn tell_other_kind(
+    lines: &mut Lines,
+    place: &Place,
+    manifest: &Value,
+    wanted: &str,
+) -> Result<(), Memory> {
+    match member_of(manifest, "kind") {
+        Some(kind) if is_other_text(kind, wanted) => tell_kind(lines, place, kind, wanted),
+        _ => Ok(()),
+    }
+}
+
+fn tell_kind(lines: &mut Lines, place: &Place, kind: &Value, wanted: &str) -> Result<(), Memory> {
+    lines.tell(place, "kind", wanted)?;
+    match kind.as_str().and_then(instead_of_kind) {
+        Some(what) => lines.instead(what),
+        None => Ok(()),
     }
 }
 
 /// Adds that a manifest has no name, or `Memory`.
-pub(crate) fn tell_name(alloc: Global, lines: &mut Lines, manifest: &Value) -> Result<(), Memory> {
+pub(crate) fn tell_metadata(
+    lines: &mut Lines,
+    place: &Place,
+    manifest: &Value,
+) -> Result<(), Memory> {
     let name = member_of(manifest, "metadata").and_then(|metadata| member_of(metadata, "name"));
     if name.and_then(name_in).is_some() {
         return Ok(());
     }
-    let what = "1 to 63 bytes of a-z 0-9 -, the first and the last no -";
-    lines.tell(&Place::root(alloc), "metadata.name", what)
+    lines.tell(place, "metadata.name", NAME)
 }
 
-fn tell_spec(alloc: Global, lines: &mut Lines, spec: &Value) -> Result<(), Memory> {
-    let place = Place::at(alloc, "spec")?;
-    tell_if_filled(lines, &place, spec, "templates")?;
-    tell_if_filled(lines, &place, spec, "measurementRetention")?;
+fn tell_spec(alloc: Global, lines: &mut Lines, place: &Place, spec: &Value) -> Result<(), Memory> {
+    tell_if_filled(lines, place, spec, "templates")?;
+    tell_if_filled(lines, place, spec, "measurementRetention")?;
     match member_of(spec, "metrics").and_then(|metrics| metrics.as_array()) {
-        Some(list) => tell_metrics(alloc, lines, &place, spec, list),
-        None => lines.tell(&place, "metrics", METRICS),
+        Some(list) => tell_metrics(alloc, lines, place, spec, list),
+        None => lines.tell(place, "metrics", METRICS),
     }
 }
 
@@ -82,7 +110,8 @@ fn tell_metrics(
     tell_dry_run(alloc, lines, place, spec, names.as_slice())
 }
 
-fn metric_place(
+/// The place of a metric in the list of a template's `spec`, or `Memory`.
+pub(crate) fn metric_place(
     alloc: Global,
     place: &Place,
     index: usize,

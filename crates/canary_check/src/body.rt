@@ -1,0 +1,100 @@
+//! What is found in the body of a request.
+use crate::lines::Lines;
+use crate::members::{key_shown, tell_label, tell_members, tell_name};
+use crate::place::Place;
+use crate::report::tell_report;
+use crate::rollout::tell_rollout;
+use crate::template::tell_template;
+use canary_base::error::Memory;
+use canary_canonical::form::only_member;
+use canary_manifest::member::member_of;
+use serde_json::Value;
+use std::alloc::Global;
+
+const BODY: &str = "an object with exactly one member, whose key is the command";
+
+const COMMANDS: &str =
+    "template, service, start, promote, promoteFull, abort, retry, tick or report";
+
+const MANIFEST: &str = "write {\"template\":MANIFEST}, \
+    or {\"service\":{\"version\":\"v1\",\"manifest\":MANIFEST}}";
+
+/// Adds what is found in the body, or `Memory`.
+pub(crate) fn tell_body(alloc: Global, lines: &mut Lines, body: &Value) -> Result<(), Memory> {
+    match only_member(body) {
+        Some((kind, value)) => tell_command(alloc, lines, kind, value),
+        None => tell_no_command(alloc, lines, body),
+    }
+}
+
+fn tell_no_command(alloc: Global, lines: &mut Lines, body: &Value) -> Result<(), Memory> {
+    lines.tell(&Place::root(alloc), "body", BODY)?;
+    match member_of(body, "kind") {
+        Some(_) => lines.instead(MANIFEST),
+        None => Ok(()),
+    }
+}
+
+fn tell_command(alloc: Global, lines: &mut Lines, kind: &str, value: &Value) -> Result<(), Memory> {
+    match kind {
+        "template" => tell_template(alloc, lines, &Place::at(alloc, kind)?, value),
+        "service" => tell_service(alloc, lines, &Place::at(alloc, kind)?, value),
+        "start" => tell_start(lines, &Place::at(alloc, kind)?, value),
+        "promote" => tell_named(lines, &Place::at(alloc, kind)?, value),
+        "promoteFull" => tell_named(lines, &Place::at(alloc, kind)?, value),
+        "abort" => tell_named(lines, &Place::at(alloc, kind)?, value),
+        "retry" => tell_named(lines, &Place::at(alloc, kind)?, value),
+        "tick" => tell_named(lines, &Place::at(alloc, kind)?, value),
+        "report" => tell_report(alloc, lines, &Place::at(alloc, kind)?, value),
+        _ => tell_kind(alloc, lines, kind),
+    }
+}
+
+// Adds that no command has this key.
+fn tell_kind(alloc: Global, lines: &mut Lines, kind: &str) -> Result<(), Memory> {
+    let key = match key_shown(kind) {
+        "" => "body",
+        key => key,
+    };
+    lines.tell(&Place::root(alloc), key, COMMANDS)
+}
+
+fn tell_service(
+    alloc: Global,
+    lines: &mut Lines,
+    place: &Place,
+    value: &Value,
+) -> Result<(), Memory> {
+    tell_members(
+        lines,
+        place,
+        value,
+        &["manifest", "version"],
+        "no member but manifest and version",
+    )?;
+    tell_label(lines, place, value, "version")?;
+    match value.get("manifest") {
+        Some(manifest) => {
+            tell_rollout(alloc, lines, &place.member(alloc, "manifest")?, manifest)
+        }
+        None => lines.tell(place, "manifest", "a Rollout"),
+    }
+}
+
+fn tell_start(lines: &mut Lines, place: &Place, value: &Value) -> Result<(), Memory> {
+    tell_members(
+        lines,
+        place,
+        value,
+        &["service", "version"],
+        "no member but service and version",
+    )?;
+    tell_name(lines, place, value, "service")?;
+    tell_label(lines, place, value, "version")
+}
+
+// Adds what is found in a command of a service alone.
+fn tell_named(lines: &mut Lines, place: &Place, value: &Value) -> Result<(), Memory> {
+    tell_members(lines, place, value, &["service"], "no member but service")?;
+    tell_name(lines, place, value, "service")
+}

@@ -1,0 +1,81 @@
+//! What is found in the members of any object.
+use crate::lines::Lines;
+use crate::place::Place;
+use canary_base::error::Memory;
+use canary_base::names::Label;
+use canary_canonical::form::{label_at, name_at};
+use serde_json::{Map, Value};
+
+/// What a name is.
+pub(crate) const NAME: &str = "1 to 63 bytes of a-z 0-9 -, the first and the last no -";
+
+/// What a label is.
+pub(crate) const LABEL: &str = "1 to 63 bytes of A-Z a-z 0-9 . _ -";
+
+/// The key where it is a plain word, else nothing.
+pub(crate) fn key_shown(key: &str) -> &str {
+    match Label::read(key.as_bytes()) {
+        Some(_) => key,
+        None => "",
+    }
+}
+
+/// Adds each member of an object whose key is none of these, or `Memory`. Of what is no object the
+/// members that lack are told elsewhere.
+pub(crate) fn tell_members(
+    lines: &mut Lines,
+    place: &Place,
+    value: &Value,
+    known: &[&str],
+    what: &str,
+) -> Result<(), Memory> {
+    match value.as_object() {
+        Some(members) => tell_foreign(lines, place, members, known, what),
+        None => Ok(()),
+    }
+}
+
+fn tell_foreign(
+    lines: &mut Lines,
+    place: &Place,
+    members: &Map<String, Value>,
+    known: &[&str],
+    what: &str,
+) -> Result<(), Memory> {
+    for (key, _) in members.iter() {
+        if !is_known(known, key.as_str()) {
+            lines.tell(place, key_shown(key.as_str()), what)?;
+        }
+    }
+    Ok(())
+}
+
+fn is_known(known: &[&str], key: &str) -> bool {
+    known.iter().any(|name| *name == key)
+}
+
+/// Adds that the member of that key is no name, or `Memory`.
+pub(crate) fn tell_name(
+    lines: &mut Lines,
+    place: &Place,
+    value: &Value,
+    key: &str,
+) -> Result<(), Memory> {
+    match name_at(value, key) {
+        Some(_) => Ok(()),
+        None => lines.tell(place, key, NAME),
+    }
+}
+
+/// Adds that the member of that key is no label, or `Memory`.
+pub(crate) fn tell_label(
+    lines: &mut Lines,
+    place: &Place,
+    value: &Value,
+    key: &str,
+) -> Result<(), Memory> {
+    match label_at(value, key) {
+        Some(_) => Ok(()),
+        None => lines.tell(place, key, LABEL),
+    }
+}
