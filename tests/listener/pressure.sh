@@ -51,19 +51,24 @@ make_history() {
     half_close "$work/stream" "the service is not started"
 }
 
-# While one client does not take its replies, a request of another is answered, and a query waits.
+# While one client does not take its replies, a query of another waits, and a request is answered.
 queries_wait() {
-    local client
-    start --max-unsent-total 60000
+    local client other tries
+    start --max-unsent-total 1
     make_history
-    write_queries 4000 /services/web/history > "$work/stream"
+    write_queries 6000 /services/web/history > "$work/stream"
     python3 -c "$deaf" "$port" "$work/reads" < "$work/stream" &
-    sleep 1
-    open client
-    put last 1 "$nobody" >&"$client"
-    want_reply "$client" 422 5 "a request waits while too much is unsent"
-    get /services/nobody >&"$client"
-    ! read_reply "$client" 2 || miss "the desk answers a query while too much is unsent"
+    for ((tries = 0; tries < 15; tries++)); do
+        open client
+        get /services/nobody >&"$client"
+        read_reply "$client" 1 || break
+        hang_up "$client"
+        sleep 0.3
+    done
+    [ "$tries" -lt 15 ] || miss "the desk answers queries while too much is unsent"
+    open other
+    put last 1 "$nobody" >&"$other"
+    want_reply "$other" 422 5 "a request waits while too much is unsent"
     : > "$work/reads"
     want_reply "$client" 404 10 "the query is not answered once the replies are taken"
 }

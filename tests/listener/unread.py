@@ -57,7 +57,7 @@ def try_desk(port, pipe):
         sys.exit("the desk does not serve on while nobody reads its standard error")
     before = lines_of(told(pipe, 0.2))
     if not 50 < len(before) < CLIENTS:
-        sys.exit(f"{len(before)} lines are in a pipe of 4,096 bytes, of {CLIENTS}")
+        sys.exit(f"{len(before)} lines are in a pipe of 8,192 bytes, of {CLIENTS}")
     cut_off(port, 250)
     after = b"".join(lines_of(b"first\n" + told(pipe, 4)))
     if b" lines dropped\n" not in after or b"truncated 127.0.0.250\n" not in after:
@@ -66,7 +66,8 @@ def try_desk(port, pipe):
 
 def main():
     reads, writes = os.pipe()
-    fcntl.fcntl(writes, fcntl.F_SETPIPE_SZ, 4096)
+    # Two pages, of which the desk fills one: a page that has something is taken as full.
+    fcntl.fcntl(writes, fcntl.F_SETPIPE_SZ, 8192)
     with subprocess.Popen([sys.argv[1], "serve", "--listen", "127.0.0.1:0"], stdin=subprocess.DEVNULL,
                           stdout=subprocess.PIPE, stderr=writes) as desk:
         os.close(writes)

@@ -14,7 +14,7 @@ use Rattle.canary_programs.specs.declared.fault.Fault.{Fault}
 use Rattle.canary_programs.specs.declared.fault.Fault.TheVariants as fault
 use Rattle.canary_programs.specs.Faults.{done_of}
 use Rattle.canary_cli.specs.declared.perform.Outcome.{Outcome}
-use Rattle.canary_cli.specs.declared.perform.Outcome.TheVariants.{Done, Findings}
+use Rattle.canary_cli.specs.declared.perform.Outcome.TheVariants.{Done, Findings, Unclear}
 use Rattle.canary_listen.specs.declared.limits.Limits.{Limits}
 use Rattle.canary_words.specs.declared.words.AskedLimits.{AskedLimits}
 use Rattle.canary_words.specs.declared.words.Program.{Program}
@@ -30,10 +30,11 @@ abbrev pub outcome_of : Result (Unit {0}) Fault → Result Outcome Fault
 outcome_of (Ok _) = Ok Done
 outcome_of (Err f) = Err f
 
--- 0 where it was done, and 1 for findings or a fault
+-- 0 where it was done, 1 for findings or a fault, and 2 where the words do not say what to check
 abbrev pub status_of : Result Outcome Fault → ℕ
 status_of (Ok Done) = 0
 status_of (Ok Findings) = 1
+status_of (Ok Unclear) = 2
 status_of (Err f) = 1
 
 -- ---- what `serve` is given
@@ -83,13 +84,14 @@ abbrev pub IsPiped : Known → Known → Known → Known → ℕ → ℕ → Res
 IsPiped r new_r w new_w at step done = (served : Result Ended ServeFault)
     × (done ≡ done_of served) × IsServed r new_r w new_w (fresh at step) served
 
--- (here the `Bool` is whether the desk takes the manifest)
--- a manifest was judged so: `ok` was written where the desk takes it, and something longer where
+-- (here the `Bool` is whether the desk takes the manifest or the body)
+-- it was judged so: `ok` was written where the desk takes it, and something longer where
 -- it does not; or memory ran out, or the output failed
 abbrev pub IsCheckShown : Bool → Known → Known → Result Outcome Fault → Type 0
 IsCheckShown taken w new_w (Ok Done) = (taken ≡ true) × Appends w new_w (codes "ok\n")
 IsCheckShown taken w new_w (Ok Findings) =
     (taken ≡ false) × (text : List ℕ) × (3 < length text) × Appends w new_w text
+IsCheckShown taken w new_w (Ok Unclear) = ⊥
 IsCheckShown taken w new_w (Err f) = (f ≡ fault.Memory) ⊎ (f ≡ fault.Write)
 
 -- where a check found nothing, it wrote `ok`
@@ -108,7 +110,7 @@ IsRun r new_r w new_w (History db service) done = new_r ≡ r
 IsRun r new_r w new_w (Export db caller service) done = new_r ≡ r
 IsRun r new_r w new_w (Status db watch) done = new_r ≡ r
 IsRun r new_r w new_w (Backup db copy) done = new_r ≡ r
-IsRun r new_r w new_w (Check file) done = (new_r ≡ r) × IsChecked w new_w done
+IsRun r new_r w new_w (Check file request) done = (new_r ≡ r) × IsChecked w new_w done
 
 -- `pipe` in memory ended with this exit status
 abbrev pub IsPipedTo : Known → Known → Known → Known → ℕ → ℕ → ℕ → Type 0
@@ -116,11 +118,10 @@ IsPipedTo r new_r w new_w at step status = (piped : Result (Unit {0}) Fault)
     × (status ≡ status_of (outcome_of piped)) × IsPiped r new_r w new_w at step piped
 
 -- it may write on the error stream though it is done: what a desk in memory says of itself, how
--- connections ended, how far it has come, or that it made a file
+-- connections ended, how far it has come, that it made a file, or what a check warns of
 abbrev pub MayTell : Program → Type 0
 MayTell (Pipe at step None) = ⊥
 MayTell (Backup db copy) = ⊥
-MayTell (Check file) = ⊥
 MayTell _ = Unit {0}
 
 abbrev pub IsOneThatTells : Option Program → Type 0

@@ -1,10 +1,12 @@
-//! `check`: what the desk would refuse of a manifest.
+//! `check`: what the desk would refuse of a manifest, or of a request's body.
 ghost use Rattle.std.specs.Prelude.{◌≡◌, Ok, codes};
 ghost use Rattle.std.specs.Io.KnownBytes.{Appends};
-ghost use Rattle.canary_check.specs.Taken.{is_taken};
+ghost use Rattle.canary_check.specs.Taken.{is_request_taken, is_taken};
 ghost use Rattle.canary_cli.specs.Performed.{IsCheckShown};
 
 use crate::perform::Outcome;
+use canary_base::lists::Text;
+use canary_check::check::Findings;
 use canary_programs::fault::Fault;
 use canary_programs::show::show;
 use std::alloc::Global;
@@ -14,28 +16,100 @@ use std::io::{self, ErrorKind, Read, Write};
 // The most bytes of a file: 16 MiB.
 const MOST_BYTES: usize = 16_777_216;
 
-// Writes `ok` where the desk takes the manifest in the file of this name, and otherwise what it
-// would refuse of it.
-pub(crate) fn check<P: Files + AllocGlobal, W: Write>(
+// Checks the manifest in the file of the name `file`, or the request's body in that of the name
+// `request`, whichever was given.
+pub(crate) fn check<P: Files + AllocGlobal, W: Write, F: Write>(
+    rt: &P,
+    file: &Option<Text>,
+    request: &Option<Text>,
+    output: &mut W,
+    errors: &mut F,
+) -> Result<Outcome, Fault>
+    ensures { result ≡ Ok Outcome.Done
+        → Appends (W.contents output.old) (W.contents output.new) (codes "ok\n") }
+{
+    match file {
+        Some(file) => match request {
+            None => check_manifest(rt, file.as_str(), output, errors),
+            Some(_) => Ok(Outcome::Unclear),
+        },
+        None => match request {
+            Some(body) => check_request(rt, body.as_str(), output, errors),
+            None => Ok(Outcome::Unclear),
+        },
+    }
+}
+
+// Writes `ok` if the desk takes the manifest in the file of this name, and otherwise what it would
+// refuse of it.
+fn check_manifest<P: Files + AllocGlobal, W: Write, F: Write>(
     rt: &P,
     file: &str,
     output: &mut W,
+    errors: &mut F,
 ) -> Result<Outcome, Fault>
     ensures { result ≡ Ok Outcome.Done
         → Appends (W.contents output.old) (W.contents output.new) (codes "ok\n") }
 {
     let manifest = read_file(rt, file)?;
-    check_bytes(rt.alloc(), manifest.as_slice(), output)
+    check_bytes(rt.alloc(), manifest.as_slice(), output, errors)
 }
 
-// Writes `ok` where the desk takes this manifest, and otherwise what it would refuse of it.
-fn check_bytes<W: Write>(alloc: Global, manifest: &[u8], output: &mut W) -> Result<Outcome, Fault>
+// The same of the request's body in the file of this name.
+fn check_request<P: Files + AllocGlobal, W: Write, F: Write>(
+    rt: &P,
+    file: &str,
+    output: &mut W,
+    errors: &mut F,
+) -> Result<Outcome, Fault>
+    ensures { result ≡ Ok Outcome.Done
+        → Appends (W.contents output.old) (W.contents output.new) (codes "ok\n") }
+{
+    let body = read_file(rt, file)?;
+    check_body(rt.alloc(), body.as_slice(), output, errors)
+}
+
+// Writes `ok` if the desk takes this manifest, and otherwise what it would refuse of it.
+fn check_bytes<W: Write, F: Write>(
+    alloc: Global,
+    manifest: &[u8],
+    output: &mut W,
+    errors: &mut F,
+) -> Result<Outcome, Fault>
     ensures { IsCheckShown (is_taken manifest.now)
         (W.contents output.old) (W.contents output.new) result }
 {
     let Ok(findings) = canary_check::check::check(alloc, manifest) else {
         return Err(Fault::Memory);
     };
+    show_findings(&findings, output, errors)
+}
+
+// The same of this request's body.
+fn check_body<W: Write, F: Write>(
+    alloc: Global,
+    body: &[u8],
+    output: &mut W,
+    errors: &mut F,
+) -> Result<Outcome, Fault>
+    ensures { IsCheckShown (is_request_taken body.now)
+        (W.contents output.old) (W.contents output.new) result }
+{
+    let Ok(findings) = canary_check::request::check_request(alloc, body) else {
+        return Err(Fault::Memory);
+    };
+    show_findings(&findings, output, errors)
+}
+
+// Writes what was found, and on `errors` what a check warns of.
+fn show_findings<W: Write, F: Write>(
+    findings: &Findings,
+    output: &mut W,
+    errors: &mut F,
+) -> Result<Outcome, Fault>
+    ensures { IsCheckShown findings.now (W.contents output.old) (W.contents output.new) result }
+{
+    let _ = errors.write_all(findings.warnings().as_bytes());
     show(findings.text(), output)?;
     if findings.is_ok() {
         Ok(Outcome::Done)

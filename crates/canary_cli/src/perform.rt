@@ -1,5 +1,5 @@
 //! Running a command line.
-ghost use Rattle.std.specs.Prelude.{◌≡◌, ◌↔◌, ℕ, List, Some, None, Ok, Err, [], map};
+ghost use Rattle.std.specs.Prelude.{◌≡◌, ◌↔◌, ℕ, List, Option, Some, None, Ok, Err, [], map};
 ghost use Rattle.std.specs.Prelude.{codes, string_bytes};
 ghost use Rattle.std.specs.IoError.{error_kind};
 ghost use Rattle.std.specs.Io.KnownBytes.{Appends};
@@ -41,13 +41,22 @@ const NOT_UTF8: &str = concat!(
     "For more information, try '--help'.\n"
 );
 
-/// What was asked, where it was done.
+// What is said of words of `check` that name no file, or two.
+const UNCLEAR: &str = concat!(
+    "error: check takes FILE or --request FILE, one of them\n\n",
+    "Usage: canary check [OPTIONS] [FILE]\n\n",
+    "For more information, try '--help'.\n"
+);
+
+/// What came of what was asked.
 #[derive(Clone, Copy, Debug, PartialEq, Eq)]
 pub enum Outcome {
     /// It was done.
     Done,
     /// A check was done, and found something.
     Findings,
+    /// The words do not say what is to be checked.
+    Unclear,
 }
 
 /// Which of the process's streams are terminals.
@@ -67,7 +76,8 @@ pub struct Terminals {
 /// 0: what was asked was done, or help or the version was asked for, whose text is written to
 /// `output`. 1: a check found something, or a fault, which one line `canary: WORD` on `errors`
 /// names (`canary_programs::fault::Fault::line`). 2: the command line is none that the desk takes,
-/// and `errors` has the text that says why. A fault of `errors` itself is ignored.
+/// and `errors` has the text that says why. `check` also writes there what it warns of. A fault of
+/// `errors` itself is ignored.
 pub fn perform<R: Read, W: Write, F: Write>(
     rt: &HostRuntime,
     words: &[String],
@@ -80,8 +90,9 @@ pub fn perform<R: Read, W: Write, F: Write>(
         → program_of (map string_bytes words.now) ≡ Some (Program.Pipe at step None)
         → IsPipedTo (R.remaining input.old) (R.remaining input.new)
         (W.contents output.old) (W.contents output.new) at step result }
-    ensures checked { (file : List ℕ) → faults_of (map string_bytes words.now) ≡ []
-        → program_of (map string_bytes words.now) ≡ Some (Program.Check file) → result ≡ DONE
+    ensures checked { (file request : Option (List ℕ)) → faults_of (map string_bytes words.now) ≡ []
+        → program_of (map string_bytes words.now) ≡ Some (Program.Check file request)
+        → result ≡ DONE
         → Appends (W.contents output.old) (W.contents output.new) (codes "ok\n") }
     ensures turned_away { (faults_of (map string_bytes words.now) ≡ [] → ⊥)
         → IsTurnedAway (faults_of (map string_bytes words.now))
@@ -158,7 +169,7 @@ fn run<R: Read, W: Write, F: Write>(
             let (db, csv) = (db.as_str(), csv.as_str());
             done(import(rt, db, csv, input, output, errors, shows))
         }
-        Program::Check { file } => check(rt, file.as_str(), output),
+        Program::Check { file, request } => check(rt, &file, &request, output, errors),
         Program::Backup { db, copy } => done(backup(rt, db.as_str(), copy.as_str())),
         Program::History { db, service } => {
             let (db, service) = (db.as_str(), service.as_str());
@@ -287,6 +298,10 @@ fn finish<F: Write>(done: Result<Outcome, Fault>, errors: &mut F) -> u8
     match done {
         Ok(Outcome::Done) => DONE,
         Ok(Outcome::Findings) => FAULT,
+        Ok(Outcome::Unclear) => {
+            let _ = errors.write_all(UNCLEAR.as_bytes());
+            USAGE
+        }
         Err(fault) => fail(fault, errors),
     }
 }

@@ -22,9 +22,9 @@ use Rattle.std.specs.Str.{bytes_eq}
 use Rattle.std.proofs.lemmas.Slice.Eq.{bytes_eq-Decides}
 use Rattle.clap.proofs.WalkLemmas.{first_value-rows, one_text-rows}
 use Rattle.clap.proofs.ValueTestLemmas.{accepts-Accepts}
-use Rattle.canary_words.specs.CommandLine.{desk_command, pipe_command, faults_of, exported, export_of, limits_of, number_given, of_two, pipe_of, piped, program_in, program_of, text_given, with_db, HasExport, HasListener, HasMoment, HasMoments, HasProgram, HasStatus, HasText, HasTexts, MayHaveNumber}
+use Rattle.canary_words.specs.CommandLine.{desk_command, pipe_command, faults_of, exported, export_of, limits_of, number_given, of_two, pipe_of, piped, program_in, program_of, text_given, with_db, HasExport, HasListener, HasMoment, HasMoments, HasProgram, HasStatus, HasText, HasTexts, MayHaveNumber, HasNothing}
 use Rattle.canary_words.specs.declared.words.Program.{Program}
-use Rattle.canary_words.specs.declared.words.Program.TheVariants.{Serve, Import, History, Status, Backup, Check}
+use Rattle.canary_words.specs.declared.words.Program.TheVariants.{Serve, Import, History, Status, Backup}
 use Rattle.canary_words.proofs.Chains.{ok_then}
 use Rattle.canary_words.proofs.Walks.{AreOptions, IsNoHelp, below_none, given_text, optional_text, read-level, stop-no_help}
 
@@ -87,9 +87,6 @@ status_options = (record { own = refl; plain = refl; takes = inl (refl, refl) },
 
 backup_options : AreOptions backup.rules backup.rules
 backup_options = (record { own = refl; plain = refl; takes = inl (refl, refl) }, (record { own = refl; plain = refl; takes = inl (refl, refl) }, (record { own = refl; plain = refl; takes = inr refl }, tt)))
-
-check_options : AreOptions check.rules check.rules
-check_options = (record { own = refl; plain = refl; takes = inl (refl, refl) }, (record { own = refl; plain = refl; takes = inr refl }, tt))
 
 -- what is required is given
 both_given : (at step : Bool) → check_kinds false false (not at || (not step || false)) ≡ [] → (at ≡ true) × (step ≡ true)
@@ -185,14 +182,6 @@ status_rows words none =
     let db = given_text status.rules (codes "db") _ rows refl level.0 (one_given (is_given (codes "db") rows) level.1) in
     ((db.0, db.2), number_passed 86400 (one_of (codes "watch") rows) (optional_text status.rules (codes "watch") _ rows refl level.0))
 
--- the rows of `check`
-check_rows : (words : List Text) → level_fault check [] nothing_held words false [] ≡ [] → HasText (codes "file") (rows_after check.rules [] words)
-check_rows words none =
-    let level = read-level check [] words false [] check_options none in
-    let rows : List Row = rows_after check.rules [] words in
-    let file = given_text check.rules (codes "file") _ rows refl level.0 (one_given (is_given (codes "file") rows) level.1) in
-    (file.0, file.2)
-
 -- ---- which command was met
 
 never : {P : Type 0} (k : ErrorKind) → k ∷ [] ≡ [] → P
@@ -222,7 +211,7 @@ named false false false true is_export is_status is_backup is_check is_help word
 named false false false false true is_status is_backup is_check is_help words rows other checks none = inr (inr (inl (inr (inr (inl (rows_after export.rules [] words, refl, export_rows words none))))))
 named false false false false false true is_backup is_check is_help words rows other checks none = inr (inr (inl (inr (inr (inr (inl (rows_after status.rules [] words, refl, status_rows words none)))))))
 named false false false false false false true is_check is_help words rows other checks none = inr (inr (inl (inr (inr (inr (inr (rows_after backup.rules [] words, refl, backup_rows words none)))))))
-named false false false false false false false true is_help words rows other checks none = inr (inr (inr (rows_after check.rules [] words, refl, check_rows words none)))
+named false false false false false false false true is_help words rows other checks none = inr (inr (inr (rows_after check.rules [] words, refl, tt)))
 named false false false false false false false false true words rows other checks none = cc
 named false false false false false false false false false words rows other checks none = cc
 
@@ -341,7 +330,7 @@ program_met met (inr (inr (inl (inr (inr (inl h)))))) = met_so met _ h.0 h.1 (ex
 program_met met (inr (inr (inl (inr (inr (inr (inl h))))))) =
     met_so met _ h.0 h.1 (made (λ db. Status db (number_given (codes "watch") h.0)) (codes "db") h.0 h.2.0)
 program_met met (inr (inr (inl (inr (inr (inr (inr h))))))) = met_so met _ h.0 h.1 (two_made Backup (codes "copy") h.0 h.2)
-program_met met (inr (inr (inr h))) = met_so met _ h.0 h.1 (made (λ file. Check file) (codes "file") h.0 h.2)
+program_met met (inr (inr (inr h))) = met_so met _ h.0 h.1 refl
 
 -- so they spell a program
 pub some_program : (words : List Text) → faults_of words ≡ [] → IsSome (program_of words)
@@ -362,7 +351,7 @@ IsGivenFor name rows = choose (bytes_eq name (codes "pipe")) (HasMoments rows)
     (choose (bytes_eq name (codes "export")) (HasExport rows)
     (choose (bytes_eq name (codes "status")) (HasStatus rows)
     (choose (bytes_eq name (codes "backup")) (HasTexts (codes "copy") rows)
-    (choose (bytes_eq name (codes "check")) (HasText (codes "file") rows) ⊥)))))))
+    (choose (bytes_eq name (codes "check")) (HasNothing rows) ⊥)))))))
 
 -- what was met is met under one name
 given_as : (o : Option (Text × List Row)) (n name : Text) (r rows : List Row) → o ≡ Some (n, r) → o ≡ Some (name, rows) → IsGivenFor n r → IsGivenFor name rows

@@ -32,6 +32,10 @@ with_value name is_required = record (new_rule name) {
 abbrev pub text_word : Text → Rule
 text_word name = with_value name true
 
+-- the word `VALUE`, which may be given
+abbrev pub optional_word : Text → Rule
+optional_word name = with_value name false
+
 -- the option `--NAME VALUE`, which has to be given if `is_required`
 abbrev pub text_option : Text → Bool → Rule
 text_option name is_required = record (with_value name is_required) { long = Some name }
@@ -103,9 +107,10 @@ abbrev pub backup_command : App
 backup_command =
     with_rule (with_rule (new_app (codes "backup")) db_option) (text_word (codes "copy"))
 
--- `check FILE`
+-- `check FILE`, or `check --request FILE`
 abbrev pub check_command : App
-check_command = with_rule (new_app (codes "check")) (text_word (codes "file"))
+check_command = with_rule (with_rule (new_app (codes "check"))
+    (text_option (codes "request") false)) (optional_word (codes "file"))
 
 -- with the commands that work on the file of a desk's records
 abbrev pub with_records_commands : App → App
@@ -195,7 +200,7 @@ abbrev pub backup_of : List Row → Option Program
 backup_of = with_db Backup (codes "copy")
 
 abbrev pub check_of : List Row → Option Program
-check_of rows = option_map (λ file. Check file) (text_given (codes "file") rows)
+check_of rows = Some (Check (text_given (codes "file") rows) (text_given (codes "request") rows))
 
 -- the program of the command of this name with these matches
 abbrev pub program_in : Text × List Row → Option Program
@@ -268,6 +273,10 @@ HasExport rows = HasText (codes "db") rows × HasText (codes "caller") rows
 abbrev pub HasStatus : List Row → Type 0
 HasStatus rows = HasText (codes "db") rows × MayHaveNumber (codes "watch") 86400 rows
 
+-- nothing has to be given
+abbrev pub HasNothing : List Row → Type 0
+HasNothing rows = Unit {0}
+
 -- the command of this name was met, with rows of which this holds
 abbrev pub Meets : Text → (List Row → Type 0) → Option (Text × List Row) → Type 0
 Meets name Holds met = (rows : List Row) × (met ≡ Some (name, rows)) × Holds rows
@@ -283,4 +292,4 @@ HasRecordsProgram met = Meets (codes "import") (HasTexts (codes "csv")) met
 abbrev pub HasProgram : Option (Text × List Row) → Type 0
 HasProgram met = Meets (codes "pipe") HasMoments met
     ⊎ (Meets (codes "serve") HasListener met ⊎ (HasRecordsProgram met
-    ⊎ Meets (codes "check") (HasText (codes "file")) met))
+    ⊎ Meets (codes "check") HasNothing met))

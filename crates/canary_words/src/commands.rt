@@ -7,7 +7,7 @@ ghost use Rattle.canary_words.specs.CommandLine.{history_command, export_command
 ghost use Rattle.canary_words.specs.CommandLine.{backup_command, check_command};
 ghost use Rattle.canary_words.specs.CommandLine.{moment_option, number_option, text_option};
 ghost use Rattle.canary_words.specs.CommandLine.{text_word, with_limits, with_numbers};
-ghost use Rattle.canary_words.specs.CommandLine.{with_unsent, with_value};
+ghost use Rattle.canary_words.specs.CommandLine.{optional_word, with_unsent, with_value};
 
 use crate::help;
 use canary_base::moments::LAST_MOMENT;
@@ -225,14 +225,15 @@ fn backup_command<'a>(alloc: Global) -> Result<Command<'a>, AllocError>
     with_word(alloc, backup, "copy", "COPY", help::COPY_HELP)
 }
 
-// `check FILE`.
+// `check FILE`, or `check --request FILE`.
 fn check_command<'a>(alloc: Global) -> Result<Command<'a>, AllocError>
     ensures { IfOk result (λ c. app_of c ≡ check_command) }
 {
     let check = Command::new(alloc, "check")
         .about(help::CHECK_ABOUT)
         .after_help(help::CHECK_HELP);
-    with_word(alloc, check, "file", "FILE", help::FILE_HELP)
+    let check = with_text(alloc, check, "request", "FILE", false, help::REQUEST_HELP)?;
+    with_optional_word(alloc, check, "file", "FILE", help::FILE_HELP)
 }
 
 // A command with the option `--NAME SECONDS`, which has to be given.
@@ -292,6 +293,20 @@ fn with_word<'a>(
     command.arg(text_word(alloc, name, value, help))
 }
 
+// A command with the word `VALUE`, any text, which may be given.
+fn with_optional_word<'a>(
+    alloc: Global,
+    command: Command<'a>,
+    name: &'a str,
+    value: &'a str,
+    help: &'a str,
+) -> Result<Command<'a>, AllocError>
+    ensures { IfOk result (λ c. app_of c
+        ≡ with_rule (app_of command.entry) (optional_word name.entry.now)) }
+{
+    command.arg(optional_word(alloc, name, value, help))
+}
+
 // The option `--NAME SECONDS`, which has to be given, with the seconds of a moment.
 fn moment_option<'a>(alloc: Global, name: &'a str, help: &'a str) -> Arg<'a>
     ensures rule { rule_of result ≡ moment_option name.entry.now }
@@ -346,6 +361,14 @@ fn text_word<'a>(alloc: Global, name: &'a str, value: &'a str, help: &'a str) ->
     ensures local { result.global ≡ false }
 {
     with_value(alloc, name, value, true, help)
+}
+
+// The word `VALUE` with any text, which may be given.
+fn optional_word<'a>(alloc: Global, name: &'a str, value: &'a str, help: &'a str) -> Arg<'a>
+    ensures rule { rule_of result ≡ optional_word name.entry.now }
+    ensures local { result.global ≡ false }
+{
+    with_value(alloc, name, value, false, help)
 }
 
 // What has a value, any text, which has to be given if `is_required`.

@@ -93,11 +93,11 @@ pub(crate) const SERVE_HELP: &str = with_records_faults!(
     "each settled request is on disk before its reply goes out. Without --db the records are in\n",
     "memory and end with the program, and standard error says so. serve disconnects a client\n",
     "that exceeds a timeout. If a connection ends with a fault, a line on standard error names\n",
-    "the fault, and serve goes on with the other clients:\n",
-    "  canary: truncated        a message did not come to its end, or not in time\n",
-    "  canary: read             reading from the client failed\n",
-    "  canary: write            writing to the client failed, or it left replies unread too long\n",
-    "  canary: memory           out of memory for the client\n\n",
+    "the fault and the IP address of the client, and serve goes on with the other clients:\n",
+    "  canary: truncated IP     a message did not come to its end, or not in time\n",
+    "  canary: read IP          reading from the client failed\n",
+    "  canary: write IP         writing to the client failed, or it left replies unread too long\n",
+    "  canary: memory IP        out of memory for the client\n\n",
     "Exit status: 0 after as many connections as --connections says, 2 for an invalid command\n",
     "line, and 1 for a fault, which a line on standard error names:\n",
     "  canary: listen           ADDRESS is not IP:PORT, or serve cannot listen on it\n",
@@ -225,11 +225,15 @@ pub(crate) const CHECK_ABOUT: &str =
 pub(crate) const FILE_HELP: &str =
     "An AnalysisTemplate or a Rollout in JSON, as 'kubectl get -o json' prints it";
 
+pub(crate) const REQUEST_HELP: &str = "A request's body, as a desk gets it, in place of FILE";
+
 pub(crate) const CHECK_HELP: &str = concat!(
     "check prints 'ok', or what a desk would refuse or could not read: one line for each\n",
-    "finding, with its place and what a desk expects there. check needs no desk: it does not\n",
-    "look for the templates that a Rollout names, and ignores the limit of 65536 bytes for a\n",
-    "body.\n\n",
+    "finding, with its place and what a desk expects there. A line that begins with four spaces\n",
+    "belongs to the finding before it, and says what to write instead. After 100 findings check\n",
+    "says how many more there are. What a desk takes, though it may not be what you mean, is a\n",
+    "line 'canary: warning: ..' on standard error. check needs no desk: it does not look for the\n",
+    "templates that a Rollout names, or for what else a desk has.\n\n",
     "Exit status: 0 if check printed 'ok', 2 for an invalid command line, and 1 if check printed\n",
     "anything else or for a fault, which a line on standard error names:\n",
     "  canary: file    FILE cannot be read, or is longer than 16 MiB\n",
@@ -237,5 +241,6 @@ pub(crate) const CHECK_HELP: &str = concat!(
     "  canary: memory  out of memory\n\n",
     "Examples:\n",
     "  canary check errors.json\n",
+    "  canary check --request body.json\n",
     "  kubectl get analysistemplate errors -o json | canary check /dev/stdin"
 );

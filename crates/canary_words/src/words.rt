@@ -81,9 +81,11 @@ pub enum Program {
         db: Text,
         copy: Text,
     },
-    /// What the desk would refuse of the manifest in the file of this name.
+    /// What the desk would refuse of the manifest in the file of the name `file`, or of the
+    /// request's body in that of the name `request`: one of them, or the words are no check's.
     Check {
-        file: Text,
+        file: Option<Text>,
+        request: Option<Text>,
     },
 }
 
@@ -235,11 +237,12 @@ fn backup_of(alloc: Global, backup: &ArgMatches<'_>) -> Result<Program, AllocErr
 
 // The program of `check` with these matches.
 fn check_of(alloc: Global, check: &ArgMatches<'_>) -> Result<Program, AllocError>
-    requires { HasText (codes "file") (rows_of (found_of check.now)) }
     ensures { IfOk result (λ p. check_of (rows_of (found_of check.now)) ≡ Some p) }
 {
-    let file = text_given(alloc, check, "file")?;
-    Ok(Program::Check { file })
+    Ok(Program::Check {
+        file: optional_text(alloc, check, "file")?,
+        request: optional_text(alloc, check, "request")?,
+    })
 }
 
 // The limits that were given.
