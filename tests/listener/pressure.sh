@@ -57,7 +57,7 @@ queries_wait() {
     start --max-unsent-total 1
     make_history
     write_queries 6000 /services/web/history > "$work/stream"
-    python3 -c "$deaf" "$port" "$work/reads" < "$work/stream" &
+    python3 -c "$deaf" "$port" "$work/reads" < "$work/stream" 2> "$work/deaf" &
     for ((tries = 0; tries < 15; tries++)); do
         open client
         get /services/nobody >&"$client"
