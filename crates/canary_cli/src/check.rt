@@ -82,7 +82,13 @@ fn check_bytes<W: Write, F: Write>(
     let Ok(findings) = canary_check::check::check(alloc, manifest) else {
         return Err(Fault::Memory);
     };
-    show_findings(&findings, output, errors)
+    show(findings.text(), output)?;
+    warn(&findings, errors);
+    if findings.is_ok() {
+        Ok(Outcome::Done)
+    } else {
+        Ok(Outcome::Findings)
+    }
 }
 
 // The same of this request's body.
@@ -98,24 +104,18 @@ fn check_body<W: Write, F: Write>(
     let Ok(findings) = canary_check::request::check_request(alloc, body) else {
         return Err(Fault::Memory);
     };
-    show_findings(&findings, output, errors)
-}
-
-// Writes what was found, and on `errors` what a check warns of.
-fn show_findings<W: Write, F: Write>(
-    findings: &Findings,
-    output: &mut W,
-    errors: &mut F,
-) -> Result<Outcome, Fault>
-    ensures { IsCheckShown findings.now (W.contents output.old) (W.contents output.new) result }
-{
-    let _ = errors.write_all(findings.warnings().as_bytes());
     show(findings.text(), output)?;
+    warn(&findings, errors);
     if findings.is_ok() {
         Ok(Outcome::Done)
     } else {
         Ok(Outcome::Findings)
     }
+}
+
+// Writes on `errors` what a check warns of.
+fn warn<F: Write>(findings: &Findings, errors: &mut F) {
+    let _ = errors.write_all(findings.warnings().as_bytes());
 }
 
 // The bytes of the file of this name.
