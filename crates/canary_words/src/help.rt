@@ -77,11 +77,13 @@ pub(crate) const READ_TIMEOUT_HELP: &str =
 pub(crate) const IDLE_TIMEOUT_HELP: &str =
     "Most seconds that a client may be idle or leave replies unread, 1 to 86400 [default: 60]";
 
-pub(crate) const MAX_CLIENTS_HELP: &str =
-    "Most clients at a time, 1 to 65536; further clients wait to be accepted [default: 1000]";
+pub(crate) const MAX_CLIENTS_HELP: &str = concat!(
+    "Most clients at a time, 1 to 65536; a further one takes the place of an idle one, or waits ",
+    "[default: 1000]"
+);
 
 pub(crate) const MAX_UNSENT_HELP: &str =
-    "Unsent reply bytes at which a client's requests wait, 1 to 1073741824 [default: 65536]";
+    "Unsent reply bytes at which a client's messages wait, 1 to 1073741824 [default: 65536]";
 
 pub(crate) const MAX_UNSENT_TOTAL_HELP: &str = concat!(
     "Unsent reply bytes of all clients at which queries wait, 1 to 68719476736 ",
