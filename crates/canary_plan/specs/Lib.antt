@@ -1,6 +1,7 @@
 pub mod Limits
 pub mod Conditions
 pub mod Refusals
+pub mod Fit
 pub mod Plans
 pub mod PlanRefusals
 pub mod Checking

@@ -12,7 +12,8 @@ use Rattle.canary_plan.specs.declared.template_spec.TemplateSpec.{TemplateSpec}
 use Rattle.canary_plan.specs.declared.refusal.Refusal.{Refusal}
 use Rattle.canary_plan.specs.declared.refusal.Refusal.TheVariants.{BadCondition, IntervalNeeded, DuplicateMetric, BadDryRun, UnknownTemplate, EndlessMetric, BadStrategy}
 use Rattle.canary_plan.specs.Conditions.{condition_of}
-use Rattle.canary_plan.specs.Plans.{Templates, all_metrics, metrics_named, has_weight_in_range, are_metrics_of_run}
+use Rattle.canary_plan.specs.Fit.{are_metrics_of_run}
+use Rattle.canary_plan.specs.Plans.{Templates, all_metrics, metrics_named, has_unknown, has_weight_in_range}
 use Rattle.canary_plan.specs.Refusals.{first_that_holds}
 
 -- some name stands twice
@@ -73,9 +74,6 @@ analyses s = step_analyses s ++ names_of_background s.background
 abbrev pub repeats_metric : Templates → List (List ℕ) → Bool
 repeats_metric known names =
     has_duplicate (map (λ (m : MetricValue). m.name) (metrics_named known names))
-
-abbrev pub has_unknown : Templates → List (List ℕ) → Bool
-has_unknown known names = list_any (λ name. is_none (known name)) names
 
 -- a metric that has no effective count, and that no number of successes in a row completes
 abbrev pub is_without_end : MetricValue → Bool

@@ -1,5 +1,5 @@
 -- What a template and a strategy are once their conditions are read and their metrics are known.
-use Rattle.std.specs.Prelude.{ℕ, nat_le, ◌||◌, ◌&&◌, Bool, true, false, if◌then◌else◌, List, [], ◌∷◌, length, map, flat_map, slice_get, Option, Some, None, codes}
+use Rattle.std.specs.Prelude.{ℕ, nat_le, ◌||◌, ◌&&◌, not, Bool, true, false, if◌then◌else◌, List, [], ◌∷◌, length, map, flat_map, slice_get, Option, Some, None, is_none, option_map, unwrap_or, codes}
 use Rattle.std.specs.List.{list_any, list_all}
 use Rattle.std.specs.Str.{bytes_eq}
 use Rattle.canary_condition.specs.Trees.{Tree}
@@ -10,11 +10,14 @@ use Rattle.canary_plan.specs.declared.step.Step.{Step}
 use Rattle.canary_plan.specs.declared.step.Step.TheVariants.{SetWeight, Pause, Analysis}
 use Rattle.canary_plan.specs.declared.service.Background.{Background}
 use Rattle.canary_plan.specs.declared.service.ServiceSpec.{ServiceSpec}
+use Rattle.canary_plan.specs.declared.analysis_parts.AnalysisParts.{AnalysisParts}
+use Rattle.canary_plan.specs.declared.bound.BoundParts.{BoundParts}
 use Rattle.canary_plan.specs.declared.strategy.CheckedStrategy.{CheckedStrategy}
 use Rattle.canary_plan.specs.declared.template_spec.MetricSpec.{MetricSpec}
 use Rattle.canary_plan.specs.declared.template_spec.TemplateSpec.{TemplateSpec}
 use Rattle.canary_plan.specs.declared.template.Template.{Template}
 use Rattle.canary_plan.specs.Conditions.{condition_of}
+use Rattle.canary_plan.specs.Fit.{are_metrics_of_run, is_fit, no_analysis}
 
 -- the templates that are known, by name
 abbrev pub Templates : Type 0
@@ -63,40 +66,58 @@ metrics_in (Some t) = t.metrics
 abbrev pub metrics_named : Templates → List (List ℕ) → List MetricValue
 metrics_named known names = flat_map (λ name. metrics_in (known name)) names
 
-abbrev pub step_metrics : Templates → Step → List MetricValue
-step_metrics known (Analysis names) = metrics_named known names
-step_metrics known (SetWeight percent) = []
-step_metrics known (Pause seconds) = []
+-- The analyses of a strategy.
 
-abbrev pub background_metrics : Templates → Option Background → List MetricValue
-background_metrics known None = []
-background_metrics known (Some b) = metrics_named known b.templates
+abbrev pub has_unknown : Templates → List (List ℕ) → Bool
+has_unknown known names = list_any (λ name. is_none (known name)) names
 
--- the strategy of a service, its analyses with their metrics
-abbrev pub strategy_of : Templates → ServiceSpec → CheckedStrategy
-strategy_of known spec =
+-- each template of an analysis is known, and they have 1 to 32 metrics together
+abbrev pub binds : Templates → List (List ℕ) → Bool
+binds known names = not (has_unknown known names) && are_metrics_of_run (metrics_named known names)
+
+-- an analysis of these templates, or none where they don't bind it
+abbrev pub analysis_of : Templates → List (List ℕ) → Option AnalysisParts
+analysis_of known names =
+    if binds known names then Some (record { metrics = metrics_named known names }) else None
+
+abbrev pub bound_step : Templates → Step → Option AnalysisParts
+bound_step known (Analysis names) = analysis_of known names
+bound_step known (SetWeight percent) = None
+bound_step known (Pause seconds) = None
+
+abbrev pub bound_background : Templates → Option Background → Option AnalysisParts
+bound_background known None = None
+bound_background known (Some b) = analysis_of known b.templates
+
+-- the analyses that a service asks for, with the metrics of the templates that are known
+abbrev pub bound_of : Templates → ServiceSpec → BoundParts
+bound_of known spec =
     record {
-      steps = spec.steps;
-      background = spec.background;
-      step_metrics = map (step_metrics known) spec.steps;
-      background_metrics = background_metrics known spec.background;
+      steps = map (bound_step known) spec.steps;
+      background = bound_background known spec.background;
     }
 
-abbrev pub is_analysis : Option Step → Bool
-is_analysis (Some (Analysis names)) = true
-is_analysis (Some (SetWeight percent)) = false
-is_analysis (Some (Pause seconds)) = false
-is_analysis None = false
+-- the strategy of a service, with its analyses
+abbrev pub strategy_of : Templates → ServiceSpec → CheckedStrategy
+strategy_of known spec =
+    record { steps = spec.steps; background = spec.background; bound = bound_of known spec }
 
-abbrev pub metrics_if_background : Option Background → List MetricValue → Option (List MetricValue)
-metrics_if_background None ms = None
-metrics_if_background (Some b) ms = Some ms
+abbrev pub analysis_if : Option (Option AnalysisParts) → Option AnalysisParts
+analysis_if None = None
+analysis_if (Some a) = a
+
+-- the analysis at that step, or the background
+abbrev pub analysis_at : CheckedStrategy → Option ℕ → Option AnalysisParts
+analysis_at s (Some i) = analysis_if (slice_get s.bound.steps i)
+analysis_at s None = s.bound.background
+
+-- the same, and one of no templates where there is none
+abbrev pub analysis_or_none : CheckedStrategy → Option ℕ → AnalysisParts
+analysis_or_none s step = unwrap_or (analysis_at s step) no_analysis
 
 -- the metrics of the analysis at that step, or of the background
 abbrev pub metrics_at : CheckedStrategy → Option ℕ → Option (List MetricValue)
-metrics_at s (Some i) =
-    if is_analysis (slice_get s.steps i) then slice_get s.step_metrics i else None
-metrics_at s None = metrics_if_background s.background s.background_metrics
+metrics_at s step = option_map (λ (a : AnalysisParts). a.metrics) (analysis_at s step)
 
 -- Limits of a strategy that was checked.
 
@@ -106,44 +127,39 @@ has_weight_in_range (SetWeight percent) = nat_le percent 100
 has_weight_in_range (Pause seconds) = true
 has_weight_in_range (Analysis names) = true
 
--- 1 to 32 metrics of an analysis
-abbrev pub are_metrics_of_run : List MetricValue → Bool
-are_metrics_of_run ms = nat_le 1 (length ms) && nat_le (length ms) 32
+abbrev pub is_fit_if : Option AnalysisParts → Bool
+is_fit_if None = true
+is_fit_if (Some a) = is_fit a
 
-abbrev pub fits_step : Step → List MetricValue → Bool
-fits_step (Analysis names) ms = are_metrics_of_run ms
-fits_step (SetWeight percent) ms = true
-fits_step (Pause seconds) ms = true
+-- each of these analyses is fit for runs
+abbrev pub are_fit : BoundParts → Bool
+are_fit b = list_all is_fit_if b.steps && is_fit_if b.background
 
--- a list of metrics for each step, 1 to 32 of them for an analysis
-abbrev pub fit_steps : List Step → List (List MetricValue) → Bool
+-- there is an analysis, fit for runs
+abbrev pub is_there_and_fit : Option AnalysisParts → Bool
+is_there_and_fit None = false
+is_there_and_fit (Some a) = is_fit a
+
+abbrev pub fits_step : Step → Option AnalysisParts → Bool
+fits_step (Analysis names) a = is_there_and_fit a
+fits_step (SetWeight percent) a = is_none a
+fits_step (Pause seconds) a = is_none a
+
+-- an analysis, fit for runs, for each step that is one, and none for each other
+abbrev pub fit_steps : List Step → List (Option AnalysisParts) → Bool
 fit_steps [] [] = true
-fit_steps [] (ms ∷ rest) = false
+fit_steps [] (a ∷ rest) = false
 fit_steps (step ∷ steps) [] = false
-fit_steps (step ∷ steps) (ms ∷ rest) = fits_step step ms && fit_steps steps rest
+fit_steps (step ∷ steps) (a ∷ rest) = fits_step step a && fit_steps steps rest
 
-abbrev pub fits_background : Option Background → List MetricValue → Bool
-fits_background None ms = true
-fits_background (Some b) ms = are_metrics_of_run ms
+abbrev pub fits_background : Option Background → Option AnalysisParts → Bool
+fits_background None a = is_none a
+fits_background (Some b) a = is_there_and_fit a
 
--- no number, or one of at least 1
-abbrev pub is_at_least_one : Option ℕ → Bool
-is_at_least_one None = true
-is_at_least_one (Some n) = nat_le 1 n
-
--- the metric's count, and its number of successes in a row, are at least 1 where it has them
-abbrev pub asks_for_some : MetricValue → Bool
-asks_for_some m = is_at_least_one m.count && is_at_least_one m.pass_after
-
--- each of these metrics does
-abbrev pub have_counts : List MetricValue → Bool
-have_counts ms = list_all asks_for_some ms
-
--- at most 64 steps, no weight above 100, 1 to 32 metrics for each analysis, and each of them asks
--- for at least 1 measurement and 1 success in a row, where it asks for a number
+-- at most 64 steps, no weight above 100, and just the analyses that its steps and its background
+-- ask for, each of them fit for runs
 abbrev pub is_accepted : CheckedStrategy → Bool
 is_accepted s =
     nat_le (length s.steps) 64
-    && (list_all has_weight_in_range s.steps && (fit_steps s.steps s.step_metrics
-    && (fits_background s.background s.background_metrics
-    && (list_all have_counts s.step_metrics && have_counts s.background_metrics))))
+    && (list_all has_weight_in_range s.steps && (fit_steps s.steps s.bound.steps
+    && fits_background s.background s.bound.background))

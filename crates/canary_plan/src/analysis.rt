@@ -3,9 +3,10 @@ ghost use Rattle.std.specs.Prelude.{◌≡◌, [], ◌∷◌, ◌++◌, is_none,
 ghost use Rattle.std.specs.List.{list_any, filter_map};
 ghost use Rattle.std.specs.FinMap.{get};
 ghost use Rattle.canary_metric.specs.Metrics.{MetricValue};
-ghost use Rattle.canary_plan.specs.Plans.{metrics_in, metrics_named, are_metrics_of_run};
+ghost use Rattle.canary_plan.specs.Plans.{metrics_in, metrics_named, has_unknown, binds};
+ghost use Rattle.canary_plan.specs.Fit.{are_metrics_of_run};
 ghost use Rattle.canary_plan.specs.PlanRefusals.{names_of_step, step_analyses, analyses};
-ghost use Rattle.canary_plan.specs.PlanRefusals.{repeats_metric, has_unknown};
+ghost use Rattle.canary_plan.specs.PlanRefusals.{repeats_metric};
 ghost use Rattle.canary_plan.specs.PlanRefusals.{is_endless, is_misfit, is_without_end};
 
 use crate::labels::has_duplicate;
@@ -191,6 +192,13 @@ pub(crate) fn is_misfit(known: &Templates, names: &[Name]) -> bool
         return true;
     }
     !are_metrics_of_run(known, names)
+}
+
+/// Whether each of these templates is known, and they have 1 to 32 metrics together.
+pub(crate) fn binds(known: &Templates, names: &[Name]) -> bool
+    ensures { result ≡ binds (get known.now) names.now }
+{
+    !has_unknown(known, names) && are_metrics_of_run(known, names)
 }
 
 // Whether these templates have 1 to 32 metrics together.

@@ -1,24 +1,23 @@
 //! Why a service's strategy is refused, and the strategy that it asks for.
-ghost use Rattle.std.specs.Prelude.{◌≡◌, map, IfOk, IsTrue};
+ghost use Rattle.std.specs.Prelude.{◌≡◌, IfOk, IsTrue};
 ghost use Rattle.std.specs.List.{list_any, list_all};
 ghost use Rattle.std.specs.FinMap.{get};
-ghost use Rattle.canary_plan.specs.Plans.{has_weight_in_range, step_metrics, background_metrics};
-ghost use Rattle.canary_plan.specs.Plans.{strategy_of, have_counts};
+ghost use Rattle.canary_plan.specs.Plans.{has_weight_in_range, has_unknown, strategy_of, are_fit};
 ghost use Rattle.canary_plan.specs.PlanRefusals.{step_analyses, analyses, strategy_refusal};
-ghost use Rattle.canary_plan.specs.PlanRefusals.{repeats_metric, has_unknown};
+ghost use Rattle.canary_plan.specs.PlanRefusals.{repeats_metric};
 ghost use Rattle.canary_plan.specs.PlanRefusals.{is_endless, is_misfit};
 ghost use Rattle.canary_plan.specs.PlanRefusals.{is_bad_strategy};
 
-use crate::analysis::{self, metrics_named};
+use crate::analysis;
+use crate::bound::bound_of;
 use crate::refusal::Refusal;
-use crate::service::{Background, ServiceSpec, copy_background};
+use crate::service::{ServiceSpec, copy_background};
 use crate::step::{Step, copy_steps};
 use crate::strategy::{CheckedStrategy, GREATEST_WEIGHT, MOST_STEPS};
 use crate::templates::Templates;
 use canary_base::error::Memory;
 use canary_base::lists::Listed;
 use canary_base::names::Name;
-use canary_metric::metric::Metric;
 use std::alloc::Global;
 
 /// Why the strategy is refused, if it is.
@@ -137,71 +136,12 @@ pub(crate) fn strategy_of(
     spec: &ServiceSpec,
     known: &Templates,
 ) -> Result<CheckedStrategy, Memory>
-    ensures { IfOk result (λ strategy. strategy ≡ strategy_of (get known.now) spec.now) }
+    ensures checked { IfOk result (λ strategy. strategy ≡ strategy_of (get known.now) spec.now) }
+    ensures fit { IfOk result (λ strategy. IsTrue (are_fit strategy.bound)) }
 {
     Ok(CheckedStrategy {
         steps: copy_steps(alloc, spec.steps.as_slice())?,
         background: copy_background(alloc, &spec.background)?,
-        step_metrics: all_step_metrics(alloc, spec.steps.as_slice(), known)?,
-        background_metrics: background_metrics(alloc, &spec.background, known)?,
+        bound: bound_of(alloc, spec, known)?,
     })
-}
-
-/// A metric's count and its `passAfter`, if it has them, are at least 1: what each metric promises,
-/// said of them all.
-pub(crate) fn counts_stand(checked: &CheckedStrategy)
-    ensures steps { IsTrue (list_all have_counts checked.now.step_metrics) }
-    ensures background { IsTrue (have_counts checked.now.background_metrics) }
-{
-    for metrics in checked.step_metrics.as_slice() {
-        metric_counts_stand(metrics.as_slice());
-    }
-    metric_counts_stand(checked.background_metrics.as_slice());
-}
-
-fn metric_counts_stand(metrics: &[Metric])
-    ensures { IsTrue (have_counts metrics.now) }
-{
-    for metric in metrics {
-        let _ = metric.count();
-        let _ = metric.pass_after();
-    }
-}
-
-fn all_step_metrics(
-    alloc: Global,
-    steps: &[Step],
-    known: &Templates,
-) -> Result<Listed<Listed<Metric>>, Memory>
-    ensures { IfOk result (λ found. found ≡ map (step_metrics (get known.now)) steps.now) }
-{
-    let mut found = Listed::of(Vec::new(alloc));
-    for step in steps {
-        found.push(step_metrics(alloc, step, known)?)?;
-    }
-    Ok(found)
-}
-
-// The metrics of a step's analysis; none where it is no analysis.
-fn step_metrics(alloc: Global, step: &Step, known: &Templates) -> Result<Listed<Metric>, Memory>
-    ensures { IfOk result (λ found. found ≡ step_metrics (get known.now) step.now) }
-{
-    match step {
-        Step::SetWeight(_) => Ok(Listed::of(Vec::new(alloc))),
-        Step::Pause(_) => Ok(Listed::of(Vec::new(alloc))),
-        Step::Analysis(names) => metrics_named(alloc, known, names.as_slice()),
-    }
-}
-
-fn background_metrics(
-    alloc: Global,
-    background: &Option<Background>,
-    known: &Templates,
-) -> Result<Listed<Metric>, Memory>
-    ensures { IfOk result (λ found. found ≡ background_metrics (get known.now) background.now) }
-{
-    match background {
-        None => Ok(Listed::of(Vec::new(alloc))),
-        Some(background) => metrics_named(alloc, known, background.templates.as_slice()),
-    }
 }

@@ -17,6 +17,9 @@
 #![tactic(auto)]
 
 pub mod analysis;
+pub mod analysis_parts;
+pub mod bound;
+pub mod bound_analysis;
 mod checking;
 pub mod command;
 pub mod fault;

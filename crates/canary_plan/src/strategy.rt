@@ -2,9 +2,11 @@
 ghost use Rattle.std.specs.Prelude.{◌≡◌, ◌≤◌, Some, None};
 ghost use Rattle.std.specs.Prelude.{IsTrue, IfOk, IfSome, length, option_copied};
 ghost use Rattle.std.specs.FinMap.{get};
-ghost use Rattle.canary_plan.specs.Plans.{is_accepted, metrics_at};
+ghost use Rattle.canary_plan.specs.Plans.{is_accepted, analysis_at, metrics_at};
 ghost use Rattle.canary_plan.specs.Checking.{IsChecked};
 
+use crate::bound::BoundParts;
+use crate::bound_analysis::BoundAnalysis;
 use crate::checking;
 use crate::fault::CheckFault;
 use crate::service::{Background, ServiceSpec};
@@ -23,48 +25,26 @@ pub const MOST_STEPS: usize = 64;
 /// The greatest weight, in percent.
 pub const GREATEST_WEIGHT: u32 = 100;
 
-/// A strategy with the metrics of its analyses.
+/// A strategy with its analyses.
 #[derive(Drop)]
 pub struct CheckedStrategy {
     pub steps: Listed<Step>,
     pub background: Option<Background>,
-    /// The metrics of each step's analysis, none where the step is no analysis.
-    pub step_metrics: Listed<Listed<Metric>>,
-    /// The metrics of the background analysis.
-    pub background_metrics: Listed<Metric>,
+    /// Its analyses with their metrics.
+    pub bound: BoundParts,
 }
 
 impl CheckedStrategy {
-    // The metrics of the analysis at that step, or of the background.
-    fn metrics(&self, step: Option<u32>) -> Option<&[Metric]>
-        ensures { option_copied result ≡ metrics_at self.now step }
+    fn step_analysis(&self, step: u32) -> Option<&BoundAnalysis>
+        ensures { option_copied result ≡ analysis_at self.now (Some step) }
     {
-        match step {
-            Some(step) => self.step_metrics(step),
-            None => self.background_metrics(),
-        }
+        self.bound.steps.as_slice().get(step as usize)?.as_ref()
     }
 
-    fn step_metrics(&self, step: u32) -> Option<&[Metric]>
-        ensures { option_copied result ≡ metrics_at self.now (Some step) }
+    fn background_analysis(&self) -> Option<&BoundAnalysis>
+        ensures { option_copied result ≡ analysis_at self.now None }
     {
-        match self.steps.as_slice().get(step as usize)? {
-            Step::SetWeight(_) => None,
-            Step::Pause(_) => None,
-            Step::Analysis(_) => {
-                let metrics = self.step_metrics.as_slice().get(step as usize)?;
-                Some(metrics.as_slice())
-            }
-        }
-    }
-
-    fn background_metrics(&self) -> Option<&[Metric]>
-        ensures { option_copied result ≡ metrics_at self.now None }
-    {
-        match self.background {
-            Some(_) => Some(self.background_metrics.as_slice()),
-            None => None,
-        }
+        self.bound.background.as_ref()
     }
 }
 
@@ -112,7 +92,6 @@ impl Strategy {
             return Err(CheckFault::Refused(refusal));
         }
         let checked = checking::strategy_of(alloc, spec, known)?;
-        checking::counts_stand(&checked);
         Ok(Strategy::of(alloc, checked)?)
     }
 
@@ -148,6 +127,17 @@ impl Strategy {
         self.checked.background.as_ref()
     }
 
+    /// The analysis at that step, from 0, or the background; none where there is no such analysis.
+    pub fn analysis(&self, step: Option<u32>) -> Option<&BoundAnalysis>
+        ensures value { option_copied result ≡ analysis_at self.now step }
+        ensures accepted { IsTrue (is_accepted self.now) }
+    {
+        match step {
+            Some(step) => self.checked.step_analysis(step),
+            None => self.checked.background_analysis(),
+        }
+    }
+
     /// The metrics of the analysis at that step, from 0, or of the background; none where there is
     /// no such analysis. 1 to 32.
     pub fn metrics(&self, step: Option<u32>) -> Option<&[Metric]>
@@ -155,6 +145,9 @@ impl Strategy {
         ensures limit { IfSome result (λ metrics. (1 ≤ length metrics.now)
             × (length metrics.now ≤ 32)) }
     {
-        self.checked.metrics(step)
+        match self.analysis(step) {
+            Some(analysis) => Some(analysis.metrics()),
+            None => None,
+        }
     }
 }

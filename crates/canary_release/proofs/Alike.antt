@@ -80,7 +80,7 @@ one_alike : CountsOneMore → (p : Past) (x : Effect) → watched (grows p x) �
 one_alike one p (Told line) = refl
 one_alike one p (Opened x) =
     let r = opened_run x in
-    let opened = open_more p.runs r refl ∙ (λ i. map tallied (filter is_open p.runs) ++ record (opened_now x) { tallies = none_alike x.metrics i } ∷ []) in
+    let opened = open_more p.runs r refl ∙ (λ i. map tallied (filter is_open p.runs) ++ record (opened_now x) { tallies = none_alike (length x.analysis.metrics) i } ∷ []) in
     λ i. record { count = one_longer p.runs r i; open_runs = opened i }
 one_alike one p (Measured x) =
     let going = mapped (measured_in x) (counted_in x) (run_alike one x) p.runs in

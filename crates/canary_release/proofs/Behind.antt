@@ -19,7 +19,7 @@ use Rattle.canary_release.specs.declared.runs.OpenRun.{OpenRun}
 use Rattle.canary_release.specs.declared.runs.Runs.{Runs}
 use Rattle.canary_release.specs.declared.stand.Stand.{Stand}
 use Rattle.canary_release.specs.declared.stand.State.TheVariants.{Aborted}
-use Rattle.canary_release.specs.Courses.{Course, Watch, with_stand, happen, tell, runs_now, has_number, open_run_now, run_metrics, run_verdict, close_run, end_run, end_runs, end_open_runs}
+use Rattle.canary_release.specs.Courses.{Course, Watch, with_stand, happen, tell, runs_now, has_number, open_run_now, run_verdict, close_run, end_run, end_runs, end_open_runs}
 use Rattle.canary_release.specs.Entering.{begins_background, begin_background, open_background, done, finish, show_step, enter, abort, without_holds}
 use Rattle.canary_release.specs.Passing.{next_move, is_by, move_at, chain_end, with_last, pass, judged_at}
 use Rattle.canary_release.specs.Reports.{brought, record_all, report_refusal, consequence, complete, assess_run, assess, report_on, verdict_if, reported_on}
@@ -114,7 +114,7 @@ consequence_behind w x c run step Running t p = refl
 
 assess_run_behind : (w : Watch) (x : Effect) (c : Course) (r : OpenRun) (t : ℕ) → Follows w x c → assess_run (behind w x c) r t ≡ behind w x (assess_run c r t)
 assess_run_behind w x c r t p =
-    let v = run_verdict c.stand.strategy false r in
+    let v = run_verdict false r in
     elim (is_completed v)
     as (λ b. (let d : Course = (if b then complete (behind w x c) r v t else behind w x c) in d) ≡ behind w x (if b then complete c r v t else c))
     [ true ↦ consequence_behind w x (tell (close_run c r t false) t (Completed r.number v)) r.number r.step v t p | false ↦ refl ]
@@ -125,7 +125,7 @@ assess_behind w x c (Some r) t p = assess_run_behind w x c r t p
 
 report_behind : (w : Watch) (x : Effect) (c : Course) (r : OpenRun) (es : List Entry) (t : ℕ) → Follows w x c → report_on (behind w x c) r es t ≡ behind w x (report_on c r es t)
 report_behind w x c r es t p =
-    let xs = brought (run_metrics c.stand.strategy r.step) r es in
+    let xs = brought r.analysis.metrics r es in
     let all : Course = record_all c xs in
     let q : Follows w x all = recorded c xs ∙ p in
     ap (λ (d : Course). assess d (open_run_now d r.number) t) (record_behind w x c xs)
@@ -134,7 +134,7 @@ report_behind w x c r es t p =
 
 reported_behind : (w : Watch) (x : Effect) (c : Course) (r : OpenRun) (es : List Entry) → Follows w x c → reported_on (behind w x c) r es ≡ reported_on c r es
 reported_behind w x c r es p =
-    let xs = brought (run_metrics c.stand.strategy r.step) r es in
+    let xs = brought r.analysis.metrics r es in
     let all : Course = record_all c xs in
     let q : Follows w x all = recorded c xs ∙ p in
     ap (λ (d : Course). (let told : Reported = record { phases = map (λ (y : Recorded). y.phase) xs; run = r.number; verdict = verdict_if d (open_run_now d r.number) } in told)) (record_behind w x c xs)

@@ -17,7 +17,7 @@ use Rattle.canary_release.specs.declared.runs.OpenRun.{OpenRun}
 use Rattle.canary_release.specs.declared.runs.Runs.{Runs}
 use Rattle.canary_release.specs.Pasts.{Run, Past, change_at, opened_run, with_recorded, measured_in, closed_in, grows, grows_by, is_open, measurement_of, counts_of, tallied, watched}
 use Rattle.canary_release.specs.Watching.{happens}
-use Rattle.canary_release.specs.Courses.{has_number, run_metrics}
+use Rattle.canary_release.specs.Courses.{has_number}
 use Rattle.canary_release.specs.Laws.{WatchesAlike}
 use Rattle.canary_release.specs.Order.{AreNumbered, AreOrdered, is_of, AreLists, is_measured_by, is_of_some}
 use Rattle.canary_release.proofs.OrderingBasics.{other_number, not_same, some_same, each, each_both, each_and_more, each_mapped}

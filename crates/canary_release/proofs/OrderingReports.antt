@@ -26,7 +26,7 @@ use Rattle.canary_release.specs.declared.stand.Stand.{Stand}
 use Rattle.canary_release.specs.declared.stand.State.TheVariants.{InProgress}
 use Rattle.canary_release.specs.Pasts.{change_at}
 use Rattle.canary_release.specs.Watching.{counted, counted_in}
-use Rattle.canary_release.specs.Courses.{Course, with_stand, happen, tell, runs_now, has_number, open_run_now, run_metrics}
+use Rattle.canary_release.specs.Courses.{Course, with_stand, happen, tell, runs_now, has_number, open_run_now}
 use Rattle.canary_release.specs.Entering.{without_holds}
 use Rattle.canary_release.specs.Passing.{pass, judged_at}
 use Rattle.canary_release.specs.Reports.{Place, place_from, place_of, names_metric, entry_refusal_at, entry_refusal, entries_refusal, report_refusal, recorded_at, recorded_if, brought, record_all, report_on}
@@ -165,9 +165,9 @@ module _ (s : Stand) (w : Runs) (accepted : IsTrue (is_accepted s.strategy)) (nu
             recorded r t (before ++ e ∷ []) es (happen c (Measured x)) (counted_in x now) more after (counted_step x now ∙ same) still halves.1
       ] refl none
 
-  reported : (c : Course) (run : ℕ) (r : OpenRun) (es : List Entry) (t : ℕ) → IsFollowing s w c → open_run_now c run ≡ Some r → entries_refusal (run_metrics c.stand.strategy r.step) r t [] es ≡ None → IsFollowing s w (report_on c r es t)
+  reported : (c : Course) (run : ℕ) (r : OpenRun) (es : List Entry) (t : ℕ) → IsFollowing s w c → open_run_now c run ≡ Some r → entries_refusal r.analysis.metrics r t [] es ≡ None → IsFollowing s w (report_on c r es t)
   reported c run r es t f found none =
-      let ms = run_metrics c.stand.strategy r.step in
+      let ms = r.analysis.metrics in
       let same : c.stand.strategy ≡ s.strategy = f.strategy in
       let all : Course = record_all c (brought ms r es) in
       let number : r.number ≡ run = eqb-true r.number run (found_passes (has_number run) (runs_now c).open_runs r found) in
@@ -188,7 +188,7 @@ module _ (s : Stand) (w : Runs) (accepted : IsTrue (is_accepted s.strategy)) (nu
 
   report_follows : (c : Course) (run : ℕ) (o : Option OpenRun) (es : List Entry) (t : ℕ) → IsFollowing s w c → open_run_now c run ≡ o → FollowsIf (unless (report_refusal c t run es o) (reports_if c o es t))
   report_follows c run None es t f e = tt
-  report_follows c run (Some r) es t f e = unless_follows (entries_refusal (run_metrics c.stand.strategy r.step) r t [] es) (reports c r es t) (reported c run r es t f e)
+  report_follows c run (Some r) es t f e = unless_follows (entries_refusal r.analysis.metrics r t [] es) (reports c r es t) (reported c run r es t f e)
 
   begins : (c : Course) (t : ℕ) (version : List ℕ) (event : LineEvent) (i : ℕ) → IsFollowing s w c → IsFollowing s w (begin c t version event i)
   begins c t version event i f =

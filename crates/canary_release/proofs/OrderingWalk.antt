@@ -20,7 +20,7 @@ use Rattle.canary_release.specs.declared.runs.Runs.{Runs}
 use Rattle.canary_release.specs.declared.stand.Stand.{Stand}
 use Rattle.canary_release.specs.declared.stand.State.TheVariants.{Aborted}
 use Rattle.canary_release.specs.Watching.{is_other}
-use Rattle.canary_release.specs.Courses.{Course, with_stand, tell, runs_now, has_number, open_run_now, run_metrics, run_verdict, next_run, open_run, close_run, end_run, end_runs, end_open_runs}
+use Rattle.canary_release.specs.Courses.{Course, with_stand, tell, runs_now, has_number, open_run_now, run_verdict, next_run, open_run, close_run, end_run, end_runs, end_open_runs}
 use Rattle.canary_release.specs.Entering.{begins_background, begin_background, open_background, done, finish, show_step, enter, abort, without_holds}
 use Rattle.canary_release.specs.Passing.{next_move, is_by, move_at, chain_end, pass, judged_at, followed}
 use Rattle.canary_release.specs.Reports.{consequence, complete, assess_run, assess}
@@ -98,10 +98,10 @@ module _ (s : Stand) (w : Runs) (accepted : IsTrue (is_accepted s.strategy)) (nu
   pub told : (c : Course) (at : ℕ) (event : LineEvent) → IsFollowing s w c → IsFollowing s w (tell c at event)
   told c at event f = follows_on s w c (Told (record { moment = at; event = event })) f tt
 
-  pub closed : (c : Course) (r : OpenRun) (at : ℕ) (outside : Bool) → IsFollowing s w c → find (has_number r.number) (runs_now c).open_runs ≡ Some r → is_completed (run_verdict c.stand.strategy outside r) ≡ true → IsFollowing s w (close_run c r at outside)
+  pub closed : (c : Course) (r : OpenRun) (at : ℕ) (outside : Bool) → IsFollowing s w c → find (has_number r.number) (runs_now c).open_runs ≡ Some r → is_completed (run_verdict outside r) ≡ true → IsFollowing s w (close_run c r at outside)
   closed c r at outside f found completed =
-      let is : run_verdict c.stand.strategy outside r ≡ run_verdict s.strategy outside r = ap (λ (st : CheckedStrategy). run_verdict st outside r) f.strategy in
-      follows_on s w c (Closed (record { run = r.number; at = at; outside = outside; verdict = run_verdict c.stand.strategy outside r }) r.tallies) f (record { run = r; found = found; verdict = is; completed = completed; last = refl })
+      let is : run_verdict outside r ≡ run_verdict s.strategy outside r = ap (λ (st : CheckedStrategy). run_verdict st outside r) f.strategy in
+      follows_on s w c (Closed (record { run = r.number; at = at; outside = outside; verdict = run_verdict outside r }) r.tallies) f (record { run = r; found = found; verdict = is; completed = completed; last = refl })
 
   -- one after another of open runs with different numbers
   ended : (at : ℕ) (c : Course) (rs : List OpenRun) → IsFollowing s w c → AllByRecursion (λ (q : OpenRun). find (has_number q.number) (runs_now c).open_runs ≡ Some q) rs → AreDistinct rs → IsFollowing s w (end_runs at c rs)
@@ -110,10 +110,10 @@ module _ (s : Stand) (w : Runs) (accepted : IsTrue (is_accepted s.strategy)) (nu
       let one : Course = close_run c r at true in
       let f1 : IsFollowing s w one = closed c r at true f h.0 (ended_completed c.stand.strategy r) in
       let two : Course = end_run at c r in
-      let f2 : IsFollowing s w two = told one at (Ended r.number (run_verdict c.stand.strategy true r)) f1 in
+      let f2 : IsFollowing s w two = told one at (Ended r.number (run_verdict true r)) f1 in
       let now : runs_now two ≡ record { count = (runs_now c).count; open_runs = filter (is_other r.number) (runs_now c).open_runs } =
-      now_after s w one (Told (record { moment = at; event = Ended r.number (run_verdict c.stand.strategy true r) })) f1
-      ∙ now_after s w c (Closed (record { run = r.number; at = at; outside = true; verdict = run_verdict c.stand.strategy true r }) r.tallies) f in
+      now_after s w one (Told (record { moment = at; event = Ended r.number (run_verdict true r) })) f1
+      ∙ now_after s w c (Closed (record { run = r.number; at = at; outside = true; verdict = run_verdict true r }) r.tallies) f in
       ended at two rs f2
       (each_both
       (λ (q : OpenRun). find (has_number q.number) (runs_now c).open_runs ≡ Some q)
@@ -131,7 +131,7 @@ module _ (s : Stand) (w : Runs) (accepted : IsTrue (is_accepted s.strategy)) (nu
   opened : (c : Course) (step : Option ℕ) (at : ℕ) (ms : List MetricValue) → IsFollowing s w c → metrics_at s.strategy step ≡ Some ms → IsFollowing s w (open_run c step at)
   opened c step at ms f e =
       let many : length (run_metrics c.stand.strategy step) ≡ length ms = (λ i. length (run_metrics (f.strategy i) step)) ∙ ap (λ (o : Option (List MetricValue)). length (unwrap_or o [])) e in
-      follows_on s w c (Opened (record { run = next_run c; step = step; started = at; metrics = length (run_metrics c.stand.strategy step) })) f (record { number = refl; metrics = ms; analysis = e; one_each = many })
+      follows_on s w c (Opened (record { run = next_run c; step = step; analysis = analysis_or_none c.stand.strategy step; started = at })) f (record { number = refl; metrics = ms; analysis = e; one_each = many })
 
   background_opened : (c : Course) (i at : ℕ) → IsFollowing s w c → IsFollowing s w (open_background c i at)
   background_opened c i at f =
@@ -217,16 +217,16 @@ module _ (s : Stand) (w : Runs) (accepted : IsTrue (is_accepted s.strategy)) (nu
   brings c run step Pending t f = f
   brings c run step Running t f = f
 
-  completed : (c : Course) (r : OpenRun) (t : ℕ) → IsFollowing s w c → find (has_number r.number) (runs_now c).open_runs ≡ Some r → is_completed (run_verdict c.stand.strategy false r) ≡ true → IsFollowing s w (complete c r (run_verdict c.stand.strategy false r) t)
+  completed : (c : Course) (r : OpenRun) (t : ℕ) → IsFollowing s w c → find (has_number r.number) (runs_now c).open_runs ≡ Some r → is_completed (run_verdict false r) ≡ true → IsFollowing s w (complete c r (run_verdict false r) t)
   completed c r t f found done_now =
-      let v = run_verdict c.stand.strategy false r in
+      let v = run_verdict false r in
       let one : Course = close_run c r t false in
       let two : Course = tell one t (Completed r.number v) in
       brings two r.number r.step v t (told one t (Completed r.number v) (closed c r t false f found done_now))
 
   assessed_run : (c : Course) (r : OpenRun) (t : ℕ) → IsFollowing s w c → find (has_number r.number) (runs_now c).open_runs ≡ Some r → IsFollowing s w (assess_run c r t)
   assessed_run c r t f found =
-      let v = run_verdict c.stand.strategy false r in
+      let v = run_verdict false r in
       elim (is_completed v)
       as (λ b. is_completed v ≡ b → IsFollowing s w (if b then complete c r v t else c))
       [ true ↦ λ e. completed c r t f found e | false ↦ λ e. f ] refl

@@ -11,7 +11,7 @@ use Rattle.canary_release.specs.declared.effect.Effect.TheVariants.{Opened}
 use Rattle.canary_release.specs.declared.stand.State.TheVariants.{Aborted}
 use Rattle.canary_release.specs.declared.stand.Stand.{Stand}
 use Rattle.canary_release.specs.declared.runs.Runs.{Runs}
-use Rattle.canary_release.specs.Courses.{Course, with_stand, tell, runs_now, run_metrics, next_run, open_run, end_open_runs}
+use Rattle.canary_release.specs.Courses.{Course, with_stand, tell, runs_now, next_run, open_run, end_open_runs}
 use Rattle.canary_release.specs.Entering.{without_holds, done, finish, begins_background, begin_background, open_background, show_step, enter, abort}
 use Rattle.canary_release.proofs.Keeping.{ended_stand}
 use Rattle.canary_release.proofs.PartsRuns.{Steady, with_open, ended_watch, told_runs, happened_runs, none_open}
@@ -102,7 +102,7 @@ aborts c at steady below few known entered =
 opened_runs : (c : Course) (step : Option ℕ) (at : ℕ) (event : LineEvent) → Steady c.watch → runs_now (tell (open_run c step at) at event) ≡ with_new c.stand.strategy (runs_now c) step at
 opened_runs c step at event steady =
     told_runs (open_run c step at) at event steady
-    ∙ happened_runs c (Opened (record { run = next_run c; step = step; started = at; metrics = length (run_metrics c.stand.strategy step) })) steady
+    ∙ happened_runs c (Opened (record { run = next_run c; step = step; analysis = analysis_or_none c.stand.strategy step; started = at })) steady
 
 told : (c : Course) (at : ℕ) (event : LineEvent) → Steady c.watch → c.stand.entered ≤ at → c.stand.step < length c.stand.strategy.steps → Ready c.stand (runs_now c) (length c.stand.strategy.steps - c.stand.step) → Loose c.stand.strategy at (tell c at event)
 told c at event steady entered below ready =

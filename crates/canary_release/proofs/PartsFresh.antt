@@ -12,12 +12,14 @@ use Rattle.canary_metric.specs.Verdicts.{MetricCounts, counted_phase, judging, i
 use Rattle.canary_plan.specs.declared.step.Step.{Step}
 use Rattle.canary_plan.specs.declared.step.Step.TheVariants.{Analysis}
 use Rattle.canary_plan.specs.declared.service.Background.{Background}
+use Rattle.canary_plan.specs.declared.analysis_parts.AnalysisParts.{AnalysisParts}
 use Rattle.canary_plan.specs.declared.strategy.CheckedStrategy.{CheckedStrategy}
-use Rattle.canary_plan.specs.Plans.{metrics_at, has_weight_in_range, are_metrics_of_run, fits_step, fit_steps, fits_background, is_at_least_one, asks_for_some, have_counts, is_accepted}
+use Rattle.canary_plan.specs.Fit.{are_metrics_of_run, is_at_least_one, asks_for_some, have_counts, is_fit}
+use Rattle.canary_plan.specs.Plans.{analysis_if, analysis_at, analysis_or_none, has_weight_in_range, is_there_and_fit, fits_step, fit_steps, fits_background, is_accepted}
 use Rattle.canary_release.specs.declared.runs.OpenRun.{OpenRun}
 use Rattle.canary_release.specs.Watching.{opened_now}
-use Rattle.canary_release.specs.Courses.{run_metrics, run_verdict}
-use Rattle.canary_release.specs.Parts.{is_unfit}
+use Rattle.canary_release.specs.Courses.{run_verdict}
+use Rattle.canary_release.specs.Parts.{has_wrong_tallies}
 
 -- no measurements
 abbrev nothing : Counts
@@ -72,16 +74,16 @@ undecided closing completed p g h = rw (g, h) refl
 running : (ms : List MetricValue) → 1 ≤ length ms → have_counts ms ≡ true → verdict_of_counts false (unmeasured ms) ≡ Running
 running ms some h = undecided (is_closing false (unmeasured ms)) (are_completed (unmeasured ms)) (λ b. worst_of (map (counted_phase b) (judging (unmeasured ms)))) (none_bad ms h) (some_incomplete ms some h)
 
--- the metrics of an analysis of an accepted strategy
-pub record HasMetrics (s : CheckedStrategy) (step : Option ℕ) : Type 0 where
-  pub metrics : List MetricValue
-  pub found : metrics_at s step ≡ Some metrics
-  pub some : 1 ≤ length metrics
-  pub counted : have_counts metrics ≡ true
+-- an analysis of an accepted strategy
+pub record HasAnalysis (s : CheckedStrategy) (step : Option ℕ) : Type 0 where
+  pub analysis : AnalysisParts
+  pub found : analysis_at s step ≡ Some analysis
+  pub some : 1 ≤ length analysis.metrics
+  pub counted : have_counts analysis.metrics ≡ true
 
--- a run that is opened with the metrics of its analysis
+-- a run that is opened with its analysis
 abbrev pub new_run : CheckedStrategy → ℕ → Option ℕ → ℕ → OpenRun
-new_run s number step at = opened_now (record { run = number; step = step; started = at; metrics = length (run_metrics s step) })
+new_run s number step at = opened_now (record { run = number; step = step; analysis = analysis_or_none s step; started = at })
 
 length-copies : {X : Type 0} (n : ℕ) (x : X) → length (replicate n x) ≡ n
 length-copies zero x = refl
@@ -90,11 +92,13 @@ length-copies (suc n) x = ap suc (length-copies n x)
 same : (n : ℕ) → (n == n) ≡ true
 same n = grind (arith, nat_tests)
 
-pub new_fits : (s : CheckedStrategy) (number : ℕ) (step : Option ℕ) (at : ℕ) → HasMetrics s step → is_unfit (metrics_at s step) (new_run s number step at).tallies ≡ false
-new_fits s number step at has = rw has.found (rw (length-copies (length has.metrics) nothing) (ap not (same (length has.metrics))))
+pub new_fits : (s : CheckedStrategy) (number : ℕ) (step : Option ℕ) (at : ℕ) → has_wrong_tallies (new_run s number step at) ≡ false
+new_fits s number step at =
+    let n = length (analysis_or_none s step).metrics in
+    ap (λ k. not (n == k)) (length-copies n nothing) ∙ ap not (same n)
 
-pub new_is_open : (s : CheckedStrategy) (number : ℕ) (step : Option ℕ) (at : ℕ) → HasMetrics s step → is_completed (run_verdict s false (new_run s number step at)) ≡ false
-new_is_open s number step at has = rw has.found (ap is_completed (running has.metrics has.some has.counted))
+pub new_is_open : (s : CheckedStrategy) (number : ℕ) (step : Option ℕ) (at : ℕ) → HasAnalysis s step → is_completed (run_verdict false (new_run s number step at)) ≡ false
+new_is_open s number step at has = rw has.found (ap is_completed (running has.analysis.metrics has.some has.counted))
 
 at_least_one : (ms : List MetricValue) → are_metrics_of_run ms ≡ true → 1 ≤ length ms
 at_least_one ms h = let one = and_left (nat_le 1 (length ms)) (nat_le (length ms) 32) h in grind (arith, nat_tests)
@@ -102,60 +106,54 @@ at_least_one ms h = let one = and_left (nat_le 1 (length ms)) (nat_le (length ms
 -- what an accepted strategy is
 pub record Accepted (s : CheckedStrategy) : Type 0 where
   pub short : length s.steps ≤ 64
-  pub steps : fit_steps s.steps s.step_metrics ≡ true
-  pub background : fits_background s.background s.background_metrics ≡ true
-  pub step_counts : list_all have_counts s.step_metrics ≡ true
-  pub background_counts : have_counts s.background_metrics ≡ true
+  pub steps : fit_steps s.steps s.bound.steps ≡ true
+  pub background : fits_background s.background s.bound.background ≡ true
 
 up_to : (a b : ℕ) → nat_le a b ≡ true → a ≤ b
 up_to a b h = grind (arith, nat_tests)
 
 pub accepted : (s : CheckedStrategy) → IsTrue (is_accepted s) → Accepted s
 accepted s h =
-    let last : Bool = list_all have_counts s.step_metrics && have_counts s.background_metrics in
-    let a = and_right (nat_le (length s.steps) 64) (list_all has_weight_in_range s.steps && (fit_steps s.steps s.step_metrics && (fits_background s.background s.background_metrics && last))) h in
-    let b = and_right (list_all has_weight_in_range s.steps) (fit_steps s.steps s.step_metrics && (fits_background s.background s.background_metrics && last)) a in
-    let d = and_right (fit_steps s.steps s.step_metrics) (fits_background s.background s.background_metrics && last) b in
-    let e = and_right (fits_background s.background s.background_metrics) last d in
+    let last : Bool = fit_steps s.steps s.bound.steps && fits_background s.background s.bound.background in
+    let a = and_right (nat_le (length s.steps) 64) (list_all has_weight_in_range s.steps && last) h in
+    let b = and_right (list_all has_weight_in_range s.steps) last a in
     record {
-      short = up_to (length s.steps) 64 (and_left (nat_le (length s.steps) 64) (list_all has_weight_in_range s.steps && (fit_steps s.steps s.step_metrics && (fits_background s.background s.background_metrics && last))) h);
-      steps = and_left (fit_steps s.steps s.step_metrics) (fits_background s.background s.background_metrics && last) b;
-      background = and_left (fits_background s.background s.background_metrics) last d;
-      step_counts = and_left (list_all have_counts s.step_metrics) (have_counts s.background_metrics) e;
-      background_counts = and_right (list_all have_counts s.step_metrics) (have_counts s.background_metrics) e;
+      short = up_to (length s.steps) 64 (and_left (nat_le (length s.steps) 64) (list_all has_weight_in_range s.steps && last) h);
+      steps = and_left (fit_steps s.steps s.bound.steps) (fits_background s.background s.bound.background) b;
+      background = and_right (fit_steps s.steps s.bound.steps) (fits_background s.background s.bound.background) b;
     }
 
-pub background_metrics : (s : CheckedStrategy) (b : Background) → Accepted s → s.background ≡ Some b → HasMetrics s None
-background_metrics s b a e =
-    record {
-      metrics = s.background_metrics;
-      found = rw e refl;
-      some = at_least_one s.background_metrics (rw e at a.background);
-      counted = a.background_counts;
-    }
+-- an analysis that is there and fit for runs
+pub record IsThere (o : Option AnalysisParts) : Type 0 where
+  pub analysis : AnalysisParts
+  pub found : o ≡ Some analysis
+  pub some : 1 ≤ length analysis.metrics
+  pub counted : have_counts analysis.metrics ≡ true
 
-pub record Listed (steps : List Step) (lists : List (List MetricValue)) (i : ℕ) : Type 0 where
-  pub metrics : List MetricValue
-  pub found : slice_get lists i ≡ Some metrics
-  pub some : 1 ≤ length metrics
-  pub counted : have_counts metrics ≡ true
-
-listed : (steps : List Step) (lists : List (List MetricValue)) (i : ℕ) (names : List (List ℕ)) → fit_steps steps lists ≡ true → list_all have_counts lists ≡ true → slice_get steps i ≡ Some (Analysis names) → Listed steps lists i
-listed [] lists i names f g h = cc h
-listed (s ∷ ss) [] i names f g h = cc f
-listed (s ∷ ss) (ms ∷ rest) zero names f g h =
-    let is : s ≡ Analysis names = cc h in
+there : (o : Option AnalysisParts) → is_there_and_fit o ≡ true → IsThere o
+there None h = cc h
+there (Some a) h =
     record {
-      metrics = ms;
+      analysis = a;
       found = refl;
-      some = at_least_one ms (subst (λ x. fits_step x ms ≡ true) is (and_left (fits_step s ms) (fit_steps ss rest) f));
-      counted = and_left (have_counts ms) (list_all have_counts rest) g;
+      some = at_least_one a.metrics (and_left (are_metrics_of_run a.metrics) (have_counts a.metrics) h);
+      counted = and_right (are_metrics_of_run a.metrics) (have_counts a.metrics) h;
     }
-listed (s ∷ ss) (ms ∷ rest) (suc i) names f g h =
-    let l = listed ss rest i names (and_right (fits_step s ms) (fit_steps ss rest) f) (and_right (have_counts ms) (list_all have_counts rest) g) h in
-    record { metrics = l.metrics; found = l.found; some = l.some; counted = l.counted }
 
-pub step_metrics : (s : CheckedStrategy) (i : ℕ) (names : List (List ℕ)) → Accepted s → slice_get s.steps i ≡ Some (Analysis names) → HasMetrics s (Some i)
-step_metrics s i names a e =
-    let l = listed s.steps s.step_metrics i names a.steps a.step_counts e in
-    record { metrics = l.metrics; found = rw e l.found; some = l.some; counted = l.counted }
+pub background_analysis : (s : CheckedStrategy) (b : Background) → Accepted s → s.background ≡ Some b → HasAnalysis s None
+background_analysis s b a e =
+    let t = there s.bound.background (subst (λ o. fits_background o s.bound.background ≡ true) e a.background) in
+    record { analysis = t.analysis; found = t.found; some = t.some; counted = t.counted }
+
+listed : (steps : List Step) (bound : List (Option AnalysisParts)) (i : ℕ) (names : List (List ℕ)) → fit_steps steps bound ≡ true → slice_get steps i ≡ Some (Analysis names) → IsThere (analysis_if (slice_get bound i))
+listed [] bound i names f h = cc h
+listed (s ∷ ss) [] i names f h = cc f
+listed (s ∷ ss) (a ∷ rest) zero names f h =
+    let is : s ≡ Analysis names = cc h in
+    there a (subst (λ x. fits_step x a ≡ true) is (and_left (fits_step s a) (fit_steps ss rest) f))
+listed (s ∷ ss) (a ∷ rest) (suc i) names f h = listed ss rest i names (and_right (fits_step s a) (fit_steps ss rest) f) h
+
+pub step_analysis : (s : CheckedStrategy) (i : ℕ) (names : List (List ℕ)) → Accepted s → slice_get s.steps i ≡ Some (Analysis names) → HasAnalysis s (Some i)
+step_analysis s i names a e =
+    let t = listed s.steps s.bound.steps i names a.steps e in
+    record { analysis = t.analysis; found = t.found; some = t.some; counted = t.counted }

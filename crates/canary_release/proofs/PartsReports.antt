@@ -15,7 +15,7 @@ use Rattle.canary_release.specs.declared.stand.Stand.{Stand}
 use Rattle.canary_release.specs.declared.runs.OpenRun.{OpenRun}
 use Rattle.canary_release.specs.declared.runs.Runs.{Runs}
 use Rattle.canary_release.specs.Services.{is_going, is_held}
-use Rattle.canary_release.specs.Courses.{Course, with_stand, tell, runs_now, open_run_now, has_number, run_metrics, run_verdict, close_run}
+use Rattle.canary_release.specs.Courses.{Course, with_stand, tell, runs_now, open_run_now, has_number, run_verdict, close_run}
 use Rattle.canary_release.specs.Entering.{enter}
 use Rattle.canary_release.specs.Reports.{brought, record_all, abort_by_run, hold_step, hold_background, consequence, complete, assess, report_on}
 use Rattle.canary_release.specs.Parts.{is_background_run, is_step_run, is_elsewhere, is_astray, is_judged}
@@ -176,7 +176,7 @@ assessed : (t n : ℕ) (c : Course) (o : Option OpenRun) → Accepted c.stand.st
 assessed t n c None acc found steady entered f others =
     record { steady = steady; same = refl; entered = entered; fit = f; unjudged = none_without (is_judged c.stand) n (runs_now c).open_runs found others }
 assessed t n c (Some r) acc found steady entered f others =
-    let v : Phase = run_verdict c.stand.strategy false r in
+    let v : Phase = run_verdict false r in
     elim (is_completed v)
     as (λ b. is_completed v ≡ b → Loose c.stand.strategy t (let d : Course = (if b then complete c r v t else c) in d)) [
       | true ↦ λ e. completes t n c r v acc found steady entered f others
@@ -185,8 +185,8 @@ assessed t n c (Some r) acc found steady entered f others =
 
 pub reported : (s : CheckedStrategy) (t : ℕ) (c : Course) (r : OpenRun) (es : List Entry) → Accepted s → Loose s t c → Loose s t (report_on c r es t)
 reported s t c r es acc l =
-    let all : Course = record_all c (brought (run_metrics c.stand.strategy r.step) r es) in
-    let still : StillFits r.number c.stand all = all_recorded c (run_metrics c.stand.strategy r.step) r es l.steady l.fit l.unjudged in
+    let all : Course = record_all c (brought r.analysis.metrics r es) in
+    let still : StillFits r.number c.stand all = all_recorded c r.analysis.metrics r es l.steady l.fit l.unjudged in
     let same : all.stand.strategy ≡ s = ap (λ (x : Stand). x.strategy) still.stand ∙ l.same in
     of_strategy all.stand.strategy s t (report_on c r es t) same
     (assessed t r.number all (open_run_now all r.number) (subst Accepted (sym same) acc) refl still.steady

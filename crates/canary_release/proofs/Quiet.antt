@@ -9,7 +9,7 @@ use Rattle.canary_plan.specs.declared.line.LineEvent.TheVariants.{BackgroundOpen
 use Rattle.canary_release.specs.declared.effect.Effect.{Effect}
 use Rattle.canary_release.specs.declared.effect.Effect.TheVariants.{Told, Opened, Closed}
 use Rattle.canary_release.specs.declared.runs.OpenRun.{OpenRun}
-use Rattle.canary_release.specs.Courses.{Course, with_stand, happen, tell, runs_now, run_metrics, run_verdict, next_run, open_run, close_run, end_run, end_runs, end_open_runs}
+use Rattle.canary_release.specs.Courses.{Course, with_stand, happen, tell, runs_now, run_verdict, next_run, open_run, close_run, end_run, end_runs, end_open_runs}
 use Rattle.canary_release.specs.Entering.{begins_background, begin_background, open_background, done, finish, show_step, enter}
 use Rattle.canary_release.specs.Passing.{next_move, is_by, move_at, chain_end, judged_at}
 use Rattle.canary_release.specs.Desks.{course_of}
@@ -28,14 +28,14 @@ told : (c : Course) (at : ℕ) (event : LineEvent) → AreQuiet c → AreQuiet (
 told c at event q = happened c (Told (record { moment = at; event = event })) q tt
 
 opened : (c : Course) (step : Option ℕ) (at : ℕ) → AreQuiet c → AreQuiet (open_run c step at)
-opened c step at q = happened c (Opened (record { run = next_run c; step = step; started = at; metrics = length (run_metrics c.stand.strategy step) })) q tt
+opened c step at q = happened c (Opened (record { run = next_run c; step = step; analysis = analysis_or_none c.stand.strategy step; started = at })) q tt
 
 closed : (c : Course) (r : OpenRun) (at : ℕ) → AreQuiet c → AreQuiet (close_run c r at true)
-closed c r at q = happened c (Closed (record { run = r.number; at = at; outside = true; verdict = run_verdict c.stand.strategy true r }) r.tallies) q tt
+closed c r at q = happened c (Closed (record { run = r.number; at = at; outside = true; verdict = run_verdict true r }) r.tallies) q tt
 
 ended : (at : ℕ) (c : Course) (rs : List OpenRun) → AreQuiet c → AreQuiet (end_runs at c rs)
 ended at c [] q = q
-ended at c (r ∷ rs) q = ended at (end_run at c r) rs (told (close_run c r at true) at (Ended r.number (run_verdict c.stand.strategy true r)) (closed c r at q))
+ended at c (r ∷ rs) q = ended at (end_run at c r) rs (told (close_run c r at true) at (Ended r.number (run_verdict true r)) (closed c r at q))
 
 finished : (c : Course) (at : ℕ) → AreQuiet c → AreQuiet (finish c at)
 finished c at q =

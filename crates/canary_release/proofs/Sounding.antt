@@ -24,7 +24,7 @@ use Rattle.canary_release.specs.declared.runs.OpenRun.{OpenRun}
 use Rattle.canary_release.specs.declared.runs.Runs.{Runs}
 use Rattle.canary_release.specs.declared.stand.Stand.{Stand}
 use Rattle.canary_release.specs.Pasts.{Run, Past, change_at, opened_run, with_recorded, measured_in, closed_in, grows, grows_by, is_open, measurement_of, counts_of, tallied, watched}
-use Rattle.canary_release.specs.Courses.{Course, run_metrics, run_verdict}
+use Rattle.canary_release.specs.Courses.{Course, run_verdict}
 use Rattle.canary_release.specs.Desks.{ModelService, Desk, no_desk, Change, after, desk_after, ruling_on, apply}
 use Rattle.canary_release.specs.Desks.Change.{Nothing, Adds, Becomes}
 use Rattle.canary_release.specs.Shapes.{shape}

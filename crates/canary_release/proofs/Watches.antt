@@ -15,7 +15,7 @@ use Rattle.canary_release.specs.declared.effect.Recorded.{Recorded}
 use Rattle.canary_release.specs.declared.effect.Effect.TheVariants.{Measured}
 use Rattle.canary_release.specs.declared.runs.OpenRun.{OpenRun}
 use Rattle.canary_release.specs.declared.stand.State.TheVariants.{Aborted}
-use Rattle.canary_release.specs.Courses.{Course, with_stand, happen, tell, runs_now, open_run_now, run_metrics, run_verdict, close_run, end_run, end_runs}
+use Rattle.canary_release.specs.Courses.{Course, with_stand, happen, tell, runs_now, open_run_now, run_verdict, close_run, end_run, end_runs}
 use Rattle.canary_release.specs.Entering.{begins_background, begin_background, open_background, finish, show_step, enter, abort, without_holds}
 use Rattle.canary_release.specs.Passing.{next_move, is_by, move_at, chain_end, pass, judged_at}
 use Rattle.canary_release.specs.Reports.{brought, record_all, report_refusal, consequence, complete, assess_run, assess, report_on}
@@ -70,7 +70,7 @@ follows c run step Running t = refl
 
 assessed_run : (c : Course) (r : OpenRun) (t : ℕ) → Keeps c (assess_run c r t)
 assessed_run c r t =
-    let v = run_verdict c.stand.strategy false r in
+    let v = run_verdict false r in
     elim (is_completed v)
     as (λ b. let d : Course = (if b then complete c r v t else c) in Keeps c d)
     [ true ↦ follows (tell (close_run c r t false) t (Completed r.number v)) r.number r.step v t | false ↦ refl ]
@@ -81,8 +81,8 @@ assessed c (Some r) t = assessed_run c r t
 
 reported : (c : Course) (r : OpenRun) (es : List Entry) (t : ℕ) → Keeps c (report_on c r es t)
 reported c r es t =
-    let all = record_all c (brought (run_metrics c.stand.strategy r.step) r es) in
-    assessed all (open_run_now all r.number) t ∙ recorded c (brought (run_metrics c.stand.strategy r.step) r es)
+    let all = record_all c (brought r.analysis.metrics r es) in
+    assessed all (open_run_now all r.number) t ∙ recorded c (brought r.analysis.metrics r es)
 
 pub moved : (c : Course) (o : Option ℕ) → Keeps c (move_at c o)
 moved c None = refl

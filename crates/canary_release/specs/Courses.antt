@@ -1,13 +1,11 @@
 -- A service as it changes: how it stands, the effects so far, and its watch.
-use Rattle.std.specs.Prelude.{ℕ, ◌+◌, ◌==◌, Bool, true, List, [], ◌∷◌, ◌++◌, length, find, Option, unwrap_or}
+use Rattle.std.specs.Prelude.{ℕ, ◌+◌, ◌==◌, Bool, true, List, [], ◌∷◌, ◌++◌, find, Option}
 use Rattle.std.specs.List.{zip}
 use Rattle.canary_condition.specs.declared.outcome.Phase.{Phase}
-use Rattle.canary_metric.specs.Metrics.{MetricValue}
 use Rattle.canary_metric.specs.Verdicts.{verdict_of_counts}
-use Rattle.canary_plan.specs.declared.strategy.CheckedStrategy.{CheckedStrategy}
 use Rattle.canary_plan.specs.declared.line.LineEvent.{LineEvent}
 use Rattle.canary_plan.specs.declared.line.LineEvent.TheVariants.{Ended}
-use Rattle.canary_plan.specs.Plans.{metrics_at}
+use Rattle.canary_plan.specs.Plans.{analysis_or_none}
 use Rattle.canary_release.specs.declared.effect.Effect.{Effect}
 use Rattle.canary_release.specs.declared.effect.Effect.TheVariants.{Told, Opened, Closed}
 use Rattle.canary_release.specs.declared.stand.Stand.{Stand}
@@ -49,28 +47,23 @@ has_number number r = r.number == number
 abbrev pub open_run_now : Course → ℕ → Option OpenRun
 open_run_now c number = find (has_number number) (runs_now c).open_runs
 
--- the metrics of a run
-abbrev pub run_metrics : CheckedStrategy → Option ℕ → List MetricValue
-run_metrics strategy step = unwrap_or (metrics_at strategy step) []
-
 -- the verdict of an open run, ended from outside or not
-abbrev pub run_verdict : CheckedStrategy → Bool → OpenRun → Phase
-run_verdict strategy outside r =
-    verdict_of_counts outside (zip (run_metrics strategy r.step) r.tallies)
+abbrev pub run_verdict : Bool → OpenRun → Phase
+run_verdict outside r = verdict_of_counts outside (zip r.analysis.metrics r.tallies)
 
 -- the number of the next run
 abbrev pub next_run : Course → ℕ
 next_run c = (runs_now c).count + 1
 
--- the next run is opened
+-- the next run is opened, of the strategy's analysis at a step or of its background
 abbrev pub open_run : Course → Option ℕ → ℕ → Course
 open_run c step at =
     happen c (Opened
     (record {
       run = next_run c;
       step = step;
+      analysis = analysis_or_none c.stand.strategy step;
       started = at;
-      metrics = length (run_metrics c.stand.strategy step);
     }))
 
 -- a run is closed at its verdict, with its last tallies
@@ -81,13 +74,13 @@ close_run c r at outside =
       run = r.number;
       at = at;
       outside = outside;
-      verdict = run_verdict c.stand.strategy outside r;
+      verdict = run_verdict outside r;
     }) r.tallies)
 
 -- a run is ended from outside
 abbrev pub end_run : ℕ → Course → OpenRun → Course
 end_run at c r =
-    tell (close_run c r at true) at (Ended r.number (run_verdict c.stand.strategy true r))
+    tell (close_run c r at true) at (Ended r.number (run_verdict true r))
 
 abbrev pub end_runs : ℕ → Course → List OpenRun → Course
 end_runs at c [] = c

@@ -9,7 +9,7 @@ use Rattle.canary_metric.specs.Counts.{Counts, size}
 use Rattle.canary_metric.specs.MetricPhases.{is_completed}
 use Rattle.canary_plan.specs.declared.strategy.CheckedStrategy.{CheckedStrategy}
 use Rattle.canary_plan.specs.declared.command.Command.{Command}
-use Rattle.canary_plan.specs.Plans.{metrics_at}
+use Rattle.canary_plan.specs.Plans.{analysis_at}
 use Rattle.canary_plan.specs.Commands.{subject_of}
 use Rattle.canary_release.specs.declared.effect.Opening.{Opening}
 use Rattle.canary_release.specs.declared.effect.Recorded.{Recorded}
@@ -23,25 +23,24 @@ use Rattle.canary_release.specs.declared.decide.DeskChange.{DeskChange}
 use Rattle.canary_release.specs.declared.decide.DeskChange.TheVariants as change
 use Rattle.canary_release.specs.Pasts.{watched}
 use Rattle.canary_release.specs.Watching.{happens}
-use Rattle.canary_release.specs.Courses.{has_number, run_metrics, run_verdict}
+use Rattle.canary_release.specs.Courses.{has_number, run_verdict}
 use Rattle.canary_release.specs.Passing.{pass}
 use Rattle.canary_release.specs.Desks.{ModelService, Desk, before, course_of, ruling_on}
 use Rattle.canary_release.specs.Order.{AreInOrder}
 use Rattle.canary_release.specs.Shapes.{said}
 
--- a run that is opened has the next number, and lists for the metrics of its analysis
+-- a run that is opened has the next number, and the strategy's analysis at its step or of the
+-- background
 pub record Opens (st : CheckedStrategy) (w : Runs) (x : Opening) : Type 0 where
   pub number : x.run ≡ w.count + 1
-  pub metrics : List MetricValue
-  pub analysis : metrics_at st x.step ≡ Some metrics
-  pub one_each : x.metrics ≡ length metrics
+  pub analysis : analysis_at st x.step ≡ Some x.analysis
 
 -- a measurement is of an open run and of a metric of it, and the next of that metric
-pub record Measures (st : CheckedStrategy) (w : Runs) (x : Recorded) : Type 0 where
+pub record Measures (w : Runs) (x : Recorded) : Type 0 where
   pub run : OpenRun
   pub found : find (has_number x.run) w.open_runs ≡ Some run
   pub metric : MetricValue
-  pub is_metric : slice_get (run_metrics st run.step) x.metric ≡ Some metric
+  pub is_metric : slice_get run.analysis.metrics x.metric ≡ Some metric
   pub tally : Counts
   pub is_tally : slice_get run.tallies x.metric ≡ Some tally
   pub next : x.ordinal ≡ size tally + 1
@@ -50,11 +49,10 @@ pub record Measures (st : CheckedStrategy) (w : Runs) (x : Recorded) : Type 0 wh
 
 -- a run that is closed is open, and is closed at its verdict, a completed phase, with its last
 -- tallies
-pub record Closes (st : CheckedStrategy) (w : Runs) (x : Closing)
-    (tallies : List Counts) : Type 0 where
+pub record Closes (w : Runs) (x : Closing) (tallies : List Counts) : Type 0 where
   pub run : OpenRun
   pub found : find (has_number x.run) w.open_runs ≡ Some run
-  pub verdict : x.verdict ≡ run_verdict st x.outside run
+  pub verdict : x.verdict ≡ run_verdict x.outside run
   pub completed : is_completed x.verdict ≡ true
   pub last : tallies ≡ run.tallies
 
@@ -62,8 +60,8 @@ pub record Closes (st : CheckedStrategy) (w : Runs) (x : Closing)
 abbrev pub Allowed : CheckedStrategy → Runs → Effect → Type 0
 Allowed st w (Told line) = Unit {0}
 Allowed st w (Opened x) = Opens st w x
-Allowed st w (Measured x) = Measures st w x
-Allowed st w (Closed x tallies) = Closes st w x tallies
+Allowed st w (Measured x) = Measures w x
+Allowed st w (Closed x tallies) = Closes w x tallies
 
 -- each of them may, one after another
 abbrev pub AreAllowed : CheckedStrategy → Runs → List Effect → Type 0

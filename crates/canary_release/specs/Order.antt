@@ -2,10 +2,9 @@
 use Rattle.std.specs.Prelude.{◌≡◌, ℕ, suc, ◌≤◌, ◌==◌, nat_lt, ◌&&◌, IsTrue, false, Bool, List, [], ◌∷◌, length, filter, Some, None}
 use Rattle.std.specs.FinMap.{get}
 use Rattle.std.specs.List.{AllByRecursion, list_all, list_any}
-use Rattle.canary_metric.specs.Metrics.{MetricValue}
 use Rattle.canary_plan.specs.declared.template.Template.{Template}
 use Rattle.canary_plan.specs.declared.command.Command.{Command}
-use Rattle.canary_plan.specs.Plans.{Templates, template_of, strategy_of, metrics_at}
+use Rattle.canary_plan.specs.Plans.{Templates, template_of, strategy_of, analysis_at}
 use Rattle.canary_plan.specs.PlanRefusals.{template_refusal, strategy_refusal}
 use Rattle.canary_release.specs.declared.effect.Recorded.{Recorded}
 use Rattle.canary_release.specs.Pasts.{Run}
@@ -35,11 +34,11 @@ AreLists all run metric (list ∷ lists) =
     AreOrdered run metric 1 list × (length list ≤ 1000000) × (list ≡ filter (is_of run metric) all)
     × AreLists all run (suc metric) lists
 
--- a run has a list for each metric of its analysis, which there is
+-- a run's analysis is the strategy's at its step or the background, and the run has a list for each
+-- of its metrics
 pub record IsRun (s : ModelService) (r : Run) : Type 0 where
-  pub metrics : List MetricValue
-  pub analysis : metrics_at s.stand.strategy r.step ≡ Some metrics
-  pub one_each : length r.lists ≡ length metrics
+  pub analysis : analysis_at s.stand.strategy r.step ≡ Some r.analysis
+  pub one_each : length r.lists ≡ length r.analysis.metrics
   pub lists : AreLists s.past.measurements r.number 0 r.lists
 
 -- a measurement is of this run, and of a metric of it

@@ -1,10 +1,8 @@
 -- Which parts make no service.
 use Rattle.std.specs.Prelude.{◌≡◌, ℕ, ◌+◌, ◌-◌, ◌==◌, nat_lt, ◌&&◌, ◌||◌, not, Bool, true, false, if◌then◌else◌, List, [], ◌∷◌, length, filter, Option, Some, None, is_some, is_none, Result, Ok, Err}
 use Rattle.std.specs.List.{list_any}
-use Rattle.canary_metric.specs.Metrics.{MetricValue}
-use Rattle.canary_metric.specs.Counts.{Counts}
 use Rattle.canary_metric.specs.MetricPhases.{is_completed}
-use Rattle.canary_plan.specs.Plans.{metrics_at}
+use Rattle.canary_plan.specs.Plans.{analysis_at}
 use Rattle.canary_release.specs.declared.stand.Stand.{Stand}
 use Rattle.canary_release.specs.declared.runs.OpenRun.{OpenRun}
 use Rattle.canary_release.specs.declared.service.ServiceParts.{ServiceParts}
@@ -53,26 +51,22 @@ abbrev pub repeats_number : List OpenRun → Bool
 repeats_number [] = false
 repeats_number (r ∷ rs) = list_any (has_number r.number) rs || repeats_number rs
 
-abbrev pub is_unfit : Option (List MetricValue) → List Counts → Bool
-is_unfit None tallies = true
-is_unfit (Some ms) tallies = not (length ms == length tallies)
-
 -- its tallies aren't one for each metric
-abbrev pub has_wrong_tallies : Stand → OpenRun → Bool
-has_wrong_tallies s r = is_unfit (metrics_at s.strategy r.step) r.tallies
+abbrev pub has_wrong_tallies : OpenRun → Bool
+has_wrong_tallies r = not (length r.analysis.metrics == length r.tallies)
 
 abbrev pub is_elsewhere : Stand → Option ℕ → Bool
 is_elsewhere s None = false
 is_elsewhere s (Some i) =
-    not (i == s.step) || (is_none (metrics_at s.strategy (Some i)) || is_held s)
+    not (i == s.step) || (is_none (analysis_at s.strategy (Some i)) || is_held s)
 
 -- a step run elsewhere than at its own analysis step, or while held
 abbrev pub is_astray : Stand → OpenRun → Bool
 is_astray s r = is_elsewhere s r.step
 
 -- its verdict isn't Running
-abbrev pub is_judged : Stand → OpenRun → Bool
-is_judged s r = is_completed (run_verdict s.strategy false r)
+abbrev pub is_judged : OpenRun → Bool
+is_judged r = is_completed (run_verdict false r)
 
 -- the parts make no service: some cause holds
 abbrev pub is_broken : ServiceParts → Bool
@@ -87,7 +81,7 @@ is_broken s =
     ∷ (going && nat_lt (1000000 - s.runs.count) (runs_wanted s))
     ∷ list_any (is_misnumbered s.runs.count) runs
     ∷ repeats_number runs
-    ∷ list_any (has_wrong_tallies stand) runs
+    ∷ list_any has_wrong_tallies runs
     ∷ (not going && nat_lt 0 (length runs))
     ∷ nat_lt 1 (length (filter is_background_run runs))
     ∷ nat_lt 1 (length (filter is_step_run runs))
@@ -96,7 +90,7 @@ is_broken s =
     ∷ (is_held stand && not going)
     ∷ (stand.background && is_none stand.strategy.background)
     ∷ (stand.background_hold && not stand.background)
-    ∷ list_any (is_judged stand) runs
+    ∷ list_any is_judged runs
     ∷ is_by stand.last (next_move stand)
     ∷ []
     )

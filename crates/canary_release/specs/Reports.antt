@@ -18,7 +18,7 @@ use Rattle.canary_release.specs.declared.effect.Effect.TheVariants.{Measured}
 use Rattle.canary_release.specs.declared.runs.OpenRun.{OpenRun}
 use Rattle.canary_release.specs.declared.runs.Runs.{Runs}
 use Rattle.canary_release.specs.declared.reply.Reported.{Reported}
-use Rattle.canary_release.specs.Courses.{Course, with_stand, happen, tell, runs_now, open_run_now, run_metrics, run_verdict, close_run, end_open_runs}
+use Rattle.canary_release.specs.Courses.{Course, with_stand, happen, tell, runs_now, open_run_now, run_verdict, close_run, end_open_runs}
 use Rattle.canary_release.specs.Entering.{enter, abort}
 
 -- a metric of an open run: its place there, from 0, and its tally
@@ -78,7 +78,7 @@ is_no_run w run = run == 0 || nat_lt w.count run
 -- why a report on a run is refused: there is no such run, or it isn't open, or an entry is bad
 abbrev pub report_refusal : Course → ℕ → ℕ → List Entry → Option OpenRun → Option Refusal
 report_refusal c t run es None = Some (if is_no_run (runs_now c) run then UnknownRun else RunClosed)
-report_refusal c t run es (Some r) = entries_refusal (run_metrics c.stand.strategy r.step) r t [] es
+report_refusal c t run es (Some r) = entries_refusal r.analysis.metrics r t [] es
 
 -- an entry as it is recorded, judged by its metric's conditions
 abbrev pub recorded_at : OpenRun → Entry → Place → Recorded
@@ -137,7 +137,7 @@ complete c r v t =
 -- an open run that is no longer Running is closed, with what follows
 abbrev pub assess_run : Course → OpenRun → ℕ → Course
 assess_run c r t =
-    let v = run_verdict c.stand.strategy false r in if is_completed v then complete c r v t else c
+    let v = run_verdict false r in if is_completed v then complete c r v t else c
 
 abbrev pub assess : Course → Option OpenRun → ℕ → Course
 assess c None t = c
@@ -146,17 +146,17 @@ assess c (Some r) t = assess_run c r t
 -- the entries are recorded, and then the run is assessed once
 abbrev pub report_on : Course → OpenRun → List Entry → ℕ → Course
 report_on c r es t =
-    let all = record_all c (brought (run_metrics c.stand.strategy r.step) r es) in
+    let all = record_all c (brought r.analysis.metrics r es) in
     assess all (open_run_now all r.number) t
 
 abbrev pub verdict_if : Course → Option OpenRun → Phase
 verdict_if c None = Running
-verdict_if c (Some r) = run_verdict c.stand.strategy false r
+verdict_if c (Some r) = run_verdict false r
 
 -- what a report adds to its reply: the phases of its entries, its run, and the verdict with them
 abbrev pub reported_on : Course → OpenRun → List Entry → Reported
 reported_on c r es =
-    let xs = brought (run_metrics c.stand.strategy r.step) r es in
+    let xs = brought r.analysis.metrics r es in
     let all = record_all c xs in
     record {
       phases = map (λ (x : Recorded). x.phase) xs;

@@ -13,7 +13,6 @@ use Rattle.canary_plan.specs.declared.command.Command.{Command}
 use Rattle.canary_release.specs.declared.effect.Recorded.{Recorded}
 use Rattle.canary_release.specs.declared.effect.Closing.{Closing}
 use Rattle.canary_release.specs.Pasts.{Run, measurement_of}
-use Rattle.canary_release.specs.Courses.{run_metrics}
 use Rattle.canary_release.specs.Desks.{ModelService, Desk, machine}
 use Rattle.canary_release.specs.Order.{AreInOrder}
 
@@ -27,24 +26,23 @@ AreJudged (m ∷ ms) [] = Unit {0}
 AreJudged (m ∷ ms) (list ∷ lists) = AllByRecursion (IsJudgedBy m) list × AreJudged ms lists
 
 -- the verdict of a run's whole lists, ended from outside or not
-abbrev pub verdict_on : ModelService → Run → Bool → Phase
-verdict_on s r outside =
-    verdict (run_metrics s.stand.strategy r.step) (map (map measurement_of) r.lists) outside
+abbrev pub verdict_on : Run → Bool → Phase
+verdict_on r outside = verdict r.analysis.metrics (map (map measurement_of) r.lists) outside
 
 -- a run is closed exactly where its verdict isn't Running: an open run is Running, and a closed one
 -- was closed at its verdict, a completed phase
-abbrev pub HasVerdict : ModelService → Run → Option Closing → Type 0
-HasVerdict s r None = verdict_on s r false ≡ Running
-HasVerdict s r (Some x) =
-    (x.run ≡ r.number) × (x.verdict ≡ verdict_on s r x.outside) × (is_completed x.verdict ≡ true)
+abbrev pub HasVerdict : Run → Option Closing → Type 0
+HasVerdict r None = verdict_on r false ≡ Running
+HasVerdict r (Some x) =
+    (x.run ≡ r.number) × (x.verdict ≡ verdict_on r x.outside) × (is_completed x.verdict ≡ true)
 
-abbrev pub IsSoundRun : ModelService → Run → Type 0
-IsSoundRun s r = AreJudged (run_metrics s.stand.strategy r.step) r.lists × HasVerdict s r r.closed
+abbrev pub IsSoundRun : Run → Type 0
+IsSoundRun r = AreJudged r.analysis.metrics r.lists × HasVerdict r r.closed
 
 abbrev pub AreSound : Desk → Type 0
 AreSound desk =
     (name : List ℕ) (s : ModelService) → get desk.services name ≡ Some s
-    → AllByRecursion (IsSoundRun s) s.past.runs
+    → AllByRecursion IsSoundRun s.past.runs
 
 -- the law: the machine keeps a desk in order sound
 abbrev pub StaySound : Type 0

@@ -93,8 +93,8 @@ impl Draft {
         let opening = Opening {
             run: self.next_run(),
             step,
+            analysis: self.stand.analysis(alloc, step)?,
             started: at,
-            metrics: self.stand.metric_count(step),
         };
         let Draft { stand, watched } = self;
         let watched = watched.opened(alloc, opening)?;
@@ -119,7 +119,7 @@ impl Draft {
             run: run.number,
             at,
             outside,
-            verdict: self.stand.run_verdict(outside, run),
+            verdict: run.verdict(outside),
         };
         let Draft { stand, watched } = self;
         let watched = watched.closed(closing, run.tallies.copy(alloc)?)?;

@@ -25,7 +25,7 @@ impl Draft {
         ensures stand { IfOk result (λ draft. draft.stand ≡ self.stand) }
         ensures made { IfOk result (λ draft. runs_made draft ≡ runs_made self) }
     {
-        let phase = self.stand.run_verdict(true, run);
+        let phase = run.verdict(true);
         let closed = self.close(alloc, run, at, true)?;
         closed.tell(
             at,

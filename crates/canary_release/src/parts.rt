@@ -79,13 +79,13 @@ fn is_behind(parts: &ServiceParts) -> bool
 fn has_bad_runs(parts: &ServiceParts) -> bool
     ensures { result ≡ (list_any (is_misnumbered parts.now.runs.count) parts.now.runs.open_runs
         || (repeats_number parts.now.runs.open_runs
-        || (list_any (has_wrong_tallies parts.now.stand) parts.now.runs.open_runs
+        || (list_any has_wrong_tallies parts.now.runs.open_runs
         || (not (is_going parts.now.stand.state) && nat_lt 0 (length parts.now.runs.open_runs))))) }
 {
     let runs = parts.runs.open_runs.as_slice();
     some_is_misnumbered(parts.runs.count, runs)
         || repeats_number(runs)
-        || some_has_wrong_tallies(&parts.stand, runs)
+        || some_has_wrong_tallies(runs)
         || is_left_open(&parts.stand, runs)
 }
 
@@ -110,14 +110,14 @@ fn has_bad_mark(parts: &ServiceParts) -> bool
     ensures { result ≡ ((is_held parts.now.stand && not (is_going parts.now.stand.state))
         || ((parts.now.stand.background && is_none parts.now.stand.strategy.background)
         || ((parts.now.stand.background_hold && not parts.now.stand.background)
-        || (list_any (is_judged parts.now.stand) parts.now.runs.open_runs
+        || (list_any is_judged parts.now.runs.open_runs
         || is_by parts.now.stand.last (next_move parts.now.stand))))) }
 {
     let stand = &parts.stand;
     has_stray_hold(stand)
         || lacks_background(stand)
         || has_stray_background_hold(stand)
-        || some_is_judged(stand, parts.runs.open_runs.as_slice())
+        || some_is_judged(parts.runs.open_runs.as_slice())
         || has_move_due(stand)
 }
 
@@ -203,19 +203,16 @@ fn some_has_number(number: u32, runs: &[OpenRun]) -> bool
     runs.iter().any(|run| run.number == number)
 }
 
-fn some_has_wrong_tallies(stand: &Stand, runs: &[OpenRun]) -> bool
-    ensures { result ≡ list_any (has_wrong_tallies stand.now) runs.now }
+fn some_has_wrong_tallies(runs: &[OpenRun]) -> bool
+    ensures { result ≡ list_any has_wrong_tallies runs.now }
 {
-    runs.iter().any(|run| has_wrong_tallies(stand, run))
+    runs.iter().any(has_wrong_tallies)
 }
 
-fn has_wrong_tallies(stand: &Stand, run: &OpenRun) -> bool
-    ensures { result ≡ has_wrong_tallies stand.now run.now }
+fn has_wrong_tallies(run: &OpenRun) -> bool
+    ensures { result ≡ has_wrong_tallies run.now }
 {
-    match stand.strategy.metrics(run.step) {
-        Some(metrics) => metrics.len() != run.tallies.as_slice().len(),
-        None => true,
-    }
+    run.analysis.metrics().len() != run.tallies.as_slice().len()
 }
 
 // Runs are open, and no release is in progress.
@@ -249,7 +246,7 @@ fn is_astray(stand: &Stand, run: &OpenRun) -> bool
     let Some(step) = run.step else {
         return false;
     };
-    step != stand.step || stand.strategy.metrics(Some(step)).is_none() || stand.is_held()
+    step != stand.step || stand.strategy.analysis(Some(step)).is_none() || stand.is_held()
 }
 
 // The background run is open that was not begun, or that is held.
@@ -280,16 +277,16 @@ fn has_stray_background_hold(stand: &Stand) -> bool
     stand.background_hold && !stand.background
 }
 
-fn some_is_judged(stand: &Stand, runs: &[OpenRun]) -> bool
-    ensures { result ≡ list_any (is_judged stand.now) runs.now }
+fn some_is_judged(runs: &[OpenRun]) -> bool
+    ensures { result ≡ list_any is_judged runs.now }
 {
-    runs.iter().any(|run| is_judged(stand, run))
+    runs.iter().any(is_judged)
 }
 
-fn is_judged(stand: &Stand, run: &OpenRun) -> bool
-    ensures { result ≡ is_judged stand.now run.now }
+fn is_judged(run: &OpenRun) -> bool
+    ensures { result ≡ is_judged run.now }
 {
-    is_completed(stand.run_verdict(false, run))
+    is_completed(run.verdict(false))
 }
 
 // The present step has been left by time.

@@ -11,7 +11,7 @@ ghost use Rattle.canary_plan.specs.declared.refusal.Refusal.TheVariants as refus
 ghost use Rattle.canary_plan.specs.Refusals.{first_that_holds};
 ghost use Rattle.canary_release.specs.declared.effect.Recorded.{Recorded as RecordedRow};
 ghost use Rattle.canary_release.specs.Commands.{act};
-ghost use Rattle.canary_release.specs.Courses.{runs_now, open_run_now, run_metrics, run_verdict};
+ghost use Rattle.canary_release.specs.Courses.{runs_now, open_run_now, run_verdict};
 ghost use Rattle.canary_release.specs.Parts.{repeats_number};
 ghost use Rattle.canary_release.specs.Recording.{have_room};
 ghost use Rattle.canary_release.specs.Reporting.{reported_as};
@@ -241,34 +241,22 @@ fn phases_of(alloc: Global, measurements: &[Recorded]) -> Result<Listed<Phase>, 
     Ok(phases)
 }
 
-impl Stand {
-    // Why an entry of a report on a run is refused.
-    fn entries_refusal(&self, run: &OpenRun, now: Moment, entries: &[Entry]) -> Option<Refusal>
+impl OpenRun {
+    // Why an entry of a report on the run is refused.
+    fn entries_refusal(&self, now: Moment, entries: &[Entry]) -> Option<Refusal>
         requires { length entries.now ≤ 32 }
         ensures { result
-            ≡ entries_refusal (run_metrics self.now.strategy run.now.step) run.now now []
-            entries.now }
+            ≡ entries_refusal self.now.analysis.metrics self.now now [] entries.now }
     {
-        match self.strategy.metrics(run.step) {
-            Some(metrics) => entries_refusal(metrics, run, now, entries),
-            None => entries_refusal(&[], run, now, entries),
-        }
+        entries_refusal(self.analysis.metrics(), self, now, entries)
     }
 
     // The measurements that the entries bring.
-    fn brought(
-        &self,
-        alloc: Global,
-        run: &OpenRun,
-        entries: &[Entry],
-    ) -> Result<Listed<Recorded>, Memory>
+    fn brought(&self, alloc: Global, entries: &[Entry]) -> Result<Listed<Recorded>, Memory>
         ensures { IfOk result (λ list. list
-            ≡ brought (run_metrics self.now.strategy run.now.step) run.now entries.now) }
+            ≡ brought self.now.analysis.metrics self.now entries.now) }
     {
-        match self.strategy.metrics(run.step) {
-            Some(metrics) => brought(alloc, metrics, run, entries),
-            None => brought(alloc, &[], run, entries),
-        }
+        brought(alloc, self.analysis.metrics(), self, entries)
     }
 }
 
@@ -431,7 +419,7 @@ impl Draft {
         ensures strategy { IfOk result (λ draft. draft.stand.strategy ≡ self.stand.strategy) }
         ensures made { IfOk result (λ draft. runs_made draft ≤ runs_made self + 2) }
     {
-        let verdict = self.stand.run_verdict(false, run);
+        let verdict = run.verdict(false);
         if is_completed(verdict) {
             self.complete(alloc, run, verdict, at)
         } else {
@@ -459,7 +447,7 @@ impl Draft {
         ensures { result ≡ verdict_if (whole self.now) (open_run_now (whole self.now) number) }
     {
         match self.open_run_now(number) {
-            Some(run) => self.stand.run_verdict(false, run),
+            Some(run) => run.verdict(false),
             None => Phase::Running,
         }
     }
@@ -473,7 +461,7 @@ impl Draft {
         at: Moment,
     ) -> Result<(Draft, Reported), Memory>
         requires fits { have_room (runs_now (whole self))
-            (brought (run_metrics self.stand.strategy run.now.step) run.now entries.now) ≡ true }
+            (brought run.now.analysis.metrics run.now entries.now) ≡ true }
         requires room { runs_made self + 1 < 4294967295 }
         requires on_step { self.stand.step < 4294967295 }
         ensures reported { IfOk result (λ done. whole done.0
@@ -483,7 +471,7 @@ impl Draft {
         ensures strategy { IfOk result (λ done. done.0.stand.strategy ≡ self.stand.strategy) }
         ensures made { IfOk result (λ done. runs_made done.0 ≤ runs_made self + 2) }
     {
-        let measurements = self.stand.brought(alloc, run, entries)?;
+        let measurements = run.brought(alloc, entries)?;
         let all = self.record_all(alloc, measurements.as_slice())?;
         let number = run.number;
         let phases = phases_of(alloc, measurements.as_slice())?;
@@ -518,7 +506,7 @@ impl Draft {
             (λ answer. IfOk answer (λ done. runs_made done.0 ≤ runs_made self + 2)) }
     {
         let entries = report.entries.as_slice();
-        match self.stand.entries_refusal(run, at, entries) {
+        match run.entries_refusal(at, entries) {
             Some(refusal) => Ok(Err(refusal)),
             None => Ok(Ok(self.report_on(alloc, run, entries, at)?)),
         }

@@ -6,7 +6,7 @@ ghost use Rattle.std.specs.List.{list_all};
 ghost use Rattle.canary_metric.specs.Counts.{counts, size};
 ghost use Rattle.canary_metric.specs.Measurements.{is_measured};
 ghost use Rattle.canary_release.specs.declared.effect.Effect.TheVariants as effect;
-ghost use Rattle.canary_release.specs.Courses.{has_number};
+ghost use Rattle.canary_release.specs.Courses.{has_number, run_verdict};
 ghost use Rattle.canary_release.specs.Pasts.{change_at};
 ghost use Rattle.canary_release.specs.Recording.{is_not_full, takes, has_room};
 ghost use Rattle.canary_release.specs.Watching.{no_runs, opened_now, counted, counted_in};
@@ -16,7 +16,10 @@ use crate::effect::{Closing, Opening, Recorded};
 use canary_base::error::Memory;
 use canary_base::lists::Listed;
 use canary_base::moments::Moment;
+use canary_condition::outcome::Phase;
 use canary_metric::tally::Tally;
+use canary_metric::verdict::verdict;
+use canary_plan::bound_analysis::BoundAnalysis;
 use std::alloc::Global;
 
 /// The most runs that a service may have.
@@ -30,6 +33,8 @@ pub struct OpenRun {
     pub number: u32,
     /// Its step, or none for the background.
     pub step: Option<u32>,
+    /// Its analysis, with its metrics.
+    pub analysis: BoundAnalysis,
     pub started: Moment,
     pub tallies: Listed<Tally>,
 }
@@ -42,6 +47,7 @@ impl OpenRun {
         Ok(OpenRun {
             number: self.number,
             step: self.step,
+            analysis: self.analysis.copy()?,
             started: self.started,
             tallies: self.tallies.copy(alloc)?,
         })
@@ -54,8 +60,9 @@ impl OpenRun {
         Ok(OpenRun {
             number: opening.run,
             step: opening.step,
+            analysis: opening.analysis.copy()?,
             started: opening.started,
-            tallies: new_tallies(alloc, opening.metrics)?,
+            tallies: new_tallies(alloc, opening.analysis.metrics().len() as u32)?,
         })
     }
 
@@ -86,6 +93,7 @@ impl OpenRun {
         let OpenRun {
             number,
             step,
+            analysis,
             started,
             tallies,
         } = self;
@@ -93,9 +101,21 @@ impl OpenRun {
         OpenRun {
             number,
             step,
+            analysis,
             started,
             tallies,
         }
+    }
+
+    /// Its verdict, where it is ended from outside or not.
+    pub(crate) fn verdict(&self, outside: bool) -> Phase
+        ensures { result ≡ run_verdict outside self.now }
+    {
+        verdict(
+            self.analysis.metrics(),
+            self.tallies.as_slice(),
+            outside,
+        )
     }
 }
 

@@ -1,21 +1,20 @@
 //! How a service stands: its status and its weight.
 ghost use Rattle.std.specs.Prelude.{◌≡◌, ◌<◌, length, IfOk, IsSome, None};
 ghost use Rattle.std.specs.List.{filter_map, last_or};
+ghost use Rattle.canary_plan.specs.Plans.{analysis_or_none};
 ghost use Rattle.canary_release.specs.Services.{is_held, step_of, is_pause, status};
 ghost use Rattle.canary_release.specs.Services.{weight, weight_set};
-ghost use Rattle.canary_release.specs.Courses.{run_metrics, run_verdict};
 ghost use Rattle.canary_release.specs.Entering.{begins_background};
 ghost use Rattle.canary_release.specs.Passing.{is_free, leaves_at, next_move, move_by, judged_at};
 ghost use Rattle.canary_release.specs.Replies.{status_text};
 
-use crate::runs::OpenRun;
 use canary_base::error::Memory;
 use canary_base::moments::Moment;
 use canary_base::names::{Label, Name};
-use canary_condition::outcome::Phase;
-use canary_metric::verdict::verdict;
+use canary_plan::bound_analysis::BoundAnalysis;
 use canary_plan::step::Step;
 use canary_plan::strategy::Strategy;
+use std::alloc::Global;
 
 /// Whether a release is going on.
 #[derive(Clone, Copy, Debug, PartialEq, Eq)]
@@ -193,23 +192,19 @@ impl Stand {
         }
     }
 
-    /// How many metrics the analysis at a step has, or that of the background.
-    pub(crate) fn metric_count(&self, step: Option<u32>) -> u32
-        ensures { result ≡ length (run_metrics self.now.strategy step) }
+    /// A copy of its strategy's analysis at a step, or of its background; one of no templates where
+    /// there is no such analysis.
+    pub(crate) fn analysis(
+        &self,
+        alloc: Global,
+        step: Option<u32>,
+    ) -> Result<BoundAnalysis, Memory>
+        ensures { IfOk result
+            (λ analysis. analysis ≡ analysis_or_none self.now.strategy step) }
     {
-        match self.strategy.metrics(step) {
-            Some(metrics) => metrics.len() as u32,
-            None => 0,
-        }
-    }
-
-    /// The verdict of an open run, ended from outside or not.
-    pub(crate) fn run_verdict(&self, outside: bool, run: &OpenRun) -> Phase
-        ensures { result ≡ run_verdict self.now.strategy outside run.now }
-    {
-        match self.strategy.metrics(run.step) {
-            Some(metrics) => verdict(metrics, run.tallies.as_slice(), outside),
-            None => Phase::Successful,
+        match self.strategy.analysis(step) {
+            Some(analysis) => analysis.copy(),
+            None => BoundAnalysis::none(alloc),
         }
     }
 

@@ -4,13 +4,13 @@ use Rattle.canary_plan.specs.declared.report.Entry.{Entry}
 use Rattle.canary_release.specs.declared.effect.Recorded.{Recorded}
 use Rattle.canary_release.specs.declared.reply.Reported.{Reported}
 use Rattle.canary_release.specs.declared.runs.OpenRun.{OpenRun}
-use Rattle.canary_release.specs.Courses.{Course, open_run_now, run_metrics}
+use Rattle.canary_release.specs.Courses.{Course, open_run_now}
 use Rattle.canary_release.specs.Reports.{brought, record_all, verdict_if, reported_on}
 use Rattle.canary_release.specs.Shapes.{whole}
 use Rattle.canary_release.proofs.draft.Draft.report_on.Goals as goal
 
 -- what a report adds to its reply, from what was brought and recorded
-reported_is : (c a : Course) (r : OpenRun) (es : List Entry) (xs ys zs : List Recorded) (phases : List Phase) (v : Phase) → xs ≡ brought (run_metrics c.stand.strategy r.step) r es → ys ≡ xs → zs ≡ xs → a ≡ record_all c ys → phases ≡ map (λ (x : Recorded). x.phase) zs
+reported_is : (c a : Course) (r : OpenRun) (es : List Entry) (xs ys zs : List Recorded) (phases : List Phase) (v : Phase) → xs ≡ brought r.analysis.metrics r es → ys ≡ xs → zs ≡ xs → a ≡ record_all c ys → phases ≡ map (λ (x : Recorded). x.phase) zs
     → v ≡ verdict_if a (open_run_now a r.number) → ◌≡◌ {A = Reported} (record { phases = phases; run = r.number; verdict = v }) (reported_on c r es)
 reported_is c a r es xs ys zs phases v xs_is ys_is zs_is a_is phases_is v_is =
     let all = a_is ∙ ap (record_all c) (ys_is ∙ xs_is) in
