@@ -60,7 +60,7 @@ runs_within n rs e = each (λ (r : OpenRun). is_misnumbered n r ≡ false) (IsAt
 
 pub record PartsSay (p : ServiceParts) : Type 0 where
   pub numbered : IsNumbered p.runs
-  pub unjudged : list_any (is_judged p.stand) p.runs.open_runs ≡ false
+  pub unjudged : list_any is_judged p.runs.open_runs ≡ false
 
 -- each cause of a list of which none holds
 no_cause : (k : ℕ) (causes : List Bool) (b : Bool) → list_any (λ (c : Bool). c) causes ≡ false → slice_get causes k ≡ Some b → b ≡ false
@@ -80,7 +80,7 @@ parts_say p e =
     ∷ (going && nat_lt (1000000 - p.runs.count) (runs_wanted p))
     ∷ list_any (is_misnumbered p.runs.count) runs
     ∷ repeats_number runs
-    ∷ list_any (has_wrong_tallies stand) runs
+    ∷ list_any has_wrong_tallies runs
     ∷ (not going && nat_lt 0 (length runs))
     ∷ nat_lt 1 (length (filter is_background_run runs))
     ∷ nat_lt 1 (length (filter is_step_run runs))
@@ -89,22 +89,22 @@ parts_say p e =
     ∷ (is_held stand && not going)
     ∷ (stand.background && is_none stand.strategy.background)
     ∷ (stand.background_hold && not stand.background)
-    ∷ list_any (is_judged stand) runs
+    ∷ list_any is_judged runs
     ∷ is_by stand.last (next_move stand)
     ∷ []
     ) in
     let within = no_cause 4 causes (list_any (is_misnumbered p.runs.count) runs) e refl in
     let once = no_cause 5 causes (repeats_number runs) e refl in
-    let unjudged = no_cause 15 causes (list_any (is_judged stand) runs) e refl in
+    let unjudged = no_cause 15 causes (list_any is_judged runs) e refl in
     record { numbered = record { most = runs_within p.runs.count runs within; distinct = distinct_runs runs once }; unjudged = unjudged }
 
 -- A service.
 
 to_lists : (s : ModelService) (rs : List Run) → AllByRecursion (IsRun s) rs → AllByRecursion (HasLists s.stand.strategy s.past.measurements) rs
-to_lists s rs h = each (IsRun s) (HasLists s.stand.strategy s.past.measurements) (λ r k. record { metrics = k.metrics; analysis = k.analysis; one_each = k.one_each; lists = k.lists }) rs h
+to_lists s rs h = each (IsRun s) (HasLists s.stand.strategy s.past.measurements) (λ r k. record { analysis = k.analysis; one_each = k.one_each; lists = k.lists }) rs h
 
 from_lists : (s : ModelService) (rs : List Run) → AllByRecursion (HasLists s.stand.strategy s.past.measurements) rs → AllByRecursion (IsRun s) rs
-from_lists s rs h = each (HasLists s.stand.strategy s.past.measurements) (IsRun s) (λ r k. record { metrics = k.metrics; analysis = k.analysis; one_each = k.one_each; lists = k.lists }) rs h
+from_lists s rs h = each (HasLists s.stand.strategy s.past.measurements) (IsRun s) (λ r k. record { analysis = k.analysis; one_each = k.one_each; lists = k.lists }) rs h
 
 pub past_ordered : (known : Templates) (name : List ℕ) (m : ModelService) → IsInOrder known name m → IsOrdered m.stand.strategy m.past
 past_ordered known name m o = record { numbered = o.numbered; runs = to_lists m m.past.runs o.runs; measured = o.measured }

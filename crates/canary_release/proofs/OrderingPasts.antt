@@ -8,7 +8,7 @@ use Rattle.canary_metric.specs.declared.measurement.Measurement.{Measurement}
 use Rattle.canary_metric.specs.Metrics.{MetricValue}
 use Rattle.canary_metric.specs.Counts.{Counts, counts, size, number_with, is_error}
 use Rattle.canary_plan.specs.declared.strategy.CheckedStrategy.{CheckedStrategy}
-use Rattle.canary_plan.specs.Plans.{metrics_at}
+use Rattle.canary_plan.specs.Plans.{analysis_at}
 use Rattle.canary_release.specs.declared.effect.Recorded.{Recorded}
 use Rattle.canary_release.specs.declared.effect.Closing.{Closing}
 use Rattle.canary_release.specs.declared.effect.Effect.{Effect}
@@ -26,9 +26,8 @@ use Rattle.canary_release.specs.Effects.{Allowed, AreAllowed}
 -- What is in order of a past, by itself.
 
 pub record HasLists (st : CheckedStrategy) (all : List Recorded) (r : Run) : Type 0 where
-  pub metrics : List MetricValue
-  pub analysis : metrics_at st r.step ≡ Some metrics
-  pub one_each : length r.lists ≡ length metrics
+  pub analysis : analysis_at st r.step ≡ Some r.analysis
+  pub one_each : length r.lists ≡ length r.analysis.metrics
   pub lists : AreLists all r.number 0 r.lists
 
 pub record IsOrdered (st : CheckedStrategy) (p : Past) : Type 0 where
@@ -274,7 +273,7 @@ same_length k f [] = refl
 same_length zero f (x ∷ xs) = refl
 same_length (suc k) f (x ∷ xs) = ap suc (same_length k f xs)
 
-lists_more : (st : CheckedStrategy) (all : List Recorded) (x : Recorded) (w : OpenRun) (m : MetricValue) (t : Counts) → slice_get (run_metrics st w.step) x.metric ≡ Some m → slice_get w.tallies x.metric ≡ Some t → x.ordinal ≡ size t + 1 → size t + 1 ≤ 1000000 → (r : Run) → HasLists st all r → IsThatRun x.run w r → HasLists st (all ++ x ∷ []) (measured_in x r)
+lists_more : (st : CheckedStrategy) (all : List Recorded) (x : Recorded) (w : OpenRun) (m : MetricValue) (t : Counts) → slice_get w.analysis.metrics x.metric ≡ Some m → slice_get w.tallies x.metric ≡ Some t → x.ordinal ≡ size t + 1 → size t + 1 ≤ 1000000 → (r : Run) → HasLists st all r → IsThatRun x.run w r → HasLists st (all ++ x ∷ []) (measured_in x r)
 lists_more st all x w m t is_metric is_tally next room r h that =
     elim (r.number == x.run)
     as (λ b. (r.number == x.run) ≡ b → HasLists st (all ++ x ∷ []) (let q : Run = (if b then record r { lists = change_at x.metric (with_recorded x) r.lists } else r) in q)) [
@@ -283,14 +282,13 @@ lists_more st all x w m t is_metric is_tally next room r h that =
           let one : tallied r ≡ w = (that number).1 in
           let there : slice_get (map counts_of r.lists) x.metric ≡ Some t = ap (λ (q : OpenRun). slice_get q.tallies x.metric) one ∙ is_tally in
           record {
-            metrics = h.metrics;
             analysis = h.analysis;
             one_each = same_length x.metric (with_recorded x) r.lists ∙ h.one_each;
             lists = lists_measured all r.number 0 x.metric r.lists x t (sym number) (omega arith) there next room h.lists;
           }
       | false ↦ λ e.
           let other : (x.run == r.number) ≡ false = other_number x.run r.number (λ same. not_same r.number x.run e (sym same)) in
-          record { metrics = h.metrics; analysis = h.analysis; one_each = h.one_each; lists = lists_of_others all r.number 0 r.lists x other h.lists }
+          record { analysis = h.analysis; one_each = h.one_each; lists = lists_of_others all r.number 0 r.lists x other h.lists }
     ] refl
 
 measured_number : (x : Recorded) (r : Run) → (measured_in x r).number ≡ r.number
@@ -315,7 +313,7 @@ lists_closed : (st : CheckedStrategy) (all : List Recorded) (x : Closing) (r : R
 lists_closed st all x r h =
     elim (r.number == x.run)
     as (λ b. HasLists st all (let q : Run = (if b then record r { closed = Some x } else r) in q)) [
-      | true ↦ record { metrics = h.metrics; analysis = h.analysis; one_each = h.one_each; lists = h.lists }
+      | true ↦ record { analysis = h.analysis; one_each = h.one_each; lists = h.lists }
       | false ↦ h
     ]
 
@@ -339,7 +337,7 @@ ordered_after st p (Opened x) a o =
     let all_below : AllByRecursion (λ (y : Recorded). y.run < x.run) p.measurements =
     each (IsOfRun p.runs) (λ (y : Recorded). y.run < x.run) (λ y e. let h : y.run < 1 + length p.runs = number_within 1 p.runs y o.numbered e in omega (arith, h, number)) p.measurements (all_true (is_of_some p.runs) p.measurements o.measured) in
     let new : HasLists st p.measurements (opened_run x) =
-    record { metrics = a.metrics; analysis = a.analysis; one_each = length-replicate x.metrics [] ∙ a.one_each; lists = empty_lists p.measurements x.run 0 x.metrics all_below } in
+    record { analysis = a.analysis; one_each = length-replicate (length x.analysis.metrics) []; lists = empty_lists p.measurements x.run 0 (length x.analysis.metrics) all_below } in
     record {
       numbered = numbered_and_more 1 p.runs (opened_run x) o.numbered (omega (arith, number));
       runs = each_and_more (HasLists st p.measurements) p.runs (opened_run x) o.runs new;

@@ -9,7 +9,6 @@ use Rattle.canary_metric.specs.Metrics.{MetricValue}
 use Rattle.canary_metric.specs.Counts.{Counts, size}
 use Rattle.canary_metric.specs.MetricPhases.{phase_of_counts, is_completed, due_of_counts}
 use Rattle.canary_plan.specs.declared.report.Entry.{Entry}
-use Rattle.canary_plan.specs.declared.strategy.CheckedStrategy.{CheckedStrategy}
 use Rattle.canary_plan.specs.declared.command.Command.{Command}
 use Rattle.canary_plan.specs.declared.command.Command.TheVariants.{Template as AddTemplate, Service as AddService, Start, Promote, PromoteFull, Abort, Retry, Tick, Report}
 use Rattle.canary_plan.specs.declared.line.LineEvent.{LineEvent}
@@ -72,10 +71,10 @@ other_place zero (suc p) f (x ∷ xs) differ = refl
 other_place (suc k) zero f (x ∷ xs) differ = refl
 other_place (suc k) (suc p) f (x ∷ xs) differ = other_place k p f xs (λ e. differ (ap suc e))
 
-counted_step : (x : Recorded) (r : OpenRun) → (counted_in x r).step ≡ r.step
-counted_step x r =
+counted_analysis : (x : Recorded) (r : OpenRun) → (counted_in x r).analysis ≡ r.analysis
+counted_analysis x r =
     elim (r.number == x.run)
-    as (λ b. (let q : OpenRun = (if b then record r { tallies = change_at x.metric (counted x) r.tallies } else r) in q).step ≡ r.step)
+    as (λ b. (let q : OpenRun = (if b then record r { tallies = change_at x.metric (counted x) r.tallies } else r) in q).analysis ≡ r.analysis)
     [ true ↦ refl | false ↦ refl ]
 
 other_tally : (x : Recorded) (r : OpenRun) (k : ℕ) → (k ≡ x.metric → ⊥) → slice_get (counted_in x r).tallies k ≡ slice_get r.tallies k
@@ -131,10 +130,10 @@ none_more name (b ∷ before) e h =
 
 module _ (s : Stand) (w : Runs) (accepted : IsTrue (is_accepted s.strategy)) (numbered : IsNumbered w) where
   -- entries that aren't refused are recorded, one after another
-  recorded : (r : OpenRun) (t : ℕ) (before es : List Entry) (c : Course) (now : OpenRun) → IsFollowing s w c → open_run_now c r.number ≡ Some now → now.step ≡ r.step → Untouched (run_metrics s.strategy r.step) r.tallies before now.tallies → entries_refusal (run_metrics s.strategy r.step) r t before es ≡ None → IsFollowing s w (record_all c (brought (run_metrics s.strategy r.step) r es))
+  recorded : (r : OpenRun) (t : ℕ) (before es : List Entry) (c : Course) (now : OpenRun) → IsFollowing s w c → open_run_now c r.number ≡ Some now → now.analysis ≡ r.analysis → Untouched r.analysis.metrics r.tallies before now.tallies → entries_refusal r.analysis.metrics r t before es ≡ None → IsFollowing s w (record_all c (brought r.analysis.metrics r es))
   recorded r t before [] c now f found same untouched none = f
   recorded r t before (e ∷ es) c now f found same untouched none =
-      let ms = run_metrics s.strategy r.step in
+      let ms = r.analysis.metrics in
       elim (place_of ms r e)
       as (λ o. place_of ms r e ≡ o → or_refusal (entry_refusal r.started t before e o) (entries_refusal ms r t (before ++ e ∷ []) es) ≡ None → IsFollowing s w (record_all c (recorded_if r e o ++ brought ms r es))) [
         | None ↦ λ at h. cc h
@@ -147,7 +146,7 @@ module _ (s : Stand) (w : Runs) (accepted : IsTrue (is_accepted s.strategy)) (nu
             let is_k : p.place ≡ k = omega (arith, place.1) in
             let x : Recorded = recorded_at r e p in
             let unnamed : list_any (names_metric p.metric.name) before ≡ false = ap (λ (name : List ℕ). list_any (names_metric name) before) stands.named ∙ good.first in
-            let is_metric : slice_get (run_metrics s.strategy now.step) p.place ≡ Some p.metric = (λ i. slice_get (run_metrics s.strategy (same i)) (is_k i)) ∙ stands.metric in
+            let is_metric : slice_get now.analysis.metrics p.place ≡ Some p.metric = (λ i. slice_get (same i).metrics (is_k i)) ∙ stands.metric in
             let is_tally : slice_get now.tallies p.place ≡ Some p.tally = ap (slice_get now.tallies) is_k ∙ untouched k p.metric stands.metric unnamed ∙ stands.tally in
             let more : IsFollowing s w (happen c (Measured x)) =
             follows_on s w c (Measured x) f (record { run = now; found = found; metric = p.metric; is_metric = is_metric; tally = p.tally; is_tally = is_tally; next = good.next; room = good.room; judged = refl }) in
@@ -162,19 +161,16 @@ module _ (s : Stand) (w : Runs) (accepted : IsTrue (is_accepted s.strategy)) (nu
             let one : m ≡ p.metric = some_same m p.metric (sym there ∙ ap (slice_get ms) (is ∙ is_k) ∙ stands.metric) in
             true≢false (sym ((bytes_eq-Decides e.metric m.name).1 (sym stands.named ∙ ap (λ (q : MetricValue). q.name) (sym one))) ∙ parts.1) in
             other_tally x now j differ ∙ untouched j m there parts.0 in
-            recorded r t (before ++ e ∷ []) es (happen c (Measured x)) (counted_in x now) more after (counted_step x now ∙ same) still halves.1
+            recorded r t (before ++ e ∷ []) es (happen c (Measured x)) (counted_in x now) more after (counted_analysis x now ∙ same) still halves.1
       ] refl none
 
   reported : (c : Course) (run : ℕ) (r : OpenRun) (es : List Entry) (t : ℕ) → IsFollowing s w c → open_run_now c run ≡ Some r → entries_refusal r.analysis.metrics r t [] es ≡ None → IsFollowing s w (report_on c r es t)
   reported c run r es t f found none =
       let ms = r.analysis.metrics in
-      let same : c.stand.strategy ≡ s.strategy = f.strategy in
       let all : Course = record_all c (brought ms r es) in
       let number : r.number ≡ run = eqb-true r.number run (found_passes (has_number run) (runs_now c).open_runs r found) in
       let there : open_run_now c r.number ≡ Some r = ap (open_run_now c) number ∙ found in
-      let none_here : entries_refusal (run_metrics s.strategy r.step) r t [] es ≡ None = ap (λ (st : CheckedStrategy). entries_refusal (run_metrics st r.step) r t [] es) (sym same) ∙ none in
-      let fa : IsFollowing s w all =
-      subst (λ (st : CheckedStrategy). IsFollowing s w (record_all c (brought (run_metrics st r.step) r es))) (sym same) (recorded r t [] es c r f there refl (λ k m e h. refl) none_here) in
+      let fa : IsFollowing s w all = recorded r t [] es c r f there refl (λ k m e h. refl) none in
       assessed s w accepted numbered all r.number (open_run_now all r.number) t fa refl
 
   -- where a command leads, if it isn't refused

@@ -13,11 +13,12 @@ use Rattle.canary_plan.specs.declared.template.Template.{Template}
 use Rattle.canary_plan.specs.declared.strategy.CheckedStrategy.{CheckedStrategy}
 use Rattle.canary_plan.specs.declared.refusal.Refusal.{Refusal}
 use Rattle.canary_plan.specs.declared.refusal.Refusal.TheVariants.{DuplicateMetric, UnknownTemplate, EndlessMetric, BadStrategy}
-use Rattle.canary_plan.specs.Plans.{Templates, template_of, bound_metric, metrics_in, metrics_named, step_metrics, background_metrics, strategy_of, has_weight_in_range, are_metrics_of_run, fit_steps, fits_background, is_at_least_one, asks_for_some, have_counts, is_accepted}
-use Rattle.canary_plan.specs.PlanRefusals.{has_unknown, repeats_metric, is_endless, is_misfit, is_bad_strategy, names_of_step, names_of_background, step_analyses, analyses, strategy_refusal}
+use Rattle.canary_plan.specs.Fit.{are_metrics_of_run, is_at_least_one, asks_for_some, have_counts}
+use Rattle.canary_plan.specs.Plans.{Templates, template_of, bound_metric, metrics_in, metrics_named, has_unknown, binds, analysis_of, bound_step, bound_background, strategy_of, has_weight_in_range, is_there_and_fit, fit_steps, fits_background, is_accepted}
+use Rattle.canary_plan.specs.PlanRefusals.{repeats_metric, is_endless, is_misfit, is_bad_strategy, names_of_step, names_of_background, step_analyses, analyses, strategy_refusal}
 use Rattle.canary_release.specs.Laws.{Agree}
 use Rattle.canary_release.proofs.Looking.{all_left, all_right, refusal_alike, strategy_alike}
-use Rattle.canary_release.proofs.OrderingBasics.{neither, none_passes, row_false}
+use Rattle.canary_release.proofs.OrderingBasics.{neither, none_passes, each_both, row_false}
 
 -- What a strategy that isn't refused is.
 
@@ -109,16 +110,6 @@ named_counts : (known : Templates) → AreBound known → (names : List (List �
 named_counts known bound [] = refl
 named_counts known bound (name ∷ names) = all_append asks_for_some (metrics_in (known name)) (metrics_named known names) (template_counts known bound name) (named_counts known bound names)
 
-steps_counts : (known : Templates) → AreBound known → (steps : List Step) → list_all have_counts (map (step_metrics known) steps) ≡ true
-steps_counts known bound [] = refl
-steps_counts known bound (SetWeight percent ∷ steps) = steps_counts known bound steps
-steps_counts known bound (Pause seconds ∷ steps) = steps_counts known bound steps
-steps_counts known bound (Analysis names ∷ steps) = and_both (have_counts (metrics_named known names)) (list_all have_counts (map (step_metrics known) steps)) (named_counts known bound names) (steps_counts known bound steps)
-
-background_counts : (known : Templates) → AreBound known → (b : Option Background) → have_counts (background_metrics known b) ≡ true
-background_counts known bound None = refl
-background_counts known bound (Some b) = named_counts known bound b.templates
-
 -- an analysis that is no misfit has 1 to 32 metrics
 fitting : (known : Templates) (names : List (List ℕ)) → is_misfit known names ≡ false → are_metrics_of_run (metrics_named known names) ≡ true
 fitting known names e =
@@ -126,15 +117,26 @@ fitting known names e =
     let two = neither (nat_lt 8 (length names)) (not (are_metrics_of_run (metrics_named known names))) one.1 in
     not_false (are_metrics_of_run (metrics_named known names)) two.1
 
-steps_fit : (known : Templates) (steps : List Step) → AllByRecursion (λ names. is_misfit known names ≡ false) (filter_map names_of_step steps) → fit_steps steps (map (step_metrics known) steps) ≡ true
-steps_fit known [] h = refl
-steps_fit known (SetWeight percent ∷ steps) h = steps_fit known steps h
-steps_fit known (Pause seconds ∷ steps) h = steps_fit known steps h
-steps_fit known (Analysis names ∷ steps) h = and_both (are_metrics_of_run (metrics_named known names)) (fit_steps steps (map (step_metrics known) steps)) (fitting known names h.0) (steps_fit known steps h.1)
+-- an analysis of known templates that is no misfit is there, and fit for runs
+analysis_fits : (known : Templates) (names : List (List ℕ)) → AreBound known → has_unknown known names ≡ false → is_misfit known names ≡ false → is_there_and_fit (analysis_of known names) ≡ true
+analysis_fits known names bound e f =
+    let metrics = fitting known names f in
+    let binds_them : binds known names ≡ true = and_both (not (has_unknown known names)) (are_metrics_of_run (metrics_named known names)) (ap not e) metrics in
+    rw binds_them (and_both (are_metrics_of_run (metrics_named known names)) (have_counts (metrics_named known names)) metrics (named_counts known bound names))
 
-background_fits : (known : Templates) (b : Option Background) → AllByRecursion (λ names. is_misfit known names ≡ false) (names_of_background b) → fits_background b (background_metrics known b) ≡ true
-background_fits known None h = refl
-background_fits known (Some b) h = fitting known b.templates h.0
+-- what is said of an analysis that is known and no misfit
+abbrev IsGood : Templates → List (List ℕ) → Type 0
+IsGood known names = (has_unknown known names ≡ false) × (is_misfit known names ≡ false)
+
+steps_fit : (known : Templates) (steps : List Step) → AreBound known → AllByRecursion (IsGood known) (filter_map names_of_step steps) → fit_steps steps (map (bound_step known) steps) ≡ true
+steps_fit known [] bound h = refl
+steps_fit known (SetWeight percent ∷ steps) bound h = steps_fit known steps bound h
+steps_fit known (Pause seconds ∷ steps) bound h = steps_fit known steps bound h
+steps_fit known (Analysis names ∷ steps) bound h = and_both (is_there_and_fit (analysis_of known names)) (fit_steps steps (map (bound_step known) steps)) (analysis_fits known names bound h.0.0 h.0.1) (steps_fit known steps bound h.1)
+
+background_fits : (known : Templates) (b : Option Background) → AreBound known → AllByRecursion (IsGood known) (names_of_background b) → fits_background b (bound_background known b) ≡ true
+background_fits known None bound h = refl
+background_fits known (Some b) bound h = analysis_fits known b.templates bound h.0.0 h.0.1
 
 at_most : (n : ℕ) → nat_lt 64 n ≡ false → nat_le n 64 ≡ true
 at_most n e = grind (arith, nat_tests, e)
@@ -144,15 +146,13 @@ strategy_accepted known spec bound none =
     let n = not_refused known spec none in
     let one = neither (nat_lt 64 (length spec.steps)) (not (list_all has_weight_in_range spec.steps) || list_any (is_misfit known) (analyses spec)) n.fits in
     let two = neither (not (list_all has_weight_in_range spec.steps)) (list_any (is_misfit known) (analyses spec)) one.1 in
-    let fit = none_passes (is_misfit known) (analyses spec) two.1 in
+    let unknown = none_passes (has_unknown known) (analyses spec) n.known_all in
+    let misfit = none_passes (is_misfit known) (analyses spec) two.1 in
+    let good = each_both (λ names. has_unknown known names ≡ false) (λ names. is_misfit known names ≡ false) (IsGood known) (λ names e f. (e, f)) (analyses spec) unknown misfit in
     let s : CheckedStrategy = strategy_of known spec in
     let a = at_most (length spec.steps) one.0 in
     let b = not_false (list_all has_weight_in_range spec.steps) two.0 in
-    let c = steps_fit known spec.steps (all_left (λ names. is_misfit known names ≡ false) (step_analyses spec) (names_of_background spec.background) fit) in
-    let d = background_fits known spec.background (all_right (λ names. is_misfit known names ≡ false) (step_analyses spec) (names_of_background spec.background) fit) in
-    let e = steps_counts known bound spec.steps in
-    let f = background_counts known bound spec.background in
-    six (nat_le (length s.steps) 64) (list_all has_weight_in_range s.steps) (fit_steps s.steps s.step_metrics) (fits_background s.background s.background_metrics) (list_all have_counts s.step_metrics) (have_counts s.background_metrics) a b c d e f
-  where
-    six : (a b c d e f : Bool) → a ≡ true → b ≡ true → c ≡ true → d ≡ true → e ≡ true → f ≡ true → (a && (b && (c && (d && (e && f))))) ≡ true
-    six a b c d e f ha hb hc hd he hf = and_both a _ ha (and_both b _ hb (and_both c _ hc (and_both d _ hd (and_both e f he hf))))
+    let c = steps_fit known spec.steps bound (all_left (IsGood known) (step_analyses spec) (names_of_background spec.background) good) in
+    let d = background_fits known spec.background bound (all_right (IsGood known) (step_analyses spec) (names_of_background spec.background) good) in
+    and_both (nat_le (length s.steps) 64) _ a
+    (and_both (list_all has_weight_in_range s.steps) _ b (and_both (fit_steps s.steps s.bound.steps) (fits_background s.background s.bound.background) c d))

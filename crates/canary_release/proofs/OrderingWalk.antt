@@ -1,19 +1,19 @@
 -- Entering, passing and aborting bring allowed effects alone.
-use Rattle.std.proofs.Common.{◌≡◌, ℕ, zero, suc, ◌+◌, ◌-◌, List, [], ◌∷◌, length, Bool, true, false, refl, ap, sym, ◌∙◌, eqb-true, eq-eqb, true≢false}
+use Rattle.std.proofs.Common.{◌≡◌, ℕ, zero, suc, ◌+◌, ◌-◌, List, [], ◌∷◌, length, Bool, true, false, refl, ap, sym, ◌∙◌, eqb-true, eq-eqb, true≢false, subst}
 use Rattle.std.specs.Prelude.{◌==◌, ◌&&◌, not, if◌then◌else◌, IsTrue, Option, Some, None, slice_get, unwrap_or, map, filter}
 use Rattle.std.specs.List.{AllByRecursion, find, zip}
 use Rattle.canary_condition.specs.declared.outcome.Phase.{Phase}
 use Rattle.canary_condition.specs.declared.outcome.Phase.TheVariants.{Pending, Running, Successful, Inconclusive, Error, Failed}
-use Rattle.canary_metric.specs.Metrics.{MetricValue}
 use Rattle.canary_metric.specs.MetricPhases.{is_completed}
 use Rattle.canary_metric.specs.Verdicts.{counted_phase, judging}
 use Rattle.canary_plan.specs.declared.step.Step.{Step}
 use Rattle.canary_plan.specs.declared.step.Step.TheVariants.{SetWeight, Pause, Analysis}
-use Rattle.canary_plan.specs.declared.service.Background.{Background}
+use Rattle.canary_plan.specs.declared.analysis_parts.AnalysisParts.{AnalysisParts}
 use Rattle.canary_plan.specs.declared.strategy.CheckedStrategy.{CheckedStrategy}
 use Rattle.canary_plan.specs.declared.line.LineEvent.{LineEvent}
 use Rattle.canary_plan.specs.declared.line.LineEvent.TheVariants.{BackgroundOpened, AnalysisEntered, WeightEntered, PauseEntered, TimedPauseEntered, Finished, Completed, AbortedBy, BackgroundHeld, StepHeld, Ended}
-use Rattle.canary_plan.specs.Plans.{is_analysis, metrics_at, metrics_if_background, is_accepted, fits_step, fit_steps}
+use Rattle.canary_plan.specs.Fit.{no_analysis}
+use Rattle.canary_plan.specs.Plans.{analysis_at, analysis_or_none, is_accepted}
 use Rattle.canary_release.specs.declared.effect.Effect.TheVariants.{Told, Opened, Closed}
 use Rattle.canary_release.specs.declared.runs.OpenRun.{OpenRun}
 use Rattle.canary_release.specs.declared.runs.Runs.{Runs}
@@ -24,6 +24,8 @@ use Rattle.canary_release.specs.Courses.{Course, with_stand, tell, runs_now, has
 use Rattle.canary_release.specs.Entering.{begins_background, begin_background, open_background, done, finish, show_step, enter, abort, without_holds}
 use Rattle.canary_release.specs.Passing.{next_move, is_by, move_at, chain_end, pass, judged_at, followed}
 use Rattle.canary_release.specs.Reports.{consequence, complete, assess_run, assess}
+use Rattle.canary_release.proofs.PartsFresh.{accepted as accepted_of, step_analysis, background_analysis}
+use Rattle.canary_release.proofs.PartsReady.{begins}
 use Rattle.canary_release.proofs.OrderingBasics.{not_same, each_both, found_passes, found_behind, found_first, found_filtered, fold_completed}
 use Rattle.canary_release.proofs.OrderingAllowed.{AreDistinct, IsNumbered, IsFollowing, numbered_now, follows_on, now_after, stands_on}
 
@@ -56,43 +58,20 @@ still_found k m rs differ = found_filtered (has_number k) (is_other m) (λ r. go
           | false ↦ λ a h. absurd (true≢false h)
         ] refl e
 
--- the metrics of an analysis step of an accepted strategy
-step_has_metrics : (steps : List Step) (lists : List (List MetricValue)) (i : ℕ) (names : List (List ℕ)) → fit_steps steps lists ≡ true → slice_get steps i ≡ Some (Analysis names) → (ms : List MetricValue) × (slice_get lists i ≡ Some ms)
-step_has_metrics [] lists i names fit e = cc e
-step_has_metrics (step ∷ steps) [] i names fit e = absurd (true≢false (sym fit))
-step_has_metrics (step ∷ steps) (ms ∷ lists) zero names fit e = (ms, refl)
-step_has_metrics (step ∷ steps) (ms ∷ lists) (suc i) names fit e = step_has_metrics steps lists i names (second (fits_step step ms) (fit_steps steps lists) fit) e
-  where
-    second : (a b : Bool) → (a && b) ≡ true → b ≡ true
-    second true b h = h
-    second false b h = absurd (true≢false (sym h))
+-- an analysis step has an analysis
+analysis_there : (st : CheckedStrategy) (i : ℕ) (names : List (List ℕ)) → IsTrue (is_accepted st) → slice_get st.steps i ≡ Some (Analysis names) → (a : AnalysisParts) × (analysis_at st (Some i) ≡ Some a)
+analysis_there st i names h e = let has = step_analysis st i names (accepted_of st h) e in (has.analysis, has.found)
 
-all_fit : (st : CheckedStrategy) → IsTrue (is_accepted st) → fit_steps st.steps st.step_metrics ≡ true
-all_fit st h = middle _ _ (fit_steps st.steps st.step_metrics) _ h
-  where
-    middle : (a b c d : Bool) → (a && (b && (c && d))) ≡ true → c ≡ true
-    middle true true true d h = refl
-    middle true true false d h = h
-    middle true false c d h = absurd (true≢false (sym h))
-    middle false b c d h = absurd (true≢false (sym h))
-
--- an analysis step has metrics
-analysis_there : (st : CheckedStrategy) (i : ℕ) (names : List (List ℕ)) → IsTrue (is_accepted st) → slice_get st.steps i ≡ Some (Analysis names) → (ms : List MetricValue) × (metrics_at st (Some i) ≡ Some ms)
-analysis_there st i names h e =
-    let there = step_has_metrics st.steps st.step_metrics i names (all_fit st h) e in
-    (there.0, ap (λ (o : Option Step). if is_analysis o then slice_get st.step_metrics i else None) e ∙ there.1)
-
--- a background that begins has metrics
-background_there : (st : CheckedStrategy) (i : ℕ) (started : Bool) → begins_background st.background i started ≡ true → (ms : List MetricValue) × (metrics_at st None ≡ Some ms)
-background_there st i started e = (st.background_metrics, by st.background e)
-  where
-    by : (b : Option Background) → begins_background b i started ≡ true → metrics_if_background b st.background_metrics ≡ Some st.background_metrics
-    by None h = absurd (true≢false (sym h))
-    by (Some b) h = refl
+-- a background that begins has one
+background_there : (st : CheckedStrategy) (i : ℕ) (started : Bool) → IsTrue (is_accepted st) → begins_background st.background i started ≡ true → (a : AnalysisParts) × (analysis_at st None ≡ Some a)
+background_there st i started h e =
+    let begun = begins st.background i started e in
+    let has = background_analysis st begun.background (accepted_of st h) begun.is in
+    (has.analysis, has.found)
 
 -- a run that is ended from outside has a completed verdict
-ended_completed : (st : CheckedStrategy) (r : OpenRun) → is_completed (run_verdict st true r) ≡ true
-ended_completed st r = fold_completed Successful (map (counted_phase true) (judging (zip (run_metrics st r.step) r.tallies))) refl
+ended_completed : (r : OpenRun) → is_completed (run_verdict true r) ≡ true
+ended_completed r = fold_completed Successful (map (counted_phase true) (judging (zip r.analysis.metrics r.tallies))) refl
 
 module _ (s : Stand) (w : Runs) (accepted : IsTrue (is_accepted s.strategy)) (numbered : IsNumbered w) where
   pub told : (c : Course) (at : ℕ) (event : LineEvent) → IsFollowing s w c → IsFollowing s w (tell c at event)
@@ -100,15 +79,14 @@ module _ (s : Stand) (w : Runs) (accepted : IsTrue (is_accepted s.strategy)) (nu
 
   pub closed : (c : Course) (r : OpenRun) (at : ℕ) (outside : Bool) → IsFollowing s w c → find (has_number r.number) (runs_now c).open_runs ≡ Some r → is_completed (run_verdict outside r) ≡ true → IsFollowing s w (close_run c r at outside)
   closed c r at outside f found completed =
-      let is : run_verdict outside r ≡ run_verdict s.strategy outside r = ap (λ (st : CheckedStrategy). run_verdict st outside r) f.strategy in
-      follows_on s w c (Closed (record { run = r.number; at = at; outside = outside; verdict = run_verdict outside r }) r.tallies) f (record { run = r; found = found; verdict = is; completed = completed; last = refl })
+      follows_on s w c (Closed (record { run = r.number; at = at; outside = outside; verdict = run_verdict outside r }) r.tallies) f (record { run = r; found = found; verdict = refl; completed = completed; last = refl })
 
   -- one after another of open runs with different numbers
   ended : (at : ℕ) (c : Course) (rs : List OpenRun) → IsFollowing s w c → AllByRecursion (λ (q : OpenRun). find (has_number q.number) (runs_now c).open_runs ≡ Some q) rs → AreDistinct rs → IsFollowing s w (end_runs at c rs)
   ended at c [] f h d = f
   ended at c (r ∷ rs) f h d =
       let one : Course = close_run c r at true in
-      let f1 : IsFollowing s w one = closed c r at true f h.0 (ended_completed c.stand.strategy r) in
+      let f1 : IsFollowing s w one = closed c r at true f h.0 (ended_completed r) in
       let two : Course = end_run at c r in
       let f2 : IsFollowing s w two = told one at (Ended r.number (run_verdict true r)) f1 in
       let now : runs_now two ≡ record { count = (runs_now c).count; open_runs = filter (is_other r.number) (runs_now c).open_runs } =
@@ -128,20 +106,20 @@ module _ (s : Stand) (w : Runs) (accepted : IsTrue (is_accepted s.strategy)) (nu
       let n = numbered_now s w numbered c f in
       ended at c (runs_now c).open_runs f (each_found (runs_now c).open_runs n.distinct) n.distinct
 
-  opened : (c : Course) (step : Option ℕ) (at : ℕ) (ms : List MetricValue) → IsFollowing s w c → metrics_at s.strategy step ≡ Some ms → IsFollowing s w (open_run c step at)
-  opened c step at ms f e =
-      let many : length (run_metrics c.stand.strategy step) ≡ length ms = (λ i. length (run_metrics (f.strategy i) step)) ∙ ap (λ (o : Option (List MetricValue)). length (unwrap_or o [])) e in
-      follows_on s w c (Opened (record { run = next_run c; step = step; analysis = analysis_or_none c.stand.strategy step; started = at })) f (record { number = refl; metrics = ms; analysis = e; one_each = many })
+  opened : (c : Course) (step : Option ℕ) (at : ℕ) (a : AnalysisParts) → IsFollowing s w c → analysis_at s.strategy step ≡ Some a → IsFollowing s w (open_run c step at)
+  opened c step at a f e =
+      let own : analysis_or_none c.stand.strategy step ≡ a = (λ i. analysis_or_none (f.strategy i) step) ∙ ap (λ (o : Option AnalysisParts). unwrap_or o no_analysis) e in
+      follows_on s w c (Opened (record { run = next_run c; step = step; analysis = analysis_or_none c.stand.strategy step; started = at })) f (record { number = refl; analysis = e ∙ ap (λ (x : AnalysisParts). Some x) (sym own) })
 
   background_opened : (c : Course) (i at : ℕ) → IsFollowing s w c → IsFollowing s w (open_background c i at)
   background_opened c i at f =
       elim (begins_background c.stand.strategy.background i c.stand.background)
       as (λ b. begins_background c.stand.strategy.background i c.stand.background ≡ b → IsFollowing s w (if b then begin_background c at else c)) [
         | true ↦ λ e.
-            let there = background_there c.stand.strategy i c.stand.background e in
+            let there = background_there c.stand.strategy i c.stand.background (subst (λ (st : CheckedStrategy). IsTrue (is_accepted st)) (sym f.strategy) accepted) e in
             let d : Course = with_stand c (record c.stand { background = true }) in
             let fd : IsFollowing s w d = stands_on s w c (record c.stand { background = true }) f refl refl in
-            let fo : IsFollowing s w (open_run d None at) = opened d None at there.0 fd (ap (λ (st : CheckedStrategy). metrics_at st None) (sym f.strategy) ∙ there.1) in
+            let fo : IsFollowing s w (open_run d None at) = opened d None at there.0 fd (ap (λ (st : CheckedStrategy). analysis_at st None) (sym f.strategy) ∙ there.1) in
             told (open_run d None at) at (BackgroundOpened (next_run c)) fo
         | false ↦ λ e. f
       ] refl

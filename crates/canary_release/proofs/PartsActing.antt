@@ -1,9 +1,8 @@
 -- A command that is accepted leaves parts unbroken, and a new service's parts are unbroken.
 use Rattle.std.proofs.Common.{◌≡◌, ℕ, ◌+◌, ◌-◌, ◌≤◌, ◌<◌, List, [], length, refl, sym, arith, subst}
-use Rattle.std.specs.Prelude.{Bool, true, false, not, ◌&&◌, ◌||◌, if◌then◌else◌, slice_get, is_some, is_none, Option, Some, None, Result, Ok, Err}
+use Rattle.std.specs.Prelude.{Bool, true, false, not, ◌&&◌, ◌||◌, if◌then◌else◌, is_some, is_none, Option, Some, None, Result, Ok, Err}
 use Rattle.std.specs.List.{list_any}
 use Rattle.std.specs.Str.{bytes_eq}
-use Rattle.canary_metric.specs.Metrics.{MetricValue}
 use Rattle.canary_plan.specs.declared.step.Step.{Step}
 use Rattle.canary_plan.specs.declared.step.Step.TheVariants.{SetWeight, Pause, Analysis}
 use Rattle.canary_plan.specs.declared.report.Entry.{Entry}
@@ -15,7 +14,7 @@ use Rattle.canary_plan.specs.declared.refusal.Refusal.{Refusal}
 use Rattle.canary_plan.specs.declared.refusal.Refusal.TheVariants.{InProgress as GoesOn, AlreadyStable, NotInProgress, NotPaused, NotAborted, RunsSpent}
 use Rattle.canary_plan.specs.declared.service.Background.{Background}
 use Rattle.canary_plan.specs.declared.strategy.CheckedStrategy.{CheckedStrategy}
-use Rattle.canary_plan.specs.Plans.{is_analysis, metrics_at}
+use Rattle.canary_plan.specs.Plans.{analysis_at}
 use Rattle.canary_release.specs.declared.stand.State.{State}
 use Rattle.canary_release.specs.declared.stand.State.TheVariants.{InProgress, Aborted, Done}
 use Rattle.canary_release.specs.declared.stand.Status.TheVariants.{Paused, Progressing}
@@ -36,7 +35,7 @@ use Rattle.canary_release.specs.Parts.{is_step_run, is_judged, is_broken}
 use Rattle.canary_release.specs.PartsLaws.{PassingKeepsParts, ActingKeepsParts, NewPartsAreUnbroken}
 use Rattle.canary_release.proofs.PartsRuns.{told_runs, steady_kept}
 use Rattle.canary_release.proofs.PartsKept.{of_background, has_background, Unjudged, Fit, fit_of, unbroken_of, not_below}
-use Rattle.canary_release.proofs.PartsFresh.{Accepted, accepted}
+use Rattle.canary_release.proofs.PartsFresh.{Accepted, accepted, no_analysis_at}
 use Rattle.canary_release.proofs.PartsReady.{Ready, placed_end}
 use Rattle.canary_release.proofs.PartsEntering.{Loose, aborts, enters, enters_end}
 use Rattle.canary_release.proofs.PartsPassing.{goes_below, no_step_run, not_begun, passes}
@@ -66,7 +65,7 @@ begun_ready s w version i acc f idle left =
       background_unheld = refl;
       few = f.few;
       room = begun_room (length s.strategy.steps) i (of_background (is_some s.strategy.background) false (has_background w.open_runs) false) w.count acc.short (most (is_some s.strategy.background) false (has_background w.open_runs) false) (not_below (1000000 - w.count) 66 left);
-      runs = record { numbered = f.numbered; distinct = f.distinct; tallied = f.tallied; unjudged = none_passes (is_judged s) w.open_runs none };
+      runs = record { numbered = f.numbered; distinct = f.distinct; tallied = f.tallied; unjudged = none_passes is_judged w.open_runs none };
       one_background = f.one_background;
       no_step = none_passes is_step_run w.open_runs none;
       background_run = subst (λ rs. (has_background rs && true) ≡ false) (sym none) refl;
@@ -93,11 +92,11 @@ paused InProgress held o g h = if_paused (held || is_pause o) h
 paused Aborted held o g h = cc g
 paused Done held o g h = cc g
 
-pause_none : (o : Option Step) (found : Option (List MetricValue)) → is_pause o ≡ true → is_none (if is_analysis o then found else None) ≡ true
-pause_none (Some (SetWeight percent)) found h = refl
-pause_none (Some (Pause seconds)) found h = refl
-pause_none (Some (Analysis names)) found h = cc h
-pause_none None found h = refl
+pause_none : (s : Stand) (o : Option Step) → Accepted s.strategy → step_of s ≡ o → is_pause o ≡ true → is_none (analysis_at s.strategy (Some s.step)) ≡ true
+pause_none s (Some (SetWeight percent)) acc is h = cc h
+pause_none s (Some (Pause seconds)) acc is h = no_analysis_at s.strategy s.step (Some (Pause seconds)) acc is (λ names x. cc x)
+pause_none s (Some (Analysis names)) acc is h = cc h
+pause_none s None acc is h = cc h
 
 either_way : (h p n : Bool) → (p ≡ true → n ≡ true) → (h || p) ≡ true → (n || h) ≡ true
 either_way true p true w e = refl
@@ -127,11 +126,11 @@ promoted_within n i held true below = omega arith
 promoted_within n i true false below = omega arith
 promoted_within n i false false below = omega arith
 
-promoted_ready : (s : Stand) (w : Runs) → Fit s w → Unjudged s w → is_going s.state ≡ true → is_progressing (status s) ≡ false → Ready (without_holds s) w (length s.strategy.steps - promoted_to s)
-promoted_ready s w f u g h =
+promoted_ready : (s : Stand) (w : Runs) → Accepted s.strategy → Fit s w → Unjudged s w → is_going s.state ≡ true → is_progressing (status s) ≡ false → Ready (without_holds s) w (length s.strategy.steps - promoted_to s)
+promoted_ready s w acc f u g h =
     let below : s.step < length s.strategy.steps = goes_below s w f g in
     let stops : (is_held s || is_pause (step_of s)) ≡ true = paused s.state (is_held s) (step_of s) g h in
-    let away : (is_none (metrics_at s.strategy (Some s.step)) || is_held s) ≡ true = either_way (is_held s) (is_pause (step_of s)) (is_none (metrics_at s.strategy (Some s.step))) (pause_none (step_of s) (slice_get s.strategy.step_metrics s.step)) stops in
+    let away : (is_none (analysis_at s.strategy (Some s.step)) || is_held s) ≡ true = either_way (is_held s) (is_pause (step_of s)) (is_none (analysis_at s.strategy (Some s.step))) (pause_none s (step_of s) acc refl) stops in
     record {
       going = g;
       unheld = refl;
@@ -149,7 +148,7 @@ promotes : (s : CheckedStrategy) (t : ℕ) (c : Course) → Accepted s → Loose
 promotes s t c acc l g h =
     let own : Accepted c.stand.strategy = subst Accepted (sym l.same) acc in
     let b : Course = with_stand c (without_holds c.stand) in
-    let ready = promoted_ready c.stand (runs_now c) l.fit l.unjudged g h in
+    let ready = promoted_ready c.stand (runs_now c) own l.fit l.unjudged g h in
     let within : promoted_to c.stand ≤ length c.stand.strategy.steps = promoted_within (length c.stand.strategy.steps) c.stand.step c.stand.background_hold c.stand.step_hold (goes_below c.stand (runs_now c) l.fit g) in
     of_strategy c.stand.strategy s t (promote c t) l.same
     (enters (tell b t Promoted) (promoted_to c.stand) t own l.steady within (subst (λ (w : Runs). Ready b.stand w (length c.stand.strategy.steps - promoted_to c.stand)) (sym (told_runs b t Promoted l.steady)) ready))

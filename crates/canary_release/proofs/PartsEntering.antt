@@ -7,6 +7,7 @@ use Rattle.canary_plan.specs.declared.step.Step.TheVariants.{SetWeight, Pause, A
 use Rattle.canary_plan.specs.declared.line.LineEvent.{LineEvent}
 use Rattle.canary_plan.specs.declared.line.LineEvent.TheVariants.{BackgroundOpened, WeightEntered, PauseEntered, TimedPauseEntered, AnalysisEntered, Finished}
 use Rattle.canary_plan.specs.declared.strategy.CheckedStrategy.{CheckedStrategy}
+use Rattle.canary_plan.specs.Plans.{analysis_or_none}
 use Rattle.canary_release.specs.declared.effect.Effect.TheVariants.{Opened}
 use Rattle.canary_release.specs.declared.stand.State.TheVariants.{Aborted}
 use Rattle.canary_release.specs.declared.stand.Stand.{Stand}
@@ -16,7 +17,7 @@ use Rattle.canary_release.specs.Entering.{without_holds, done, finish, begins_ba
 use Rattle.canary_release.proofs.Keeping.{ended_stand}
 use Rattle.canary_release.proofs.PartsRuns.{Steady, with_open, ended_watch, told_runs, happened_runs, none_open}
 use Rattle.canary_release.proofs.PartsKept.{Unjudged, Fit}
-use Rattle.canary_release.proofs.PartsFresh.{Accepted, step_metrics}
+use Rattle.canary_release.proofs.PartsFresh.{Accepted, step_analysis}
 use Rattle.canary_release.proofs.PartsReady.{Ready, with_new, begins, ready_begun, placed_below, placed_end, settled, settled_open}
 
 -- a course of this strategy that is unbroken, but for time: its step was entered by t
@@ -113,7 +114,7 @@ shown c (Some (SetWeight percent)) at e acc steady entered below ready = told c 
 shown c (Some (Pause None)) at e acc steady entered below ready = told c at (PauseEntered c.stand.step) steady entered below ready
 shown c (Some (Pause (Some seconds))) at e acc steady entered below ready = told c at (TimedPauseEntered c.stand.step seconds) steady entered below ready
 shown c (Some (Analysis names)) at e acc steady entered below ready =
-    let fits = settled_open c.stand (runs_now c) at below (step_metrics c.stand.strategy c.stand.step names acc e) ready in
+    let fits = settled_open c.stand (runs_now c) at below (step_analysis c.stand.strategy c.stand.step names acc e) ready in
     loose_as at (tell (open_run c (Some c.stand.step) at) at (AnalysisEntered c.stand.step (next_run c))) c.stand (with_new c.stand.strategy (runs_now c) (Some c.stand.step) at)
     steady refl (opened_runs c (Some c.stand.step) at (AnalysisEntered c.stand.step (next_run c)) steady) entered fits.0 fits.1
 shown c None at e acc steady entered below ready =

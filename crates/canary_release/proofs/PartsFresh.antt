@@ -1,6 +1,6 @@
 -- A run that is opened has a tally for each metric, and is not judged.
-use Rattle.std.proofs.Common.{◌≡◌, ℕ, zero, suc, ◌≤◌, List, [], ◌∷◌, length, refl, ap, ◌∙◌, arith, subst}
-use Rattle.std.specs.Prelude.{Bool, true, false, cond, not, ◌&&◌, ◌||◌, ◌==◌, nat_lt, nat_le, if◌then◌else◌, IsTrue, map, replicate, slice_get, Option, Some, None}
+use Rattle.std.proofs.Common.{◌≡◌, ℕ, zero, suc, ◌≤◌, List, [], ◌∷◌, length, refl, ap, sym, ◌∙◌, arith, subst}
+use Rattle.std.specs.Prelude.{Bool, true, false, cond, not, ◌&&◌, ◌||◌, ◌==◌, nat_lt, nat_le, if◌then◌else◌, IsTrue, map, replicate, slice_get, is_none, Option, Some, None}
 use Rattle.std.specs.List.{list_any, list_all, zip}
 use Rattle.std.proofs.lemmas.Bool.Decides.{nat_tests}
 use Rattle.canary_condition.specs.declared.outcome.Phase.{Phase}
@@ -10,11 +10,11 @@ use Rattle.canary_metric.specs.Counts.{Counts, counts}
 use Rattle.canary_metric.specs.MetricPhases.{is_reached, phase_of_counts, is_completed}
 use Rattle.canary_metric.specs.Verdicts.{MetricCounts, counted_phase, judging, is_bad, is_closing, are_completed, worst_of, verdict_of_counts}
 use Rattle.canary_plan.specs.declared.step.Step.{Step}
-use Rattle.canary_plan.specs.declared.step.Step.TheVariants.{Analysis}
+use Rattle.canary_plan.specs.declared.step.Step.TheVariants.{SetWeight, Pause, Analysis}
 use Rattle.canary_plan.specs.declared.service.Background.{Background}
 use Rattle.canary_plan.specs.declared.analysis_parts.AnalysisParts.{AnalysisParts}
 use Rattle.canary_plan.specs.declared.strategy.CheckedStrategy.{CheckedStrategy}
-use Rattle.canary_plan.specs.Fit.{are_metrics_of_run, is_at_least_one, asks_for_some, have_counts, is_fit}
+use Rattle.canary_plan.specs.Fit.{are_metrics_of_run, is_at_least_one, asks_for_some, have_counts}
 use Rattle.canary_plan.specs.Plans.{analysis_if, analysis_at, analysis_or_none, has_weight_in_range, is_there_and_fit, fits_step, fit_steps, fits_background, is_accepted}
 use Rattle.canary_release.specs.declared.runs.OpenRun.{OpenRun}
 use Rattle.canary_release.specs.Watching.{opened_now}
@@ -157,3 +157,16 @@ pub step_analysis : (s : CheckedStrategy) (i : ℕ) (names : List (List ℕ)) �
 step_analysis s i names a e =
     let t = listed s.steps s.bound.steps i names a.steps e in
     record { analysis = t.analysis; found = t.found; some = t.some; counted = t.counted }
+
+unlisted : (steps : List Step) (bound : List (Option AnalysisParts)) (i : ℕ) → fit_steps steps bound ≡ true → ((names : List (List ℕ)) → slice_get steps i ≡ Some (Analysis names) → ⊥) → is_none (analysis_if (slice_get bound i)) ≡ true
+unlisted [] [] i f none = refl
+unlisted [] (a ∷ rest) i f none = cc f
+unlisted (s ∷ ss) [] i f none = cc f
+unlisted (SetWeight percent ∷ ss) (a ∷ rest) zero f none = and_left (is_none a) (fit_steps ss rest) f
+unlisted (Pause seconds ∷ ss) (a ∷ rest) zero f none = and_left (is_none a) (fit_steps ss rest) f
+unlisted (Analysis names ∷ ss) (a ∷ rest) zero f none = absurd (none names refl)
+unlisted (s ∷ ss) (a ∷ rest) (suc i) f none = unlisted ss rest i (and_right (fits_step s a) (fit_steps ss rest) f) none
+
+-- where a step is no analysis, there is none at it
+pub no_analysis_at : (s : CheckedStrategy) (i : ℕ) (o : Option Step) → Accepted s → slice_get s.steps i ≡ o → ((names : List (List ℕ)) → o ≡ Some (Analysis names) → ⊥) → is_none (analysis_at s (Some i)) ≡ true
+no_analysis_at s i o a e none = unlisted s.steps s.bound.steps i a.steps (λ names is. none names (sym e ∙ is))

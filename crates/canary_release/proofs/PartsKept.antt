@@ -25,7 +25,7 @@ background_needs s w = of_background (is_some s.strategy.background) s.backgroun
 
 -- no open run is judged
 abbrev pub Unjudged : Stand → Runs → Type 0
-Unjudged s w = list_any (is_judged s) w.open_runs ≡ false
+Unjudged s w = list_any is_judged w.open_runs ≡ false
 
 -- all that makes parts unbroken, but for verdicts and time
 pub record Fit (s : Stand) (w : Runs) : Type 0 where
@@ -34,7 +34,7 @@ pub record Fit (s : Stand) (w : Runs) : Type 0 where
   pub room : is_going s.state ≡ true → (length s.strategy.steps - (s.step + 1)) + background_needs s w ≤ 1000000 - w.count
   pub numbered : list_any (is_misnumbered w.count) w.open_runs ≡ false
   pub distinct : repeats_number w.open_runs ≡ false
-  pub tallied : list_any (has_wrong_tallies s) w.open_runs ≡ false
+  pub tallied : list_any has_wrong_tallies w.open_runs ≡ false
   pub idle : is_going s.state ≡ false → w.open_runs ≡ []
   pub one_background : length (filter is_background_run w.open_runs) ≤ 1
   pub one_step : length (filter is_step_run w.open_runs) ≤ 1
@@ -56,7 +56,7 @@ causes s =
     ∷ (going && nat_lt (1000000 - s.runs.count) (runs_wanted s))
     ∷ list_any (is_misnumbered s.runs.count) runs
     ∷ repeats_number runs
-    ∷ list_any (has_wrong_tallies stand) runs
+    ∷ list_any has_wrong_tallies runs
     ∷ (not going && nat_lt 0 (length runs))
     ∷ nat_lt 1 (length (filter is_background_run runs))
     ∷ nat_lt 1 (length (filter is_step_run runs))
@@ -65,7 +65,7 @@ causes s =
     ∷ (is_held stand && not going)
     ∷ (stand.background && is_none stand.strategy.background)
     ∷ (stand.background_hold && not stand.background)
-    ∷ list_any (is_judged stand) runs
+    ∷ list_any is_judged runs
     ∷ is_by stand.last (next_move stand)
     ∷ []
 

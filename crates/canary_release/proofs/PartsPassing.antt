@@ -1,13 +1,12 @@
 -- Passing leaves parts unbroken.
 use Rattle.std.proofs.Common.{◌≡◌, ℕ, zero, suc, ◌+◌, ◌-◌, ◌≤◌, ◌<◌, List, length, refl, ap, sym, arith, subst}
-use Rattle.std.specs.Prelude.{Bool, true, false, not, ◌&&◌, ◌||◌, ◌==◌, nat_lt, if◌then◌else◌, slice_get, is_some, is_none, Option, Some, None}
+use Rattle.std.specs.Prelude.{Bool, true, false, not, ◌&&◌, ◌||◌, ◌==◌, nat_lt, if◌then◌else◌, is_some, is_none, Option, Some, None}
 use Rattle.std.specs.List.{list_any}
 use Rattle.std.proofs.lemmas.Bool.Decides.{nat_tests}
-use Rattle.canary_metric.specs.Metrics.{MetricValue}
 use Rattle.canary_plan.specs.declared.step.Step.{Step}
 use Rattle.canary_plan.specs.declared.step.Step.TheVariants.{SetWeight, Pause, Analysis}
 use Rattle.canary_plan.specs.declared.strategy.CheckedStrategy.{CheckedStrategy}
-use Rattle.canary_plan.specs.Plans.{is_analysis, metrics_at}
+use Rattle.canary_plan.specs.Plans.{analysis_at}
 use Rattle.canary_release.specs.declared.stand.Stand.{Stand}
 use Rattle.canary_release.specs.declared.runs.OpenRun.{OpenRun}
 use Rattle.canary_release.specs.declared.runs.Runs.{Runs}
@@ -20,7 +19,7 @@ use Rattle.canary_release.specs.Shapes.{kept_after}
 use Rattle.canary_release.proofs.Chains.{going, chain_ends}
 use Rattle.canary_release.proofs.PartsLists.{or_left, or_right, any_weaker}
 use Rattle.canary_release.proofs.PartsKept.{of_background, has_background, Unjudged, Fit, unbroken_of}
-use Rattle.canary_release.proofs.PartsFresh.{and_left, and_right, Accepted}
+use Rattle.canary_release.proofs.PartsFresh.{and_left, and_right, Accepted, no_analysis_at}
 use Rattle.canary_release.proofs.PartsReady.{Ready, contradicts, going_not_done}
 use Rattle.canary_release.proofs.PartsEntering.{Loose, enters}
 
@@ -41,15 +40,15 @@ goes_below s w f g = step_below (length s.strategy.steps) s.step (is_done s.stat
 
 -- where the present step has no analysis, or is held, no step run is open
 
-step_away : (s : Stand) (o : Option ℕ) → (is_none (metrics_at s.strategy (Some s.step)) || is_held s) ≡ true → is_elsewhere s o ≡ false → is_some o ≡ false
+step_away : (s : Stand) (o : Option ℕ) → (is_none (analysis_at s.strategy (Some s.step)) || is_held s) ≡ true → is_elsewhere s o ≡ false → is_some o ≡ false
 step_away s None away h = refl
 step_away s (Some i) away h =
-    let here : not (i == s.step) ≡ false = or_left (not (i == s.step)) (is_none (metrics_at s.strategy (Some i)) || is_held s) h in
+    let here : not (i == s.step) ≡ false = or_left (not (i == s.step)) (is_none (analysis_at s.strategy (Some i)) || is_held s) h in
     let same : i ≡ s.step = grind (arith, nat_tests) in
-    let none : (is_none (metrics_at s.strategy (Some i)) || is_held s) ≡ false = or_right (not (i == s.step)) (is_none (metrics_at s.strategy (Some i)) || is_held s) h in
-    contradicts (is_none (metrics_at s.strategy (Some s.step)) || is_held s) away (subst (λ k. (is_none (metrics_at s.strategy (Some k)) || is_held s) ≡ false) same none)
+    let none : (is_none (analysis_at s.strategy (Some i)) || is_held s) ≡ false = or_right (not (i == s.step)) (is_none (analysis_at s.strategy (Some i)) || is_held s) h in
+    contradicts (is_none (analysis_at s.strategy (Some s.step)) || is_held s) away (subst (λ k. (is_none (analysis_at s.strategy (Some k)) || is_held s) ≡ false) same none)
 
-pub no_step_run : (s : Stand) (rs : List OpenRun) → (is_none (metrics_at s.strategy (Some s.step)) || is_held s) ≡ true → list_any (is_astray s) rs ≡ false → list_any is_step_run rs ≡ false
+pub no_step_run : (s : Stand) (rs : List OpenRun) → (is_none (analysis_at s.strategy (Some s.step)) || is_held s) ≡ true → list_any (is_astray s) rs ≡ false → list_any is_step_run rs ≡ false
 no_step_run s rs away h = any_weaker (is_astray s) is_step_run (λ r e. step_away s r.step away e) rs h
 
 pub not_begun : (a b h : Bool) → (a && (not b || h)) ≡ false → (a && not b) ≡ false
@@ -77,11 +76,11 @@ later s t u c le l = record { steady = l.steady; same = l.same; entered = (let e
 
 -- a move
 
-leaves_none : (o : Option Step) (found : Option (List MetricValue)) (entered e : ℕ) → leaves_at o entered ≡ Some e → is_none (if is_analysis o then found else None) ≡ true
-leaves_none (Some (SetWeight percent)) found entered e h = refl
-leaves_none (Some (Pause seconds)) found entered e h = refl
-leaves_none (Some (Analysis names)) found entered e h = cc h
-leaves_none None found entered e h = refl
+leaves_none : (s : Stand) (o : Option Step) (entered e : ℕ) → Accepted s.strategy → step_of s ≡ o → leaves_at o entered ≡ Some e → is_none (analysis_at s.strategy (Some s.step)) ≡ true
+leaves_none s (Some (SetWeight percent)) entered e acc is h = no_analysis_at s.strategy s.step (Some (SetWeight percent)) acc is (λ names x. cc x)
+leaves_none s (Some (Pause seconds)) entered e acc is h = no_analysis_at s.strategy s.step (Some (Pause seconds)) acc is (λ names x. cc x)
+leaves_none s (Some (Analysis names)) entered e acc is h = cc h
+leaves_none s None entered e acc is h = no_analysis_at s.strategy s.step None acc is (λ names x. cc x)
 
 pub not_true : (b : Bool) → not b ≡ true → b ≡ false
 not_true true h = cc h
@@ -90,12 +89,13 @@ not_true false h = refl
 moves_loose : (s : CheckedStrategy) (t e : ℕ) (c next : Course) → Accepted s → Loose s t c → Moves c e next → e ≤ t → Loose s t next
 moves_loose s t e c next acc l m le =
     let st : Stand = c.stand in
+    let own : Accepted st.strategy = subst Accepted (sym l.same) acc in
     let goes : is_going st.state ≡ true = and_left (is_going st.state) (not (is_held st)) m.0 in
     let free : is_held st ≡ false = not_true (is_held st) (and_right (is_going st.state) (not (is_held st)) m.0) in
-    let away : (is_none (metrics_at st.strategy (Some st.step)) || is_held st) ≡ true = ap (λ b. b || is_held st) (leaves_none (step_of st) (slice_get st.strategy.step_metrics st.step) st.entered e m.1) in
+    let away : (is_none (analysis_at st.strategy (Some st.step)) || is_held st) ≡ true = ap (λ b. b || is_held st) (leaves_none st (step_of st) st.entered e own refl m.1) in
     let ready = next_ready st (runs_now c) l.fit l.unjudged goes (or_left st.step_hold st.background_hold free) (or_right st.step_hold st.background_hold free) (no_step_run st (runs_now c).open_runs away l.fit.home) in
     let below : st.step < length st.strategy.steps = goes_below st (runs_now c) l.fit goes in
-    let there : Loose st.strategy e (enter c (st.step + 1) e) = enters c (st.step + 1) e (subst Accepted (sym l.same) acc) l.steady (omega arith) ready in
+    let there : Loose st.strategy e (enter c (st.step + 1) e) = enters c (st.step + 1) e own l.steady (omega arith) ready in
     subst (Loose s t) (sym m.2) (later s e t (enter c (st.step + 1) e) le (subst (λ x. Loose x e (enter c (st.step + 1) e)) l.same there))
 
 chain_loose : (n t : ℕ) (s : CheckedStrategy) (c : Course) → Accepted s → Loose s t c → Loose s t (chain_end n t c)

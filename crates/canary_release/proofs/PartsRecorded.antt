@@ -3,9 +3,7 @@ use Rattle.std.proofs.Common.{◌≡◌, ℕ, zero, suc, ◌+◌, ◌-◌, ◌�
 use Rattle.std.specs.Prelude.{Bool, true, false, not, ◌&&◌, ◌||◌, ◌==◌, nat_lt, if◌then◌else◌, map, filter, is_some, is_none, Option, Some, None}
 use Rattle.std.specs.List.{list_any}
 use Rattle.canary_metric.specs.Metrics.{MetricValue}
-use Rattle.canary_metric.specs.Counts.{Counts}
 use Rattle.canary_plan.specs.declared.report.Entry.{Entry}
-use Rattle.canary_plan.specs.Plans.{metrics_at}
 use Rattle.canary_release.specs.declared.effect.Recorded.{Recorded}
 use Rattle.canary_release.specs.declared.effect.Effect.TheVariants.{Measured}
 use Rattle.canary_release.specs.declared.stand.Stand.{Stand}
@@ -15,7 +13,7 @@ use Rattle.canary_release.specs.Pasts.{change_at}
 use Rattle.canary_release.specs.Watching.{counted, counted_in, is_other}
 use Rattle.canary_release.specs.Courses.{Course, happen, runs_now}
 use Rattle.canary_release.specs.Reports.{Place, place_of, recorded_if, brought, record_all}
-use Rattle.canary_release.specs.Parts.{is_background_run, is_step_run, is_misnumbered, is_unfit, has_wrong_tallies, is_elsewhere, is_astray, is_judged}
+use Rattle.canary_release.specs.Parts.{is_background_run, is_step_run, is_misnumbered, has_wrong_tallies, is_elsewhere, is_astray, is_judged}
 use Rattle.canary_release.proofs.PartsLists.{any_weaker, any_filter, any_filtered, any_map, any_map_same, few_map, few_filter, repeats_filter, repeats_map, and_false, of_others, of_other}
 use Rattle.canary_release.proofs.PartsRuns.{Steady, with_open, happened_runs}
 use Rattle.canary_release.proofs.PartsKept.{of_background, has_background, Unjudged, Fit}
@@ -27,18 +25,17 @@ changed_length k f [] = refl
 changed_length zero f (x ∷ xs) = refl
 changed_length (suc k) f (x ∷ xs) = ap suc (changed_length k f xs)
 
-same_place : (x : Recorded) (r : OpenRun) → ((counted_in x r).number ≡ r.number) × ((counted_in x r).step ≡ r.step) × (length (counted_in x r).tallies ≡ length r.tallies)
+same_place : (x : Recorded) (r : OpenRun) → ((counted_in x r).number ≡ r.number) × ((counted_in x r).step ≡ r.step)
 same_place x r =
     elim (r.number == x.run)
-    as (λ b. let q : OpenRun = (if b then record r { tallies = change_at x.metric (counted x) r.tallies } else r) in (q.number ≡ r.number) × (q.step ≡ r.step) × (length q.tallies ≡ length r.tallies))
-    [ true ↦ (refl, refl, changed_length x.metric (counted x) r.tallies) | false ↦ (refl, refl, refl) ]
+    as (λ b. let q : OpenRun = (if b then record r { tallies = change_at x.metric (counted x) r.tallies } else r) in (q.number ≡ r.number) × (q.step ≡ r.step))
+    [ true ↦ (refl, refl) | false ↦ (refl, refl) ]
 
-unfit_alike : (o : Option (List MetricValue)) (ts us : List Counts) → length us ≡ length ts → is_unfit o ts ≡ false → is_unfit o us ≡ false
-unfit_alike None ts us e h = h
-unfit_alike (Some ms) ts us e h = subst (λ n. not (length ms == n) ≡ false) (sym e) h
-
-wrong_alike : (s : Stand) (q r : OpenRun) → q.step ≡ r.step → length q.tallies ≡ length r.tallies → has_wrong_tallies s r ≡ false → has_wrong_tallies s q ≡ false
-wrong_alike s q r e l h = subst (λ o. is_unfit (metrics_at s.strategy o) q.tallies ≡ false) (sym e) (unfit_alike (metrics_at s.strategy r.step) r.tallies q.tallies l h)
+wrong_alike : (x : Recorded) (r : OpenRun) → has_wrong_tallies r ≡ false → has_wrong_tallies (counted_in x r) ≡ false
+wrong_alike x r h =
+    elim (r.number == x.run)
+    as (λ b. let q : OpenRun = (if b then record r { tallies = change_at x.metric (counted x) r.tallies } else r) in has_wrong_tallies q ≡ false)
+    [ true ↦ subst (λ n. not (length r.analysis.metrics == n) ≡ false) (sym (changed_length x.metric (counted x) r.tallies)) h | false ↦ h ]
 
 abbrev pub measured : Recorded → Runs → Runs
 measured x w = with_open w (map (counted_in x) w.open_runs)
@@ -55,7 +52,7 @@ measured_fits s w x f =
       room = λ g. subst (λ b. (length s.strategy.steps - (s.step + 1)) + of_background (is_some s.strategy.background) s.background b s.background_hold ≤ 1000000 - w.count) (sym background) (f.room g);
       numbered = any_map change (is_misnumbered w.count) (is_misnumbered w.count) (λ r h. subst (λ k. (k == 0 || nat_lt w.count k) ≡ false) (sym (number r)) h) w.open_runs f.numbered;
       distinct = repeats_map change number w.open_runs f.distinct;
-      tallied = any_map change (has_wrong_tallies s) (has_wrong_tallies s) (λ r h. wrong_alike s (change r) r (step r) (same_place x r).2 h) w.open_runs f.tallied;
+      tallied = any_map change has_wrong_tallies has_wrong_tallies (wrong_alike x) w.open_runs f.tallied;
       idle = λ g. ap (map change) (f.idle g);
       one_background = subst (λ n. n ≤ 1) (sym (few_map change is_background_run (λ r. ap is_none (step r)) w.open_runs)) f.one_background;
       one_step = subst (λ n. n ≤ 1) (sym (few_map change is_step_run (λ r. ap is_some (step r)) w.open_runs)) f.one_step;
@@ -74,12 +71,12 @@ others_alike p x r h =
 
 -- the others are not judged
 abbrev pub OthersUnjudged : ℕ → Stand → Runs → Type 0
-OthersUnjudged n s w = list_any (of_others n (is_judged s)) w.open_runs ≡ false
+OthersUnjudged n s w = list_any (of_others n is_judged) w.open_runs ≡ false
 
 measured_others : (n : ℕ) (s : Stand) (w : Runs) (x : Recorded) → x.run ≡ n → OthersUnjudged n s w → OthersUnjudged n s (measured x w)
 measured_others n s w x e h =
     subst (λ k. OthersUnjudged k s w → OthersUnjudged k s (measured x w)) e
-    (λ (g : OthersUnjudged x.run s w). any_map (counted_in x) (of_others x.run (is_judged s)) (of_others x.run (is_judged s)) (others_alike (is_judged s) x) w.open_runs g) h
+    (λ (g : OthersUnjudged x.run s w). any_map (counted_in x) (of_others x.run is_judged) (of_others x.run is_judged) (others_alike is_judged x) w.open_runs g) h
 
 abbrev AreOf : ℕ → List Recorded → Type 0
 AreOf n [] = Unit {0}
@@ -111,7 +108,7 @@ recorded n c (x ∷ xs) are steady f o =
 pub all_recorded : (c : Course) (ms : List MetricValue) (r : OpenRun) (es : List Entry) → Steady c.watch → Fit c.stand (runs_now c) → Unjudged c.stand (runs_now c) → StillFits r.number c.stand (record_all c (brought ms r es))
 all_recorded c ms r es steady f u =
     recorded r.number c (brought ms r es) (brought_of ms r es) steady f
-    (any_weaker (is_judged c.stand) (of_others r.number (is_judged c.stand)) (λ q h. and_false (is_other r.number q) (is_judged c.stand q) h) (runs_now c).open_runs u)
+    (any_weaker is_judged (of_others r.number is_judged) (λ q h. and_false (is_other r.number q) (is_judged q) h) (runs_now c).open_runs u)
 
 -- a run is closed
 
@@ -169,4 +166,4 @@ not_other true h = cc h
 not_other false h = refl
 
 pub closed_unjudged : (s : Stand) (w : Runs) (n : ℕ) → OthersUnjudged n s w → Unjudged s (without n w)
-closed_unjudged s w n h = any_filtered (is_other n) (of_others n (is_judged s)) (is_judged s) (λ r e o. of_other (r.number == n) (is_judged s r) o (not_other (r.number == n) e)) w.open_runs h
+closed_unjudged s w n h = any_filtered (is_other n) (of_others n is_judged) is_judged (λ r e o. of_other (r.number == n) (is_judged r) o (not_other (r.number == n) e)) w.open_runs h

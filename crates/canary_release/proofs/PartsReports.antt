@@ -9,7 +9,7 @@ use Rattle.canary_metric.specs.MetricPhases.{is_completed}
 use Rattle.canary_plan.specs.declared.report.Entry.{Entry}
 use Rattle.canary_plan.specs.declared.line.LineEvent.TheVariants.{Completed, StepHeld, BackgroundHeld, AbortedBy}
 use Rattle.canary_plan.specs.declared.strategy.CheckedStrategy.{CheckedStrategy}
-use Rattle.canary_plan.specs.Plans.{metrics_at}
+use Rattle.canary_plan.specs.Plans.{analysis_at}
 use Rattle.canary_release.specs.declared.effect.Effect.TheVariants.{Closed}
 use Rattle.canary_release.specs.declared.stand.Stand.{Stand}
 use Rattle.canary_release.specs.declared.runs.OpenRun.{OpenRun}
@@ -144,7 +144,7 @@ at_run : (c : Course) (s : Stand) (w : Runs) (r : OpenRun) (o : Option ℕ) → 
 at_run c s w r (Some i) stand runs e h g f =
     let taken : list_any is_step_run (without r.number w).open_runs ≡ false = only_one (has_number r.number) is_step_run w.open_runs r h (ap is_some e) f.one_step in
     let home : is_elsewhere s (Some i) ≡ false = subst (λ o. is_elsewhere s o ≡ false) e (found_false (has_number r.number) (is_astray s) w.open_runs r h f.home) in
-    let unheld : is_held s ≡ false = or_right (is_none (metrics_at s.strategy (Some i))) (is_held s) (or_right (not (i == s.step)) (is_none (metrics_at s.strategy (Some i)) || is_held s) home) in
+    let unheld : is_held s ≡ false = or_right (is_none (analysis_at s.strategy (Some i))) (is_held s) (or_right (not (i == s.step)) (is_none (analysis_at s.strategy (Some i)) || is_held s) home) in
     (subst (λ (v : Runs). list_any is_step_run v.open_runs ≡ false) (sym runs) taken, subst (λ (x : Stand). is_held x ≡ false) (sym stand) unheld)
 at_run c s w r None stand runs e h g f =
     let open' : has_background w.open_runs ≡ true = found_any (has_number r.number) is_background_run w.open_runs r h (ap is_none e) in
@@ -174,13 +174,13 @@ completes t n c r v acc found steady entered f others =
 
 assessed : (t n : ℕ) (c : Course) (o : Option OpenRun) → Accepted c.stand.strategy → find (has_number n) (runs_now c).open_runs ≡ o → Steady c.watch → c.stand.entered ≤ t → Fit c.stand (runs_now c) → OthersUnjudged n c.stand (runs_now c) → Loose c.stand.strategy t (assess c o t)
 assessed t n c None acc found steady entered f others =
-    record { steady = steady; same = refl; entered = entered; fit = f; unjudged = none_without (is_judged c.stand) n (runs_now c).open_runs found others }
+    record { steady = steady; same = refl; entered = entered; fit = f; unjudged = none_without is_judged n (runs_now c).open_runs found others }
 assessed t n c (Some r) acc found steady entered f others =
     let v : Phase = run_verdict false r in
     elim (is_completed v)
     as (λ b. is_completed v ≡ b → Loose c.stand.strategy t (let d : Course = (if b then complete c r v t else c) in d)) [
       | true ↦ λ e. completes t n c r v acc found steady entered f others
-      | false ↦ λ e. record { steady = steady; same = refl; entered = entered; fit = f; unjudged = none_of_all (is_judged c.stand) n (runs_now c).open_runs r f.distinct found e others }
+      | false ↦ λ e. record { steady = steady; same = refl; entered = entered; fit = f; unjudged = none_of_all is_judged n (runs_now c).open_runs r f.distinct found e others }
     ] refl
 
 pub reported : (s : CheckedStrategy) (t : ℕ) (c : Course) (r : OpenRun) (es : List Entry) → Accepted s → Loose s t c → Loose s t (report_on c r es t)

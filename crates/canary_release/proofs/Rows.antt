@@ -6,6 +6,7 @@ use Rattle.canary_condition.specs.declared.outcome.Value.TheVariants.{Whole}
 use Rattle.canary_condition.specs.declared.outcome.Outcome.TheVariants.{Result}
 use Rattle.canary_condition.specs.declared.outcome.Phase.TheVariants.{Successful}
 use Rattle.canary_metric.specs.Counts.{counts, with_one_more}
+use Rattle.canary_plan.specs.declared.analysis_parts.AnalysisParts.{AnalysisParts}
 use Rattle.canary_plan.specs.Plans.{Templates, bound_metric}
 use Rattle.canary_plan.specs.declared.step.Step.TheVariants.{SetWeight, Pause}
 use Rattle.canary_plan.specs.declared.command.Command.{Command}
@@ -53,7 +54,7 @@ paused_service : service_after to_second_pause web ≡ Some (record {
   made = record { name = web; version = v1; steps = two_pauses; background = None };
   stand = record {
     name = web;
-    strategy = record { steps = two_pauses; background = None; step_metrics = replicate 4 []; background_metrics = [] };
+    strategy = record { steps = two_pauses; background = None; bound = record { steps = replicate 4 None; background = None } };
     stable = v1;
     version = v2;
     state = InProgress;
@@ -86,7 +87,7 @@ falling_service : service_after falling web ≡ Some (record {
   made = record { name = web; version = v1; steps = SetWeight 20 ∷ Pause None ∷ []; background = None };
   stand = record {
     name = web;
-    strategy = record { steps = SetWeight 20 ∷ Pause None ∷ []; background = None; step_metrics = replicate 2 []; background_metrics = [] };
+    strategy = record { steps = SetWeight 20 ∷ Pause None ∷ []; background = None; bound = record { steps = replicate 2 None; background = None } };
     stable = v2;
     version = v3;
     state = InProgress;
@@ -142,7 +143,7 @@ weights_service : service_after weights_alone web ≡ Some (record {
   made = record { name = web; version = v1; steps = SetWeight 5 ∷ SetWeight 100 ∷ []; background = None };
   stand = record {
     name = web;
-    strategy = record { steps = SetWeight 5 ∷ SetWeight 100 ∷ []; background = None; step_metrics = replicate 2 []; background_metrics = [] };
+    strategy = record { steps = SetWeight 5 ∷ SetWeight 100 ∷ []; background = None; bound = record { steps = replicate 2 None; background = None } };
     stable = v2;
     version = v2;
     state = Done;
@@ -178,7 +179,7 @@ refused_late_service : service_after refused_late web ≡ Some (record {
   made = record { name = web; version = v1; steps = Pause None ∷ Pause None ∷ []; background = None };
   stand = record {
     name = web;
-    strategy = record { steps = Pause None ∷ Pause None ∷ []; background = None; step_metrics = replicate 2 []; background_metrics = [] };
+    strategy = record { steps = Pause None ∷ Pause None ∷ []; background = None; bound = record { steps = replicate 2 None; background = None } };
     stable = v1;
     version = v2;
     state = InProgress;
@@ -209,7 +210,7 @@ new_service_of : service_after late web ≡ Some (record {
   made = record { name = web; version = v1; steps = two_pauses; background = None };
   stand = record {
     name = web;
-    strategy = record { steps = two_pauses; background = None; step_metrics = replicate 4 []; background_metrics = [] };
+    strategy = record { steps = two_pauses; background = None; bound = record { steps = replicate 4 None; background = None } };
     stable = v1;
     version = v1;
     state = Done;
@@ -238,6 +239,9 @@ two_weights_replies = replies_from_nothing two_weights _ refl
 
 -- A service with a run of the background, measured once, and ended by an abort.
 
+abbrev each_minute : AnalysisParts
+each_minute = record { metrics = bound_metric [] (every (metric m) 60) ∷ [] }
+
 abbrev good_at_first : Recorded
 good_at_first = record { run = 1; metric = 0; ordinal = 1; taken = b + 5; outcome = Result (Whole (pos 7)); phase = Successful }
 
@@ -248,7 +252,7 @@ measured_service : service_after measured_once web ≡ Some (record {
   made = record { name = web; version = v1; steps = SetWeight 20 ∷ Pause None ∷ []; background = background (codes "errs") 0 };
   stand = record {
     name = web;
-    strategy = record { steps = SetWeight 20 ∷ Pause None ∷ []; background = background (codes "errs") 0; step_metrics = replicate 2 []; background_metrics = bound_metric [] (every (metric m) 60) ∷ [] };
+    strategy = record { steps = SetWeight 20 ∷ Pause None ∷ []; background = background (codes "errs") 0; bound = record { steps = replicate 2 None; background = Some each_minute } };
     stable = v1;
     version = v2;
     state = Aborted;
@@ -263,6 +267,7 @@ measured_service : service_after measured_once web ≡ Some (record {
     runs = record {
       number = 1;
       step = None;
+      analysis = each_minute;
       started = b;
       closed = Some (record { run = 1; at = b + 9; outside = true; verdict = Successful });
       lists = (good_at_first ∷ []) ∷ [];
@@ -324,15 +329,18 @@ not_in_progress = refl
 
 -- What is watched of a past: a run is opened, measured and closed.
 
+abbrev of_two : AnalysisParts
+of_two = record { metrics = bound_metric [] (every (metric m) 60) ∷ bound_metric [] (every (metric m) 60) ∷ [] }
+
 abbrev run_of_two : Opening
-run_of_two = record { run = 1; step = Some 1; started = b; metrics = 2 }
+run_of_two = record { run = 1; step = Some 1; analysis = of_two; started = b }
 
 abbrev good : Recorded
 good = record { run = 1; metric = 1; ordinal = 1; taken = b + 5; outcome = Result (Whole (pos 7)); phase = Successful }
 
 one_open : watched (grows_by no_past (Opened run_of_two ∷ Measured good ∷ [])) ≡ record {
   count = 1;
-  open_runs = record { number = 1; step = Some 1; started = b; tallies = counts [] ∷ with_one_more (counts []) Successful (b + 5) ∷ [] } ∷ [];
+  open_runs = record { number = 1; step = Some 1; analysis = of_two; started = b; tallies = counts [] ∷ with_one_more (counts []) Successful (b + 5) ∷ [] } ∷ [];
 }
 one_open = refl
 

@@ -5,7 +5,7 @@ use Rattle.canary_metric.specs.Counts.{Counts}
 use Rattle.canary_plan.specs.declared.step.Step.TheVariants.{SetWeight, Pause, Analysis}
 use Rattle.canary_plan.specs.declared.service.Background.{Background}
 use Rattle.canary_plan.specs.declared.service.ServiceSpec.{ServiceSpec}
-use Rattle.canary_plan.specs.Plans.{Templates, template_of}
+use Rattle.canary_plan.specs.Plans.{Templates, template_of, metrics_named}
 use Rattle.canary_release.specs.declared.stand.State.{State}
 use Rattle.canary_release.specs.declared.stand.State.TheVariants.{InProgress, Aborted, Done}
 use Rattle.canary_release.specs.declared.stand.Stand.{Stand}
@@ -55,7 +55,7 @@ abbrev tally : ℕ → Counts
 tally n = record { counted = n; failed = 0; inconclusive = 0; errors = 0; consecutive = 0; passes = n; last = None }
 
 abbrev with_tallies : ℕ → Option ℕ → List Counts → OpenRun
-with_tallies number step tallies = record { number = number; step = step; started = b; tallies = tallies }
+with_tallies number step tallies = record { number = number; step = step; analysis = record { metrics = metrics_named three_times (codes "t" ∷ []) }; started = b; tallies = tallies }
 
 -- an open run with no measurement
 abbrev run : ℕ → Option ℕ → OpenRun

@@ -6,7 +6,7 @@ use Rattle.canary_plan.specs.declared.step.Step.TheVariants.{SetWeight, Pause, A
 use Rattle.canary_plan.specs.declared.service.ServiceSpec.{ServiceSpec}
 use Rattle.canary_plan.specs.declared.command.Command.{Command}
 use Rattle.canary_plan.specs.declared.command.Command.TheVariants.{Start, Promote, PromoteFull, Abort, Retry, Tick}
-use Rattle.canary_plan.specs.Plans.{Templates, template_of}
+use Rattle.canary_plan.specs.Plans.{Templates, template_of, metrics_named}
 use Rattle.canary_release.specs.declared.reply.Reply.{Reply}
 use Rattle.canary_release.specs.declared.stand.State.TheVariants.{InProgress, Aborted}
 use Rattle.canary_release.specs.declared.stand.Stand.{Stand}
@@ -351,6 +351,7 @@ measured n =
         open_runs = record {
           number = 1;
           step = None;
+          analysis = record { metrics = metrics_named errs (codes "errs" ∷ []) };
           started = b;
           tallies = record { counted = n; failed = 0; inconclusive = 0; errors = 0; consecutive = 0; passes = n; last = Some b } ∷ [];
         } ∷ [];

@@ -1,5 +1,5 @@
 -- The machine keeps a desk sound: each verdict is that of its run's measurements.
-use Rattle.std.proofs.Common.{◌≡◌, ℕ, zero, suc, List, [], ◌∷◌, Bool, true, false, refl, ap, sym, ◌∙◌, subst, true≢false, eqb-true}
+use Rattle.std.proofs.Common.{◌≡◌, ℕ, zero, suc, List, [], ◌∷◌, length, Bool, true, false, refl, ap, sym, ◌∙◌, subst, true≢false, eqb-true}
 use Rattle.std.specs.Prelude.{◌==◌, ◌||◌, cond, if◌then◌else◌, Option, Some, None, slice_get, map, filter, replicate, is_none}
 use Rattle.std.specs.List.{AllByRecursion, list_any, zip}
 use Rattle.std.specs.FinMap.{get, get-empty}
@@ -32,7 +32,7 @@ use Rattle.canary_release.specs.Parts.{is_judged}
 use Rattle.canary_release.specs.PartsLaws.{ActingKeepsParts, NewPartsAreUnbroken}
 use Rattle.canary_release.specs.Laws.{WatchesAlike}
 use Rattle.canary_release.specs.Order.{AreInOrder}
-use Rattle.canary_release.specs.Sound.{IsJudgedBy, AreJudged, HasVerdict, IsSoundRun, AreSound, StaySound}
+use Rattle.canary_release.specs.Sound.{IsJudgedBy, AreJudged, verdict_on, HasVerdict, IsSoundRun, AreSound, StaySound}
 use Rattle.canary_release.proofs.OrderingBasics.{neither, some_same, each, each_both, each_and_more, each_mapped, fold_completed}
 use Rattle.canary_release.specs.Effects.{Allowed, AreAllowed}
 use Rattle.canary_release.proofs.OrderingPasts.{IsOrdered, IsThatRun, that_run, ordered_after, watched_then}
@@ -52,23 +52,20 @@ running outside ws e =
 
 -- A run is judged soundly so far: its measurements are judged, and if it is closed, it was closed at its verdict, a completed phase.
 
-abbrev verdict_so_far : CheckedStrategy → Run → Bool → Phase
-verdict_so_far st r outside = verdict (run_metrics st r.step) (map (map measurement_of) r.lists) outside
+abbrev IsClosedWell : Run → Option Closing → Type 0
+IsClosedWell r None = Unit {0}
+IsClosedWell r (Some x) = (x.run ≡ r.number) × (x.verdict ≡ verdict_on r x.outside) × (is_completed x.verdict ≡ true)
 
-abbrev IsClosedWell : CheckedStrategy → Run → Option Closing → Type 0
-IsClosedWell st r None = Unit {0}
-IsClosedWell st r (Some x) = (x.run ≡ r.number) × (x.verdict ≡ verdict_so_far st r x.outside) × (is_completed x.verdict ≡ true)
-
-abbrev IsSoundSoFar : CheckedStrategy → Run → Type 0
-IsSoundSoFar st r = AreJudged (run_metrics st r.step) r.lists × IsClosedWell st r r.closed
+abbrev IsSoundSoFar : Run → Type 0
+IsSoundSoFar r = AreJudged r.analysis.metrics r.lists × IsClosedWell r r.closed
 
 same_counts : (lists : List (List Recorded)) → map counts (map (map measurement_of) lists) ≡ map counts_of lists
 same_counts [] = refl
 same_counts (list ∷ lists) = ap (λ (cs : List Counts). counts_of list ∷ cs) (same_counts lists)
 
 -- the verdict of a run's tallies is that of its lists
-same_verdict : (st : CheckedStrategy) (r : Run) (outside : Bool) → run_verdict st outside (tallied r) ≡ verdict_so_far st r outside
-same_verdict st r outside = ap (λ (cs : List Counts). verdict_of_counts outside (zip (run_metrics st r.step) cs)) (sym (same_counts r.lists))
+same_verdict : (r : Run) (outside : Bool) → run_verdict outside (tallied r) ≡ verdict_on r outside
+same_verdict r outside = ap (λ (cs : List Counts). verdict_of_counts outside (zip r.analysis.metrics cs)) (sym (same_counts r.lists))
 
 none_judged : (ms : List MetricValue) (n : ℕ) → AreJudged ms (replicate n [])
 none_judged [] n = tt
@@ -83,95 +80,94 @@ judged_more (n ∷ ms) (list ∷ lists) zero m x e f h =
     (each_and_more (IsJudgedBy n) list x h.0 (subst (λ (q : MetricValue). IsJudgedBy q x) (sym same) f), h.1)
 judged_more (n ∷ ms) (list ∷ lists) (suc k) m x e f h = (h.0, judged_more ms lists k m x e f h.1)
 
-sound_measured : (st : CheckedStrategy) (x : Recorded) (w : OpenRun) (m : MetricValue) → slice_get (run_metrics st w.step) x.metric ≡ Some m → x.phase ≡ phase_of m.success m.failure x.outcome → (r : Run) → IsSoundSoFar st r → IsThatRun x.run w r → IsSoundSoFar st (measured_in x r)
-sound_measured st x w m is_metric judged r h that =
+sound_measured : (x : Recorded) (w : OpenRun) (m : MetricValue) → slice_get w.analysis.metrics x.metric ≡ Some m → x.phase ≡ phase_of m.success m.failure x.outcome → (r : Run) → IsSoundSoFar r → IsThatRun x.run w r → IsSoundSoFar (measured_in x r)
+sound_measured x w m is_metric judged r h that =
     elim (r.number == x.run)
-    as (λ b. (r.number == x.run) ≡ b → IsSoundSoFar st (let q : Run = (if b then record r { lists = change_at x.metric (with_recorded x) r.lists } else r) in q)) [
+    as (λ b. (r.number == x.run) ≡ b → IsSoundSoFar (let q : Run = (if b then record r { lists = change_at x.metric (with_recorded x) r.lists } else r) in q)) [
       | true ↦ λ e.
           let known = that (eqb-true r.number x.run e) in
           let new : Run = record r { lists = change_at x.metric (with_recorded x) r.lists } in
-          let metric : slice_get (run_metrics st r.step) x.metric ≡ Some m = ap (λ (q : OpenRun). slice_get (run_metrics st q.step) x.metric) known.1 ∙ is_metric in
-          (judged_more (run_metrics st r.step) r.lists x.metric m x metric judged h.0, subst (IsClosedWell st new) (sym known.0) tt)
+          let metric : slice_get r.analysis.metrics x.metric ≡ Some m = ap (λ (q : OpenRun). slice_get q.analysis.metrics x.metric) known.1 ∙ is_metric in
+          (judged_more r.analysis.metrics r.lists x.metric m x metric judged h.0, subst (IsClosedWell new) (sym known.0) tt)
       | false ↦ λ e. h
     ] refl
 
-sound_closed : (st : CheckedStrategy) (x : Closing) (w : OpenRun) → x.verdict ≡ run_verdict st x.outside w → is_completed x.verdict ≡ true → (r : Run) → IsSoundSoFar st r → IsThatRun x.run w r → IsSoundSoFar st (closed_in x r)
-sound_closed st x w is_verdict completed r h that =
+sound_closed : (x : Closing) (w : OpenRun) → x.verdict ≡ run_verdict x.outside w → is_completed x.verdict ≡ true → (r : Run) → IsSoundSoFar r → IsThatRun x.run w r → IsSoundSoFar (closed_in x r)
+sound_closed x w is_verdict completed r h that =
     elim (r.number == x.run)
-    as (λ b. (r.number == x.run) ≡ b → IsSoundSoFar st (let q : Run = (if b then record r { closed = Some x } else r) in q)) [
+    as (λ b. (r.number == x.run) ≡ b → IsSoundSoFar (let q : Run = (if b then record r { closed = Some x } else r) in q)) [
       | true ↦ λ e.
           let number : r.number ≡ x.run = eqb-true r.number x.run e in
           let known = that number in
-          (h.0, (sym number, is_verdict ∙ ap (run_verdict st x.outside) (sym known.1) ∙ same_verdict st r x.outside, completed))
+          (h.0, (sym number, is_verdict ∙ ap (run_verdict x.outside) (sym known.1) ∙ same_verdict r x.outside, completed))
       | false ↦ λ e. h
     ] refl
 
-sound_after : (st : CheckedStrategy) (p : Past) (x : Effect) → Allowed st (watched p) x → IsOrdered st p → AllByRecursion (IsSoundSoFar st) p.runs → AllByRecursion (IsSoundSoFar st) (grows p x).runs
+sound_after : (st : CheckedStrategy) (p : Past) (x : Effect) → Allowed st (watched p) x → IsOrdered st p → AllByRecursion IsSoundSoFar p.runs → AllByRecursion IsSoundSoFar (grows p x).runs
 sound_after st p (Told line) a o h = h
-sound_after st p (Opened x) a o h = each_and_more (IsSoundSoFar st) p.runs (opened_run x) h (none_judged (run_metrics st x.step) x.metrics, tt)
+sound_after st p (Opened x) a o h = each_and_more IsSoundSoFar p.runs (opened_run x) h (none_judged x.analysis.metrics (length x.analysis.metrics), tt)
 sound_after st p (Measured x) a o h =
     let that = that_run x.run 1 p.runs a.run o.numbered a.found in
-    each_mapped (λ (r : Run). IsSoundSoFar st (measured_in x r)) (IsSoundSoFar st) (measured_in x) (λ r k. k) p.runs
-    (each_both (IsSoundSoFar st) (IsThatRun x.run a.run) (λ (r : Run). IsSoundSoFar st (measured_in x r)) (sound_measured st x a.run a.metric a.is_metric a.judged) p.runs h that)
+    each_mapped (λ (r : Run). IsSoundSoFar (measured_in x r)) IsSoundSoFar (measured_in x) (λ r k. k) p.runs
+    (each_both IsSoundSoFar (IsThatRun x.run a.run) (λ (r : Run). IsSoundSoFar (measured_in x r)) (sound_measured x a.run a.metric a.is_metric a.judged) p.runs h that)
 sound_after st p (Closed x tallies) a o h =
     let that = that_run x.run 1 p.runs a.run o.numbered a.found in
-    each_mapped (λ (r : Run). IsSoundSoFar st (closed_in x r)) (IsSoundSoFar st) (closed_in x) (λ r k. k) p.runs
-    (each_both (IsSoundSoFar st) (IsThatRun x.run a.run) (λ (r : Run). IsSoundSoFar st (closed_in x r)) (sound_closed st x a.run a.verdict a.completed) p.runs h that)
+    each_mapped (λ (r : Run). IsSoundSoFar (closed_in x r)) IsSoundSoFar (closed_in x) (λ r k. k) p.runs
+    (each_both IsSoundSoFar (IsThatRun x.run a.run) (λ (r : Run). IsSoundSoFar (closed_in x r)) (sound_closed x a.run a.verdict a.completed) p.runs h that)
 
-sound_after_all : WatchesAlike → (st : CheckedStrategy) (p : Past) (xs : List Effect) → AreAllowed st (watched p) xs → IsOrdered st p → AllByRecursion (IsSoundSoFar st) p.runs → AllByRecursion (IsSoundSoFar st) (grows_by p xs).runs
+sound_after_all : WatchesAlike → (st : CheckedStrategy) (p : Past) (xs : List Effect) → AreAllowed st (watched p) xs → IsOrdered st p → AllByRecursion IsSoundSoFar p.runs → AllByRecursion IsSoundSoFar (grows_by p xs).runs
 sound_after_all alike st p [] a o h = h
 sound_after_all alike st p (x ∷ xs) a o h =
     sound_after_all alike st (grows p x) xs (subst (λ (w : Runs). AreAllowed st w xs) (sym (watched_then alike p x)) a.1) (ordered_after st p x a.0 o) (sound_after st p x a.0 o h)
 
 -- A service whose open runs aren't judged.
 
-abbrev IsUnjudged : Stand → Run → Type 0
-IsUnjudged s r = r.closed ≡ None → is_judged s (tallied r) ≡ false
+abbrev IsUnjudged : Run → Type 0
+IsUnjudged r = r.closed ≡ None → is_judged (tallied r) ≡ false
 
-unjudged : (s : Stand) (rs : List Run) → list_any (is_judged s) (map tallied (filter is_open rs)) ≡ false → AllByRecursion (IsUnjudged s) rs
-unjudged s [] e = tt
-unjudged s (r ∷ rs) e =
+unjudged : (rs : List Run) → list_any is_judged (map tallied (filter is_open rs)) ≡ false → AllByRecursion IsUnjudged rs
+unjudged [] e = tt
+unjudged (r ∷ rs) e =
     let rest : List Run = filter is_open rs in
     elim (is_open r)
-    as (λ b. is_open r ≡ b → list_any (is_judged s) (map tallied (cond b (r ∷ rest) rest)) ≡ false → AllByRecursion (IsUnjudged s) (r ∷ rs)) [
+    as (λ b. is_open r ≡ b → list_any is_judged (map tallied (cond b (r ∷ rest) rest)) ≡ false → AllByRecursion IsUnjudged (r ∷ rs)) [
       | true ↦ λ o f.
-          let h = neither (is_judged s (tallied r)) (list_any (is_judged s) (map tallied rest)) f in
-          (λ none. h.0, unjudged s rs h.1)
-      | false ↦ λ o f. (λ none. absurd (true≢false (ap is_none (sym none) ∙ o)), unjudged s rs f)
+          let h = neither (is_judged (tallied r)) (list_any is_judged (map tallied rest)) f in
+          (λ none. h.0, unjudged rs h.1)
+      | false ↦ λ o f. (λ none. absurd (true≢false (ap is_none (sym none) ∙ o)), unjudged rs f)
     ] refl e
 
-to_so_far : (s : ModelService) (r : Run) → IsSoundRun s r → IsSoundSoFar s.stand.strategy r
-to_so_far s r h = (h.0, by r.closed h.1)
+to_so_far : (r : Run) → IsSoundRun r → IsSoundSoFar r
+to_so_far r h = (h.0, by r.closed h.1)
   where
-    by : (o : Option Closing) → HasVerdict s r o → IsClosedWell s.stand.strategy r o
+    by : (o : Option Closing) → HasVerdict r o → IsClosedWell r o
     by None k = tt
     by (Some x) k = k
 
-from_so_far : (s : ModelService) (r : Run) → IsSoundSoFar s.stand.strategy r → IsUnjudged s.stand r → IsSoundRun s r
-from_so_far s r h u = (h.0, by r.closed refl h.1)
+from_so_far : (r : Run) → IsSoundSoFar r → IsUnjudged r → IsSoundRun r
+from_so_far r h u = (h.0, by r.closed refl h.1)
   where
-    by : (o : Option Closing) → r.closed ≡ o → IsClosedWell s.stand.strategy r o → HasVerdict s r o
-    by None e k = sym (same_verdict s.stand.strategy r false) ∙ running false (zip (run_metrics s.stand.strategy r.step) (tallied r).tallies) (u e)
+    by : (o : Option Closing) → r.closed ≡ o → IsClosedWell r o → HasVerdict r o
+    by None e k = sym (same_verdict r false) ∙ running false (zip r.analysis.metrics (tallied r).tallies) (u e)
     by (Some x) e k = k
 
 -- What a command brings.
 
 abbrev AreSoundRuns : List ℕ → ModelService → Type 0
-AreSoundRuns name s = AllByRecursion (IsSoundRun s) s.past.runs
+AreSoundRuns name s = AllByRecursion IsSoundRun s.past.runs
 
 abbrev SoundIf : Option ModelService → Type 0
 SoundIf None = Unit {0}
-SoundIf (Some s) = AllByRecursion (IsSoundRun s) s.past.runs
+SoundIf (Some s) = AllByRecursion IsSoundRun s.past.runs
 
-sound_becomes : WatchesAlike → (known : Templates) (found : Option ModelService) (command : Command) (c : Course) → OrderIf known (subject_of command) found → SoundIf found → HasCome known found command (Becomes c) → AllByRecursion (IsSoundRun (after found c.stand c.effects)) (after found c.stand c.effects).past.runs
-sound_becomes alike known None command c o h came = subst (AllByRecursion (IsSoundRun (after None c.stand c.effects))) (sym came.no_runs) tt
+sound_becomes : WatchesAlike → (known : Templates) (found : Option ModelService) (command : Command) (c : Course) → OrderIf known (subject_of command) found → SoundIf found → HasCome known found command (Becomes c) → AllByRecursion IsSoundRun (after found c.stand c.effects).past.runs
+sound_becomes alike known None command c o h came = subst (AllByRecursion IsSoundRun) (sym came.no_runs) tt
 sound_becomes alike known (Some m) command c o h came =
     let s : ModelService = after (Some m) c.stand c.effects in
     let f = came.following in
-    let so_far = each (IsSoundRun m) (IsSoundSoFar m.stand.strategy) (to_so_far m) m.past.runs h in
-    let grown = sound_after_all alike m.stand.strategy m.past c.effects f.allowed (past_ordered known (subject_of command) m o) so_far in
-    let now : AllByRecursion (IsSoundSoFar s.stand.strategy) s.past.runs = subst (λ (st : CheckedStrategy). AllByRecursion (IsSoundSoFar st) s.past.runs) (sym f.strategy) grown in
-    each_both (IsSoundSoFar s.stand.strategy) (IsUnjudged s.stand) (IsSoundRun s) (from_so_far s) s.past.runs now (unjudged s.stand s.past.runs (parts_say (shape s) came.order.parts).unjudged)
+    let so_far = each IsSoundRun IsSoundSoFar to_so_far m.past.runs h in
+    let now : AllByRecursion IsSoundSoFar s.past.runs = sound_after_all alike m.stand.strategy m.past c.effects f.allowed (past_ordered known (subject_of command) m o) so_far in
+    each_both IsSoundSoFar IsUnjudged IsSoundRun from_so_far s.past.runs now (unjudged s.past.runs (parts_say (shape s) came.order.parts).unjudged)
 
 sound_of : (desk : Desk) → AreSound desk → (name : List ℕ) → SoundIf (get desk.services name)
 sound_of desk h name = by (get desk.services name) refl
