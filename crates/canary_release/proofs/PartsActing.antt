@@ -126,7 +126,7 @@ promoted_within n i held true below = omega arith
 promoted_within n i true false below = omega arith
 promoted_within n i false false below = omega arith
 
-promoted_ready : (s : Stand) (w : Runs) → Accepted s.strategy → Fit s w → Unjudged s w → is_going s.state ≡ true → is_progressing (status s) ≡ false → Ready (without_holds s) w (length s.strategy.steps - promoted_to s)
+promoted_ready : (s : Stand) (w : Runs) → Accepted s.strategy → Fit s w → Unjudged w → is_going s.state ≡ true → is_progressing (status s) ≡ false → Ready (without_holds s) w (length s.strategy.steps - promoted_to s)
 promoted_ready s w acc f u g h =
     let below : s.step < length s.strategy.steps = goes_below s w f g in
     let stops : (is_held s || is_pause (step_of s)) ≡ true = paused s.state (is_held s) (step_of s) g h in

@@ -26,17 +26,17 @@ pub record Loose (s : CheckedStrategy) (t : ℕ) (c : Course) : Type 0 where
   pub same : c.stand.strategy ≡ s
   pub entered : c.stand.entered ≤ t
   pub fit : Fit c.stand (runs_now c)
-  pub unjudged : Unjudged c.stand (runs_now c)
+  pub unjudged : Unjudged (runs_now c)
 
 -- from how it stands and what is watched
-pub loose_as : (t : ℕ) (c : Course) (s : Stand) (w : Runs) → Steady c.watch → c.stand ≡ s → runs_now c ≡ w → s.entered ≤ t → Fit s w → Unjudged s w → Loose s.strategy t c
+pub loose_as : (t : ℕ) (c : Course) (s : Stand) (w : Runs) → Steady c.watch → c.stand ≡ s → runs_now c ≡ w → s.entered ≤ t → Fit s w → Unjudged w → Loose s.strategy t c
 loose_as t c s w steady stand runs entered fit unjudged =
     record {
       steady = steady;
       same = ap (λ (x : Stand). x.strategy) stand;
       entered = subst (λ (x : Stand). x.entered ≤ t) (sym stand) entered;
       fit = subst (λ (x : Stand). Fit x (runs_now c)) (sym stand) (subst (λ (v : Runs). Fit s v) (sym runs) fit);
-      unjudged = subst (λ (x : Stand). Unjudged x (runs_now c)) (sym stand) (subst (λ (v : Runs). Unjudged s v) (sym runs) unjudged);
+      unjudged = subst (λ (v : Runs). Unjudged v) (sym runs) unjudged;
     }
 
 -- a release that is done, or aborted

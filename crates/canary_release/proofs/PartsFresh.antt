@@ -161,7 +161,7 @@ step_analysis s i names a e =
 unlisted : (steps : List Step) (bound : List (Option AnalysisParts)) (i : ℕ) → fit_steps steps bound ≡ true → ((names : List (List ℕ)) → slice_get steps i ≡ Some (Analysis names) → ⊥) → is_none (analysis_if (slice_get bound i)) ≡ true
 unlisted [] [] i f none = refl
 unlisted [] (a ∷ rest) i f none = cc f
-unlisted (s ∷ ss) [] i f none = cc f
+unlisted (s ∷ ss) [] i f none = refl
 unlisted (SetWeight percent ∷ ss) (a ∷ rest) zero f none = and_left (is_none a) (fit_steps ss rest) f
 unlisted (Pause seconds ∷ ss) (a ∷ rest) zero f none = and_left (is_none a) (fit_steps ss rest) f
 unlisted (Analysis names ∷ ss) (a ∷ rest) zero f none = absurd (none names refl)

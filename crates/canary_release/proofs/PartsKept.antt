@@ -24,8 +24,8 @@ abbrev pub background_needs : Stand → Runs → ℕ
 background_needs s w = of_background (is_some s.strategy.background) s.background (has_background w.open_runs) s.background_hold
 
 -- no open run is judged
-abbrev pub Unjudged : Stand → Runs → Type 0
-Unjudged s w = list_any is_judged w.open_runs ≡ false
+abbrev pub Unjudged : Runs → Type 0
+Unjudged w = list_any is_judged w.open_runs ≡ false
 
 -- all that makes parts unbroken, but for verdicts and time
 pub record Fit (s : Stand) (w : Runs) : Type 0 where
@@ -105,7 +105,7 @@ idle_if : (g : Bool) (rs : List OpenRun) → (g ≡ false → rs ≡ []) → (no
 idle_if true rs h = refl
 idle_if false rs h = rw (h refl) refl
 
-pub fit_of : (s : ServiceParts) → is_broken s ≡ false → Fit s.stand s.runs × Unjudged s.stand s.runs × (s.stand.entered ≤ s.stand.last)
+pub fit_of : (s : ServiceParts) → is_broken s ≡ false → Fit s.stand s.runs × Unjudged s.runs × (s.stand.entered ≤ s.stand.last)
 fit_of s h =
     let f = all_false (causes s) h in
     let a = f.1.1.1 in
@@ -131,7 +131,7 @@ fit_of s h =
       not_below s.stand.last s.stand.entered f.1.0,
     )
 
-pub unbroken_of : (s : ServiceParts) → Fit s.stand s.runs → Unjudged s.stand s.runs → s.stand.entered ≤ s.stand.last → is_by s.stand.last (next_move s.stand) ≡ false → is_broken s ≡ false
+pub unbroken_of : (s : ServiceParts) → Fit s.stand s.runs → Unjudged s.runs → s.stand.entered ≤ s.stand.last → is_by s.stand.last (next_move s.stand) ≡ false → is_broken s ≡ false
 unbroken_of s f u le rest =
     none_true (causes s) (
       f.placed,

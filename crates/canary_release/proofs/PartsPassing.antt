@@ -56,7 +56,7 @@ not_begun true b h e = or_left (not b) h e
 not_begun false b h e = refl
 
 -- the next step may be entered
-pub next_ready : (s : Stand) (w : Runs) → Fit s w → Unjudged s w → is_going s.state ≡ true → s.step_hold ≡ false → s.background_hold ≡ false → list_any is_step_run w.open_runs ≡ false → Ready s w (length s.strategy.steps - (s.step + 1))
+pub next_ready : (s : Stand) (w : Runs) → Fit s w → Unjudged w → is_going s.state ≡ true → s.step_hold ≡ false → s.background_hold ≡ false → list_any is_step_run w.open_runs ≡ false → Ready s w (length s.strategy.steps - (s.step + 1))
 next_ready s w f u g unheld background_unheld no_step =
     record {
       going = g;

@@ -187,7 +187,7 @@ settled s w below r =
 here : (i : ℕ) (none held : Bool) → none ≡ false → held ≡ false → (not (i == i) || (none || held)) ≡ false
 here i none held e h = let same : (i == i) ≡ true = grind (arith, nat_tests) in rw (same, e, h) refl
 
-pub settled_open : (s : Stand) (w : Runs) (at : ℕ) → s.step < length s.strategy.steps → HasAnalysis s.strategy (Some s.step) → Ready s w (length s.strategy.steps - s.step) → Fit s (with_new s.strategy w (Some s.step) at) × Unjudged s (with_new s.strategy w (Some s.step) at)
+pub settled_open : (s : Stand) (w : Runs) (at : ℕ) → s.step < length s.strategy.steps → HasAnalysis s.strategy (Some s.step) → Ready s w (length s.strategy.steps - s.step) → Fit s (with_new s.strategy w (Some s.step) at) × Unjudged (with_new s.strategy w (Some s.step) at)
 settled_open s w at below has r =
     let new : OpenRun = new_run s.strategy (w.count + 1) (Some s.step) at in
     let runs = more_runs s.strategy w (Some s.step) at has r.runs in

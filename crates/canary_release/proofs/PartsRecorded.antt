@@ -70,13 +70,13 @@ others_alike p x r h =
     [ true ↦ λ e g. rw e refl | false ↦ λ e g. rw e g ] refl h
 
 -- the others are not judged
-abbrev pub OthersUnjudged : ℕ → Stand → Runs → Type 0
-OthersUnjudged n s w = list_any (of_others n is_judged) w.open_runs ≡ false
+abbrev pub OthersUnjudged : ℕ → Runs → Type 0
+OthersUnjudged n w = list_any (of_others n is_judged) w.open_runs ≡ false
 
-measured_others : (n : ℕ) (s : Stand) (w : Runs) (x : Recorded) → x.run ≡ n → OthersUnjudged n s w → OthersUnjudged n s (measured x w)
-measured_others n s w x e h =
-    subst (λ k. OthersUnjudged k s w → OthersUnjudged k s (measured x w)) e
-    (λ (g : OthersUnjudged x.run s w). any_map (counted_in x) (of_others x.run is_judged) (of_others x.run is_judged) (others_alike is_judged x) w.open_runs g) h
+measured_others : (n : ℕ) (w : Runs) (x : Recorded) → x.run ≡ n → OthersUnjudged n w → OthersUnjudged n (measured x w)
+measured_others n w x e h =
+    subst (λ k. OthersUnjudged k w → OthersUnjudged k (measured x w)) e
+    (λ (g : OthersUnjudged x.run w). any_map (counted_in x) (of_others x.run is_judged) (of_others x.run is_judged) (others_alike is_judged x) w.open_runs g) h
 
 abbrev AreOf : ℕ → List Recorded → Type 0
 AreOf n [] = Unit {0}
@@ -95,17 +95,17 @@ pub record StillFits (n : ℕ) (s : Stand) (c : Course) : Type 0 where
   pub steady : Steady c.watch
   pub stand : c.stand ≡ s
   pub fit : Fit s (runs_now c)
-  pub others : OthersUnjudged n s (runs_now c)
+  pub others : OthersUnjudged n (runs_now c)
 
-recorded : (n : ℕ) (c : Course) (xs : List Recorded) → AreOf n xs → Steady c.watch → Fit c.stand (runs_now c) → OthersUnjudged n c.stand (runs_now c) → StillFits n c.stand (record_all c xs)
+recorded : (n : ℕ) (c : Course) (xs : List Recorded) → AreOf n xs → Steady c.watch → Fit c.stand (runs_now c) → OthersUnjudged n (runs_now c) → StillFits n c.stand (record_all c xs)
 recorded n c [] are steady f o = record { steady = steady; stand = refl; fit = f; others = o }
 recorded n c (x ∷ xs) are steady f o =
     let runs : runs_now (happen c (Measured x)) ≡ measured x (runs_now c) = happened_runs c (Measured x) steady in
     recorded n (happen c (Measured x)) xs are.1 steady
     (subst (λ (w : Runs). Fit c.stand w) (sym runs) (measured_fits c.stand (runs_now c) x f))
-    (subst (λ (w : Runs). OthersUnjudged n c.stand w) (sym runs) (measured_others n c.stand (runs_now c) x are.0 o))
+    (subst (λ (w : Runs). OthersUnjudged n w) (sym runs) (measured_others n (runs_now c) x are.0 o))
 
-pub all_recorded : (c : Course) (ms : List MetricValue) (r : OpenRun) (es : List Entry) → Steady c.watch → Fit c.stand (runs_now c) → Unjudged c.stand (runs_now c) → StillFits r.number c.stand (record_all c (brought ms r es))
+pub all_recorded : (c : Course) (ms : List MetricValue) (r : OpenRun) (es : List Entry) → Steady c.watch → Fit c.stand (runs_now c) → Unjudged (runs_now c) → StillFits r.number c.stand (record_all c (brought ms r es))
 all_recorded c ms r es steady f u =
     recorded r.number c (brought ms r es) (brought_of ms r es) steady f
     (any_weaker is_judged (of_others r.number is_judged) (λ q h. and_false (is_other r.number q) (is_judged q) h) (runs_now c).open_runs u)
@@ -150,7 +150,7 @@ closed_fits s w n f =
           (fewer there s.background (has_background w.open_runs) (has_background (filter t w.open_runs)) s.background_hold background) (f.room g);
       numbered = any_filter t (is_misnumbered w.count) w.open_runs f.numbered;
       distinct = repeats_filter t w.open_runs f.distinct;
-      tallied = any_filter t (has_wrong_tallies s) w.open_runs f.tallied;
+      tallied = any_filter t has_wrong_tallies w.open_runs f.tallied;
       idle = λ g. ap (filter t) (f.idle g);
       one_background = less (length (filter is_background_run w.open_runs)) (length (filter is_background_run (filter t w.open_runs))) (few_filter t is_background_run w.open_runs) f.one_background;
       one_step = less (length (filter is_step_run w.open_runs)) (length (filter is_step_run (filter t w.open_runs))) (few_filter t is_step_run w.open_runs) f.one_step;
@@ -165,5 +165,5 @@ not_other : (b : Bool) → not b ≡ true → b ≡ false
 not_other true h = cc h
 not_other false h = refl
 
-pub closed_unjudged : (s : Stand) (w : Runs) (n : ℕ) → OthersUnjudged n s w → Unjudged s (without n w)
-closed_unjudged s w n h = any_filtered (is_other n) (of_others n is_judged) is_judged (λ r e o. of_other (r.number == n) (is_judged r) o (not_other (r.number == n) e)) w.open_runs h
+pub closed_unjudged : (w : Runs) (n : ℕ) → OthersUnjudged n w → Unjudged (without n w)
+closed_unjudged w n h = any_filtered (is_other n) (of_others n is_judged) is_judged (λ r e o. of_other (r.number == n) (is_judged r) o (not_other (r.number == n) e)) w.open_runs h

@@ -154,25 +154,25 @@ at_run c s w r None stand runs e h g f =
       subst (λ (x : Stand). HasRoom x (runs_now c)) (sym stand) (subst (λ (v : Runs). HasRoom s v) (sym runs) room),
     )
 
-completes : (t n : ℕ) (c : Course) (r : OpenRun) (v : Phase) → Accepted c.stand.strategy → find (has_number n) (runs_now c).open_runs ≡ Some r → Steady c.watch → c.stand.entered ≤ t → Fit c.stand (runs_now c) → OthersUnjudged n c.stand (runs_now c) → Loose c.stand.strategy t (complete c r v t)
+completes : (t n : ℕ) (c : Course) (r : OpenRun) (v : Phase) → Accepted c.stand.strategy → find (has_number n) (runs_now c).open_runs ≡ Some r → Steady c.watch → c.stand.entered ≤ t → Fit c.stand (runs_now c) → OthersUnjudged n (runs_now c) → Loose c.stand.strategy t (complete c r v t)
 completes t n c r v acc found steady entered f others =
     let w : Runs = runs_now c in
     let st : Stand = c.stand in
     let same : n ≡ r.number = its_number w.open_runs n r found in
     let h : find (has_number r.number) w.open_runs ≡ Some r = subst (λ k. find (has_number k) w.open_runs ≡ Some r) same found in
-    let o : OthersUnjudged r.number st w = subst (λ k. OthersUnjudged k st w) same others in
+    let o : OthersUnjudged r.number w = subst (λ k. OthersUnjudged k w) same others in
     let closed : Course = close_run c r t false in
     let b : Course = tell closed t (Completed r.number v) in
-    let runs : runs_now b ≡ without r.number w = told_runs closed t (Completed r.number v) steady ∙ happened_runs c (Closed (record { run = r.number; at = t; outside = false; verdict = run_verdict st.strategy false r }) r.tallies) steady in
+    let runs : runs_now b ≡ without r.number w = told_runs closed t (Completed r.number v) steady ∙ happened_runs c (Closed (record { run = r.number; at = t; outside = false; verdict = run_verdict false r }) r.tallies) steady in
     let g : is_going st.state ≡ true = found_going (is_going st.state) (has_number r.number) w.open_runs r f.idle h in
     follows st.strategy t b r.number r.step v (record {
       accepted = acc;
-      loose = loose_as t b st (without r.number w) steady refl runs entered (closed_fits st w r.number f) (closed_unjudged st w r.number o);
+      loose = loose_as t b st (without r.number w) steady refl runs entered (closed_fits st w r.number f) (closed_unjudged w r.number o);
       going = g;
       run = at_run b st w r r.step refl runs refl h g f;
     })
 
-assessed : (t n : ℕ) (c : Course) (o : Option OpenRun) → Accepted c.stand.strategy → find (has_number n) (runs_now c).open_runs ≡ o → Steady c.watch → c.stand.entered ≤ t → Fit c.stand (runs_now c) → OthersUnjudged n c.stand (runs_now c) → Loose c.stand.strategy t (assess c o t)
+assessed : (t n : ℕ) (c : Course) (o : Option OpenRun) → Accepted c.stand.strategy → find (has_number n) (runs_now c).open_runs ≡ o → Steady c.watch → c.stand.entered ≤ t → Fit c.stand (runs_now c) → OthersUnjudged n (runs_now c) → Loose c.stand.strategy t (assess c o t)
 assessed t n c None acc found steady entered f others =
     record { steady = steady; same = refl; entered = entered; fit = f; unjudged = none_without is_judged n (runs_now c).open_runs found others }
 assessed t n c (Some r) acc found steady entered f others =
@@ -192,4 +192,4 @@ reported s t c r es acc l =
     (assessed t r.number all (open_run_now all r.number) (subst Accepted (sym same) acc) refl still.steady
     (subst (λ (x : Stand). x.entered ≤ t) (sym still.stand) l.entered)
     (subst (λ (x : Stand). Fit x (runs_now all)) (sym still.stand) still.fit)
-    (subst (λ (x : Stand). OthersUnjudged r.number x (runs_now all)) (sym still.stand) still.others))
+    still.others)

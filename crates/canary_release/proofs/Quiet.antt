@@ -6,6 +6,7 @@ use Rattle.canary_plan.specs.declared.step.Step.{Step}
 use Rattle.canary_plan.specs.declared.step.Step.TheVariants.{SetWeight, Pause, Analysis}
 use Rattle.canary_plan.specs.declared.line.LineEvent.{LineEvent}
 use Rattle.canary_plan.specs.declared.line.LineEvent.TheVariants.{BackgroundOpened, WeightEntered, PauseEntered, TimedPauseEntered, AnalysisEntered, Finished, Ended}
+use Rattle.canary_plan.specs.Plans.{analysis_or_none}
 use Rattle.canary_release.specs.declared.effect.Effect.{Effect}
 use Rattle.canary_release.specs.declared.effect.Effect.TheVariants.{Told, Opened, Closed}
 use Rattle.canary_release.specs.declared.runs.OpenRun.{OpenRun}

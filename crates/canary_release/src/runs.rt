@@ -111,11 +111,7 @@ impl OpenRun {
     pub(crate) fn verdict(&self, outside: bool) -> Phase
         ensures { result ≡ run_verdict outside self.now }
     {
-        verdict(
-            self.analysis.metrics(),
-            self.tallies.as_slice(),
-            outside,
-        )
+        verdict(self.analysis.metrics(), self.tallies.as_slice(), outside)
     }
 }
 

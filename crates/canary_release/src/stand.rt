@@ -194,11 +194,7 @@ impl Stand {
 
     /// A copy of its strategy's analysis at a step, or of its background; one of no templates where
     /// there is no such analysis.
-    pub(crate) fn analysis(
-        &self,
-        alloc: Global,
-        step: Option<u32>,
-    ) -> Result<BoundAnalysis, Memory>
+    pub(crate) fn analysis(&self, alloc: Global, step: Option<u32>) -> Result<BoundAnalysis, Memory>
         ensures { IfOk result
             (λ analysis. analysis ≡ analysis_or_none self.now.strategy step) }
     {
