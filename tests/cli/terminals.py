@@ -119,6 +119,7 @@ def try_missing(program, place):
     new desk has no rows, and nothing is shown of them."""
     new = ["--db", "new.db"]
     unknown, missing = b"canary: unknown-service\n", b"canary: file\n"
+    about = b": a file is missing, cannot be read or written, is too long, or exists already\n"
     nothing_read = b"\rcanary: 0 of 0 MB read" + ERASED
     open(os.path.join(place, "no-rows.csv"), "wb").close()
     rows = (
@@ -126,8 +127,8 @@ def try_missing(program, place):
         (["history", *new, "web"], 1, MADE + unknown, unknown),
         (["export", *new, "--caller", "agent", "web"], 1, MADE + unknown, unknown),
         (["pipe", "--at", "0", "--step", "0", *new], 0, b"", b""),
-        (["status", *new], 1, missing, missing),
-        (["backup", *new, "copy.db"], 1, missing, missing),
+        (["status", *new], 1, missing + b"new.db" + about, missing),
+        (["backup", *new, "copy.db"], 1, missing + b"new.db, copy.db" + about, missing),
     )
     before = {*os.listdir(place), "input", "output"}
     for words, status, on_terminal, elsewhere in rows:
@@ -147,6 +148,49 @@ def try_missing(program, place):
         for name in set(os.listdir(place)) - before:
             os.remove(os.path.join(place, name))
     return len(rows)
+
+
+def try_faults(program, place):
+    """A second line says what a fault is, and of which address or file, on a terminal alone."""
+    with open(os.path.join(place, "text"), "w", encoding="ascii") as file:
+        file.write("a text that is longer than the first bytes of a database\n")
+    cannot = b": cannot open, make, read or write the database\n"
+    invalid = b": the address is invalid, or the desk cannot listen on it\n"
+    unfound = b": a file is missing, cannot be read or written, is too long, or exists already\n"
+    no_desk = b": the tables of the database are not a desk's\n"
+    in_use = b": another program has the database open\n"
+    rows = (
+        (["serve", "--listen", "127.0.0.1"], b"listen", b"127.0.0.1" + invalid),
+        (["serve", "--listen", "127.0.0.1:0", "--db", "text"], b"storage", b"text" + cannot),
+        (["history", "--db", "text", "web"], b"storage", b"text" + cannot),
+        (["status", "--db", "text"], b"storage", b"text" + cannot),
+        (["backup", "--db", "text", "copy"], b"other-schema", b"text, copy" + no_desk),
+        (["import", "--db", "desk.db", "none.csv"], b"file", b"desk.db, none.csv" + unfound),
+        (["check", "none.json"], b"file", b"none.json" + unfound),
+        (["check", "--request", "none.json"], b"file", b"none.json" + unfound),
+        (["export", "--db", "desk.db", "--caller", " ", "web"], b"bad-name", b""),
+    )
+    for words, word, about in rows:
+        line = b"canary: " + word + b"\n"
+        written, shown = run_showing(program, words, place, status=1)
+        shown = shown[shown.rfind(ERASED) + len(ERASED):] if ERASED in shown else shown
+        expect(f"{words}, on a terminal", (written, shown), (b"", line + about))
+        done = subprocess.run([program, *words], cwd=place, stdin=subprocess.DEVNULL, timeout=60,
+                              capture_output=True)
+        expect(f"{words}, on no terminal", (done.returncode, done.stderr), (1, line))
+    with open(os.path.join(place, "errors"), "w", encoding="ascii") as errors:
+        desk = subprocess.Popen([program, "serve", "--listen", "127.0.0.1:0", "--db", "desk.db"],
+                                cwd=place, stdout=subprocess.PIPE, stderr=errors)
+    try:
+        desk.stdout.readline()
+        words = ["history", "--db", "desk.db", "web"]
+        written, shown = run_showing(program, words, place, status=1)
+        expect(f"{words}, of a desk that runs", (written, shown),
+               (b"", b"canary: in-use\ndesk.db" + in_use))
+    finally:
+        desk.kill()
+        desk.communicate()
+    return len(rows) + 1
 
 
 def try_watching(program, place):
@@ -174,5 +218,5 @@ def try_watching(program, place):
 
 def try_terminals(program, new_place):
     """Each of these in a new folder with a desk's file."""
-    parts = (try_judging, try_reading, try_missing, try_watching)
+    parts = (try_judging, try_reading, try_missing, try_faults, try_watching)
     return sum(part(program, new_place()) for part in parts)

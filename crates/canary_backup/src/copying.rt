@@ -139,50 +139,68 @@ fn sync(rt: &HostRuntime, name: &str) -> io::Result<()> {
     OpenOptions::new().write(true).open(rt, name)?.sync_all()
 }
 
-/// Copies a desk's file of SQLite, with its log, to `copy` and `copy`-wal, also while a desk serves
-/// it: the copy has each request that was settled before, and of those that are settled meanwhile
-/// the first ones. It is made under the names `copy`.part-PROCESS and `copy`.part-PROCESS-wal, and
-/// has its own once it is whole and on the disk.
-///
-/// # Errors
-/// `File` if there is no such file, if a file of these four names is there already, or if a file
-/// cannot be read or written; `Storage` if the file cannot be reached; `InUse` if the log was begun
-/// anew each time while the file was copied; `Memory` if an allocation was refused. There is no
-/// copy then.
-pub fn backup(rt: &HostRuntime, file: &str, copy: &str) -> Result<(), BackupFault> {
-    let from = Pair::found(rt, file)?;
-    backup_found(rt, &from, copy)
+/// A copy of a database, whole under names of its own: `copy`.part-PROCESS and
+/// `copy`.part-PROCESS-wal.
+#[derive(Drop)]
+pub struct Part {
+    files: Pair,
+    to: Pair,
 }
 
-fn backup_found(rt: &HostRuntime, from: &Pair, copy: &str) -> Result<(), BackupFault> {
-    let to = Pair::of(rt.alloc(), copy)?;
-    let part = Pair::beside(rt, copy, "part")?;
-    if to.is_free(rt) && part.is_free(rt) {
-        backup_by_part(rt, from, &part, &to)
-    } else {
-        Err(BackupFault::File)
+impl Part {
+    /// Copies a file of SQLite, with its log, also while a desk serves it: the copy has each request
+    /// that was settled before, and of those that are settled meanwhile the first ones.
+    ///
+    /// # Errors
+    /// `File` if there is no such file, if a file of the copy's names, `copy` and `copy`-wal, or of
+    /// its part's is there already, or if a file cannot be read or written; `Storage` if the file
+    /// cannot be reached; `InUse` if the log was begun anew each time while the file was copied;
+    /// `Memory` if an allocation was refused. There is no part then.
+    pub fn of(rt: &HostRuntime, file: &str, copy: &str) -> Result<Part, BackupFault> {
+        let from = Pair::found(rt, file)?;
+        let to = Pair::of(rt.alloc(), copy)?;
+        let files = Pair::beside(rt, copy, "part")?;
+        if to.is_free(rt) && files.is_free(rt) {
+            Part { files, to }.copied(rt, &from)
+        } else {
+            Err(BackupFault::File)
+        }
     }
-}
 
-fn backup_by_part(
-    rt: &HostRuntime,
-    from: &Pair,
-    part: &Pair,
-    to: &Pair,
-) -> Result<(), BackupFault> {
-    let made = make(rt, from, part, to);
-    if made.is_err() {
-        part.remove(rt);
+    // It, once the database is copied; what was begun is removed if that fails.
+    fn copied(self, rt: &HostRuntime, from: &Pair) -> Result<Part, BackupFault> {
+        match copy_pair(rt, from, &self.files) {
+            Ok(()) => Ok(self),
+            Err(fault) => {
+                self.remove(rt);
+                Err(fault)
+            }
+        }
     }
-    made
-}
 
-// Makes the copy under the first names, and gives it the others.
-fn make(rt: &HostRuntime, from: &Pair, part: &Pair, to: &Pair) -> Result<(), BackupFault> {
-    copy_pair(rt, from, part)?;
-    match part.sync(rt).and_then(|()| part.rename(rt, to)) {
-        Ok(()) => Ok(()),
-        Err(_) => Err(BackupFault::File),
+    /// The name of the database's own file, of the part.
+    pub fn database(&self) -> &str {
+        self.files.database()
+    }
+
+    /// Gives the copy its names, once it is on the disk.
+    ///
+    /// # Errors
+    /// `File` if the disk fails, or the copy cannot have its names. The part is there then.
+    pub fn name(&self, rt: &HostRuntime) -> Result<(), BackupFault> {
+        match self
+            .files
+            .sync(rt)
+            .and_then(|()| self.files.rename(rt, &self.to))
+        {
+            Ok(()) => Ok(()),
+            Err(_) => Err(BackupFault::File),
+        }
+    }
+
+    /// Removes the part.
+    pub fn remove(&self, rt: &HostRuntime) {
+        self.files.remove(rt);
     }
 }
 
@@ -233,7 +251,7 @@ fn make_folder(rt: &HostRuntime, folder: &str) -> io::Result<()> {
 /// writes them.
 ///
 /// # Errors
-/// As `backup`: files of the copy's names must not be there.
+/// As `Part::of`: files of the copy's names must not be there.
 pub fn copy_database(rt: &HostRuntime, file: &str, copy: &Pair) -> Result<(), BackupFault> {
     let from = Pair::found(rt, file)?;
     copy_pair(rt, &from, copy)

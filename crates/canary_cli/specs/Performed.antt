@@ -112,6 +112,11 @@ IsRun r new_r w new_w (Status db watch) done = new_r ≡ r
 IsRun r new_r w new_w (Backup db copy) done = new_r ≡ r
 IsRun r new_r w new_w (Check file request) done = (new_r ≡ r) × IsChecked w new_w done
 
+-- the program was run so, and ended with this exit status
+abbrev pub IsRunTo : Known → Known → Known → Known → Program → ℕ → Type 0
+IsRunTo r new_r w new_w program status =
+    (done : Result Outcome Fault) × (status ≡ status_of done) × IsRun r new_r w new_w program done
+
 -- `pipe` in memory ended with this exit status
 abbrev pub IsPipedTo : Known → Known → Known → Known → ℕ → ℕ → ℕ → Type 0
 IsPipedTo r new_r w new_w at step status = (piped : Result (Unit {0}) Fault)

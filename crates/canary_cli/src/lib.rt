@@ -19,3 +19,4 @@
 
 mod check;
 pub mod perform;
+mod place;

@@ -5,12 +5,15 @@ ghost use Rattle.std.specs.IoError.{error_kind};
 ghost use Rattle.std.specs.Io.KnownBytes.{Appends};
 ghost use Rattle.canary_words.specs.CommandLine.{faults_of, program_of};
 ghost use Rattle.canary_cli.specs.Performed.{outcome_of, status_of};
-ghost use Rattle.canary_cli.specs.Performed.{IsPiped, IsPipedTo, IsRun, IsTold, IsTurnedAway};
+ghost use Rattle.canary_cli.specs.Performed.{IsPiped, IsPipedTo, IsRun, IsRunTo, IsTold};
+ghost use Rattle.canary_cli.specs.Performed.{IsTurnedAway};
 ghost use Rattle.canary_cli.specs.Performed.{MayTell, AsksForOneThatTells, limits_of};
 
 use crate::check::check;
+use crate::place::Place;
 use canary_base::lists::Text;
 use canary_base::moments::Moment;
+use canary_database::backup::backup;
 use canary_database::export::export;
 use canary_database::history::history;
 use canary_database::import::import;
@@ -19,7 +22,6 @@ use canary_database::{pipe, serve};
 use canary_listen::limits::Limits;
 use canary_once::clock::StepClock;
 use canary_once::memory::MemoryBook;
-use canary_programs::backup::backup;
 use canary_programs::fault::{Fault, done_of};
 use canary_programs::overview::Drawing;
 use canary_programs::show::show;
@@ -75,7 +77,8 @@ pub struct Terminals {
 ///
 /// 0: what was asked was done, or help or the version was asked for, whose text is written to
 /// `output`. 1: a check found something, or a fault, which one line `canary: WORD` on `errors`
-/// names (`canary_programs::fault::Fault::line`). 2: the command line is none that the desk takes,
+/// names (`canary_programs::fault::Fault::line`); if `errors` is a terminal, a second line says what
+/// that is, and of which address or file. 2: the command line is none that the desk takes,
 /// and `errors` has the text that says why. `check` also writes there what it warns of. A fault of
 /// `errors` itself is ignored.
 pub fn perform<R: Read, W: Write, F: Write>(
@@ -102,7 +105,7 @@ pub fn perform<R: Read, W: Write, F: Write>(
         → (AsksForOneThatTells (map string_bytes words.now) → ⊥) → errors.new ≡ errors.old }
 {
     match read_words(rt.alloc(), words) {
-        Ok(program) => finish(run(rt, program, input, output, errors, terminals), errors),
+        Ok(program) => run_placed(rt, program, input, output, errors, terminals),
         Err(fault) => turn_away(&fault, output, errors),
     }
 }
@@ -138,6 +141,24 @@ pub fn refuse<F: Write>(error: &io::Error, errors: &mut F) -> u8
     fail(Fault::Memory, errors)
 }
 
+// Runs a program, and answers the status of what was done; a fault is told with what it is about.
+fn run_placed<R: Read, W: Write, F: Write>(
+    rt: &HostRuntime,
+    program: Program,
+    input: &mut R,
+    output: &mut W,
+    errors: &mut F,
+    terminals: Terminals,
+) -> u8
+    ensures ran { IsRunTo (R.remaining input.old) (R.remaining input.new)
+        (W.contents output.old) (W.contents output.new) program result }
+    ensures quiet { result ≡ DONE → (MayTell program → ⊥) → errors.new ≡ errors.old }
+{
+    let place = Place::of(rt.alloc(), &program, terminals.errors);
+    let done = run(rt, program, input, output, errors, terminals);
+    finish(rt.alloc(), done, &place, errors)
+}
+
 fn run<R: Read, W: Write, F: Write>(
     rt: &HostRuntime,
     program: Program,
@@ -161,9 +182,9 @@ fn run<R: Read, W: Write, F: Write>(
             connections,
             limits,
         } => {
-            let place = Place { listen, db };
+            let desk = ListeningDesk { listen, db };
             let limits = limits_of(limits);
-            done(serve(rt, &place, connections, limits, output, errors, shows))
+            done(serve(rt, &desk, connections, limits, output, errors, shows))
         }
         Program::Import { db, csv } => {
             let (db, csv) = (db.as_str(), csv.as_str());
@@ -240,7 +261,7 @@ fn limits_of(asked: AskedLimits) -> Limits
 
 // Where a desk listens, and the file that it works on.
 #[derive(Drop)]
-struct Place {
+struct ListeningDesk {
     listen: Text,
     db: Option<Text>,
 }
@@ -248,15 +269,15 @@ struct Place {
 // Serves clients, over the desk in a file where there is one.
 fn serve<W: Write, F: Write>(
     rt: &HostRuntime,
-    place: &Place,
+    desk: &ListeningDesk,
     connections: Option<u64>,
     limits: Limits,
     output: &mut W,
     errors: &mut F,
     shows: bool,
 ) -> Result<(), Fault> {
-    let listen = place.listen.as_str();
-    let file = match &place.db {
+    let listen = desk.listen.as_str();
+    let file = match &desk.db {
         Some(db) => Some(db.as_str()),
         None => None,
     };
@@ -290,8 +311,13 @@ fn pipe<R: Read, W: Write>(
     done_of(canary_wire::serve::serve(alloc, input, output, &mut clock, &mut book))
 }
 
-// The status of what was done, with the line of a fault on `errors`.
-fn finish<F: Write>(done: Result<Outcome, Fault>, errors: &mut F) -> u8
+// The status of what was done, with the line of a fault on `errors`, and what it is about.
+fn finish<F: Write>(
+    alloc: Global,
+    done: Result<Outcome, Fault>,
+    place: &Place,
+    errors: &mut F,
+) -> u8
     ensures status { result ≡ status_of done }
     ensures quiet { result ≡ DONE → errors.new ≡ errors.old }
 {
@@ -302,7 +328,11 @@ fn finish<F: Write>(done: Result<Outcome, Fault>, errors: &mut F) -> u8
             let _ = errors.write_all(UNCLEAR.as_bytes());
             USAGE
         }
-        Err(fault) => fail(fault, errors),
+        Err(fault) => {
+            let status = fail(fault, errors);
+            place.tell(alloc, fault, errors);
+            status
+        }
     }
 }
 

@@ -10,13 +10,17 @@ use canary_tables::book::TableBook;
 use canary_tables::fault::TableFault;
 use sqlite::{Alter, File, FileStore};
 use std::fs::{self, Files};
-use std::io::Write;
+use std::io::{self, ErrorKind, Read, Write};
+
+// The first bytes of each database of SQLite.
+const FIRST_BYTES: &[u8] = b"SQLite format 3\0";
 
 /// A book in a file.
 pub type FileBook = TableBook<FileStore<File>>;
 
 /// Opens the file of SQLite of this name as a desk's book, or makes it. All its rows are judged
-/// before they are believed, which is shown on a terminal.
+/// before they are believed, which is shown on a terminal. No log is made beside a file that does
+/// not begin as a database.
 ///
 /// # Errors
 /// `InUse` where another program has it open; `Memory` where an allocation was refused; `Storage`
@@ -31,6 +35,9 @@ pub fn open<F: Write>(
 ) -> Result<FileBook, Fault>
     ensures { IfErr result IsOfTables }
 {
+    if has_other_bytes(rt, file)? {
+        return Err(Fault::Storage);
+    }
     let mut shown = Shown::rows(rt.alloc(), errors, is_terminal);
     let opened = TableBook::open(rt, file, &mut shown);
     shown.end();
@@ -69,6 +76,29 @@ fn find<P: Files>(files: &P, file: &str) -> Result<(), Fault>
 /// Whether there is no file of this name, where all links lead.
 pub(crate) fn is_missing<P: Files>(files: &P, file: &str) -> bool {
     matches!(fs::exists(files, file), Ok(false))
+}
+
+/// Whether the file of this name has bytes and does not begin as a database of SQLite does, as far as
+/// the system says so.
+///
+/// # Errors
+/// `Memory` if an allocation was refused.
+pub(crate) fn has_other_bytes<P: Files + AllocGlobal>(rt: &P, file: &str) -> Result<bool, Fault>
+    ensures { IfErr result (λ f. f ≡ fault.Memory) }
+{
+    match first_bytes(rt, file) {
+        Ok(bytes) => Ok(!bytes.is_empty() && bytes.as_slice() != FIRST_BYTES),
+        Err(error) if error.kind() == ErrorKind::OutOfMemory => Err(Fault::Memory),
+        Err(_) => Ok(false),
+    }
+}
+
+// The first bytes of the file of this name, as many as a database begins with.
+fn first_bytes<P: Files + AllocGlobal>(rt: &P, file: &str) -> io::Result<Vec<u8>> {
+    let mut bytes = Vec::new(rt.alloc());
+    let mut first = fs::File::open(rt, file)?.take(FIRST_BYTES.len() as u64);
+    first.read_to_end(&mut bytes)?;
+    Ok(bytes)
 }
 
 // The fault of the tables, under the name that it has on the command line.

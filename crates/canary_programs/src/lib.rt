@@ -4,14 +4,13 @@
 //! unchanged, and the first two write what one whose store is honest tells of a service;
 //! `export_rows`, `import_rows` and `answer` do what canary_files and canary_wire say of theirs,
 //! and `serve_clients` gets from the desk before to the desk after as canary_listen says. Each
-//! fault has its line. What files hold that `backup` copies no contract says.
+//! fault has its line.
 //!
 //! In use (canary_database, src/work.rt):
 //!
 //!     Work::History { service } => write_history(alloc, book, service, output),
 #![tactic(auto)]
 
-pub mod backup;
 pub mod export;
 pub mod fault;
 pub mod history;

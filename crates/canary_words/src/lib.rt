@@ -9,7 +9,7 @@
 //! In use (canary_cli, src/perform.rt):
 //!
 //!     match read_words(rt.alloc(), words) {
-//!         Ok(program) => finish(run(rt, program, input, output, errors, terminals), errors),
+//!         Ok(program) => run_placed(rt, program, input, output, errors, terminals),
 //!         Err(fault) => turn_away(&fault, output, errors),
 //!     }
 #![tactic(auto)]

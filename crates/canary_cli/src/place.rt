@@ -1,0 +1,101 @@
+//! What a program works on, which a second line names on a terminal if that fails.
+ghost use Rattle.std.specs.Prelude.{◌≡◌};
+
+use canary_base::lists::Text;
+use canary_programs::fault::Fault;
+use canary_words::words::Program;
+use std::alloc::{AllocError, Global};
+use std::io::Write;
+
+/// The address and the files of a program, as its words name them; nothing where it has none.
+#[derive(Drop)]
+pub(crate) struct Place {
+    address: String,
+    files: String,
+}
+
+impl Place {
+    /// Of a program whose error stream is a terminal or not: where it is none, and where an
+    /// allocation was refused, nothing is named.
+    pub(crate) fn of(alloc: Global, program: &Program, is_terminal: bool) -> Place {
+        if !is_terminal {
+            return Place::nowhere(alloc);
+        }
+        match Place::named(alloc, program) {
+            Ok(place) => place,
+            Err(_) => Place::nowhere(alloc),
+        }
+    }
+
+    fn nowhere(alloc: Global) -> Place {
+        Place {
+            address: String::new(alloc),
+            files: String::new(alloc),
+        }
+    }
+
+    fn named(alloc: Global, program: &Program) -> Result<Place, AllocError> {
+        Ok(Place {
+            address: address_of(alloc, program)?,
+            files: files_of(alloc, program)?,
+        })
+    }
+
+    // What of it a fault is about.
+    fn about(&self, fault: Fault) -> &str {
+        match fault {
+            Fault::Listen => self.address.as_str(),
+            Fault::File | Fault::InUse | Fault::Storage => self.files.as_str(),
+            Fault::OtherSchema | Fault::BrokenRow => self.files.as_str(),
+            _ => "",
+        }
+    }
+
+    /// Says what a fault is about, and in words what it is, if that is known. A fault of `errors`,
+    /// and memory that is refused for the line, are ignored.
+    pub(crate) fn tell<F: Write>(&self, alloc: Global, fault: Fault, errors: &mut F) {
+        let about = self.about(fault);
+        if about.is_empty() {
+            return;
+        }
+        if let Ok(line) = format!(in alloc; "{about}: {fault}\n") {
+            let _ = errors.write_all(line.as_bytes());
+        }
+    }
+}
+
+fn address_of(alloc: Global, program: &Program) -> Result<String, AllocError> {
+    match program {
+        Program::Serve { listen, .. } => listed(alloc, Some(listen), None),
+        _ => listed(alloc, None, None),
+    }
+}
+
+fn files_of(alloc: Global, program: &Program) -> Result<String, AllocError> {
+    match program {
+        Program::Pipe { db, .. } => listed(alloc, db.as_ref(), None),
+        Program::Serve { db, .. } => listed(alloc, db.as_ref(), None),
+        Program::Import { db, csv } => listed(alloc, Some(db), Some(csv)),
+        Program::History { db, .. } => listed(alloc, Some(db), None),
+        Program::Export { db, .. } => listed(alloc, Some(db), None),
+        Program::Status { db, .. } => listed(alloc, Some(db), None),
+        Program::Backup { db, copy } => listed(alloc, Some(db), Some(copy)),
+        Program::Check { file, request } => listed(alloc, file.as_ref(), request.as_ref()),
+    }
+}
+
+// One or two names, with a comma between.
+fn listed(
+    alloc: Global,
+    first: Option<&Text>,
+    second: Option<&Text>,
+) -> Result<String, AllocError> {
+    match (first, second) {
+        (Some(first), Some(second)) => {
+            Ok(format!(in alloc; "{}, {}", first.as_str(), second.as_str())?)
+        }
+        (Some(one), None) => Ok(format!(in alloc; "{}", one.as_str())?),
+        (None, Some(one)) => Ok(format!(in alloc; "{}", one.as_str())?),
+        (None, None) => Ok(String::new(alloc)),
+    }
+}
