@@ -74,7 +74,7 @@ impl<'a> Decimal<'a> {
         }
     }
 
-    fn tell_in(self, lines: &mut Lines, unit: &str, numbers: Numbers) -> Result<(), Memory> {
+    fn tell_in(self, lines: &mut Lines, unit: &'a str, numbers: Numbers) -> Result<(), Memory> {
         let (whole, part, zeros) = self.without_point(numbers.decimals);
         let (others, in_unit) = match numbers.count {
             0 | 1 => ("", ""),
@@ -98,7 +98,7 @@ impl<'a> Decimal<'a> {
 
     // What to write in its place, in three parts, if numbers have so many digits behind their
     // point.
-    fn without_point(self, decimals: usize) -> (&'a str, &'a str, &'static str) {
+    fn without_point(self, decimals: usize) -> (&'a str, &'a str, &'a str) {
         let whole = self.whole.trim_start_matches('0');
         let part = match whole {
             "" => self.part.trim_start_matches('0'),
