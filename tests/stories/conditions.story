@@ -1,4 +1,4 @@
-conditions 204
+conditions 221
 
 # Conditions of success and failure, a result and its phase.
 phases
@@ -83,7 +83,13 @@ stops
 result > => 8 result or a whole number
 result >   => 10 result or a whole number
 result > 0.5 => 10 result, a whole number, a bracket, a comparison, &&, || or !
-     => report hundredths, and write result < 95 for result < 0.95
+     => report tenths, and write 5 for 0.5
+result > 0 .5 => 11 result, a whole number, a bracket, a comparison, &&, || or !
+     => scale the results and the number to whole numbers, as 0.95 to 95 hundredths
+result > 1.2.3 => 10 result, a whole number, a bracket, a comparison, &&, || or !
+     => scale the results and the number to whole numbers, as 0.95 to 95 hundredths
+result > 95.5% => 11 result, a whole number, a bracket, a comparison, &&, || or !
+     => report tenths, and write 955 for 95.5
 (result > 1 => 11 &&, || or )
 result => 6 [, ==, !=, <, <=, > or >=
      => report 1 for true and 0 for false, and write result == 1 for result
@@ -157,10 +163,43 @@ refused
 
 # Forms of Argo Rollouts' conditions that are not read, each with what may be written instead. The
 # head of a block has what `canary check` says of its rows.
-instead report hundredths, and write result < 95 for result < 0.95
+instead report hundredths, and write 95 for 0.95
 result >= 0.95 => result >= 95
-result > .5 => result > 50
+result[0] >= 0.95 => result[0] >= 95
+(0.95 <= result[12]) => (95 <= result[12])
+result > -0.95 => result > -95
+!(result>0.95) => !(result>95)
+
+instead report tenths, and write 5 for .5
+result > .5 => result > 5
+
+instead report tenths, and write 0 for 0.0
+result > 0.0 => result > 0
+
+instead report tenths, and write 10205 for 1020.5
+result > 1020.5 => result > 10205
+
+instead report hundredths, and write 5 for 00.05
+result > 00.05 => result > 5
+
+instead report thousandths, and write 123456789012345678 for 123456789012345.678
+result < 123456789012345.678 => result < 123456789012345678
+
+instead report tenths, and write 15 for 1.5, and other numbers for that result in tenths
+result > 1.5 && result < 3 => result > 15 && result < 30
+
+instead report hundredths, and write 0 for 0.0, and other numbers for that result in hundredths
+result > 0.0 && result <= 0.25 => result > 0 && result <= 25
+
+instead report thousandths, and write 500 for .5,
+     and other numbers for that result in thousandths
+result > .5 && result < 1.125 => result > 500 && result < 1125
+
+instead scale the results and the number to whole numbers, as 0.95 to 95 hundredths
+result > 0.9995 => result > 9995
 result > 1.5e3 => result > 1500
+result > 0.5 && result < 0.9995 => result > 5000 && result < 9995
+result > 1234567890123456.5 => result > 1234567890123456
 
 instead report 1 for the text that is wanted, and write result == 1 for result == "up"
 result == "up" => result == 1

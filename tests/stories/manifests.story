@@ -1,4 +1,4 @@
-manifests 116
+manifests 126
 
 # Texts.
 between ...
@@ -25,8 +25,12 @@ between ...
      with arrays and objects nested at most 127 deep
  => near line 1, column 0: expected JSON in UTF-8,
      with arrays and objects nested at most 127 deep
-{"kind":"AnalysisTemplate"} => metadata.name: expected 1 to 63 bytes of a-z 0-9 -,
+{"kind":"AnalysisTemplate"} => metadata.name: missing; expected 1 to 63 bytes of a-z 0-9 -,
      the first and the last no - | spec.metrics: expected a list of 1 to 32 metrics
+{"kind":"Rollout","metadata":{"name":null},"spec":{"strategy":{"canary":{}}}} =>
+     metadata.name: missing; expected 1 to 63 bytes of a-z 0-9 -, the first and the last no -
+{"kind":"Rollout","metadata":{"name":""},"spec":{"strategy":{"canary":{}}}} =>
+     metadata.name: expected 1 to 63 bytes of a-z 0-9 -, the first and the last no -
 {"kind":"Rollout","metadata":{"name":"Web"},"spec":{"strategy":{"canary":[]}}} =>
      metadata.name: expected 1 to 63 bytes of a-z 0-9 -, the first and the last no - |
      spec.strategy.canary: expected an object
@@ -48,17 +52,38 @@ between {"kind":"AnalysisTemplate","metadata":{"name":"t"},"spec":{ ... }}
      spec.measurementRetention: expected none or an empty list (others are unsupported)
 "metrics":[{"name":"m","interval":60},5] => spec.metrics[0].interval (metric "m"):
      expected a duration in a text, as 90s or 1h30m, up to 8760h |
-     spec.metrics[1].name: expected 1 to 63 bytes of A-Z a-z 0-9 . _ -
+     spec.metrics[1].name: missing; expected 1 to 63 bytes of A-Z a-z 0-9 . _ -
 
 # Metrics.
 between {"kind":"AnalysisTemplate","metadata":{"name":"t"},"spec":{"metrics":[{"name":"errors", ... }]}}
 "count":5,"interval":"1m","failureLimit":"1","successCondition":"" => ok
 "name":"errors in a row" => spec.metrics[0].name: expected 1 to 63 bytes of A-Z a-z 0-9 . _ -
+"name":null => spec.metrics[0].name: missing; expected 1 to 63 bytes of A-Z a-z 0-9 . _ -
 "successCondition":"result < 0.95" => spec.metrics[0].successCondition (metric "errors"), byte 10:
      expected result, a whole number, a bracket, a comparison, &&, || or !
      |     result < 0.95
      |               ^
-     |     instead: report hundredths, and write result < 95 for result < 0.95
+     |     instead: report hundredths, and write 95 for 0.95
+"successCondition":"result[0] >= 0.95","failureCondition":"result[0] < 0.9" =>
+     spec.metrics[0].successCondition (metric "errors"), byte 14:
+     expected result, a whole number, a bracket, a comparison, &&, || or !
+     |     result[0] >= 0.95
+     |                   ^
+     |     instead: report hundredths, and write 95 for 0.95,
+     and other numbers for that result in hundredths |
+     spec.metrics[0].failureCondition (metric "errors"), byte 13:
+     expected result, a whole number, a bracket, a comparison, &&, || or !
+     |     result[0] < 0.9
+     |                  ^
+     |     instead: report hundredths, and write 90 for 0.9,
+     and other numbers for that result in hundredths
+"successCondition":"result >= 99.5","failureCondition":"result < 90" =>
+     spec.metrics[0].successCondition (metric "errors"), byte 12:
+     expected result, a whole number, a bracket, a comparison, &&, || or !
+     |     result >= 99.5
+     |                 ^
+     |     instead: report tenths, and write 995 for 99.5,
+     and other numbers for that result in tenths
 "failureCondition":"result <" => spec.metrics[0].failureCondition (metric "errors"), byte 8:
      expected result or a whole number
      |     result <
@@ -122,6 +147,11 @@ between {"kind":"Rollout","metadata":{"name":"web"},"spec":{ ... }}
      the first and the last no - |
      spec.strategy.canary.analysis.templates[1].clusterScope:
      expected false or none (true is unsupported)
+"strategy":{"canary":{"analysis":{"templates":[{"templateName":null},{}]}}} =>
+     spec.strategy.canary.analysis.templates[0].templateName: missing;
+     expected 1 to 63 bytes of a-z 0-9 -, the first and the last no - |
+     spec.strategy.canary.analysis.templates[1].templateName: missing;
+     expected 1 to 63 bytes of a-z 0-9 -, the first and the last no -
 "strategy":{"canary":{"analysis":{}}} =>
      spec.strategy.canary.analysis.templates: expected a list of 1 to 8 objects with templateName
 "strategy":{"canary":{}},"x":<<123*[>><<123*]>> => ok
@@ -141,8 +171,16 @@ between {"kind":"Rollout","metadata":{"name":"web"},"spec":{"strategy":{"canary"
 {"pause":5} => spec.strategy.canary.steps[0].pause:
      expected an object, with or without a duration
 {"pause":null},{"setWeight":1,"pause":{}} => spec.strategy.canary.steps[0]:
-     expected exactly one of setWeight, pause and analysis |
+     expected exactly one of setWeight, pause and analysis
+     |     instead: write {"pause":{}} |
      spec.strategy.canary.steps[1]: expected exactly one of setWeight, pause and analysis
+{"setWeight":null},{},5,{"pause":null,"setWeight":1,
+    "analysis":{"templates":[{"templateName":"a"}]}} =>
+     spec.strategy.canary.steps[0]: expected exactly one of setWeight, pause and analysis |
+     spec.strategy.canary.steps[1]: expected exactly one of setWeight, pause and analysis |
+     spec.strategy.canary.steps[2]: expected exactly one of setWeight, pause and analysis |
+     spec.strategy.canary.steps[3]: expected exactly one of setWeight, pause and analysis
+{"pause":null,"setWeight":1} => ok
 {"experiment":{}} => spec.strategy.canary.steps[0].experiment:
      expected no member but setWeight, pause or analysis (others are unsupported)
      |     instead: leave the step out, or write an analysis
@@ -160,7 +198,13 @@ between {"kind":"Rollout","metadata":{"name":"web"},"spec":{"strategy":{"canary"
      |     instead: leave the step out
 {"a\nb":{}} => spec.strategy.canary.steps[0]:
      expected no member but setWeight, pause or analysis (others are unsupported)
-     |     instead: leave the step out
+     |     instead: correct its name, or leave the step out
+{"setWieght":20},{"setWieght":20,"pause":null} => spec.strategy.canary.steps[0].setWieght:
+     expected no member but setWeight, pause or analysis (others are unsupported)
+     |     instead: correct its name, or leave the step out |
+     spec.strategy.canary.steps[1].setWieght:
+     expected no member but setWeight, pause or analysis (others are unsupported)
+     |     instead: correct its name, or leave the step out
 {"setweight":5} => spec.strategy.canary.steps[0].setweight:
      expected no member but setWeight, pause or analysis (others are unsupported)
      |     instead: write setWeight
@@ -255,11 +299,14 @@ request ...
      with arrays and objects nested at most 127 deep
 {"promote":{"service":"Web"}} =>
      promote.service: expected 1 to 63 bytes of a-z 0-9 -, the first and the last no -
-{"tick":5} => tick.service: expected 1 to 63 bytes of a-z 0-9 -, the first and the last no -
+{"tick":5} => tick.service: missing;
+     expected 1 to 63 bytes of a-z 0-9 -, the first and the last no -
+{"abort":{"service":null}} => abort.service: missing;
+     expected 1 to 63 bytes of a-z 0-9 -, the first and the last no -
 {"retry":{"service":"web","version":null}} => retry.version: expected no member but service
-{"start":{"service":"web"}} => start.version: expected 1 to 63 bytes of A-Z a-z 0-9 . _ -
+{"start":{"service":"web"}} => start.version: missing; expected 1 to 63 bytes of A-Z a-z 0-9 . _ -
 {"start":{"version":"v 2","run":1}} => start.run: expected no member but service and version |
-     start.service: expected 1 to 63 bytes of a-z 0-9 -, the first and the last no - |
+     start.service: missing; expected 1 to 63 bytes of a-z 0-9 -, the first and the last no - |
      start.version: expected 1 to 63 bytes of A-Z a-z 0-9 . _ -
 {"template":{"kind":"ClusterAnalysisTemplate","metadata":{"name":"t"},
     "spec":{"metrics":[{"name":"m","successCondition":"result > 0.5"}]}}} =>
@@ -270,11 +317,12 @@ request ...
      expected result, a whole number, a bracket, a comparison, &&, || or !
      |     result > 0.5
      |               ^
-     |     instead: report hundredths, and write result < 95 for result < 0.95
+     |     instead: report tenths, and write 5 for 0.5
 {"service":{"manifest":{"kind":"AnalysisTemplate","spec":{"strategy":{"canary":{"steps":[
-    {"setWeight":101}]}}}}}} => service.version: expected 1 to 63 bytes of A-Z a-z 0-9 . _ - |
+    {"setWeight":101}]}}}}}} =>
+     service.version: missing; expected 1 to 63 bytes of A-Z a-z 0-9 . _ - |
      service.manifest.kind: expected Rollout |
-     service.manifest.metadata.name:
+     service.manifest.metadata.name: missing;
      expected 1 to 63 bytes of a-z 0-9 -, the first and the last no - |
      service.manifest.spec.strategy.canary.steps[0].setWeight: expected a whole number, 0 to 100
 {"service":{"version":"v1"}} => service.manifest: expected a Rollout
@@ -309,7 +357,7 @@ request {"report":{"service":"web","run":1,"entries":[ ... ]}}
 {"metric":"a","ordinal":1,"taken":5,"result":1,"unit":"ms"} => report.entries[0].unit:
      expected no member but metric, ordinal, taken and one of result and failure
  => report.entries: expected a list of 1 to 32 entries
-5 => report.entries[0].metric: expected 1 to 63 bytes of A-Z a-z 0-9 . _ - |
+5 => report.entries[0].metric: missing; expected 1 to 63 bytes of A-Z a-z 0-9 . _ - |
      report.entries[0].ordinal: expected a whole number, 1 to 1,000,000,000 |
      report.entries[0].taken: expected seconds from 1970 as a whole number, 0 to 253370764799 |
      report.entries[0]: expected exactly one of result and failure

@@ -1,8 +1,9 @@
 //! What to write or to report in place of a form of Argo Rollouts' conditions that the desk does
 //! not read.
 
-/// Of `result < 0.95`.
-pub(crate) const DECIMAL: &str = "report hundredths, and write result < 95 for result < 0.95";
+/// Of a decimal number for which decimal.rt names no whole one.
+pub(crate) const DECIMAL: &str =
+    "scale the results and the number to whole numbers, as 0.95 to 95 hundredths";
 
 /// Of `1_000`, `1e3`, `0x1F`.
 pub(crate) const SPELLING: &str = "write digits alone: 1000 for 1_000 and 1e3, 31 for 0x1F";

@@ -337,7 +337,7 @@ fn ends_with(text: &[u8], byte: u8) -> bool {
     }
 }
 
-fn is_word_byte(byte: u8) -> bool {
+pub(crate) fn is_word_byte(byte: u8) -> bool {
     byte.is_ascii_alphanumeric() || byte == b'_'
 }
 
@@ -371,8 +371,8 @@ fn ends_in_digit(text: &[u8]) -> bool {
     }
 }
 
-// Whether the text ends with what may be the end of an operand.
-fn ends_operand(text: &[u8]) -> bool {
+/// Whether the text ends with what may be the end of an operand.
+pub(crate) fn ends_operand(text: &[u8]) -> bool {
     ends_with(text, b')')
         || ends_with(text, b']')
         || ends_in_digit(text)

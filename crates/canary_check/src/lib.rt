@@ -18,6 +18,7 @@ mod alone;
 mod body;
 pub mod check;
 mod condition;
+mod decimal;
 mod excerpt;
 mod forms;
 mod instead;

@@ -14,6 +14,10 @@ const MOST_FINDINGS: u32 = 100;
 
 const WARNING: &str = "canary: warning: ";
 
+const EXPECTED: &str = ": expected ";
+
+const MISSING: &str = ": missing; expected ";
+
 /// Findings so far.
 #[derive(Drop)]
 pub(crate) struct Lines {
@@ -41,10 +45,24 @@ impl Lines {
             return Ok(());
         }
         place.write(&mut self.text, key)?;
-        self.push_end(what)
+        self.push_end(EXPECTED, what)
     }
 
-    /// The same, at a byte of the text that stands there.
+    /// The same of a member that is not there.
+    pub(crate) fn tell_missing(
+        &mut self,
+        place: &Place,
+        key: &str,
+        what: &str,
+    ) -> Result<(), Memory> {
+        if !self.has_room() {
+            return Ok(());
+        }
+        place.write(&mut self.text, key)?;
+        self.push_end(MISSING, what)
+    }
+
+    /// Adds what is expected at a byte of the text that stands there, or `Memory`.
     pub(crate) fn tell_byte(
         &mut self,
         alloc: Global,
@@ -59,7 +77,7 @@ impl Lines {
         let at = format!(in alloc; ", byte {byte}")?;
         place.write(&mut self.text, key)?;
         self.text.push_str(at.as_str())?;
-        self.push_end(what)
+        self.push_end(EXPECTED, what)
     }
 
     /// Adds that a text is no JSON, at or just before this line and column, each from 1; or
@@ -75,7 +93,7 @@ impl Lines {
         }
         let at = format!(in alloc; "near line {line}, column {column}")?;
         self.text.push_str(at.as_str())?;
-        self.push_end(JSON)
+        self.push_end(EXPECTED, JSON)
     }
 
     /// Adds to the last finding the text of which it speaks, with a caret under that byte; or
@@ -89,11 +107,18 @@ impl Lines {
 
     /// Adds to the last finding what to write or to do instead, or `Memory`.
     pub(crate) fn instead(&mut self, what: &str) -> Result<(), Memory> {
+        self.instead_in_parts(&[what])
+    }
+
+    /// The same, in parts that follow one another.
+    pub(crate) fn instead_in_parts(&mut self, parts: &[&str]) -> Result<(), Memory> {
         if self.more > 0 {
             return Ok(());
         }
         self.text.push_str("    instead: ")?;
-        self.text.push_str(what)?;
+        for part in parts {
+            self.text.push_str(part)?;
+        }
         self.text.push_str("\n")?;
         Ok(())
     }
@@ -150,8 +175,8 @@ impl Lines {
         false
     }
 
-    fn push_end(&mut self, what: &str) -> Result<(), Memory> {
-        self.text.push_str(": expected ")?;
+    fn push_end(&mut self, front: &str, what: &str) -> Result<(), Memory> {
+        self.text.push_str(front)?;
         self.text.push_str(what)?;
         self.text.push_str("\n")?;
         Ok(())

@@ -4,6 +4,7 @@ use crate::place::Place;
 use canary_base::error::Memory;
 use canary_base::names::Label;
 use canary_canonical::form::{label_at, name_at};
+use canary_manifest::member::member_of;
 use serde_json::{Map, Value};
 
 /// What a name is.
@@ -54,6 +55,20 @@ fn is_known(known: &[&str], key: &str) -> bool {
     known.iter().any(|name| *name == key)
 }
 
+/// Adds what is expected under that key, and if nothing is there, that it is missing; or `Memory`.
+pub(crate) fn tell_wrong(
+    lines: &mut Lines,
+    place: &Place,
+    value: &Value,
+    key: &str,
+    what: &str,
+) -> Result<(), Memory> {
+    match member_of(value, key) {
+        Some(_) => lines.tell(place, key, what),
+        None => lines.tell_missing(place, key, what),
+    }
+}
+
 /// Adds that the member of that key is no name, or `Memory`.
 pub(crate) fn tell_name(
     lines: &mut Lines,
@@ -63,7 +78,7 @@ pub(crate) fn tell_name(
 ) -> Result<(), Memory> {
     match name_at(value, key) {
         Some(_) => Ok(()),
-        None => lines.tell(place, key, NAME),
+        None => tell_wrong(lines, place, value, key, NAME),
     }
 }
 
@@ -76,6 +91,6 @@ pub(crate) fn tell_label(
 ) -> Result<(), Memory> {
     match label_at(value, key) {
         Some(_) => Ok(()),
-        None => lines.tell(place, key, LABEL),
+        None => tell_wrong(lines, place, value, key, LABEL),
     }
 }

@@ -1,8 +1,9 @@
 //! What is found in a metric of a template.
 use crate::condition::expected;
+use crate::decimal::{decimal_at, numbers_of};
 use crate::instead::instead;
 use crate::lines::Lines;
-use crate::members::LABEL;
+use crate::members::{LABEL, tell_wrong};
 use crate::place::Place;
 use crate::trial::refusal_of_times;
 use canary_base::error::Memory;
@@ -33,7 +34,7 @@ pub(crate) fn tell_metric(
     metric: &Value,
 ) -> Result<(), Memory> {
     if metric_name(metric).is_none() {
-        lines.tell(place, "name", LABEL)?;
+        tell_wrong(lines, place, metric, "name", LABEL)?;
     }
     tell_condition(alloc, lines, place, metric, "successCondition")?;
     tell_condition(alloc, lines, place, metric, "failureCondition")?;
@@ -51,7 +52,7 @@ fn tell_condition(
 ) -> Result<(), Memory> {
     match condition_at(alloc, metric, key) {
         Ok(None) => Ok(()),
-        Ok(Some(text)) => tell_text(alloc, lines, place, key, text.as_str()),
+        Ok(Some(text)) => tell_text(alloc, lines, place, metric, key, text.as_str()),
         Err(FormFault::Unreadable) => lines.tell(place, key, "a condition in a text"),
         Err(FormFault::Memory) => Err(Memory),
     }
@@ -61,6 +62,7 @@ fn tell_text(
     alloc: Global,
     lines: &mut Lines,
     place: &Place,
+    metric: &Value,
     key: &str,
     text: &str,
 ) -> Result<(), Memory> {
@@ -69,6 +71,9 @@ fn tell_text(
     };
     lines.tell_byte(alloc, place, key, explained.at, expected(explained.why))?;
     lines.quote(text.as_bytes(), explained.at as usize)?;
+    if let Some(decimal) = decimal_at(text, explained) {
+        return decimal.tell(lines, numbers_of(metric));
+    }
     match instead(text.as_bytes(), explained) {
         Some(what) => lines.instead(what),
         None => Ok(()),

@@ -1,6 +1,6 @@
 //! What is found in a step of a Rollout, and in an analysis.
 use crate::lines::Lines;
-use crate::members::{NAME, key_shown};
+use crate::members::{NAME, key_shown, tell_wrong};
 use crate::place::Place;
 use crate::template::tell_if_filled;
 use crate::trial::{refusal_of_background, refusal_of_step};
@@ -78,10 +78,11 @@ fn instead_of_member(step: &Value, key: &str) -> &'static str {
         "setHeaderRoute" => "leave the step out: the desk routes no requests",
         "setMirrorRoute" => "leave the step out: the desk routes no requests",
         "experiment" => "leave the step out, or write an analysis",
+        "plugin" => "leave the step out",
         _ if key.eq_ignore_ascii_case("setWeight") => "write setWeight",
         _ if key.eq_ignore_ascii_case("pause") => "write pause",
         _ if key.eq_ignore_ascii_case("analysis") => "write analysis",
-        _ => "leave the step out",
+        _ => "correct its name, or leave the step out",
     }
 }
 
@@ -101,7 +102,17 @@ fn tell_form(lines: &mut Lines, place: &Place, step: &Value) -> Result<(), Memor
         (Some(_), None, None) => lines.tell(place, "setWeight", WEIGHT),
         (None, Some(pause), None) => tell_pause(lines, place, pause),
         (None, None, Some(_)) => Ok(()),
+        (None, None, None) => tell_no_form(lines, place, step),
         _ => lines.tell(place, "", FORM),
+    }
+}
+
+// Adds that a step has none of the three. A pause that is null is as if absent.
+fn tell_no_form(lines: &mut Lines, place: &Place, step: &Value) -> Result<(), Memory> {
+    lines.tell(place, "", FORM)?;
+    match step.get("pause") {
+        Some(_) => lines.instead("write {\"pause\":{}}"),
+        None => Ok(()),
     }
 }
 
@@ -193,7 +204,7 @@ fn tell_named_template(lines: &mut Lines, place: &Place, template: &Value) -> Re
         lines.tell(place, "clusterScope", "false or none (true is unsupported)")?;
     }
     if template_name(template).is_none() {
-        lines.tell(place, "templateName", NAME)?;
+        tell_wrong(lines, place, template, "templateName", NAME)?;
     }
     Ok(())
 }

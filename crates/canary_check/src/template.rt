@@ -62,11 +62,11 @@ pub(crate) fn tell_metadata(
     place: &Place,
     manifest: &Value,
 ) -> Result<(), Memory> {
-    let name = member_of(manifest, "metadata").and_then(|metadata| member_of(metadata, "name"));
-    if name.and_then(name_in).is_some() {
-        return Ok(());
+    match member_of(manifest, "metadata").and_then(|metadata| member_of(metadata, "name")) {
+        Some(name) if name_in(name).is_some() => Ok(()),
+        Some(_) => lines.tell(place, "metadata.name", NAME),
+        None => lines.tell_missing(place, "metadata.name", NAME),
     }
-    lines.tell(place, "metadata.name", NAME)
 }
 
 fn tell_spec(alloc: Global, lines: &mut Lines, place: &Place, spec: &Value) -> Result<(), Memory> {
