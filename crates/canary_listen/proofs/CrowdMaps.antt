@@ -1,6 +1,6 @@
 -- A map of clients that changes at one number.
-use Rattle.std.proofs.Common.{◌≡◌, ◌≢◌, ℕ, inl, inr, false, refl, sym, ap, ◌∙◌, subst}
-use Rattle.std.specs.Prelude.{Option, Some, option_map, IsSome}
+use Rattle.std.proofs.Common.{◌≡◌, ◌≢◌, ℕ, inl, inr, true, false, refl, sym, ap, ◌∙◌, subst}
+use Rattle.std.specs.Prelude.{Option, None, Some, option_map, IsSome, IfSome}
 use Rattle.std.specs.Ordering.{nat_cmp}
 use Rattle.std.specs.BTreeMap.{BTreeMap, is_at, get, Updates, WritesThrough}
 use Rattle.std.specs.Cmp.{unsigned_tied}
@@ -55,3 +55,17 @@ written_same m n k old new there same w client =
 -- a new client
 pub comes_in : (m n : Map) (k : ℕ) (c : Client) → client_talk c ≡ begun → Updates nat_cmp m n k (Some c) → Becomes (crowd_in m) (crowd_in n) k (Some begun)
 comes_in m n k c e u = subst (λ (t : Talk). Becomes (crowd_in m) (crowd_in n) k (Some t)) e (updated m n k (Some c) u)
+
+-- a client was written to that is reported
+pub written_reported : (m n : Map) (k : ℕ) (old new : Client) → Some old ≡ get nat_cmp m k → new.is_reported ≡ true → WritesThrough nat_cmp (nat_cmp k) m new n
+    → IfSome (get nat_cmp n k) (λ x. x.is_reported ≡ true)
+written_reported m n k old new there is w =
+    let P : Option Client → Type 0 = λ o. IfSome o (λ x. x.is_reported ≡ true) in
+    let u = w.3 (subst IsSome there refl) in
+    subst P (sym u.1) is
+
+-- none was left there
+pub none_reported : (m : Map) (k : ℕ) → get nat_cmp m k ≡ None → IfSome (get nat_cmp m k) (λ x. x.is_reported ≡ true)
+none_reported m k gone =
+    let P : Option Client → Type 0 = λ o. IfSome o (λ x. x.is_reported ≡ true) in
+    subst P (sym gone) tt

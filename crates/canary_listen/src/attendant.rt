@@ -1,8 +1,8 @@
 //! Clients are accepted, have their turns, and are let go.
-ghost use Rattle.std.specs.Prelude.{◌≡◌};
+ghost use Rattle.std.specs.Prelude.{◌≡◌, ◌≢◌, Some, IsTrue, false, option_map, ◌-◌};
 ghost use Rattle.canary_wire.specs.Exchanges.{point};
 ghost use Rattle.canary_listen.specs.Attending.{Attends, KeepsServed};
-ghost use Rattle.canary_listen.specs.Crowd.{clients_attendance};
+ghost use Rattle.canary_listen.specs.Crowd.{clients_attendance, IsReported, AreAllServed};
 
 use crate::client::{Client, Fate};
 use crate::clients::Clients;
@@ -55,14 +55,18 @@ pub(crate) struct Attendant {
 
 impl Attendant {
     // Whether all that were to come have come and gone.
-    pub(crate) fn is_done(&self) -> bool {
-        self.left == Some(0) && self.clients.count() == 0
+    pub(crate) fn is_done(&self) -> bool
+        ensures { IsTrue result → AreAllServed self.entry.now }
+    {
+        are_none_left(self.left) && self.clients.count() == 0
     }
 
     // Whether somebody may be accepted now: there is room for one more, or one is idle.
-    pub(crate) fn may_accept(&self) -> bool {
+    pub(crate) fn may_accept(&self) -> bool
+        ensures { IsTrue result → self.entry.now.left ≢ Some 0 }
+    {
         self.has_waiting
-            && self.left != Some(0)
+            && !are_none_left(self.left)
             && self.now >= self.retry_at
             && (self.has_room() || self.clients.idlest(self.now).is_some())
     }
@@ -140,7 +144,8 @@ impl Attendant {
 
     // Has a client's next turn come when its connection is ready; lets it go if that cannot be.
     fn await_ready(&mut self, number: usize, interest: Interest)
-        ensures { KeepsServed (clients_attendance self.old.clients)
+        ensures reported { IsReported self.new.clients number }
+        ensures keeps { KeepsServed (clients_attendance self.old.clients)
             (clients_attendance self.new.clients) }
     {
         if !self.clients.report(self.poll.registry(), number, interest) {
@@ -217,19 +222,28 @@ impl Attendant {
         }
     }
 
-    // Accepts one. If there is no room, it takes the place of the client that is idle longest.
+    // Accepts one, if more are to come.
     fn accept(&mut self, alloc: Global)
+        requires { self.old.left ≢ Some 0 }
         ensures { KeepsServed (clients_attendance self.old.clients)
             (clients_attendance self.new.clients) }
     {
         match self.socket.accept() {
-            Ok((stream, address)) => {
-                self.left = one_less(self.left);
-                self.make_place();
-                let _ = self.welcome(alloc, stream, address.ip());
-            }
+            Ok((stream, address)) => self.take_in(alloc, stream, address.ip()),
             Err(error) => self.wait_to_accept(error.kind()),
         }
+    }
+
+    // One was accepted. If there is no room, it takes the place of the client that is idle longest.
+    fn take_in(&mut self, alloc: Global, stream: TcpStream, address: IpAddr)
+        ensures keeps { KeepsServed (clients_attendance self.old.clients)
+            (clients_attendance self.new.clients) }
+        ensures counted { self.new.left ≡ option_map (λ n. n - 1) self.old.left }
+    {
+        let left = one_less(self.left);
+        self.make_place();
+        let _ = self.welcome(alloc, stream, address);
+        self.left = left;
     }
 
     // Lets the client go that is idle longest, if there is no room for another.
@@ -248,8 +262,9 @@ impl Attendant {
     // Nobody waits, or the system could not accept, as where it has no descriptor left: then to ask
     // again at once would take all of a processor's time, so it is asked a second later.
     fn wait_to_accept(&mut self, kind: ErrorKind)
-        ensures { KeepsServed (clients_attendance self.old.clients)
+        ensures keeps { KeepsServed (clients_attendance self.old.clients)
             (clients_attendance self.new.clients) }
+        ensures rests { kind ≡ ErrorKind.WouldBlock → self.new.has_waiting ≡ false }
     {
         match kind {
             ErrorKind::WouldBlock => self.has_waiting = false,
@@ -275,8 +290,21 @@ impl Attendant {
     }
 }
 
+// Whether as many were accepted as were to come.
+fn are_none_left(left: Option<u64>) -> bool
+    ensures none { IsTrue result → left ≡ Some 0 }
+    ensures some { left ≡ Some 0 → IsTrue result }
+{
+    match left {
+        Some(count) => count == 0,
+        None => false,
+    }
+}
+
 // One less of so many.
-fn one_less(left: Option<u64>) -> Option<u64> {
+fn one_less(left: Option<u64>) -> Option<u64>
+    ensures { result ≡ option_map (λ n. n - 1) left }
+{
     match left {
         Some(count) => Some(count.saturating_sub(1)),
         None => None,

@@ -59,6 +59,8 @@ pub(crate) struct Client {
     answered: u64,
     // How many bytes were read after its last reply.
     drained: usize,
+    // Whether the system reports its connection once that is ready.
+    is_reported: bool,
     // Where it comes from.
     address: IpAddr,
 }
@@ -80,6 +82,7 @@ impl Client {
             since: now,
             answered: 0,
             drained: 0,
+            is_reported: false,
             address,
         }
     }
@@ -124,16 +127,15 @@ impl Client {
         registry.register(&mut self.stream, token, Interest::READABLE)
     }
 
-    // Has it reported once more, also where it is ready already.
-    pub(crate) fn report(
-        &mut self,
-        registry: &Registry,
-        token: Token,
-        interest: Interest,
-    ) -> io::Result<()>
-        ensures { client_talk self.new ≡ client_talk self.old }
+    // Has it reported once more, also where it is ready already. Says whether it could be done.
+    pub(crate) fn report(&mut self, registry: &Registry, token: Token, interest: Interest) -> bool
+        ensures same { client_talk self.new ≡ client_talk self.old }
+        ensures reported { self.new.is_reported ≡ result }
     {
-        registry.reregister(&mut self.stream, token, interest)
+        self.is_reported = registry
+            .reregister(&mut self.stream, token, interest)
+            .is_ok();
+        self.is_reported
     }
 
     // Its turn.

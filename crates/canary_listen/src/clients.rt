@@ -1,10 +1,11 @@
 //! The clients that are being served, by the numbers of their connections.
-ghost use Rattle.std.specs.Prelude.{◌≡◌, IfOk};
+ghost use Rattle.std.specs.Prelude.{◌≡◌, ◌≤◌, IfOk, IsTrue, None, vec_len};
+ghost use Rattle.std.specs.Ordering.{nat_cmp};
+ghost use Rattle.std.specs.BTreeMap.{get, btree_map_len};
 ghost use Rattle.canary_wire.specs.Conversing.{begun};
 ghost use Rattle.canary_wire.specs.Exchanges.{point};
 ghost use Rattle.canary_wire.specs.Talks.{talk_of};
 ghost use Rattle.canary_listen.specs.Attending.{Attends, KeepsServed, nobody};
-ghost use Rattle.canary_listen.specs.Crowd.{client_talk, clients_attendance};
 
 use crate::client::{Client, Fate};
 use crate::limits::Limits;
@@ -30,9 +31,12 @@ pub(crate) struct Clients {
     spare: Vec<Conversation>,
     // How many bytes they have still to take, all together.
     unsent: usize,
+    ghost few: { vec_len spare ≤ 64 },
 }
 
 impl Clients {
+    ghost use Rattle.canary_listen.specs.Crowd.{client_talk, clients_attendance, IsReported};
+
     // None.
     pub(crate) fn new(alloc: Global) -> Clients
         ensures { clients_attendance result ≡ nobody }
@@ -59,7 +63,9 @@ impl Clients {
     }
 
     // How many there are.
-    pub(crate) fn count(&self) -> usize {
+    pub(crate) fn count(&self) -> usize
+        ensures { result ≡ btree_map_len self.now.by_number }
+    {
         self.by_number.len()
     }
 
@@ -85,7 +91,8 @@ impl Clients {
 
     // Keeps the conversation of a client that has gone for another, where there are not enough.
     fn keep(&mut self, client: Client)
-        ensures { clients_attendance self.new ≡ clients_attendance self.old }
+        ensures same { clients_attendance self.new ≡ clients_attendance self.old }
+        ensures clients { self.new.by_number ≡ self.old.by_number }
     {
         if self.spare.len() < MOST_SPARE {
             let _ = self.spare.push(client.into_conversation());
@@ -135,17 +142,19 @@ impl Clients {
 
     // Has a client's connection reported when it is ready for this. Says whether it could be done.
     pub(crate) fn report(&mut self, registry: &Registry, number: usize, interest: Interest) -> bool
-        ensures { KeepsServed (clients_attendance self.old) (clients_attendance self.new) }
+        ensures keeps { KeepsServed (clients_attendance self.old) (clients_attendance self.new) }
+        ensures reported { IsTrue result → IsReported self.new number }
     {
         match self.by_number.get_mut(&number) {
-            Some(client) => client.report(registry, Token(number), interest).is_ok(),
+            Some(client) => client.report(registry, Token(number), interest),
             None => false,
         }
     }
 
     // Lets a client go: its connection is closed.
     pub(crate) fn remove(&mut self, number: usize)
-        ensures { KeepsServed (clients_attendance self.old) (clients_attendance self.new) }
+        ensures keeps { KeepsServed (clients_attendance self.old) (clients_attendance self.new) }
+        ensures gone { get nat_cmp self.new.by_number number ≡ None }
     {
         crowds();
         if let Some(client) = self.by_number.remove(&number) {

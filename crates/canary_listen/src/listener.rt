@@ -1,8 +1,8 @@
 //! Serving clients on a socket.
-ghost use Rattle.std.specs.Prelude.{◌≡◌, IfOk};
+ghost use Rattle.std.specs.Prelude.{◌≡◌, IfOk, OnOk};
 ghost use Rattle.canary_wire.specs.Exchanges.{point};
 ghost use Rattle.canary_listen.specs.Attending.{Attends, ServesAll, nobody};
-ghost use Rattle.canary_listen.specs.Crowd.{attendance_of};
+ghost use Rattle.canary_listen.specs.Crowd.{attendance_of, IsDone};
 
 use crate::attendant::{Attendant, SOCKET};
 use crate::clients::Clients;
@@ -116,7 +116,7 @@ impl Listener {
     /// the desk, if a write on `errors` never waits. A fault of `errors` itself is ignored.
     ///
     /// # Errors
-    /// `Accept` where the system tells no more of the connections.
+    /// `Accept` where the system tells no more of the connections, or after 2^64 - 1 rounds.
     pub fn serve<R: time::Clock + AllocGlobal, C: Clock, B: Book, F: Write>(
         &mut self,
         rt: &R,
@@ -131,6 +131,7 @@ impl Listener {
         ensures serves { attendance_of self.old ≡ nobody
             → ServesAll (point (C.tells clock.old) (B.state book.old))
             (point (C.tells clock.new) (B.state book.new)) }
+        ensures done { OnOk result (IsDone self.new) }
     {
         going_on::<C, B>();
         self.attendant.left = connections;
@@ -144,7 +145,7 @@ impl Listener {
                 return Err(fault);
             }
         }
-        Ok(())
+        Err(ListenFault::Accept)
     }
 
     /// Waits until something comes, at most so long, and gives each client that is ready one turn:

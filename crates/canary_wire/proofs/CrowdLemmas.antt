@@ -1,10 +1,10 @@
 -- A crowd stays in order.
 use Rattle.std.proofs.Common.{◌≡◌, ◌≢◌, ℕ, ◌==◌, inl, inr, Bool, true, false, List, [], ◌∷◌, ◌++◌, refl, sym, ap, ◌∙◌, subst}
-use Rattle.std.specs.Prelude.{Option, None, Some, if◌then◌else◌}
+use Rattle.std.specs.Prelude.{Option, Some, if◌then◌else◌}
 use Rattle.std.proofs.lemmas.List.{append-nil}
 use Rattle.std.proofs.lemmas.Grind.{flat_map-append}
 use Rattle.std.proofs.lemmas.Bool.Decides.{eqb_tells}
-use Rattle.canary_wire.specs.Conversing.{Talk, begun, InOrder, KeepsOrder, so_far}
+use Rattle.canary_wire.specs.Conversing.{Talk, begun, KeepsOrder, so_far}
 use Rattle.canary_wire.specs.Crowds.{Turn, by, IsNew, InOrderBy, IsTalk, Comes, HasTurn, Goes}
 use Rattle.canary_wire.proofs.ServeLemmas.{begins_none}
 use Rattle.canary_wire.proofs.OrderLemmas.{order_as}

@@ -9,12 +9,13 @@ use Rattle.std.proofs.lemmas.List.{length-append}
 use Rattle.httparse.specs.Grammar.{trim_ows}
 use Rattle.http1.specs.Text.{eq_ignore_case}
 use Rattle.http1.specs.Fields.{elements}
-use Rattle.canary_release.specs.declared.reply.ReplyStatus.TheVariants.{Accepted}
-use Rattle.canary_once.specs.declared.event.Answer.TheVariants.{Replied}
+use Rattle.canary_release.specs.declared.reply.ReplyStatus.TheVariants.{Accepted, Refused}
+use Rattle.canary_once.specs.declared.book.BookFault.TheVariants.{Memory, Storage}
+use Rattle.canary_once.specs.declared.event.Answer.TheVariants.{Replied, Unavailable}
 use Rattle.canary_once.specs.declared.event.Query.TheVariants as query
 use Rattle.canary_wire.specs.declared.rejection.Allowed.TheVariants.{Put, Get}
 use Rattle.canary_wire.specs.declared.routes.Asked.TheVariants as asked
-use Rattle.canary_wire.specs.declared.rejection.Rejection.TheVariants.{Malformed, Length, TooLong, Method, BadName}
+use Rattle.canary_wire.specs.declared.rejection.Rejection.TheVariants.{Malformed, Length, TooLong, Method, BadName, Unsupported}
 use Rattle.canary_wire.specs.declared.framing.Framing.TheVariants.{Body, Rejected}
 use Rattle.canary_wire.specs.declared.reply.Response.TheVariants as response
 use Rattle.canary_wire.specs.Heads.{framing_of, asks_to_close}
@@ -177,3 +178,35 @@ too_long_text : reply_text (response.Rejected TooLong) true false
     ≡ codes "HTTP/1.1 413 Content Too Large\r\nContent-Type: application/json\r\nContent-Length: 19\r\nConnection: close\r\n\r\n{\"code\":\"too-long\"}"
 unfolding reply_text head_text digits
 too_long_text = refl
+
+length_text : reply_text (response.Rejected Length) true false
+    ≡ codes "HTTP/1.1 411 Length Required\r\nContent-Type: application/json\r\nContent-Length: 17\r\nConnection: close\r\n\r\n{\"code\":\"length\"}"
+unfolding reply_text head_text digits
+length_text = refl
+
+unsupported_text : reply_text (response.Rejected Unsupported) false false
+    ≡ codes "HTTP/1.1 400 Bad Request\r\nContent-Type: application/json\r\nContent-Length: 22\r\n\r\n{\"code\":\"unsupported\"}"
+unfolding reply_text head_text digits
+unsupported_text = refl
+
+refused_text : reply_text (response.Answered (Replied (record { status = Refused; body = codes "{\"code\":\"unknown-service\"}" }))) false false
+    ≡ codes "HTTP/1.1 422 Unprocessable Content\r\nContent-Type: application/json\r\nContent-Length: 26\r\n\r\n{\"code\":\"unknown-service\"}"
+unfolding reply_text head_text digits
+refused_text = refl
+
+-- there was no memory to read a command
+no_memory_text : reply_text response.NoMemory false false
+    ≡ codes "HTTP/1.1 503 Service Unavailable\r\nContent-Type: application/json\r\nContent-Length: 20\r\n\r\n{\"code\":\"no-memory\"}"
+unfolding reply_text head_text digits
+no_memory_text = refl
+
+-- or to settle it
+unsettled_text : reply_text (response.Answered (Unavailable Memory)) false false
+    ≡ codes "HTTP/1.1 503 Service Unavailable\r\nContent-Type: application/json\r\nContent-Length: 20\r\n\r\n{\"code\":\"no-memory\"}"
+unfolding reply_text head_text digits
+unsettled_text = refl
+
+storage_text : reply_text (response.Answered (Unavailable Storage)) false false
+    ≡ codes "HTTP/1.1 503 Service Unavailable\r\nContent-Type: application/json\r\nContent-Length: 18\r\n\r\n{\"code\":\"storage\"}"
+unfolding reply_text head_text digits
+storage_text = refl

@@ -1,12 +1,13 @@
 //! A conversation with one client, turn by turn: where `serve` waits for its reader and its
 //! writer, a turn never does, so many clients can be served at once.
-ghost use Rattle.std.specs.Prelude.{◌≡◌, ◌≢◌, None, [], length, IfOk, IfSome};
+ghost use Rattle.std.specs.Prelude.{◌≡◌, ◌≢◌, None, [], length, IfOk, OnOk, IfSome};
 ghost use Rattle.canary_wire.specs.Buffers.{bytes_held};
 ghost use Rattle.canary_wire.specs.Conversing.{begun, IsListening, end_cause, Awaits, StandsAt};
 ghost use Rattle.canary_wire.specs.Conversing.{IsOver};
 ghost use Rattle.canary_wire.specs.Conversing.{Receives, Sends, AnswersMore, Replies, TakesTurn};
 ghost use Rattle.canary_wire.specs.Conversing.{AnswersNext};
 ghost use Rattle.canary_wire.specs.Exchanges.{point};
+ghost use Rattle.canary_wire.specs.Owing.{HasRoom};
 ghost use Rattle.canary_wire.specs.Routes.{the_rows};
 ghost use Rattle.canary_wire.specs.Writes.{Known};
 
@@ -362,7 +363,8 @@ impl Conversation {
 
     // Takes room for the reply to a request; there is some already where nothing is owed.
     fn make_room(&mut self) -> Result<(), Memory>
-        ensures { talk_of self.new ≡ talk_of self.old }
+        ensures same { talk_of self.new ≡ talk_of self.old }
+        ensures room { OnOk result (HasRoom self.new.owed) }
     {
         self.owed.make_room()
     }
@@ -376,6 +378,7 @@ impl Conversation {
         book: &mut B,
     ) -> Step
         requires open { (talk_of self.old).stage ≡ Stage.Open }
+        requires room { HasRoom self.old.owed }
         ensures answers { AnswersMore
             (point (C.tells clock.old) (B.state book.old))
             (point (C.tells clock.new) (B.state book.new))

@@ -1,5 +1,5 @@
 //! What is still to be written to a client.
-ghost use Rattle.std.specs.Prelude.{◌≡◌, ℕ, ◌<◌, ◌≤◌, IfOk, OnErr};
+ghost use Rattle.std.specs.Prelude.{◌≡◌, ℕ, ◌<◌, ◌≤◌, IfOk, OnOk, OnErr, MatchResult};
 ghost use Rattle.std.specs.Prelude.{List, [], ◌++◌, length, drop, vec_len};
 ghost use Rattle.std.specs.Io.KnownBytes.{Appends};
 
@@ -23,10 +23,12 @@ pub(crate) struct Owed {
     bytes: Vec<u8>,
     sent: usize,
     ghost fits: { sent ≤ vec_len bytes },
+    // Once all was sent, nothing of it is kept.
+    ghost cleared: { sent ≡ vec_len bytes → sent ≡ 0 },
 }
 
 impl Owed {
-    ghost use Rattle.canary_wire.specs.Owing.{bytes_owed};
+    ghost use Rattle.canary_wire.specs.Owing.{bytes_owed, HasRoom};
 
     // Nothing, with room for the reply to a request.
     pub(crate) fn new(alloc: Global) -> Result<Owed, Memory>
@@ -47,7 +49,8 @@ impl Owed {
 
     // Takes room for the reply to a request behind what is owed: none is taken where nothing is.
     pub(crate) fn make_room(&mut self) -> Result<(), Memory>
-        ensures { bytes_owed self.new ≡ bytes_owed self.old }
+        ensures same { bytes_owed self.new ≡ bytes_owed self.old }
+        ensures room { OnOk result (HasRoom self.new) }
     {
         Ok(self.bytes.reserve(ROOM)?)
     }
@@ -69,25 +72,29 @@ impl Owed {
             return Ok(());
         }
         match writer.write(self.as_slice()) {
-            Ok(0) => Err(WriteFault),
-            Ok(n) => {
-                self.go_on(n);
-                Ok(())
-            }
+            Ok(n) => self.go_on(n),
             Err(error) if is_not_now(error.kind()) => Ok(()),
             Err(_) => Err(WriteFault),
         }
     }
 
-    // So many more were written.
-    fn go_on(&mut self, n: usize)
-        requires { n ≤ length (bytes_owed self.old) }
-        ensures { bytes_owed self.new ≡ drop n (bytes_owed self.old) }
+    // The writer took so many of what is owed: if it took none, it has failed.
+    fn go_on(&mut self, n: usize) -> Result<(), WriteFault>
+        requires some { 0 < length (bytes_owed self.old) }
+        requires within { n ≤ length (bytes_owed self.old) }
+        ensures rest { bytes_owed self.new ≡ drop n (bytes_owed self.old) }
+        ensures took { MatchResult result (λ _. 0 < n) (λ _. n ≡ 0) }
+        ensures fault { OnErr result (0 < length (bytes_owed self.new)) }
     {
-        self.sent += n;
-        if self.sent == self.bytes.len() {
-            self.clear();
+        if n == 0 {
+            return Err(WriteFault);
         }
+        if self.sent + n == self.bytes.len() {
+            self.clear();
+        } else {
+            self.sent += n;
+        }
+        Ok(())
     }
 }
 
