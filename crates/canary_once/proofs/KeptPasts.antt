@@ -191,7 +191,7 @@ lists_measured all run metric (suc k) (suc n) x e f =
 -- A run is opened.
 
 opened_last : (all : List Recorded) (x : Opening) → AllByRecursion (λ (y : Recorded). y.run < x.run) all → run_in all (new_run x) ≡ opened_run x
-opened_last all x h = λ i. record { number = x.run; step = x.step; started = x.started; closed = None; lists = empty_lists all x.run 0 x.metrics h i }
+opened_last all x h = λ i. record { number = x.run; step = x.step; analysis = x.analysis; started = x.started; closed = None; lists = empty_lists all x.run 0 (length x.analysis.metrics) h i }
 
 -- A measurement is recorded.
 
@@ -203,8 +203,8 @@ measured_run all x r =
     let q : Run = run_in all r in
     elim (r.opening.run == x.run)
     as (λ b. (r.opening.run == x.run) ≡ b → run_in (all ++ x ∷ []) r ≡ (let s : Run = (if b then record q { lists = change_at x.metric (with_recorded x) q.lists } else q) in s)) [
-      | true ↦ λ e. ap (with_lists q) (lists_measured all r.opening.run 0 x.metric r.opening.metrics x (sym (eqb-true r.opening.run x.run e)) (omega arith))
-      | false ↦ λ e. ap (with_lists q) (lists_of_others all r.opening.run 0 r.opening.metrics x (other_number x.run r.opening.run (λ same. true≢false (sym (eq-eqb r.opening.run x.run (sym same)) ∙ e))))
+      | true ↦ λ e. ap (with_lists q) (lists_measured all r.opening.run 0 x.metric (length r.opening.analysis.metrics) x (sym (eqb-true r.opening.run x.run e)) (omega arith))
+      | false ↦ λ e. ap (with_lists q) (lists_of_others all r.opening.run 0 (length r.opening.analysis.metrics) x (other_number x.run r.opening.run (λ same. true≢false (sym (eq-eqb r.opening.run x.run (sym same)) ∙ e))))
     ] refl
 
 measured_runs : (all : List Recorded) (x : Recorded) (rs : List KeptRun) → map (run_in (all ++ x ∷ [])) rs ≡ map (measured_in x) (map (run_in all) rs)
@@ -213,7 +213,7 @@ measured_runs all x (r ∷ rs) = λ i. measured_run all x r i ∷ measured_runs 
 
 -- a run of another number keeps its lists, and so its last tallies
 last_of_other : (all : List Recorded) (x : Recorded) (r : KeptRun) → (x.run ≡ r.opening.run → ⊥) → HasLast all r → HasLast (all ++ x ∷ []) r
-last_of_other all x r differ h = subst (λ ls. IsLast r.closed (map counts_of ls)) (sym (lists_of_others all r.opening.run 0 r.opening.metrics x (other_number x.run r.opening.run differ))) h
+last_of_other all x r differ h = subst (λ ls. IsLast r.closed (map counts_of ls)) (sym (lists_of_others all r.opening.run 0 (length r.opening.analysis.metrics) x (other_number x.run r.opening.run differ))) h
 
 last_of_later : (all : List Recorded) (x : Recorded) (n : ℕ) (rs : List KeptRun) → x.run < n → AreNumbered n (map (run_in all) rs) → AllByRecursion (HasLast all) rs → AllByRecursion (HasLast (all ++ x ∷ [])) rs
 last_of_later all x n [] lt h last = tt

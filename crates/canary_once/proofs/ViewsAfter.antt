@@ -49,7 +49,7 @@ none_counted zero = refl
 none_counted (suc n) = ap (λ ts. counts [] ∷ ts) (none_counted n)
 
 opened_is : (x : Opening) → opened_record x ≡ record_of (opened_run x)
-opened_is x = λ i. record (opened_record x) { tallies = none_counted x.metrics i }
+opened_is x = λ i. record (opened_record x) { tallies = none_counted (length x.analysis.metrics) i }
 
 opened_more : (number : ℕ) (x : Opening) (rs : List Run) → opened_of number x (option_map record_of (find (is_numbered number) rs)) ≡ option_map record_of (find (is_numbered number) (rs ++ opened_run x ∷ []))
 opened_more number x [] =

@@ -35,7 +35,7 @@ lists_from all run metric (suc n) =
 
 -- the lists of a run
 abbrev pub lists_of : List Recorded → Opening → List (List Recorded)
-lists_of all x = lists_from all x.run 0 x.metrics
+lists_of all x = lists_from all x.run 0 (length x.analysis.metrics)
 
 abbrev pub closing_of : Option ClosedRun → Option Closing
 closing_of None = None
@@ -46,6 +46,7 @@ run_in all r =
     record {
       number = r.opening.run;
       step = r.opening.step;
+      analysis = r.opening.analysis;
       started = r.opening.started;
       closed = closing_of r.closed;
       lists = lists_of all r.opening;

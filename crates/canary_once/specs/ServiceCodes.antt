@@ -1,8 +1,10 @@
 -- The code of a service of the model, by which proofs tell such values apart.
 use Rattle.std.specs.Prelude.{ℕ, List, Option, refl}
 use Rattle.std.specs.Coded.{Coded, code_by, coded×, coded_ℕ, coded_list, coded_option}
+use Rattle.canary_plan.specs.declared.analysis_parts.AnalysisParts.{AnalysisParts}
 use Rattle.canary_plan.specs.declared.line.Line.{Line}
 use Rattle.canary_plan.specs.declared.service.ServiceSpec.{ServiceSpec}
+use Rattle.canary_plan.specs.contracts.analysis_parts.AnalysisParts as analysis
 use Rattle.canary_plan.specs.contracts.line.Line as line
 use Rattle.canary_plan.specs.contracts.service.ServiceSpec as spec
 use Rattle.canary_release.specs.declared.effect.Closing.{Closing}
@@ -18,15 +20,22 @@ use Rattle.canary_release.specs.Desks.{ModelService}
 
 abbrev pub run_code : Coded Run
 run_code =
-    code_by (ℕ × (Option ℕ × (ℕ × (Option Closing × List (List Recorded)))))
+    code_by (ℕ × (Option ℕ × (AnalysisParts × (ℕ × (Option Closing × List (List Recorded))))))
     (coded× coded_ℕ
     (coded× (coded_option coded_ℕ)
+    (coded× analysis.the_row.coded
     (coded× coded_ℕ
     (coded× (coded_option closing.the_row.coded)
-    (coded_list (coded_list recorded.the_row.coded))))))
-    (λ r. (r.number, (r.step, (r.started, (r.closed, r.lists)))))
-    (λ p. record
-    { number = p.0; step = p.1.0; started = p.1.1.0; closed = p.1.1.1.0; lists = p.1.1.1.1 })
+    (coded_list (coded_list recorded.the_row.coded)))))))
+    (λ r. (r.number, (r.step, (r.analysis, (r.started, (r.closed, r.lists))))))
+    (λ p. record {
+      number = p.0;
+      step = p.1.0;
+      analysis = p.1.1.0;
+      started = p.1.1.1.0;
+      closed = p.1.1.1.1.0;
+      lists = p.1.1.1.1.1;
+    })
     (λ _. refl)
 
 abbrev pub past_code : Coded Past

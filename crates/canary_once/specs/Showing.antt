@@ -1,6 +1,6 @@
 -- What the code tells of a service that was passed: what a book told of it, as the effects on the
 -- way leave it.
-use Rattle.std.specs.Prelude.{◌≡◌, ℕ, ◌==◌, Bool, true, false, if◌then◌else◌, List, [], ◌∷◌, ◌++◌, replicate, Option, Some, None, option_map, Result, IfOk, IfErr}
+use Rattle.std.specs.Prelude.{◌≡◌, ℕ, ◌==◌, Bool, true, false, if◌then◌else◌, List, [], ◌∷◌, ◌++◌, length, replicate, Option, Some, None, option_map, Result, IfOk, IfErr}
 use Rattle.canary_metric.specs.Counts.{counts}
 use Rattle.canary_plan.specs.declared.line.Line.{Line}
 use Rattle.canary_release.specs.declared.effect.Opening.{Opening}
@@ -43,7 +43,7 @@ opened_record x =
       step = x.step;
       started = x.started;
       closed = None;
-      tallies = replicate x.metrics (counts []);
+      tallies = replicate (length x.analysis.metrics) (counts []);
     }
 
 abbrev pub closed_record : Closing → RunRecord → RunRecord

@@ -18,14 +18,13 @@ use Rattle.canary_release.specs.declared.reply.ReplyStatus.TheVariants.{Accepted
 use Rattle.canary_release.specs.declared.stand.Stand.{Stand}
 use Rattle.canary_release.specs.Services.{status, weight}
 use Rattle.canary_release.specs.Pasts.{watched}
-use Rattle.canary_release.specs.Courses.{run_metrics}
 use Rattle.canary_release.specs.Replies.{quoted, bracketed, status_text, code_alone}
 use Rattle.canary_release.specs.Desks.{ModelService, Desk}
 use Rattle.canary_release.specs.Laws.{passed_to}
 use Rattle.canary_once.specs.declared.event.Query.{Query}
 use Rattle.canary_once.specs.declared.event.Query.TheVariants.{Service, History, Run}
 use Rattle.canary_once.specs.declared.record.RunRecord.{RunRecord}
-use Rattle.canary_once.specs.Records.{record_numbered}
+use Rattle.canary_once.specs.Records.{run_metrics, record_numbered}
 
 abbrev pub null_or : Option ℕ → List ℕ
 null_or None = codes "null"

@@ -114,7 +114,7 @@ fn opened_record(alloc: Global, opening: &Opening) -> Result<RunRecord, Memory>
         step: opening.step,
         started: opening.started,
         closed: None,
-        tallies: new_tallies(alloc, opening.metrics)?,
+        tallies: new_tallies(alloc, opening.analysis.metrics().len() as u32)?,
     })
 }
 

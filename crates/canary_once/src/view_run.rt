@@ -1,8 +1,8 @@
 //! The text of a run.
 ghost use Rattle.std.specs.Prelude.{◌≡◌, IfOk, map, string_bytes};
 ghost use Rattle.std.specs.List.{zip};
-ghost use Rattle.canary_release.specs.Courses.{run_metrics};
 ghost use Rattle.canary_release.specs.Replies.{bracketed};
+ghost use Rattle.canary_once.specs.Records.{run_metrics};
 ghost use Rattle.canary_once.specs.Views.{null_or, bool_text, due_text, metric_front};
 ghost use Rattle.canary_once.specs.Views.{metric_middle, metric_back, metric_view, closed_at};
 ghost use Rattle.canary_once.specs.Views.{verdict_in, run_front, run_middle, run_back, run_view};

@@ -1,6 +1,6 @@
 -- Entering, passing and aborting bring allowed effects alone.
 use Rattle.std.proofs.Common.{◌≡◌, ℕ, zero, suc, ◌+◌, ◌-◌, List, [], ◌∷◌, length, Bool, true, false, refl, ap, sym, ◌∙◌, eqb-true, eq-eqb, true≢false, subst}
-use Rattle.std.specs.Prelude.{◌==◌, ◌&&◌, not, if◌then◌else◌, IsTrue, Option, Some, None, slice_get, unwrap_or, map, filter}
+use Rattle.std.specs.Prelude.{◌==◌, not, if◌then◌else◌, IsTrue, Option, Some, None, slice_get, unwrap_or, map, filter}
 use Rattle.std.specs.List.{AllByRecursion, find, zip}
 use Rattle.canary_condition.specs.declared.outcome.Phase.{Phase}
 use Rattle.canary_condition.specs.declared.outcome.Phase.TheVariants.{Pending, Running, Successful, Inconclusive, Error, Failed}

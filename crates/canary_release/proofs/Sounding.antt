@@ -11,7 +11,7 @@ use Rattle.canary_condition.specs.Phases.{phase_of}
 use Rattle.canary_metric.specs.Metrics.{MetricValue}
 use Rattle.canary_metric.specs.Counts.{Counts, counts}
 use Rattle.canary_metric.specs.MetricPhases.{is_completed}
-use Rattle.canary_metric.specs.Verdicts.{MetricCounts, worst_of, counted_phase, judging, is_closing, are_completed, verdict_of_counts, verdict}
+use Rattle.canary_metric.specs.Verdicts.{MetricCounts, worst_of, counted_phase, judging, is_closing, are_completed, verdict_of_counts}
 use Rattle.canary_plan.specs.declared.strategy.CheckedStrategy.{CheckedStrategy}
 use Rattle.canary_plan.specs.declared.command.Command.{Command}
 use Rattle.canary_plan.specs.Plans.{Templates}
@@ -22,7 +22,6 @@ use Rattle.canary_release.specs.declared.effect.Effect.{Effect}
 use Rattle.canary_release.specs.declared.effect.Effect.TheVariants.{Told, Opened, Measured, Closed}
 use Rattle.canary_release.specs.declared.runs.OpenRun.{OpenRun}
 use Rattle.canary_release.specs.declared.runs.Runs.{Runs}
-use Rattle.canary_release.specs.declared.stand.Stand.{Stand}
 use Rattle.canary_release.specs.Pasts.{Run, Past, change_at, opened_run, with_recorded, measured_in, closed_in, grows, grows_by, is_open, measurement_of, counts_of, tallied, watched}
 use Rattle.canary_release.specs.Courses.{Course, run_verdict}
 use Rattle.canary_release.specs.Desks.{ModelService, Desk, no_desk, Change, after, desk_after, ruling_on, apply}
