@@ -12,7 +12,7 @@ use Rattle.canary_plan.specs.Limits.{is_ordinal, are_report_limits}
 use Rattle.canary_release.specs.declared.effect.Recorded.{Recorded}
 use Rattle.canary_files.specs.Rows.{header, row_of}
 use Rattle.canary_files.specs.Written.{row_fields, file_of}
-use Rattle.canary_files.specs.Importing.{Fields, HasRecords}
+use Rattle.canary_files.specs.Taking.{Fields, HasRecords}
 
 -- an outcome as there are: a result whose text is read back, as that of any is, or a failure of 1
 -- to 200 bytes of text
