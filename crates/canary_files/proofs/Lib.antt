@@ -6,6 +6,7 @@ pub mod AnswerLemmas
 pub mod ReadLemmas
 pub mod HistoryLemmas
 pub mod ExportLemmas
+pub mod SureLemmas
 pub mod ReadBack
 pub mod ImportLemmas
 pub mod HeaderLemmas
