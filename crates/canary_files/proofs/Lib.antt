@@ -8,6 +8,7 @@ pub mod HistoryLemmas
 pub mod ExportLemmas
 pub mod SureLemmas
 pub mod ReadBack
+pub mod ExportsBack
 pub mod ImportLemmas
 pub mod HeaderLemmas
 pub mod AgainLemmas

@@ -40,7 +40,7 @@ or_false : (a b : Bool) → (a || b) ≡ false → (a ≡ false) × (b ≡ false
 or_false true b e = absurd (true≢false e)
 or_false false b e = (refl, e)
 
-both : (a b : Bool) → (a && b) ≡ true → (a ≡ true) × (b ≡ true)
+pub both : (a b : Bool) → (a && b) ≡ true → (a ≡ true) × (b ≡ true)
 both true b e = (refl, e)
 both false b e = absurd (false≢true e)
 
@@ -73,14 +73,15 @@ measured_from n (r ∷ rs) x a e =
     ]
 
 -- the run of a measurement is found by its number
-record Found (s : ModelService) (n : ℕ) (runs : List Run) (x : Recorded) : Type 0 where
-  run : Run
-  found : find (is_numbered x.run) runs ≡ Some run
-  is : IsRun s run
-  metric : nat_lt x.metric (length run.lists) ≡ true
-  last : x.run < n + length runs
+pub record Found (s : ModelService) (n : ℕ) (runs : List Run) (x : Recorded) : Type 0 where
+  pub run : Run
+  pub found : find (is_numbered x.run) runs ≡ Some run
+  pub same : x.run ≡ run.number
+  pub is : IsRun s run
+  pub metric : nat_lt x.metric (length run.lists) ≡ true
+  pub last : x.run < n + length runs
 
-found_run : (s : ModelService) (n : ℕ) (runs : List Run) (x : Recorded) → AreNumbered n runs → AllByRecursion (IsRun s) runs → list_any (is_measured_by x) runs ≡ true → Found s n runs x
+pub found_run : (s : ModelService) (n : ℕ) (runs : List Run) (x : Recorded) → AreNumbered n runs → AllByRecursion (IsRun s) runs → list_any (is_measured_by x) runs ≡ true → Found s n runs x
 found_run s n [] x a i e = absurd (false≢true e)
 found_run s n (r ∷ rs) x a i e =
     let next : Bool → Option Run = λ b. cond b (Some r) (find (is_numbered x.run) rs) in
@@ -90,14 +91,14 @@ found_run s n (r ∷ rs) x a i e =
           let p = both (x.run == r.number) (nat_lt x.metric (length r.lists)) t in
           let same : x.run ≡ r.number = eqb-true x.run r.number p.0 in
           let is : (r.number == x.run) ≡ true = grind (arith, nat_tests, same) in
-          record { run = r; found = ap next is; is = i.0; metric = p.1; last = omega (arith, same, first) }
+          record { run = r; found = ap next is; same = same; is = i.0; metric = p.1; last = omega (arith, same, first) }
           )
       | inr t ↦ (
           let rest = found_run s (suc n) rs x a.1 i.1 t in
           let later : suc n ≤ x.run = measured_from (suc n) rs x a.1 t in
           let other : (r.number == x.run) ≡ false = grind (arith, nat_tests, later, first) in
           let within : x.run < suc n + length rs = rest.last in
-          record { run = rest.run; found = ap next other ∙ rest.found; is = rest.is; metric = rest.metric; last = omega (arith, within) }
+          record { run = rest.run; found = ap next other ∙ rest.found; same = rest.same; is = rest.is; metric = rest.metric; last = omega (arith, within) }
           )
     ]
 
@@ -109,7 +110,7 @@ few_runs m e = few (length m.past.runs) (third _ _ _ _ e)
 
 -- ---- measurements
 
-placed_one : (known : Templates) (name : List ℕ) (m : ModelService) → IsInOrder known name m → (x : Recorded) → is_of_some m.past.runs x ≡ true → IsPlaced m.stand.strategy m.past x
+pub placed_one : (known : Templates) (name : List ℕ) (m : ModelService) → IsInOrder known name m → (x : Recorded) → is_of_some m.past.runs x ≡ true → IsPlaced m.stand.strategy m.past x
 placed_one known name m o x e =
     let f = found_run m 1 m.past.runs x o.numbered o.runs e in
     let r : Run = f.run in
