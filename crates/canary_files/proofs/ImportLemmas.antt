@@ -12,7 +12,7 @@ use Rattle.canary_files.specs.Writes.{Known, Writes}
 use Rattle.canary_files.specs.Rows.{header, is_header}
 use Rattle.canary_files.specs.RowExchanges.{Exchange, rows_of, lines_from, lines, told_line, Point, Exchanges, Went}
 use Rattle.canary_files.specs.Taking.{Fields, HasTaken, TakesNext, taken_of, spare_of}
-use Rattle.canary_files.specs.Importing.{Answers, ImportsTaken, ImportsUntil, ImportsTo, EndsSo, KeepsBook, IsSoFar}
+use Rattle.canary_files.specs.Importing.{Answers, ImportsSome, ImportsTaken, ImportsUntil, ImportsTo, EndsSo, KeepsBook, IsSoFar}
 use Rattle.canary_files.proofs.WriteLemmas.{appends_none, appends_more, writes_all}
 use Rattle.canary_files.proofs.ExchangeLemmas.{went_none, went_one, went_then, holds_of}
 use Rattle.canary_files.proofs.ReadLemmas.{begins}
@@ -115,10 +115,10 @@ module _ {S : Type 0} (left : S → Known) (spare : S → ℕ) where
     so_far_taken goes file s many = (
       header ∷ rows_of so.exchanges,
       rows_of so.exchanges,
-      many,
       begins left file r1.reader (header ∷ rows_of so.exchanges) (so.stands file s).stands,
       (refl, refl),
       answers_of_went goes w w1 p p1 so.exchanges so.went so.written,
+      many,
     )
 
     pub so_far_failed : RunsOn → (f : ImportFault) → ((file : Known) (records : List Fields) → HasTaken left file r1 records → TakesNext left spare file r2 records fields (Err f))
@@ -136,14 +136,17 @@ module _ {S : Type 0} (left : S → Known) (spare : S → ℕ) where
 
 -- ---- how it ended
 
+imports_some : (file : Known) (taken : ℕ) (w w1 : Known) (p q : Point) → ImportsTaken file taken w w1 p q → ImportsSome file w w1 p q
+imports_some file taken w w1 p q t = (t.0, t.1, t.2, t.3, t.4)
+
 pub imports_to : (file : Known) (taken spare : ℕ) (w w1 : Known) (p q : Point) (r : Result ℕ ImportFault) → EndsSo file taken spare w w1 p q r → ImportsTo file w w1 p q r
 imports_to file taken spare w w1 p q (Ok n) e = e
-imports_to file taken spare w w1 p q (Err fault.Read) e = (taken, e.1)
+imports_to file taken spare w w1 p q (Err fault.Read) e = imports_some file taken w w1 p q e.1
 imports_to file taken spare w w1 p q (Err fault.Write) e = e
-imports_to file taken spare w w1 p q (Err fault.Memory) e = (taken, e)
+imports_to file taken spare w w1 p q (Err fault.Memory) e = imports_some file taken w w1 p q e
 imports_to file taken spare w w1 p q (Err fault.Header) e = e
 imports_to file taken spare w w1 p q (Err fault.RowsSpent) (inl e) = inl e
-imports_to file taken spare w w1 p q (Err fault.RowsSpent) (inr e) = inr (taken, e.1)
+imports_to file taken spare w w1 p q (Err fault.RowsSpent) (inr e) = inr (imports_some file taken w w1 p q e.1)
 
 -- ---- the header
 
@@ -151,13 +154,13 @@ module _ {S : Type 0} (left : S → Known) (spare : S → ℕ) (file : Known) (r
   pub import_none : RunsOn → TakesNext left spare file r1 [] fields (Ok false) → ImportsTo file w w p p (Ok 0)
   import_none goes takes = ([], [], takes, refl, refl, answers_none goes w p)
 
-  none_taken : RunsOn → taken_of r1 ≡ 0 → ImportsTaken file (taken_of r1) w w p p
-  none_taken goes many = ([], [], many, begins left file r0.reader [] s.stands, refl, answers_none goes w p)
+  none_taken : RunsOn → ImportsSome file w w p p
+  none_taken goes = ([], [], begins left file r0.reader [] s.stands, refl, answers_none goes w p)
 
   pub import_failed : RunsOn → (f : ImportFault) → TakesNext left spare file r1 [] fields (Err f) → ImportsTo file w w p p (Err f)
-  import_failed goes fault.Read takes = (taken_of r1, none_taken goes takes.1)
-  import_failed goes fault.Memory takes = (taken_of r1, none_taken goes takes)
-  import_failed goes fault.RowsSpent takes = inr (taken_of r1, none_taken goes takes.1)
+  import_failed goes fault.Read takes = none_taken goes
+  import_failed goes fault.Memory takes = none_taken goes
+  import_failed goes fault.RowsSpent takes = inr (none_taken goes)
   import_failed goes fault.Write takes = absurd takes
   import_failed goes fault.Header takes = absurd takes
 

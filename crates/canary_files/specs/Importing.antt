@@ -34,16 +34,11 @@ ImportsAll file w new_w old new count =
     × HasRecords file records × AreDataRows records rows
     × (count ≡ length rows) × Answers w new_w old new rows
 
--- so were the first rows of a file of which so many records were taken: all these
-abbrev pub ImportsTaken : Known → ℕ → Known → Known → Point → Point → Type 0
-ImportsTaken file taken w new_w old new =
-    (records : List Fields) × (rows : List Fields)
-    × (taken ≡ length records) × BeginsWith file records × AreDataRows records rows
-    × Answers w new_w old new rows
-
--- so were the first rows of a file: all that were taken of it
+-- so were the first rows of a file
 abbrev pub ImportsSome : Known → Known → Known → Point → Point → Type 0
-ImportsSome file w new_w old new = (taken : ℕ) × ImportsTaken file taken w new_w old new
+ImportsSome file w new_w old new =
+    (records : List Fields) × (rows : List Fields)
+    × BeginsWith file records × AreDataRows records rows × Answers w new_w old new rows
 
 -- so were the first rows of a file, but that the writer failed in the midst of the last one's line
 pub record ImportsUntil (file w new_w : Known) (old new : Point) : Type 0 where
@@ -88,8 +83,15 @@ pub record KeepsBook (old new : BookState) : Type 0 where
 
 -- ---- step by step
 
--- the same, by how many records were taken, and how many more bytes are asked for at most: the
--- reader failed where there are some, and the most bytes were read where there are none
+-- so were the first rows of a file of which so many records were taken: all these
+abbrev pub ImportsTaken : Known → ℕ → Known → Known → Point → Point → Type 0
+ImportsTaken file taken w new_w old new =
+    (records : List Fields) × (rows : List Fields)
+    × BeginsWith file records × AreDataRows records rows × Answers w new_w old new rows
+    × (taken ≡ length records)
+
+-- what it did, by how many records were taken, and how many more bytes are asked for at most: the
+-- reader failed if there are some, and the most bytes were read if there are none
 abbrev pub EndsSo : Known → ℕ → ℕ → Known → Known → Point → Point → Result ℕ ImportFault → Type 0
 EndsSo file taken spare w new_w old new (Ok count) = ImportsAll file w new_w old new count
 EndsSo file taken spare w new_w old new (Err fault.Read) =
