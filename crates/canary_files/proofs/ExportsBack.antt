@@ -6,7 +6,7 @@ use Rattle.std.specs.List.{list_all}
 use Rattle.std.proofs.lemmas.Bool.Decides.{nat_tests}
 use Rattle.std.proofs.lemmas.Option.{none-some, same_Some}
 use Rattle.canary_base.specs.Names.{is_name, is_label}
-use Rattle.canary_plan.specs.Limits.{is_ordinal, are_report_limits}
+use Rattle.canary_plan.specs.Limits.{is_ordinal}
 use Rattle.canary_plan.specs.Plans.{Templates}
 use Rattle.canary_release.specs.declared.effect.Recorded.{Recorded}
 use Rattle.canary_release.specs.Desks.{ModelService}
