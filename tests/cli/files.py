@@ -91,11 +91,12 @@ def import_until_reset(program, book, count):
 
 
 def try_failing_imports(program, folder):
+    """The input fails after each number of bytes but the last: no row that came whole is missing,
+    and none that did not is answered."""
     book, other = begun(program, folder), os.path.join(folder, "importing")
-    counts = [*range(0, len(FILE), 3), len(FILE) - 1]
-    for count in counts:
+    for count in range(len(FILE)):
         import_until_reset(program, copied(book, other), count)
-    return len(counts)
+    return len(FILE)
 
 
 def written_to_full(program, words, output, most, given=None):

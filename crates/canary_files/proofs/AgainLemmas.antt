@@ -37,7 +37,8 @@ use Rattle.canary_files.specs.declared.answer.Told.TheVariants.{Answered}
 use Rattle.canary_files.specs.Lines.{line_of, told_status, told_body}
 use Rattle.canary_files.specs.Rows.{if_number, number_in, word_in, row_with, row_of, report_of, field}
 use Rattle.canary_files.specs.RowExchanges.{Handling, refused, no_memory, posted, told_of, IsHandling, Exchange, IsExchange, rows_of, lines_from, event_in, answer_in, events_of, answers_in, Point, Holds, IsHandled, AreHandled}
-use Rattle.canary_files.specs.Importing.{Fields, AreDataRows}
+use Rattle.canary_files.specs.Taking.{Fields}
+use Rattle.canary_files.specs.Importing.{AreDataRows}
 use Rattle.canary_files.specs.Again.{IsAhead, IsLasting, IsHeard, AllLasting, AllHeard, told_by, told_in, IsSettledBy, IsSettledRow, AreTold, TellsAfterwards, TellsSettled, SameLines, ImportsAgain}
 
 -- ---- lists

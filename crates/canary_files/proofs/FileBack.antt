@@ -7,7 +7,7 @@ use Rattle.csv.specs.declared.parser.State.TheVariants as st
 use Rattle.csv.proofs.OnLiterals.{csv_on_literals}
 use Rattle.csv.proofs.RoundTrip.{read-write}
 use Rattle.canary_release.specs.declared.effect.Recorded.{Recorded}
-use Rattle.canary_files.specs.Importing.{Fields, HasRecords}
+use Rattle.canary_files.specs.Taking.{HasRecords}
 use Rattle.canary_files.specs.Rows.{header}
 use Rattle.canary_files.specs.Written.{row_fields, rows_text, record_text, file_of}
 use Rattle.canary_files.specs.ReadingBack.{rows_fields}

@@ -1,17 +1,18 @@
 -- Rows imported so far, and how an import ends.
-use Rattle.std.proofs.Common.{◌≡◌, ◌∙◌, ℕ, ◌+◌, List, [], ◌∷◌, ◌++◌, true, false, length, refl, sym, ap, subst, arith}
-use Rattle.std.specs.Prelude.{Ok, Err}
+use Rattle.std.proofs.Common.{◌≡◌, ◌∙◌, ℕ, ◌+◌, List, [], ◌∷◌, ◌++◌, true, false, length, refl, sym, ap, subst, inl, inr, arith}
+use Rattle.std.specs.Prelude.{Result, Ok, Err}
 use Rattle.std.specs.Io.KnownBytes.{Appends}
 use Rattle.std.proofs.lemmas.List.{append-nil, append_assoc, length-append, length-map, map-append}
-use Rattle.csv.specs.declared.reader.Reader.{Reader}
 use Rattle.canary_once.specs.Laws.{RunsOn}
 use Rattle.canary_files.specs.declared.writing.WriteFault.{WriteFault}
 use Rattle.canary_files.specs.declared.import.ImportFault.{ImportFault}
 use Rattle.canary_files.specs.declared.import.ImportFault.TheVariants as fault
+use Rattle.canary_files.specs.declared.reading.FileReader.{FileReader}
 use Rattle.canary_files.specs.Writes.{Known, Writes}
 use Rattle.canary_files.specs.Rows.{header, is_header}
 use Rattle.canary_files.specs.RowExchanges.{Exchange, rows_of, lines_from, lines, told_line, Point, Exchanges, Went}
-use Rattle.canary_files.specs.Importing.{Fields, StandsBehind, TakesNext, Answers, ImportsUntil, ImportsTo, KeepsBook, IsSoFar}
+use Rattle.canary_files.specs.Taking.{Fields, HasTaken, TakesNext, taken_of, spare_of}
+use Rattle.canary_files.specs.Importing.{Answers, ImportsSome, ImportsTaken, ImportsUntil, ImportsTo, EndsSo, KeepsBook, IsSoFar}
 use Rattle.canary_files.proofs.WriteLemmas.{appends_none, appends_more, writes_all}
 use Rattle.canary_files.proofs.ExchangeLemmas.{went_none, went_one, went_then, holds_of}
 use Rattle.canary_files.proofs.ReadLemmas.{begins}
@@ -38,39 +39,40 @@ answers_none goes w p = answers_of_went goes w w p p [] (went_none p) (appends_n
 
 -- ---- so far
 
-module _ {S : Type 0} (left : S → Known) where
-  pub so_far_none : (r : Reader S) (w : Known) (p : Point) → IsSoFar left r r w w p p 0
-  so_far_none r w p = record { exchanges = []; many = refl; stands = λ file s. s; went = went_none p; written = appends_none w }
+module _ {S : Type 0} (left : S → Known) (spare : S → ℕ) where
+  pub so_far_none : (r : FileReader S) (w : Known) (p : Point) → taken_of r ≡ 1 → IsSoFar left r r w w p p 0
+  so_far_none r w p one = record { exchanges = []; many = refl; taken = one; stands = λ file s. s; went = went_none p; written = appends_none w }
 
-  module _ (r0 r1 r2 : Reader S) (w w1 : Known) (p p1 : Point) (n : ℕ) (so : IsSoFar left r0 r1 w w1 p p1 n) (fields : Fields) where
+  module _ (r0 r1 r2 : FileReader S) (w w1 : Known) (p p1 : Point) (n : ℕ) (so : IsSoFar left r0 r1 w w1 p p1 n) (fields : Fields) where
     rows_more : (x : Exchange) → x.fields ≡ fields → rows_of so.exchanges ++ fields ∷ [] ≡ rows_of (so.exchanges ++ x ∷ [])
     rows_more x same = ap (λ (f : Fields). rows_of so.exchanges ++ f ∷ []) (sym same) ∙ sym (map-append (λ (y : Exchange). y.fields) so.exchanges (x ∷ []))
 
-    module _ (takes : (file : Known) (records : List Fields) → StandsBehind left file r1 records → TakesNext left file r2 records fields (Ok true)) where
-      stands_more : (x : Exchange) → x.fields ≡ fields → (file : Known) → StandsBehind left file r0 (header ∷ []) → StandsBehind left file r2 (header ∷ rows_of (so.exchanges ++ x ∷ []))
-      stands_more x same file s =
-          let P : List Fields → Type 0 = λ t. StandsBehind left file r2 (header ∷ t) in
+    module _ (takes : (file : Known) (records : List Fields) → HasTaken left file r1 records → TakesNext left spare file r2 records fields (Ok true)) where
+      has_more : (x : Exchange) → x.fields ≡ fields → (file : Known) → HasTaken left file r0 (header ∷ []) → HasTaken left file r2 (header ∷ rows_of (so.exchanges ++ x ∷ []))
+      has_more x same file s =
+          let P : List Fields → Type 0 = λ t. HasTaken left file r2 (header ∷ t) in
           subst P (rows_more x same) (takes file (header ∷ rows_of so.exchanges) (so.stands file s))
 
       module _ (w2 : Known) (p2 : Point) (x : Exchange) (same : x.fields ≡ fields) (e : Exchanges p1 p2 x) where
         went_more : Went p p2 (so.exchanges ++ x ∷ [])
         went_more = went_then p p1 p2 so.exchanges (x ∷ []) so.went (went_one p1 p2 x e)
 
-        pub so_far_more : Writes {E = WriteFault} w1 w2 (told_line (n + 1) x.handling) (Ok tt) → IsSoFar left r0 r2 w w2 p p2 (n + 1)
-        so_far_more wrote =
+        pub so_far_more : taken_of r2 ≡ taken_of r1 + 1 → Writes {E = WriteFault} w1 w2 (told_line (n + 1) x.handling) (Ok tt) → IsSoFar left r0 r2 w w2 p p2 (n + 1)
+        so_far_more one wrote =
             let m : length so.exchanges ≡ n = so.many in
             let number : 1 + length so.exchanges ≡ n + 1 = omega (arith, m) in
             let P : List ℕ → Type 0 = λ t. Appends w w2 t in
             record {
               exchanges = so.exchanges ++ x ∷ [];
               many = omega (arith, m, length-append so.exchanges (x ∷ []));
-              stands = stands_more x same;
+              taken = one ∙ ap (λ k. k + 1) so.taken;
+              stands = has_more x same;
               went = went_more;
               written = subst P (sym (lines_more 1 (n + 1) so.exchanges x number))
                   (appends_more w w1 w2 (lines so.exchanges) (told_line (n + 1) x.handling) so.written (writes_all w1 w2 (told_line (n + 1) x.handling) wrote));
             }
 
-        pub so_far_until : RunsOn → (f : WriteFault) → Writes w1 w2 (told_line (n + 1) x.handling) (Err f) → (file : Known) → StandsBehind left file r0 (header ∷ []) → ImportsUntil file w w2 p p2
+        pub so_far_until : RunsOn → (f : WriteFault) → Writes w1 w2 (told_line (n + 1) x.handling) (Err f) → (file : Known) → HasTaken left file r0 (header ∷ []) → ImportsUntil file w w2 p p2
         so_far_until goes f wrote file s =
             let m : length so.exchanges ≡ n = so.many in
             let number : length so.exchanges + 1 ≡ n + 1 = omega (arith, m) in
@@ -79,7 +81,7 @@ module _ {S : Type 0} (left : S → Known) where
               last = x;
               front = wrote.front;
               back = wrote.back;
-              begins = begins left file r2 (header ∷ rows_of (so.exchanges ++ x ∷ [])) (stands_more x same file s);
+              begins = begins left file r2.reader (header ∷ rows_of (so.exchanges ++ x ∷ [])) (has_more x same file s).stands;
               holds = holds_of goes p p2 (so.exchanges ++ x ∷ []) went_more;
               line = ap (λ k. told_line k x.handling) number ∙ wrote.parts;
               short = wrote.short;
@@ -89,17 +91,17 @@ module _ {S : Type 0} (left : S → Known) where
         pub keeps_more : KeepsBook p.book p2.book
         keeps_more = keeps_of p p2 (so.exchanges ++ x ∷ []) went_more
 
-      pub so_far_too_many : RunsOn → n ≡ 1000000 → (file : Known) → StandsBehind left file r0 (header ∷ []) → ImportsTo file w w1 p p1 (Err fault.RowsSpent)
-      so_far_too_many goes full file s = (
+      pub so_far_too_many : RunsOn → n ≡ 1000000 → (file : Known) → HasTaken left file r0 (header ∷ []) → EndsSo file (taken_of r2) (spare_of spare r2) w w1 p p1 (Err fault.RowsSpent)
+      so_far_too_many goes full file s = inl (
         rows_of so.exchanges,
         fields,
-        begins left file r2 (header ∷ (rows_of so.exchanges ++ fields ∷ [])) (takes file (header ∷ rows_of so.exchanges) (so.stands file s)),
+        begins left file r2.reader (header ∷ (rows_of so.exchanges ++ fields ∷ [])) (takes file (header ∷ rows_of so.exchanges) (so.stands file s)).stands,
         length-map so.exchanges (λ (y : Exchange). y.fields) ∙ so.many ∙ full,
         answers_of_went goes w w1 p p1 so.exchanges so.went so.written,
       )
 
-    pub so_far_all : RunsOn → ((file : Known) (records : List Fields) → StandsBehind left file r1 records → TakesNext left file r2 records fields (Ok false))
-        → (file : Known) → StandsBehind left file r0 (header ∷ []) → ImportsTo file w w1 p p1 (Ok n)
+    pub so_far_all : RunsOn → ((file : Known) (records : List Fields) → HasTaken left file r1 records → TakesNext left spare file r2 records fields (Ok false))
+        → (file : Known) → HasTaken left file r0 (header ∷ []) → EndsSo file (taken_of r2) (spare_of spare r2) w w1 p p1 (Ok n)
     so_far_all goes takes file s = (
       header ∷ rows_of so.exchanges,
       rows_of so.exchanges,
@@ -109,44 +111,61 @@ module _ {S : Type 0} (left : S → Known) where
       answers_of_went goes w w1 p p1 so.exchanges so.went so.written,
     )
 
-    pub so_far_failed : RunsOn → (f : ImportFault) → ((file : Known) (records : List Fields) → StandsBehind left file r1 records → TakesNext left file r2 records fields (Err f))
-        → (file : Known) → StandsBehind left file r0 (header ∷ []) → ImportsTo file w w1 p p1 (Err f)
-    so_far_failed goes fault.Read takes file s = (
+    so_far_taken : RunsOn → (file : Known) → HasTaken left file r0 (header ∷ []) → taken_of r2 ≡ length (header ∷ rows_of so.exchanges) → ImportsTaken file (taken_of r2) w w1 p p1
+    so_far_taken goes file s many = (
       header ∷ rows_of so.exchanges,
       rows_of so.exchanges,
-      begins left file r1 (header ∷ rows_of so.exchanges) (so.stands file s),
+      begins left file r1.reader (header ∷ rows_of so.exchanges) (so.stands file s).stands,
       (refl, refl),
       answers_of_went goes w w1 p p1 so.exchanges so.went so.written,
+      many,
     )
-    so_far_failed goes fault.Memory takes file s = (
-      header ∷ rows_of so.exchanges,
-      rows_of so.exchanges,
-      begins left file r1 (header ∷ rows_of so.exchanges) (so.stands file s),
-      (refl, refl),
-      answers_of_went goes w w1 p p1 so.exchanges so.went so.written,
-    )
+
+    pub so_far_failed : RunsOn → (f : ImportFault) → ((file : Known) (records : List Fields) → HasTaken left file r1 records → TakesNext left spare file r2 records fields (Err f))
+        → (file : Known) → HasTaken left file r0 (header ∷ []) → EndsSo file (taken_of r2) (spare_of spare r2) w w1 p p1 (Err f)
+    so_far_failed goes fault.Read takes file s =
+        let t = takes file (header ∷ rows_of so.exchanges) (so.stands file s) in (t.0, so_far_taken goes file s t.1)
+    so_far_failed goes fault.Memory takes file s = so_far_taken goes file s (takes file (header ∷ rows_of so.exchanges) (so.stands file s))
+    so_far_failed goes fault.RowsSpent takes file s =
+        let t = takes file (header ∷ rows_of so.exchanges) (so.stands file s) in inr (t.0, so_far_taken goes file s t.1)
     so_far_failed goes fault.Write takes file s = absurd (takes file (header ∷ rows_of so.exchanges) (so.stands file s))
     so_far_failed goes fault.Header takes file s = absurd (takes file (header ∷ rows_of so.exchanges) (so.stands file s))
-    so_far_failed goes fault.RowsSpent takes file s = absurd (takes file (header ∷ rows_of so.exchanges) (so.stands file s))
 
     pub keeps_so : KeepsBook p.book p1.book
     keeps_so = keeps_of p p1 so.exchanges so.went
 
+-- ---- how it ended
+
+imports_some : (file : Known) (taken : ℕ) (w w1 : Known) (p q : Point) → ImportsTaken file taken w w1 p q → ImportsSome file w w1 p q
+imports_some file taken w w1 p q t = (t.0, t.1, t.2, t.3, t.4)
+
+pub imports_to : (file : Known) (taken spare : ℕ) (w w1 : Known) (p q : Point) (r : Result ℕ ImportFault) → EndsSo file taken spare w w1 p q r → ImportsTo file w w1 p q r
+imports_to file taken spare w w1 p q (Ok n) e = e
+imports_to file taken spare w w1 p q (Err fault.Read) e = imports_some file taken w w1 p q e.1
+imports_to file taken spare w w1 p q (Err fault.Write) e = e
+imports_to file taken spare w w1 p q (Err fault.Memory) e = imports_some file taken w w1 p q e
+imports_to file taken spare w w1 p q (Err fault.Header) e = e
+imports_to file taken spare w w1 p q (Err fault.RowsSpent) (inl e) = inl e
+imports_to file taken spare w w1 p q (Err fault.RowsSpent) (inr e) = inr (imports_some file taken w w1 p q e.1)
+
 -- ---- the header
 
-module _ {S : Type 0} (left : S → Known) (file : Known) (r0 r1 : Reader S) (w : Known) (p : Point) (s : StandsBehind left file r0 []) (fields : Fields) where
-  pub import_none : RunsOn → TakesNext left file r1 [] fields (Ok false) → ImportsTo file w w p p (Ok 0)
+module _ {S : Type 0} (left : S → Known) (spare : S → ℕ) (file : Known) (r0 r1 : FileReader S) (w : Known) (p : Point) (s : HasTaken left file r0 []) (fields : Fields) where
+  pub import_none : RunsOn → TakesNext left spare file r1 [] fields (Ok false) → ImportsTo file w w p p (Ok 0)
   import_none goes takes = ([], [], takes, refl, refl, answers_none goes w p)
 
-  pub import_failed : RunsOn → (f : ImportFault) → TakesNext left file r1 [] fields (Err f) → ImportsTo file w w p p (Err f)
-  import_failed goes fault.Read takes = ([], [], begins left file r0 [] s, refl, answers_none goes w p)
-  import_failed goes fault.Memory takes = ([], [], begins left file r0 [] s, refl, answers_none goes w p)
+  none_taken : RunsOn → ImportsSome file w w p p
+  none_taken goes = ([], [], begins left file r0.reader [] s.stands, refl, answers_none goes w p)
+
+  pub import_failed : RunsOn → (f : ImportFault) → TakesNext left spare file r1 [] fields (Err f) → ImportsTo file w w p p (Err f)
+  import_failed goes fault.Read takes = none_taken goes
+  import_failed goes fault.Memory takes = none_taken goes
+  import_failed goes fault.RowsSpent takes = inr (none_taken goes)
   import_failed goes fault.Write takes = absurd takes
   import_failed goes fault.Header takes = absurd takes
-  import_failed goes fault.RowsSpent takes = absurd takes
 
-  pub import_other : RunsOn → is_header fields ≡ false → TakesNext left file r1 [] fields (Ok true) → ImportsTo file w w p p (Err fault.Header)
-  import_other goes off takes = (fields, begins left file r1 (fields ∷ []) takes, header_not fields off, answers_none goes w p)
+  pub import_other : RunsOn → is_header fields ≡ false → TakesNext left spare file r1 [] fields (Ok true) → ImportsTo file w w p p (Err fault.Header)
+  import_other goes off takes = (fields, begins left file r1.reader (fields ∷ []) takes.stands, header_not fields off, answers_none goes w p)
 
-  pub stands_headed : is_header fields ≡ true → TakesNext left file r1 [] fields (Ok true) → StandsBehind left file r1 (header ∷ [])
-  stands_headed on takes = let P : Fields → Type 0 = λ t. StandsBehind left file r1 (t ∷ []) in subst P (header_is fields on) takes
+  pub has_header : is_header fields ≡ true → TakesNext left spare file r1 [] fields (Ok true) → HasTaken left file r1 (header ∷ [])
+  has_header on takes = let P : Fields → Type 0 = λ t. HasTaken left file r1 (t ∷ []) in subst P (header_is fields on) takes

@@ -6,7 +6,9 @@ pub mod AnswerLemmas
 pub mod ReadLemmas
 pub mod HistoryLemmas
 pub mod ExportLemmas
+pub mod SureLemmas
 pub mod ReadBack
+pub mod ExportsBack
 pub mod ImportLemmas
 pub mod HeaderLemmas
 pub mod AgainLemmas

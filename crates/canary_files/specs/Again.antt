@@ -13,7 +13,8 @@ use Rattle.canary_files.specs.declared.answer.Told.TheVariants.{Refused, Answere
 use Rattle.canary_files.specs.Writes.{Known}
 use Rattle.canary_files.specs.Rows.{row_of}
 use Rattle.canary_files.specs.RowExchanges.{Handling, refused, no_memory, posted, told_of, Exchange, rows_of, lines, Point, Holds}
-use Rattle.canary_files.specs.Importing.{Fields, ImportsAll}
+use Rattle.canary_files.specs.Taking.{Fields}
+use Rattle.canary_files.specs.Importing.{ImportsAll}
 
 -- a request is told that it is ahead of its turn
 abbrev pub IsAhead : Reply → Type 0

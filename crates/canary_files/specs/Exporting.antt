@@ -1,5 +1,6 @@
 -- The file of a service's measurements, and what a call writes of it.
-use Rattle.std.specs.Prelude.{◌≡◌, ℕ, ◌<◌, List, [], ◌++◌, length, slice_get, Option, Some, None, option_map, option_and_then, unwrap_or, Result, IfOk, OnOk}
+use Rattle.std.specs.Prelude.{◌≡◌, ℕ, ◌<◌, ◌≤◌, Bool, true, false, List, [], ◌++◌, length, slice_get, Option, Some, None, option_map, option_and_then, unwrap_or, Result, IfOk, OnOk}
+use Rattle.std.specs.List.{AllByRecursion}
 use Rattle.std.specs.FinMap.{get}
 use Rattle.std.specs.Io.KnownBytes.{Appends}
 use Rattle.canary_metric.specs.Metrics.{MetricValue}
@@ -102,6 +103,15 @@ Tells c service Storage = Unit {0}
 Tells c service Write = Unit {0}
 Tells c service TooMany = 1000000000 < length (recorded_of c service)
 
+-- only over a book that is not sure an export answers Storage
+abbrev pub IsExportFault : Bool → ExportFault → Type 0
+IsExportFault sure Memory = Unit {0}
+IsExportFault sure Write = Unit {0}
+IsExportFault sure TooMany = Unit {0}
+IsExportFault sure UnknownService = Unit {0}
+IsExportFault true Storage = ⊥
+IsExportFault false Storage = Unit {0}
+
 abbrev pub fault_of : BookFault → ExportFault
 fault_of Out = Memory
 fault_of Failed = Storage
@@ -115,3 +125,25 @@ pub record IsSource (c : Contents) (name sender : List ℕ) (s : Source) : Type 
   pub caller : s.caller ≡ sender
   pub service : s.service ≡ name
   pub strategy : option_map kept_strategy (seen c.desk name) ≡ Some s.strategy
+
+-- Where each measurement has its run and its metric.
+
+-- the strategy is that of this service
+abbrev pub IsStrategyOf : Contents → List ℕ → CheckedStrategy → Type 0
+IsStrategyOf c service strategy = option_map kept_strategy (seen c.desk service) ≡ Some strategy
+
+-- a run of a past is there
+pub record HasRun (p : Past) (number : ℕ) : Type 0 where
+  pub low : 1 ≤ number
+  pub high : number ≤ 1000000000
+  pub kept : RunRecord
+  pub found : record_numbered p number ≡ Some kept
+
+-- a measurement is of a run that is there, and of a metric of it
+pub record IsPlaced (strategy : CheckedStrategy) (p : Past) (x : Recorded) : Type 0 where
+  pub run : HasRun p x.run
+  pub name : List ℕ
+  pub named : name_at (metrics_at strategy run.kept.step) x.metric ≡ Some name
+
+abbrev pub ArePlaced : CheckedStrategy → Past → List Recorded → Type 0
+ArePlaced strategy p xs = AllByRecursion (IsPlaced strategy p) xs

@@ -1,36 +1,16 @@
 -- What importing a measurement file does.
-use Rattle.std.specs.Prelude.{◌≡◌, ◌≢◌, ℕ, ◌+◌, ◌<◌, Bool, true, false, List, [], ◌∷◌, ◌++◌, length, Some, None, Result, Ok, Err}
+use Rattle.std.specs.Prelude.{◌≡◌, ◌≢◌, ◌⊎◌, ℕ, ◌+◌, ◌<◌, List, [], ◌∷◌, ◌++◌, length, Result, Ok, Err}
 use Rattle.std.specs.Io.KnownBytes.{Appends}
-use Rattle.csv.specs.declared.reader.Reader.{Reader}
-use Rattle.csv.specs.declared.reader.Trim.TheVariants as trim
-use Rattle.csv.specs.declared.parser.State.{State}
-use Rattle.csv.specs.declared.parser.State.TheVariants as st
-use Rattle.csv.specs.Reading.{default_config, strip_bom, source_of, reader_config, reader_state, reader_trim, Ready, Reached, AreRecords}
 use Rattle.canary_once.specs.Contents.{KeepsReceipts}
 use Rattle.canary_once.specs.Sound.{AreSoundContents}
 use Rattle.canary_once.specs.Books.{BookState, StaysInMemory}
 use Rattle.canary_files.specs.declared.import.ImportFault.{ImportFault}
 use Rattle.canary_files.specs.declared.import.ImportFault.TheVariants as fault
+use Rattle.canary_files.specs.declared.reading.FileReader.{FileReader}
 use Rattle.canary_files.specs.Writes.{Known}
 use Rattle.canary_files.specs.Rows.{header}
 use Rattle.canary_files.specs.RowExchanges.{Exchange, rows_of, lines, told_line, Point, Holds, Went}
-
-abbrev pub Fields : Type 0
-Fields = List (List ℕ)
-
--- ---- records
-
--- a file, where its bytes are known, begins with these records
-abbrev pub BeginsWith : Known → List Fields → Type 0
-BeginsWith None records = Unit {0}
-BeginsWith (Some bytes) records =
-    (state : State) × (rest : List ℕ)
-    × Reached default_config st.StartRecord (strip_bom bytes) records state rest
-
--- and has no others
-abbrev pub HasRecords : Known → List Fields → Type 0
-HasRecords None records = Unit {0}
-HasRecords (Some bytes) records = AreRecords default_config st.StartRecord (strip_bom bytes) records
+use Rattle.canary_files.specs.Taking.{Fields, BeginsWith, HasRecords, HasTaken, taken_of}
 
 -- the first record is the header, and the others are the rows; without any record there are no rows
 abbrev pub AreDataRows : List Fields → List Fields → Type 0
@@ -90,7 +70,8 @@ ImportsTo file w new_w old new (Err fault.Read) = ImportsSome file w new_w old n
 ImportsTo file w new_w old new (Err fault.Write) = ImportsUntil file w new_w old new
 ImportsTo file w new_w old new (Err fault.Memory) = ImportsSome file w new_w old new
 ImportsTo file w new_w old new (Err fault.Header) = HasNoHeader file w new_w old new
-ImportsTo file w new_w old new (Err fault.RowsSpent) = ImportsTooMany file w new_w old new
+ImportsTo file w new_w old new (Err fault.RowsSpent) =
+    ImportsTooMany file w new_w old new ⊎ ImportsSome file w new_w old new
 
 -- what an import leaves of a book, however it ended
 pub record KeepsBook (old new : BookState) : Type 0 where
@@ -102,33 +83,34 @@ pub record KeepsBook (old new : BookState) : Type 0 where
 
 -- ---- step by step
 
--- a reader of a file stands behind these records
-pub record StandsBehind {S : Type 0} (left : S → Known) (file : Known) (reader : Reader S)
-    (records : List Fields) : Type 0 where
-  pub config : reader_config reader ≡ default_config
-  pub trim : reader_trim reader ≡ trim.None
-  pub ready : Ready reader
-  pub known : (bytes : List ℕ) → file ≡ Some bytes
-      → (rest : List ℕ) × (source_of left reader ≡ Some rest)
-      × Reached default_config st.StartRecord (strip_bom bytes) records
-      (reader_state reader) rest
+-- so were the first rows of a file of which so many records were taken: all these
+abbrev pub ImportsTaken : Known → ℕ → Known → Known → Point → Point → Type 0
+ImportsTaken file taken w new_w old new =
+    (records : List Fields) × (rows : List Fields)
+    × BeginsWith file records × AreDataRows records rows × Answers w new_w old new rows
+    × (taken ≡ length records)
 
--- the next record of a file was read, or it has no more, or the reader failed, or memory ran out
-abbrev pub TakesNext : {S : Type 0} → (S → Known) → Known → Reader S → List Fields → Fields
-    → Result Bool ImportFault → Type 0
-TakesNext left file new records fields (Ok true) =
-    StandsBehind left file new (records ++ fields ∷ [])
-TakesNext left file new records fields (Ok false) = HasRecords file records
-TakesNext left file new records fields (Err fault.Read) = Unit {0}
-TakesNext left file new records fields (Err fault.Memory) = Unit {0}
-TakesNext left file new records fields (Err _) = ⊥
+-- what it did, by how many records were taken, and how many more bytes are asked for at most: the
+-- reader failed if there are some, and the most bytes were read if there are none
+abbrev pub EndsSo : Known → ℕ → ℕ → Known → Known → Point → Point → Result ℕ ImportFault → Type 0
+EndsSo file taken spare w new_w old new (Ok count) = ImportsAll file w new_w old new count
+EndsSo file taken spare w new_w old new (Err fault.Read) =
+    (0 < spare) × ImportsTaken file taken w new_w old new
+EndsSo file taken spare w new_w old new (Err fault.Write) = ImportsUntil file w new_w old new
+EndsSo file taken spare w new_w old new (Err fault.Memory) =
+    ImportsTaken file taken w new_w old new
+EndsSo file taken spare w new_w old new (Err fault.Header) = HasNoHeader file w new_w old new
+EndsSo file taken spare w new_w old new (Err fault.RowsSpent) =
+    ImportsTooMany file w new_w old new
+    ⊎ ((spare ≡ 0) × ImportsTaken file taken w new_w old new)
 
--- since a reader was elsewhere these rows were answered, and it stands behind them
-pub record IsSoFar {S : Type 0} (left : S → Known) (first now : Reader S) (w now_w : Known)
+-- since a file was at its header these rows were answered, and they are all that were taken
+pub record IsSoFar {S : Type 0} (left : S → Known) (first now : FileReader S) (w now_w : Known)
     (old new : Point) (count : ℕ) : Type 0 where
   pub exchanges : List Exchange
   pub many : length exchanges ≡ count
-  pub stands : (file : Known) → StandsBehind left file first (header ∷ [])
-      → StandsBehind left file now (header ∷ rows_of exchanges)
+  pub taken : taken_of now ≡ count + 1
+  pub stands : (file : Known) → HasTaken left file first (header ∷ [])
+      → HasTaken left file now (header ∷ rows_of exchanges)
   pub went : Went old new exchanges
   pub written : Appends w now_w (lines exchanges)

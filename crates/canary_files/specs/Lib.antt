@@ -3,6 +3,7 @@ pub mod Rows
 pub mod RowReads
 pub mod Lines
 pub mod RowExchanges
+pub mod Taking
 pub mod Importing
 pub mod Written
 pub mod Exporting

@@ -1,5 +1,6 @@
 -- Rows that were written are read back.
-use Rattle.std.specs.Prelude.{◌≡◌, ℕ, suc, ◌≤◌, IsTrue, List, [], ◌∷◌, length, Some, Ok}
+use Rattle.std.specs.Prelude.{◌≡◌, ℕ, suc, ◌≤◌, ◌<◌, IsTrue, List, [], ◌∷◌, length, slice_get, Some, Ok}
+use Rattle.std.specs.FinMap.{get}
 use Rattle.std.specs.Str.{is_utf8}
 use Rattle.canary_base.specs.Names.{is_name, is_label}
 use Rattle.canary_condition.specs.Results.{words_of}
@@ -10,9 +11,12 @@ use Rattle.canary_plan.specs.declared.report.Entry.{Entry}
 use Rattle.canary_plan.specs.declared.report.Report.{Report}
 use Rattle.canary_plan.specs.Limits.{is_ordinal, are_report_limits}
 use Rattle.canary_release.specs.declared.effect.Recorded.{Recorded}
+use Rattle.canary_once.specs.Contents.{Contents}
+use Rattle.canary_once.specs.Sound.{AreContents}
 use Rattle.canary_files.specs.Rows.{header, row_of}
 use Rattle.canary_files.specs.Written.{row_fields, file_of}
-use Rattle.canary_files.specs.Importing.{Fields, HasRecords}
+use Rattle.canary_files.specs.Taking.{Fields, HasRecords}
+use Rattle.canary_files.specs.Exporting.{name_by, recorded_of}
 
 -- an outcome as there are: a result whose text is read back, as that of any is, or a failure of 1
 -- to 200 bytes of text
@@ -51,6 +55,27 @@ AreReadBack =
     → IsTrue (is_ordinal number)
     → row_of (row_fields caller number service x metric)
     ≡ Ok (record { caller = caller; number = number; report = report_for service metric x is })
+
+-- its moment and its outcome keep the limits of their types, as those of each value do
+pub record HasLimits (x : Recorded) : Type 0 where
+  pub taken : x.taken ≤ 253370764799
+  pub outcome : IsKept x.outcome
+
+-- a report can bring this measurement, and its row is read as the request with that report
+pub record IsReadBack (caller service metric : List ℕ) (number : ℕ) (x : Recorded) : Type 0 where
+  pub is : IsReportable x
+  pub reads : row_of (row_fields caller number service x metric)
+      ≡ Ok (record { caller = caller; number = number; report = report_for service metric x is })
+
+-- the law: so it is of each of the first 1,000,000,000 measurements of a service, which contents in
+-- order have; its row is that of the file which is exported
+abbrev pub AreExportsReadBack : Type 0
+AreExportsReadBack =
+    (c : Contents) (caller service : List ℕ) (place : ℕ) (x : Recorded) → AreContents c
+    → slice_get (recorded_of c service) place ≡ Some x → place < 1000000000 → HasLimits x
+    → IsTrue (is_name caller) → IsTrue (is_name service)
+    → IsTrue (is_label (name_by (get c.desk.services service) x))
+    → IsReadBack caller service (name_by (get c.desk.services service) x) (suc place) x
 
 -- the fields of the rows of measurements in order, behind so many others
 abbrev pub rows_fields : List ℕ → List ℕ → (Recorded → List ℕ) → ℕ → List Recorded → List Fields

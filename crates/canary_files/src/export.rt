@@ -1,5 +1,5 @@
 //! A service's measurements as a file.
-ghost use Rattle.std.specs.Prelude.{◌≡◌, ◌≢◌, ◌≤◌, ◌+◌, ◌++◌, length, Some, None, Err};
+ghost use Rattle.std.specs.Prelude.{◌≡◌, ◌≢◌, ◌≤◌, ◌+◌, ◌++◌, length, Bool, Some, None, Err};
 ghost use Rattle.std.specs.Prelude.{IfOk, IfErr, OnOk};
 ghost use Rattle.std.specs.FinMap.{get};
 ghost use Rattle.canary_plan.specs.Plans.{metrics_at};
@@ -8,6 +8,8 @@ ghost use Rattle.canary_files.specs.Rows.{header};
 ghost use Rattle.canary_files.specs.Written.{record_text, row_fields, rows_text};
 ghost use Rattle.canary_files.specs.Exporting.{name_at, name_of, recorded_of, file_in, IsLatest};
 ghost use Rattle.canary_files.specs.Exporting.{Stays, Puts, Reads, IsSource, Tells, TellsPage};
+ghost use Rattle.canary_files.specs.Exporting.{IsExportFault, IsStrategyOf, ArePlaced, IsPlaced};
+ghost use Rattle.canary_files.specs.Exporting.{HasRun};
 
 use crate::records::Records;
 use crate::writing::{WriteFault, write_all};
@@ -95,7 +97,7 @@ struct Placed {
 /// What was written before are the first bytes of the file. `UnknownService` where there is no such
 /// service, and nothing is written. `TooMany` where it has more than 1,000,000,000 measurements.
 /// `Write` where the writer failed or took no byte. `Memory` where an allocation was refused, and
-/// `Storage` where the store failed.
+/// `Storage` where the store failed, which a book that is sure never tells.
 pub fn export<W: Write, B: Book>(
     alloc: Global,
     book: &mut B,
@@ -112,6 +114,8 @@ pub fn export<W: Write, B: Book>(
         × (rows ≤ MOST_ROWS)) }
     ensures why { (B.state book.new).is_honest
         → IfErr result (Tells (B.state book.old).contents service) }
+    ensures sure { (B.state book.new).is_honest
+        → IfErr result (IsExportFault (B.state book.old).is_sure) }
     ensures there { (B.state book.new).is_honest
         → OnOk result (get (B.state book.old).contents.desk.services service ≢ None) }
     ensures unknown { (B.state book.new).is_honest → result ≡ Err ExportFault.UnknownService
@@ -130,6 +134,7 @@ fn source_of<B: Book>(book: &mut B, service: Name, caller: Name) -> Result<Sourc
         → OnOk result (get (B.state book.old).contents.desk.services service ≢ None) }
     ensures why { (B.state book.new).is_honest
         → IfErr result (Tells (B.state book.old).contents service) }
+    ensures sure { IfErr result (IsExportFault (B.state book.old).is_sure) }
 {
     match book.service(&service)? {
         None => Err(ExportFault::UnknownService),
@@ -144,6 +149,7 @@ fn source_of<B: Book>(book: &mut B, service: Name, caller: Name) -> Result<Sourc
 fn write_header<W: Write>(alloc: Global, out: &mut W) -> Result<(), ExportFault>
     ensures writes { Puts (W.contents out.old) (W.contents out.new) (record_text header) result }
     ensures why { IfErr result (TellsPage 0) }
+    ensures sure { (sure : Bool) → IfErr result (IsExportFault sure) }
 {
     let records = Records::new(alloc).with_header(alloc)?;
     let text = records.into_text()?;
@@ -170,6 +176,9 @@ fn write_rows<W: Write, B: Book>(
     ensures why { (B.state book.new).is_honest
         → IfErr result (TellsPage
         (length (recorded_of (B.state book.old).contents source.now.service))) }
+    ensures sure { (B.state book.new).is_honest
+        → IsStrategyOf (B.state book.old).contents source.now.service source.now.strategy
+        → IfErr result (IsExportFault (B.state book.old).is_sure) }
 {
     let mut rows = 0;
     let mut latest = None;
@@ -210,6 +219,9 @@ fn write_page<W: Write, B: Book>(
     ensures why { (B.state book.new).is_honest → IfErr result (TellsPage
         (from + length
         (measurements_of (B.state book.old).contents source.now.service from 256))) }
+    ensures sure { (B.state book.new).is_honest
+        → IsStrategyOf (B.state book.old).contents source.now.service source.now.strategy
+        → IfErr result (IsExportFault (B.state book.old).is_sure) }
 {
     let page = book.measurements(&source.service, from, PAGE)?;
     write_measurements(alloc, book, source, latest, from, page.as_slice(), out)
@@ -237,6 +249,9 @@ fn write_measurements<W: Write, B: Book>(
         from page.now) result }
     ensures rows { IfOk result (λ rows. (rows ≡ from + length page.now) × (rows ≤ MOST_ROWS)) }
     ensures why { IfErr result (TellsPage (from + length page.now)) }
+    ensures sure { (B.state book.new).is_honest → ArePlaced source.now.strategy
+        (past_of (B.state book.old).contents source.now.service) page.now
+        → IfErr result (IsExportFault (B.state book.old).is_sure) }
 {
     if page.len() as u64 > MOST_ROWS - from {
         return Err(ExportFault::TooMany);
@@ -263,6 +278,9 @@ fn rows_text<B: Book>(
         (name_of source.now.strategy (past_of c source.now.service)) from page.now)
         (B.state book.old) (B.state book.new) result }
     ensures why { IfErr result (TellsPage 0) }
+    ensures sure { (B.state book.new).is_honest → ArePlaced source.now.strategy
+        (past_of (B.state book.old).contents source.now.service) page.now
+        → IfErr result (IsExportFault (B.state book.old).is_sure) }
 {
     let mut records = Records::new(alloc);
     for (i, recorded) in page.iter().enumerate() {
@@ -289,6 +307,9 @@ fn with_row<B: Book>(
         (name_of source.now.strategy (past_of c source.now.service) recorded.now)))
         (B.state book.old) (B.state book.new) result }
     ensures why { IfErr result (TellsPage 0) }
+    ensures sure { (B.state book.new).is_honest → IsPlaced source.now.strategy
+        (past_of (B.state book.old).contents source.now.service) recorded.now
+        → IfErr result (IsExportFault (B.state book.old).is_sure) }
 {
     let metric = metric_name(book, source, latest, recorded)?;
     let (caller, service) = (&source.caller, &source.service);
@@ -309,6 +330,9 @@ fn metric_name<B: Book>(
         (λ c. name_of source.now.strategy (past_of c source.now.service) recorded.now)
         (B.state book.old) (B.state book.new) result }
     ensures why { IfErr result (TellsPage 0) }
+    ensures sure { (B.state book.new).is_honest → IsPlaced source.now.strategy
+        (past_of (B.state book.old).contents source.now.service) recorded.now
+        → IfErr result (IsExportFault (B.state book.old).is_sure) }
 {
     let placed = place_of(book, source, *latest, recorded.run)?;
     *latest = Some(placed);
@@ -330,6 +354,9 @@ fn place_of<B: Book>(
     ensures placed { IfOk result (λ placed. (placed.run ≡ run)
         × IsLatest (B.state book.new) source.now.service (Some placed)) }
     ensures why { IfErr result (TellsPage 0) }
+    ensures sure { (B.state book.new).is_honest
+        → HasRun (past_of (B.state book.old).contents source.now.service) run
+        → IfErr result (IsExportFault (B.state book.old).is_sure) }
 {
     if let Some(placed) = latest {
         if placed.run == run {
@@ -359,6 +386,7 @@ fn name_at(strategy: &Strategy, step: Option<u32>, place: u32) -> Option<Label>
 fn put<W: Write>(out: &mut W, text: &Listed<u8>) -> Result<(), ExportFault>
     ensures puts { Puts (W.contents out.old) (W.contents out.new) text.now result }
     ensures why { IfErr result (TellsPage 0) }
+    ensures sure { (sure : Bool) → IfErr result (IsExportFault sure) }
 {
     match write_all(out, text.as_slice()) {
         Ok(()) => Ok(()),

@@ -1,18 +1,19 @@
 //! Importing measurement files.
-ghost use Rattle.std.specs.Prelude.{◌≡◌, ◌≢◌, ◌≤◌, ◌∷◌, [], List, ℕ, Ok, Err, IfOk, true, false};
-ghost use Rattle.csv.specs.Records.{fields_of};
+ghost use Rattle.std.specs.Prelude.{◌≡◌, ◌≢◌, ◌≤◌, ◌∷◌, [], Err, IfOk};
 ghost use Rattle.canary_files.specs.Writes.{Known};
 ghost use Rattle.canary_files.specs.Rows.{header};
 ghost use Rattle.canary_files.specs.RowExchanges.{point};
-ghost use Rattle.canary_files.specs.Importing.{StandsBehind, TakesNext, ImportsTo, KeepsBook};
+ghost use Rattle.canary_files.specs.Taking.{HasTaken, taken_of, spare_of};
+ghost use Rattle.canary_files.specs.Importing.{EndsSo, ImportsTo, KeepsBook};
 
 use crate::answer::answer_row;
-use crate::bounded::{Bounded, MOST_BYTES};
+use crate::bounded::{Bounded, Limited, MOST_BYTES};
+use crate::reading::{FileReader, file_reader, next_record};
 use crate::row::is_header;
 use canary_once::book::Book;
 use canary_once::clock::Clock;
 use canary_once::laws::running_on;
-use csv::{ByteRecord, ErrorKind, Reader, ReaderBuilder};
+use csv::ByteRecord;
 use std::alloc::Global;
 use std::io::{Read, Write};
 use thiserror::Error;
@@ -23,7 +24,7 @@ pub const MOST_ROWS: u64 = 1_000_000;
 /// Why a file was not imported to its end.
 #[derive(Clone, Copy, Debug, PartialEq, Eq, Error)]
 pub enum ImportFault {
-    /// The reader failed, or gave 1,000,000,000 bytes and not the end.
+    /// The reader failed.
     #[error("the input could not be read")]
     Read,
     /// The writer failed, or took no byte.
@@ -35,7 +36,7 @@ pub enum ImportFault {
     /// The first record is not the header.
     #[error("the first record is not the header")]
     Header,
-    /// The file has more than 1,000,000 rows.
+    /// The file has more than 1,000,000 rows, or 1,000,000,000 bytes or more.
     #[error("the file has too many rows")]
     RowsSpent,
 }
@@ -55,11 +56,11 @@ pub enum ImportFault {
 ///
 /// # Errors
 /// `Header` where the first record is another: nothing was asked and written. `Read` where the
-/// reader failed, or gave 1,000,000,000 bytes and not the end, `Memory` where there was none for
-/// the next record, and `RowsSpent` where a row follows the 1,000,000th: all rows before are
-/// answered, and their lines written. `Write` where the writer failed or took no byte: what was
-/// written are the lines of the rows that were answered, up to the midst of the last one; if that
-/// row was a new request, and not answered 503, it is settled.
+/// reader failed, `Memory` where there was none for the next record, and `RowsSpent` where a row
+/// follows the 1,000,000th, or the reader gave 1,000,000,000 bytes and more were needed: each row
+/// that was taken before is answered, and its line written. `Write` where the writer failed or took
+/// no byte: what was written are the lines of the rows that were answered, up to the midst of the
+/// last one; if that row was a new request, and not answered 503, it is settled.
 pub fn import<R: Read, W: Write, C: Clock, B: Book>(
     alloc: Global,
     input: &mut R,
@@ -81,9 +82,9 @@ pub fn import<R: Read, W: Write, C: Clock, B: Book>(
         source: input,
         left: MOST_BYTES,
     };
-    let mut reader = reader_of(alloc, bounded);
+    let mut file = file_reader(alloc, bounded);
     let mut fields = ByteRecord::new(alloc);
-    match next_record(&mut reader, &mut fields) {
+    match next_record(&mut file, &mut fields) {
         Ok(true) => {}
         Ok(false) => return Ok(0),
         Err(fault) => return Err(fault),
@@ -91,30 +92,22 @@ pub fn import<R: Read, W: Write, C: Clock, B: Book>(
     if !is_header(&fields) {
         return Err(ImportFault::Header);
     }
-    import_rows(alloc, &mut reader, &mut fields, output, clock, book)
-}
-
-// A reader of the records of a file, at its first one.
-fn reader_of<S: Read>(alloc: Global, source: S) -> Reader<S>
-    ensures { StandsBehind S.remaining (S.remaining source) result [] }
-{
-    ReaderBuilder::new()
-        .has_headers(false)
-        .flexible(true)
-        .from_reader(alloc, source)
+    import_rows(alloc, &mut file, &mut fields, output, clock, book)
 }
 
 // Answers the rows of a file behind its header.
-fn import_rows<S: Read, W: Write, C: Clock, B: Book>(
+fn import_rows<S: Read + Limited, W: Write, C: Clock, B: Book>(
     alloc: Global,
-    reader: &mut Reader<S>,
+    file: &mut FileReader<S>,
     fields: &mut ByteRecord,
     output: &mut W,
     clock: &mut C,
     book: &mut B,
 ) -> Result<u64, ImportFault>
-    ensures rows { (file : Known) → StandsBehind S.remaining file reader.old (header ∷ [])
-        → ImportsTo file (W.contents output.old) (W.contents output.new)
+    requires { taken_of file.old ≡ 1 }
+    ensures rows { (bytes : Known) → HasTaken S.remaining bytes file.old (header ∷ [])
+        → EndsSo bytes (taken_of file.new) (spare_of S.spare file.new)
+        (W.contents output.old) (W.contents output.new)
         (point (C.tells clock.old) (B.state book.old))
         (point (C.tells clock.new) (B.state book.new)) result }
     ensures limit { IfOk result (λ rows. rows ≤ MOST_ROWS) }
@@ -123,7 +116,7 @@ fn import_rows<S: Read, W: Write, C: Clock, B: Book>(
 {
     running_on();
     'rows: for done in 0..MOST_ROWS {
-        match next_record(reader, fields) {
+        match next_record(file, fields) {
             Ok(true) => {}
             Ok(false) => return Ok(done),
             Err(fault) => return Err(fault),
@@ -132,28 +125,9 @@ fn import_rows<S: Read, W: Write, C: Clock, B: Book>(
             return Err(ImportFault::Write);
         }
     }
-    match next_record(reader, fields) {
+    match next_record(file, fields) {
         Ok(true) => Err(ImportFault::RowsSpent),
         Ok(false) => Ok(MOST_ROWS),
         Err(fault) => Err(fault),
-    }
-}
-
-// The next record of a file, and whether there was one.
-fn next_record<S: Read>(
-    reader: &mut Reader<S>,
-    fields: &mut ByteRecord,
-) -> Result<bool, ImportFault>
-    ensures next { (file : Known) (records : List (List (List ℕ)))
-        → StandsBehind S.remaining file reader.old records
-        → TakesNext S.remaining file reader.new records (fields_of fields.new) result }
-    ensures headed { result ≢ Err ImportFault.Header }
-{
-    match reader.read_byte_record(fields) {
-        Ok(found) => Ok(found),
-        Err(error) => match error.kind() {
-            ErrorKind::Io(_) => Err(ImportFault::Read),
-            _ => Err(ImportFault::Memory),
-        },
     }
 }

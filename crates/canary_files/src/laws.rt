@@ -1,5 +1,6 @@
 //! Laws over the definitions alone.
-ghost use Rattle.canary_files.specs.ReadingBack.{AreReadBack, AreFilesReadBack};
+ghost use Rattle.canary_files.specs.ReadingBack.{AreReadBack, AreExportsReadBack};
+ghost use Rattle.canary_files.specs.ReadingBack.{AreFilesReadBack};
 ghost use Rattle.canary_files.specs.RowExchanges.{point};
 ghost use Rattle.canary_files.specs.Again.{TellsAfterwards, TellsSettled, ImportsAgain};
 
@@ -11,6 +12,12 @@ use canary_plan::laws::same_commands;
 /// The row that stands for a measurement is read as the request that reports it.
 pub fn rows_read_back()
     ensures { AreReadBack }
+{}
+
+/// The same of each measurement that contents in order have, as each call of a book promises that
+/// they are: a report can bring it, and the row that is exported of it is read as that report.
+pub fn exports_read_back()
+    ensures { AreExportsReadBack }
 {}
 
 /// The records that are read of a file of measurements are the header and the rows that were

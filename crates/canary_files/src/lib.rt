@@ -19,6 +19,7 @@ pub mod export;
 pub mod history;
 pub mod import;
 pub mod laws;
+mod reading;
 mod records;
 mod row;
 mod writing;

@@ -36,7 +36,7 @@ pub enum Fault {
     TurnsSpent,
     /// The first record of a measurement file is not its header.
     Header,
-    /// A measurement file has more than 1,000,000 rows.
+    /// A measurement file has more than 1,000,000 rows, or 1,000,000,000 bytes or more.
     RowsSpent,
     /// A service has more than 1,000,000,000 measurements.
     TooMany,
@@ -65,7 +65,7 @@ impl fmt::Display for Fault {
             Fault::Truncated => "the input ended in the middle of a message",
             Fault::TurnsSpent => "the input went on after 1,000,000,000 reads",
             Fault::Header => "the first record is not the header of a measurement file",
-            Fault::RowsSpent => "the file has more than 1,000,000 rows",
+            Fault::RowsSpent => "the file has more than 1,000,000 rows, or too many bytes",
             Fault::TooMany => "the service has more than 1,000,000,000 measurements",
             Fault::UnknownService => "there is no such service",
             Fault::BadName => "not a valid name",

@@ -1,3 +1,4 @@
+use Rattle.std.proofs.Common.{rules}
 use Rattle.std.specs.FinMap.{get}
 use Rattle.canary_files.specs.Rows.{header}
 use Rattle.canary_files.specs.Written.{record_text, rows_text}
@@ -17,3 +18,7 @@ returns-in_err-write_header-clause-file g c h =
 pub returns-clause-file : goal.returns-clause-file
 returns-clause-file g c =
     file_on (g.B.Book.state c.args.book.now) (g.B.Book.state c.source_of.new.book) (g.B.Book.state c.write_rows.new.book) c.args.service c.args.caller c.in_ok-source.source (g.W.Write.contents c.args.out.now) (g.W.Write.contents c.write_header.new.out) (g.W.Write.contents c.write_rows.new.out) c.write_rows.result c.source_of.ensures.stays c.write_rows.ensures.stays c.in_ok-source.ensures.source (puts_all (g.W.Write.contents c.args.out.now) (g.W.Write.contents c.write_header.new.out) (record_text header) c.in_ok-write_header.field-0 c.in_ok-write_header.ensures.writes) c.write_rows.ensures.writes
+
+pub returns-in_err-write_header-clause-sure : goal.returns-in_err-write_header-clause-sure
+returns-in_err-write_header-clause-sure g c = λ h.
+    (let told = c.in_err-write_header.ensures.sure (g.B.Book.state c.args.book.now).is_sure in search rules)

@@ -4,7 +4,7 @@ use Rattle.canary_files.proofs.import.import_rows.Given as goal
 
 abbrev pub invariant-rows : goal.invariant-rows
 invariant-rows g l =
-    IsSoFar g.S.Read.remaining l.fn.reader l.reader (g.W.Write.contents l.fn.output) (g.W.Write.contents l.output)
+    IsSoFar g.S.Read.remaining l.fn.file l.file (g.W.Write.contents l.fn.output) (g.W.Write.contents l.output)
     (point (g.C.Clock.tells l.fn.clock) (g.B.Book.state l.fn.book))
     (point (g.C.Clock.tells l.clock) (g.B.Book.state l.book))
     l.done

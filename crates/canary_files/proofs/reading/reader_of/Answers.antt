@@ -1,7 +1,7 @@
 use Rattle.std.proofs.Common.{◌∙◌, inr, refl, sym, ap}
 use Rattle.std.specs.Prelude.{option_map}
 use Rattle.csv.specs.Reading.{strip_bom, builder_config, builder_trim, builder_names_headers, Reached}
-use Rattle.canary_files.proofs.import.reader_of.Goals as goal
+use Rattle.canary_files.proofs.reading.reader_of.Goals as goal
 
 pub returns : goal.returns
 unfolding Reached

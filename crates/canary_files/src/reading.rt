@@ -1,0 +1,72 @@
+//! The records of a measurement file, one after another.
+ghost use Rattle.std.specs.Prelude.{◌≡◌, ◌≢◌, ◌≤◌, ◌+◌, [], List, ℕ, Ok, Err, true};
+ghost use Rattle.csv.specs.Records.{fields_of};
+ghost use Rattle.canary_files.specs.Writes.{Known};
+ghost use Rattle.canary_files.specs.Taking.{StandsBehind, HasTaken, TakesNext, taken_of, IsEnd};
+
+use crate::bounded::Limited;
+use crate::import::ImportFault;
+use csv::{ByteRecord, ErrorKind, Reader, ReaderBuilder};
+use std::alloc::Global;
+use std::io::Read;
+
+// A measurement file, and how many records were taken of it. Only `next_record` takes one.
+#[derive(Drop)]
+pub(crate) struct FileReader<S> {
+    reader: Reader<S>,
+    taken: u64,
+}
+
+// A file at its first record.
+pub(crate) fn file_reader<S: Read>(alloc: Global, source: S) -> FileReader<S>
+    ensures { HasTaken S.remaining (S.remaining source) result [] }
+{
+    FileReader {
+        reader: reader_of(alloc, source),
+        taken: 0,
+    }
+}
+
+fn reader_of<S: Read>(alloc: Global, source: S) -> Reader<S>
+    ensures { StandsBehind S.remaining (S.remaining source) result [] }
+{
+    ReaderBuilder::new()
+        .has_headers(false)
+        .flexible(true)
+        .from_reader(alloc, source)
+}
+
+// Takes the next record of a file, and answers whether there was one.
+pub(crate) fn next_record<S: Read + Limited>(
+    file: &mut FileReader<S>,
+    fields: &mut ByteRecord,
+) -> Result<bool, ImportFault>
+    requires { taken_of file.old ≤ 1000001 }
+    ensures next { (bytes : Known) (records : List (List (List ℕ)))
+        → HasTaken S.remaining bytes file.old records
+        → TakesNext S.remaining S.spare bytes file.new records (fields_of fields.new) result }
+    ensures one { result ≡ Ok true → taken_of file.new ≡ taken_of file.old + 1 }
+    ensures headed { result ≢ Err ImportFault.Header }
+{
+    match file.reader.read_byte_record(fields) {
+        Ok(true) => {
+            file.taken += 1;
+            Ok(true)
+        }
+        Ok(false) => Ok(false),
+        Err(error) => match error.kind() {
+            ErrorKind::Io(_) => Err(end_of(file.reader.get_ref())),
+            _ => Err(ImportFault::Memory),
+        },
+    }
+}
+
+// Why the bytes of a file ended early: no more are asked for, or the reader failed.
+fn end_of<S: Limited>(source: &S) -> ImportFault
+    ensures { IsEnd (S.spare source.now) result }
+{
+    if source.is_spent() {
+        return ImportFault::RowsSpent;
+    }
+    ImportFault::Read
+}
