@@ -128,8 +128,8 @@ pub(crate) const IMPORT_HELP: &str = with_records_faults!(
     "which a line on standard error names; what import recorded before the fault stays:\n",
     "  canary: file             CSV cannot be opened\n",
     "  canary: header           the first record is not the header\n",
-    "  canary: rows-spent       CSV has more than 1,000,000 rows\n",
-    "  canary: read             reading CSV failed, or it has 1,000,000,000 bytes or more\n",
+    "  canary: rows-spent       CSV has more than 1,000,000 rows, or 1,000,000,000 bytes or more\n",
+    "  canary: read             reading CSV failed\n",
     "  canary: write            the output failed or was closed\n",
     "  canary: memory           out of memory\n";
     "\nExamples:\n",
