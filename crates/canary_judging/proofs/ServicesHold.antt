@@ -24,7 +24,7 @@ use Rattle.canary_judging.proofs.ServicesHoldSound.{past_readable, in_order, run
 record IsGood (t : Tables) (q : List ℕ) (m : ModelService) : Type 0 where
   made : IsReadableCommand (command.Service m.made)
   in_order : IsInOrder (known_of t) q m
-  sound : AllByRecursion (IsSoundRun m) m.past.runs
+  sound : AllByRecursion IsSoundRun m.past.runs
 
 -- under a name
 record AtService (t : Tables) (q : List ℕ) : Type 0 where

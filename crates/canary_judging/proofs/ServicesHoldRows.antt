@@ -12,7 +12,7 @@ use Rattle.canary_plan.specs.declared.command.Command.{Command}
 use Rattle.canary_plan.specs.declared.command.Command.TheVariants as command
 use Rattle.canary_plan.specs.declared.line.Line.{Line}
 use Rattle.canary_plan.specs.Lines.{line_at}
-use Rattle.canary_plan.specs.Plans.{Templates, strategy_of}
+use Rattle.canary_plan.specs.Plans.{Templates, strategy_of, analysis_or_none}
 use Rattle.canary_canonical.specs.Readings.{canonical_in}
 use Rattle.canary_release.specs.declared.effect.Recorded.{Recorded}
 use Rattle.canary_release.specs.declared.effect.Closing.{Closing}
@@ -26,7 +26,7 @@ use Rattle.canary_rows.specs.declared.rows.ServiceRow.{ServiceRow}
 use Rattle.canary_rows.specs.declared.rows.RunRow.{RunRow}
 use Rattle.canary_rows.specs.Tables.{Tables, is_run}
 use Rattle.canary_stored.specs.Numbers.{bit, truth_of}
-use Rattle.canary_stored.specs.Values.{service_row, made_from, standing_of, stand_from, stand_of, ending_of, closing_from, closing_of, lists_in, metric_count, run_from, run_of_row, history_row, line_of_row}
+use Rattle.canary_stored.specs.Values.{service_row, made_from, standing_of, stand_from, stand_of, ending_of, closing_from, closing_of, lists_in, run_from, run_of_row, history_row, line_of_row}
 use Rattle.canary_stored.specs.Numbers.{state_number, state_of, hold_number, hold_of}
 use Rattle.canary_stored.specs.Tables.{IsReadableCommand, IsReadableClosing, IsReadableLine}
 use Rattle.canary_stored.specs.Reading.{measurements_in, history_in, runs_to, past_in, service_from, service_made, service_of_row, contents_of}
@@ -138,10 +138,12 @@ closing_back number (Some x) readable = (λ i. closing_from number x.at (truth_b
 
 -- the run of a record, among these measurements
 abbrev pub run_made : CheckedStrategy → List Recorded → RunRecord → Run
-run_made plan measurements r = record { number = r.number; step = r.step; started = r.started; closed = r.closed; lists = lists_in measurements r.number 0 (metric_count plan r.step) }
+run_made plan measurements r =
+    let analysis = analysis_or_none plan r.step in
+    record { number = r.number; step = r.step; analysis = analysis; started = r.started; closed = r.closed; lists = lists_in measurements r.number 0 (length analysis.metrics) }
 
 run_again : (name : List ℕ) (plan : CheckedStrategy) (xs : List Recorded) (r : RunRecord) → IsReadableClosing r.number r.closed → run_of_row plan xs (row_of_record name r) ≡ Some (run_made plan xs r)
-run_again name plan xs r readable = λ i. run_from xs (metric_count plan r.step) (row_of_record name r) (closing_back r.number r.closed readable i)
+run_again name plan xs r readable = λ i. run_from xs (analysis_or_none plan r.step) (row_of_record name r) (closing_back r.number r.closed readable i)
 
 take-one : {A : Type 0} (n : ℕ) (xs : List A) (x : A) → slice_get xs n ≡ Some x → take n xs ++ x ∷ [] ≡ take (suc n) xs
 take-one n [] x e = absurd (cc)

@@ -10,17 +10,17 @@ use Rattle.canary_metric.specs.Metrics.{MetricValue}
 use Rattle.canary_metric.specs.Counts.{Counts, counts}
 use Rattle.canary_metric.specs.Verdicts.{verdict_of_counts}
 use Rattle.canary_plan.specs.declared.strategy.CheckedStrategy.{CheckedStrategy}
-use Rattle.canary_plan.specs.Plans.{strategy_of, metrics_at}
+use Rattle.canary_plan.specs.Plans.{strategy_of, analysis_at, analysis_or_none}
 use Rattle.canary_release.specs.declared.effect.Recorded.{Recorded}
 use Rattle.canary_release.specs.declared.effect.Closing.{Closing}
 use Rattle.canary_release.specs.declared.runs.Runs.{Runs}
-use Rattle.canary_release.specs.Courses.{run_metrics}
 use Rattle.canary_release.specs.Order.{AreNumbered, AreOrdered, AreLists, is_of, IsRun, is_measured_by, is_of_some, IsInOrder}
 use Rattle.canary_release.specs.Parts.{is_broken}
 use Rattle.canary_release.specs.Pasts.{Run, measurement_of, counts_of, is_open, tallied, watched}
 use Rattle.canary_release.specs.Desks.{ModelService}
 use Rattle.canary_release.specs.Sound.{IsJudgedBy, AreJudged, HasVerdict, IsSoundRun}
 use Rattle.canary_once.specs.declared.record.RunRecord.{RunRecord}
+use Rattle.canary_once.specs.Records.{run_metrics}
 use Rattle.canary_rows.specs.declared.rows.ServiceRow.{ServiceRow}
 use Rattle.canary_rows.specs.Tables.{Tables}
 use Rattle.canary_stored.specs.Values.{lists_in}
@@ -30,7 +30,7 @@ use Rattle.canary_judging.specs.Services.{HasVerdictBy, is_open_record, open_of_
 use Rattle.canary_judging.proofs.CallersJudged.{HasPlace, has_place, below_length}
 use Rattle.canary_judging.proofs.Named.{weaker}
 use Rattle.canary_judging.proofs.ServicesHoldRows.{run_made, service_judged, known_of, IsStanding, standing_judged}
-use Rattle.canary_judging.proofs.ServicesHoldFacts.{IsRunOf, are_listed, run_of_judged}
+use Rattle.canary_judging.proofs.ServicesHoldFacts.{metrics_same, analysed, IsRunOf, are_listed, run_of_judged}
 use Rattle.canary_judging.proofs.ServicesHoldLists.{measurements_under}
 
 -- Runs one after another, the first of these having this number.
@@ -79,14 +79,13 @@ so_many xs run k (suc n) = ap suc (so_many xs run (suc k) n)
 
 is_run : (s : ModelService) (plan : CheckedStrategy) (xs : List Recorded) → s.stand.strategy ≡ plan → s.past.measurements ≡ xs → (number : ℕ) (r : RunRecord) → IsRunOf plan xs number r → IsRun s (run_made plan xs r)
 is_run s plan xs strategy measured number r of =
-    let metrics : List MetricValue = run_metrics plan r.step in
+    let metrics : List MetricValue = analysed plan r in
     let lists : AreLists xs r.number 0 (lists_in xs r.number 0 (length metrics)) = are_lists xs r.number 0 (length metrics) (λ place below.
     let h : HasPlace metrics place = has_place metrics place below in
     let l : IsList r.number place h.value (filter (is_of r.number place) xs) = of.lists place h.value h.there in
     subst (λ m. AreOrdered r.number m 1 (filter (is_of r.number m) xs) × (length (filter (is_of r.number m) xs) ≤ 1000000)) (let e : place ≡ 0 + place = omega arith in e) (l.ordered, l.few)) in
     record {
-      metrics = metrics;
-      analysis = subst (λ p. metrics_at p r.step ≡ Some metrics) (sym strategy) of.analysis;
+      analysis = subst (λ p. analysis_at p r.step ≡ Some (analysis_or_none plan r.step)) (sym strategy) of.analysis;
       one_each = so_many xs r.number 0 (length metrics);
       lists = subst (λ ys. AreLists ys r.number 0 (lists_in xs r.number 0 (length metrics))) (sym measured) lists;
     }
@@ -105,24 +104,24 @@ counted_twice : (lists : List (List Recorded)) → map counts (map (map measurem
 counted_twice [] = refl
 counted_twice (list ∷ lists) = ap (λ (cs : List Counts). counts_of list ∷ cs) (counted_twice lists)
 
-has_verdict : (s : ModelService) (run : Run) (tallies : List Counts) (o : Option Closing) → map counts_of run.lists ≡ tallies → IsReadableClosing run.number o → HasVerdictBy (run_metrics s.stand.strategy run.step) tallies o → HasVerdict s run o
-has_verdict s run tallies None same closed v = ap (λ (ts : List Counts). verdict_of_counts false (zip (run_metrics s.stand.strategy run.step) ts)) (counted_twice run.lists ∙ same) ∙ v
-has_verdict s run tallies (Some x) same closed v = (
+has_verdict : (run : Run) (tallies : List Counts) (o : Option Closing) → map counts_of run.lists ≡ tallies → IsReadableClosing run.number o → HasVerdictBy run.analysis.metrics tallies o → HasVerdict run o
+has_verdict run tallies None same closed v = ap (λ (ts : List Counts). verdict_of_counts false (zip run.analysis.metrics ts)) (counted_twice run.lists ∙ same) ∙ v
+has_verdict run tallies (Some x) same closed v = (
   closed.0,
-  v.0 ∙ ap (λ (ts : List Counts). verdict_of_counts x.outside (zip (run_metrics s.stand.strategy run.step) ts)) (sym (counted_twice run.lists ∙ same)),
+  v.0 ∙ ap (λ (ts : List Counts). verdict_of_counts x.outside (zip run.analysis.metrics ts)) (sym (counted_twice run.lists ∙ same)),
   v.1,
 )
 
-is_sound_run : (s : ModelService) (xs : List Recorded) (number : ℕ) (r : RunRecord) → IsRunOf s.stand.strategy xs number r → IsSoundRun s (run_made s.stand.strategy xs r)
-is_sound_run s xs number r of = (
-  are_judged xs r.number 0 (run_metrics s.stand.strategy r.step) (λ place metric there.
+is_sound_run : (plan : CheckedStrategy) (xs : List Recorded) (number : ℕ) (r : RunRecord) → IsRunOf plan xs number r → IsSoundRun (run_made plan xs r)
+is_sound_run plan xs number r of = (
+  are_judged xs r.number 0 (analysed plan r) (λ place metric there.
       subst (λ m. AllByRecursion (IsJudgedBy metric) (filter (is_of r.number m) xs)) (let e : place ≡ 0 + place = omega arith in e) (of.lists place metric there).judged),
-  has_verdict s (run_made s.stand.strategy xs r) r.tallies r.closed of.tallied of.closed of.verdict,
+  has_verdict (run_made plan xs r) r.tallies r.closed of.tallied of.closed of.verdict,
 )
 
-pub runs_sound : CountingIsExact → RunsAreTallied → (t : Tables) (row : ServiceRow) (j : IsServiceJudged t row) → AllByRecursion (IsSoundRun (service_judged j)) (service_judged j).past.runs
+pub runs_sound : CountingIsExact → RunsAreTallied → (t : Tables) (row : ServiceRow) (j : IsServiceJudged t row) → AllByRecursion IsSoundRun (service_judged j).past.runs
 runs_sound exact tallied t row j =
-    each_made j.stand.strategy j.measurements (IsSoundRun (service_judged j)) (λ number r of. is_sound_run (service_judged j) j.measurements number r of) 1 j.runs (runs_of_judged exact tallied t row j)
+    each_made j.stand.strategy j.measurements IsSoundRun (λ number r of. is_sound_run j.stand.strategy j.measurements number r of) 1 j.runs (runs_of_judged exact tallied t row j)
 
 -- What is read back.
 
@@ -156,7 +155,7 @@ measured_at : (plan : CheckedStrategy) (xs : List Recorded) (runs : List RunReco
 measured_at plan xs runs place x metric None there run numbered planned = absurd (cc)
 measured_at plan xs runs place x metric (Some r) there run numbered planned =
     let made : Run = run_made plan xs r in
-    let many : length made.lists ≡ length (run_metrics plan r.step) = so_many xs r.number 0 (length (run_metrics plan r.step)) in
+    let many : length made.lists ≡ length (run_metrics plan r.step) = so_many xs r.number 0 (length (analysed plan r)) ∙ ap length (sym (metrics_same plan r.step)) in
     let below : x.metric < length (run_metrics plan r.step) = below_length (run_metrics plan r.step) x.metric metric planned in
     let own : (x.run == r.number) ≡ true = (Decides-eqb x.run r.number).1 (run ∙ sym (numbered r there)) in
     let within : nat_lt x.metric (length made.lists) ≡ true = lt-ltb x.metric (length made.lists) (omega arith) in
@@ -176,17 +175,17 @@ all_measured exact t row j =
 
 -- What is watched.
 
-open_same : (plan : CheckedStrategy) (xs : List Recorded) (first : ℕ) (runs : List RunRecord) → AreRunsOf plan xs first runs → map tallied (filter is_open (map (run_made plan xs) runs)) ≡ open_runs_in runs
+open_same : (plan : CheckedStrategy) (xs : List Recorded) (first : ℕ) (runs : List RunRecord) → AreRunsOf plan xs first runs → map tallied (filter is_open (map (run_made plan xs) runs)) ≡ open_runs_in plan runs
 open_same plan xs first [] all = refl
 open_same plan xs first (r ∷ rs) all =
-    let rest : map tallied (filter is_open (map (run_made plan xs) rs)) ≡ open_runs_in rs = open_same plan xs (suc first) rs all.1 in
-    let one : tallied (run_made plan xs r) ≡ open_of_record r = λ i. record { number = r.number; step = r.step; started = r.started; tallies = all.0.tallied i } in
-    elim (is_open_record r) as (λ b. map tallied (cond b (run_made plan xs r ∷ filter is_open (map (run_made plan xs) rs)) (filter is_open (map (run_made plan xs) rs))) ≡ map open_of_record (cond b (r ∷ filter is_open_record rs) (filter is_open_record rs))) [
+    let rest : map tallied (filter is_open (map (run_made plan xs) rs)) ≡ open_runs_in plan rs = open_same plan xs (suc first) rs all.1 in
+    let one : tallied (run_made plan xs r) ≡ open_of_record plan r = λ i. record (open_of_record plan r) { tallies = all.0.tallied i } in
+    elim (is_open_record r) as (λ b. map tallied (cond b (run_made plan xs r ∷ filter is_open (map (run_made plan xs) rs)) (filter is_open (map (run_made plan xs) rs))) ≡ map (open_of_record plan) (cond b (r ∷ filter is_open_record rs) (filter is_open_record rs))) [
       | true ↦ λ i. one i ∷ rest i
       | false ↦ rest
     ]
 
-watched_same : CountingIsExact → RunsAreTallied → (t : Tables) (row : ServiceRow) (j : IsServiceJudged t row) → watched (service_judged j).past ≡ record { count = length j.runs; open_runs = open_runs_in j.runs }
+watched_same : CountingIsExact → RunsAreTallied → (t : Tables) (row : ServiceRow) (j : IsServiceJudged t row) → watched (service_judged j).past ≡ record { count = length j.runs; open_runs = open_runs_in j.stand.strategy j.runs }
 watched_same exact tallied t row j =
     let count = length-map j.runs (run_made j.stand.strategy j.measurements) in
     let open_runs = open_same j.stand.strategy j.measurements 1 j.runs (runs_of_judged exact tallied t row j) in

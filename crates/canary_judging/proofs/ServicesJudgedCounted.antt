@@ -6,16 +6,16 @@ use Rattle.std.specs.Prelude.{Option, ◌==◌, ◌&&◌, nat_lt, filter, map, o
 use Rattle.std.specs.List.{AllByRecursion}
 use Rattle.canary_metric.specs.Metrics.{MetricValue}
 use Rattle.canary_metric.specs.Counts.{Counts}
+use Rattle.canary_plan.specs.declared.analysis_parts.AnalysisParts.{AnalysisParts}
 use Rattle.canary_plan.specs.declared.strategy.CheckedStrategy.{CheckedStrategy}
 use Rattle.canary_plan.specs.Plans.{Templates}
 use Rattle.canary_release.specs.declared.effect.Recorded.{Recorded}
-use Rattle.canary_release.specs.Courses.{run_metrics}
 use Rattle.canary_release.specs.Desks.{ModelService}
 use Rattle.canary_release.specs.Order.{AreOrdered, AreLists, IsRun, is_of, is_measured_by, is_of_some}
 use Rattle.canary_release.specs.Pasts.{Run, counts_of}
 use Rattle.canary_release.specs.Sound.{IsJudgedBy, AreJudged}
 use Rattle.canary_once.specs.declared.record.RunRecord.{RunRecord}
-use Rattle.canary_once.specs.Records.{record_of}
+use Rattle.canary_once.specs.Records.{record_of, run_metrics}
 use Rattle.canary_rows.specs.Tables.{Tables}
 use Rattle.canary_stored.specs.Values.{lists_in}
 use Rattle.canary_judging.specs.Counting.{at_metric, of_metric, none_counted, counted_all, AreCounted, IsOfMetric, IsList, AreListed, CountingIsExact, RunsAreTallied}
@@ -43,8 +43,8 @@ planned_at m place r e =
 as_many_planned : (m : ModelService) → length (metrics_planned m) ≡ length m.past.runs
 as_many_planned m = as_mapped (record_metrics m.stand.strategy) (map record_of m.past.runs) ∙ as_mapped record_of m.past.runs
 
-its_metrics : (m : ModelService) (r : Run) (run : IsRun m r) → run_metrics m.stand.strategy r.step ≡ run.metrics
-its_metrics m r run = ap (λ (o : Option (List MetricValue)). unwrap_or o []) run.analysis
+its_metrics : (m : ModelService) (r : Run) → IsRun m r → run_metrics m.stand.strategy r.step ≡ r.analysis.metrics
+its_metrics m r run = ap (λ (o : Option AnalysisParts). unwrap_or (option_map (λ (a : AnalysisParts). a.metrics) o) []) run.analysis
 
 so_many_metrics : (m : ModelService) (r : Run) → IsRun m r → length (run_metrics m.stand.strategy r.step) ≡ length r.lists
 so_many_metrics m r run = ap length (its_metrics m r run) ∙ sym run.one_each
@@ -121,8 +121,9 @@ list_of t known q m has zero place metric e = absurd (cc)
 list_of t known q m has (suc p) place metric e =
     let h : IsPlanned m p place metric = is_planned m p place metric e in
     let at : StandsAt m h.run = stands_at t known q m has p h.run h.there in
+    let judged : AreJudged (run_metrics m.stand.strategy h.run.step) h.run.lists = subst (λ (ms : List MetricValue). AreJudged ms h.run.lists) (sym (its_metrics m h.run at.run)) at.sound.0 in
     let l : ListAt m.past.measurements h.run.number (place + 0) metric =
-    list_at m.past.measurements h.run.number 0 place (run_metrics m.stand.strategy h.run.step) h.run.lists metric (sym (so_many_metrics m h.run at.run)) at.run.lists at.sound.0 h.planned in
+    list_at m.past.measurements h.run.number 0 place (run_metrics m.stand.strategy h.run.step) h.run.lists metric (sym (so_many_metrics m h.run at.run)) at.run.lists judged h.planned in
     of_list m.past.measurements (suc p) place metric
     (subst (λ n. ListAt m.past.measurements n place metric) (its_number m.past.runs p h.run has.in_order.numbered h.there) (subst (λ n. ListAt m.past.measurements h.run.number n metric) (let z : place + 0 ≡ place = omega arith in z) l))
 

@@ -1,6 +1,7 @@
 -- A service's row of contents passes each test.
 use Rattle.std.proofs.Common.{◌≡◌, ℕ, List, [], ◌∷◌, length, Bool, true, false, Some, refl, sym, ap, ◌∙◌, subst}
 use Rattle.std.specs.Prelude.{Option, filter, map}
+use Rattle.std.specs.List.{AllByRecursion}
 use Rattle.std.specs.FinMap.{get}
 use Rattle.canary_plan.specs.declared.strategy.CheckedStrategy.{CheckedStrategy}
 use Rattle.canary_plan.specs.Plans.{Templates, strategy_of}
@@ -10,6 +11,7 @@ use Rattle.canary_release.specs.declared.stand.Stand.{Stand}
 use Rattle.canary_release.specs.declared.stand.State.{State}
 use Rattle.canary_release.specs.declared.stand.State.TheVariants.{InProgress, Aborted, Done}
 use Rattle.canary_release.specs.Desks.{ModelService}
+use Rattle.canary_release.specs.Order.{IsRun}
 use Rattle.canary_release.specs.Parts.{is_broken}
 use Rattle.canary_release.specs.Pasts.{Past}
 use Rattle.canary_release.specs.Shapes.{shape}
@@ -99,9 +101,9 @@ is_row_of t hold row at =
       has = has_rows t hold row.name own.value own.there;
     }
 
-parts_again : (m : ModelService) → is_broken (shape m) ≡ false
-    → is_broken (record { stand = m.stand; runs = record { count = length (map record_of m.past.runs); open_runs = open_runs_in (map record_of m.past.runs) } }) ≡ false
-parts_again m e = (λ i. is_broken (record { stand = m.stand; runs = record { count = as_many_records m.past.runs i; open_runs = same_open m.past.runs i } })) ∙ e
+parts_again : (m : ModelService) → AllByRecursion (IsRun m) m.past.runs → is_broken (shape m) ≡ false
+    → is_broken (record { stand = m.stand; runs = record { count = length (map record_of m.past.runs); open_runs = open_runs_in m.stand.strategy (map record_of m.past.runs) } }) ≡ false
+parts_again m runs e = (λ i. is_broken (record { stand = m.stand; runs = record { count = as_many_records m.past.runs i; open_runs = same_open m m.past.runs runs i } })) ∙ e
 
 pub service_is_judged : CountingIsExact → RunsAreTallied → (t : Tables) (row : ServiceRow) → IsRowOf t row → IsServiceJudged t row
 service_is_judged exact tallied t row of =
@@ -128,5 +130,5 @@ service_is_judged exact tallied t row of =
       history = m.past.history;
       told = has.history;
       lines = has.readable.history;
-      parts = parts_again m has.in_order.parts;
+      parts = parts_again m has.in_order.runs has.in_order.parts;
     }

@@ -1,14 +1,15 @@
 -- The runs of a service of contents, with their tallies, pass each test.
 use Rattle.std.proofs.Common.{◌≡◌, inl, inr, ℕ, zero, suc, ◌+◌, ◌≤◌, List, [], ◌∷◌, length, Bool, true, false, Some, None, refl, sym, ap, ◌∙◌, subst, arith}
-use Rattle.std.specs.Prelude.{Option, ◌==◌, ◌&&◌, cond, filter, map, slice_get, unwrap_or, is_none}
+use Rattle.std.specs.Prelude.{Option, ◌==◌, ◌&&◌, cond, filter, map, option_map, slice_get, unwrap_or, is_none}
 use Rattle.std.specs.Str.{bytes_eq}
 use Rattle.std.specs.List.{AllByRecursion, zip}
 use Rattle.std.proofs.lemmas.List.Elements.{filter_agree}
-use Rattle.canary_metric.specs.Metrics.{MetricValue}
 use Rattle.canary_metric.specs.Counts.{counts}
 use Rattle.canary_metric.specs.Verdicts.{verdict_of_counts}
+use Rattle.canary_plan.specs.declared.analysis_parts.AnalysisParts.{AnalysisParts}
 use Rattle.canary_plan.specs.declared.command.Command.TheVariants as command
-use Rattle.canary_plan.specs.Plans.{Templates, metrics_at}
+use Rattle.canary_plan.specs.Fit.{no_analysis}
+use Rattle.canary_plan.specs.Plans.{Templates, analysis_or_none}
 use Rattle.canary_release.specs.declared.effect.Recorded.{Recorded}
 use Rattle.canary_release.specs.declared.effect.Closing.{Closing}
 use Rattle.canary_release.specs.Desks.{ModelService}
@@ -37,7 +38,7 @@ pub record HasRows (t : Tables) (known : Templates) (q : List ℕ) (m : ModelSer
   pub readable : IsReadablePast m.past
   pub made : IsReadableCommand (command.Service m.made)
   pub in_order : IsInOrder known q m
-  pub sound : AllByRecursion (IsSoundRun m) m.past.runs
+  pub sound : AllByRecursion IsSoundRun m.past.runs
 
 pub number_at : (n : ℕ) (runs : List Run) (place : ℕ) (r : Run) → AreNumbered n runs → slice_get runs place ≡ Some r → r.number ≡ place + n
 number_at n [] place r h at = absurd (cc)
@@ -70,14 +71,14 @@ tallies_numbered q n k rows = filter_twice (is_numbered tally_metric k) (is_tall
 pub record StandsAt (m : ModelService) (r : Run) : Type 0 where
   pub there : run_at r.number m.past.runs ≡ Some r
   pub run : IsRun m r
-  pub sound : IsSoundRun m r
+  pub sound : IsSoundRun r
   pub readable : IsReadableRun r
 
 pub stands_at : (t : Tables) (known : Templates) (q : List ℕ) (m : ModelService) → HasRows t known q m → (place : ℕ) (r : Run) → slice_get m.past.runs place ≡ Some r → StandsAt m r
 stands_at t known q m has place r e = record {
   there = ap (λ n. run_at n m.past.runs) (its_number m.past.runs place r has.in_order.numbered e) ∙ e;
   run = all_at (IsRun m) m.past.runs has.in_order.runs place r e;
-  sound = all_at (IsSoundRun m) m.past.runs has.sound place r e;
+  sound = all_at IsSoundRun m.past.runs has.sound place r e;
   readable = all_at IsReadableRun m.past.runs has.readable.runs place r e;
 }
 
@@ -105,26 +106,30 @@ counted_lists : (lists : List (List Recorded)) → map counts (map (map measurem
 counted_lists [] = refl
 counted_lists (list ∷ lists) = λ i. counts_of list ∷ counted_lists lists i
 
-same_verdict : (m : ModelService) (r : Run) (metrics : List MetricValue) → metrics_at m.stand.strategy r.step ≡ Some metrics → (outside : Bool) → verdict_on m r outside ≡ verdict_of_counts outside (zip metrics (map counts_of r.lists))
-same_verdict m r metrics e outside = λ i. verdict_of_counts outside (zip (unwrap_or (e i) []) (counted_lists r.lists i))
+same_verdict : (r : Run) (outside : Bool) → verdict_on r outside ≡ verdict_of_counts outside (zip r.analysis.metrics (map counts_of r.lists))
+same_verdict r outside = λ i. verdict_of_counts outside (zip r.analysis.metrics (counted_lists r.lists i))
 
-verdict_by : (m : ModelService) (r : Run) (metrics : List MetricValue) → metrics_at m.stand.strategy r.step ≡ Some metrics → (o : Option Closing) → HasVerdict m r o → HasVerdictBy metrics (map counts_of r.lists) o
-verdict_by m r metrics e None h = sym (same_verdict m r metrics e false) ∙ h
-verdict_by m r metrics e (Some x) h = (h.1 ∙ same_verdict m r metrics e x.outside, h.2)
+verdict_by : (r : Run) (o : Option Closing) → HasVerdict r o → HasVerdictBy r.analysis.metrics (map counts_of r.lists) o
+verdict_by r None h = sym (same_verdict r false) ∙ h
+verdict_by r (Some x) h = (h.1 ∙ same_verdict r x.outside, h.2)
 
 -- A run.
+
+-- its analysis is the strategy's at its step
+its_analysis : (m : ModelService) (r : Run) → IsRun m r → analysis_or_none m.stand.strategy r.step ≡ r.analysis
+its_analysis m r run = ap (λ (o : Option AnalysisParts). unwrap_or o no_analysis) run.analysis
 
 pub run_is_judged : (t : Tables) (known : Templates) (q : List ℕ) (m : ModelService) → HasRows t known q m → (r : Run) → StandsAt m r → IsRunJudged t m.stand.strategy q (record_of r)
 run_is_judged t known q m has r at = record {
   one = has.runs r.number ∙ ap (row_if (run_row q)) at.there;
   closed = at.readable;
-  metrics = at.run.metrics;
-  analysis = at.run.analysis;
+  metrics = r.analysis.metrics;
+  analysis = ap (option_map (λ (a : AnalysisParts). a.metrics)) at.run.analysis;
   tallies = λ place c e.
       let h : ComesOf counts_of r.lists place c = comes_of counts_of r.lists place c e in
       tally_at t known q m has r at place ∙ ap (row_if (list_row q r.number place)) h.there ∙ ap (λ x. tally_row q r.number place x ∷ []) h.is;
   no_more = so_many_tallies t known q m has r at ∙ sym (as_mapped counts_of r.lists);
-  verdict = verdict_by m r at.run.metrics at.run.analysis r.closed at.sound.1;
+  verdict = verdict_by r r.closed at.sound.1;
 }
 
 pub runs_are_judged : (t : Tables) (known : Templates) (q : List ℕ) (m : ModelService) → HasRows t known q m → (place : ℕ) (r : RunRecord) → slice_get (map record_of m.past.runs) place ≡ Some r
@@ -136,13 +141,15 @@ runs_are_judged t known q m has place r e =
 
 -- The open ones.
 
-pub same_open : (runs : List Run) → open_runs_in (map record_of runs) ≡ map tallied (filter is_open runs)
-same_open [] = refl
-same_open (r ∷ runs) =
+pub same_open : (m : ModelService) (runs : List Run) → AllByRecursion (IsRun m) runs → open_runs_in m.stand.strategy (map record_of runs) ≡ map tallied (filter is_open runs)
+same_open m [] all = refl
+same_open m (r ∷ runs) all =
+    let rest : open_runs_in m.stand.strategy (map record_of runs) ≡ map tallied (filter is_open runs) = same_open m runs all.1 in
+    let one : open_of_record m.stand.strategy (record_of r) ≡ tallied r = λ i. record (tallied r) { analysis = its_analysis m r all.0 i } in
     elim (is_none r.closed)
-    as (λ b. map open_of_record (cond b (record_of r ∷ filter is_open_record (map record_of runs)) (filter is_open_record (map record_of runs))) ≡ map tallied (cond b (r ∷ filter is_open runs) (filter is_open runs))) [
-      | true ↦ λ i. tallied r ∷ same_open runs i
-      | false ↦ same_open runs
+    as (λ b. map (open_of_record m.stand.strategy) (cond b (record_of r ∷ filter is_open_record (map record_of runs)) (filter is_open_record (map record_of runs))) ≡ map tallied (cond b (r ∷ filter is_open runs) (filter is_open runs))) [
+      | true ↦ λ i. one i ∷ rest i
+      | false ↦ rest
     ]
 
 pub as_many_records : (runs : List Run) → length (map record_of runs) ≡ length runs

@@ -11,19 +11,18 @@ use Rattle.canary_plan.specs.declared.service.ServiceSpec.{ServiceSpec}
 use Rattle.canary_plan.specs.declared.strategy.CheckedStrategy.{CheckedStrategy}
 use Rattle.canary_plan.specs.declared.command.Command.TheVariants as command
 use Rattle.canary_plan.specs.declared.line.Line.{Line}
-use Rattle.canary_plan.specs.Plans.{strategy_of, metrics_at}
+use Rattle.canary_plan.specs.Plans.{strategy_of, metrics_at, analysis_or_none}
 use Rattle.canary_plan.specs.PlanRefusals.{strategy_refusal}
 use Rattle.canary_canonical.specs.Readings.{canonical_in}
 use Rattle.canary_release.specs.declared.effect.Recorded.{Recorded}
 use Rattle.canary_release.specs.declared.effect.Closing.{Closing}
 use Rattle.canary_release.specs.declared.runs.OpenRun.{OpenRun}
 use Rattle.canary_release.specs.declared.stand.Stand.{Stand}
-use Rattle.canary_release.specs.Courses.{run_metrics}
 use Rattle.canary_release.specs.Desks.{ModelService}
 use Rattle.canary_release.specs.Order.{IsInOrder}
 use Rattle.canary_release.specs.Parts.{is_broken}
 use Rattle.canary_once.specs.declared.record.RunRecord.{RunRecord}
-use Rattle.canary_once.specs.Records.{past_of}
+use Rattle.canary_once.specs.Records.{past_of, run_metrics}
 use Rattle.canary_once.specs.Sound.{AreSoundContents}
 use Rattle.canary_rows.specs.declared.rows.RunRow.{RunRow}
 use Rattle.canary_rows.specs.declared.rows.ServiceRow.{ServiceRow}
@@ -71,12 +70,19 @@ pub record IsRunJudged (t : Tables) (strategy : CheckedStrategy) (name : List �
 abbrev pub is_open_record : RunRecord → Bool
 is_open_record r = is_none r.closed
 
-abbrev pub open_of_record : RunRecord → OpenRun
-open_of_record r =
-    record { number = r.number; step = r.step; started = r.started; tallies = r.tallies }
+-- an open run of a service of this strategy
+abbrev pub open_of_record : CheckedStrategy → RunRecord → OpenRun
+open_of_record strategy r =
+    record {
+      number = r.number;
+      step = r.step;
+      analysis = analysis_or_none strategy r.step;
+      started = r.started;
+      tallies = r.tallies;
+    }
 
-abbrev pub open_runs_in : List RunRecord → List OpenRun
-open_runs_in runs = map open_of_record (filter is_open_record runs)
+abbrev pub open_runs_in : CheckedStrategy → List RunRecord → List OpenRun
+open_runs_in strategy runs = map (open_of_record strategy) (filter is_open_record runs)
 
 -- the metrics of each run
 abbrev pub metrics_of_runs : CheckedStrategy → List RunRecord → List (List MetricValue)
@@ -108,8 +114,10 @@ pub record IsServiceJudged (t : Tables) (row : ServiceRow) : Type 0 where
   pub told : filter (is_line_of row.name) t.history ≡ map (history_row row.name) history
   pub lines : AllByRecursion IsReadableLine history
   pub parts : is_broken
-      (record
-      { stand = stand; runs = record { count = length runs; open_runs = open_runs_in runs } })
+      (record {
+        stand = stand;
+        runs = record { count = length runs; open_runs = open_runs_in stand.strategy runs };
+      })
       ≡ false
 
 -- and no table has other rows

@@ -6,9 +6,9 @@ use Rattle.canary_metric.specs.Metrics.{MetricValue}
 use Rattle.canary_metric.specs.Counts.{Counts}
 use Rattle.canary_plan.specs.declared.strategy.CheckedStrategy.{CheckedStrategy}
 use Rattle.canary_release.specs.declared.effect.Recorded.{Recorded}
-use Rattle.canary_release.specs.Courses.{run_metrics}
 use Rattle.canary_release.specs.Pasts.{change_at}
 use Rattle.canary_once.specs.declared.record.RunRecord.{RunRecord}
+use Rattle.canary_once.specs.Records.{run_metrics}
 use Rattle.canary_judging.specs.Counting.{at_run, at_metric, of_metric, change_run, none_counted, counted_all, AreCounted}
 use Rattle.canary_judging.specs.Services.{metrics_of_runs}
 

@@ -2,8 +2,8 @@
 ghost use Rattle.std.specs.Prelude.{◌≡◌, ◌↔◌, ◌+◌, ◌≤◌, IsTrue, IfOk, length, slice_get};
 ghost use Rattle.std.specs.Option.{option_copied};
 ghost use Rattle.canary_metric.specs.Counts.{size};
-ghost use Rattle.canary_release.specs.Courses.{run_metrics};
 ghost use Rattle.canary_release.specs.Sound.{IsJudgedBy};
+ghost use Rattle.canary_once.specs.Records.{run_metrics};
 ghost use Rattle.canary_judging.specs.Counting.{at_run, of_metric, none_counted, IsNext};
 ghost use Rattle.canary_judging.specs.Services.{metrics_of_runs};
 ghost use Rattle.canary_recounting.specs.Recounted.{AreTallied};

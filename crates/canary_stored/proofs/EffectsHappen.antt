@@ -30,8 +30,8 @@ one_happens : CountsOneMore → (name : List ℕ) (strategy : CheckedStrategy) (
     → ArePastRows t name p → AreNumbered 1 p.runs → Allowed strategy (watched p) x → OneHappens name x t p
 one_happens one name strategy (Told line) t p are numbered allowed = told_happens name line t p are numbered
 one_happens one name strategy (Opened x) t p are numbered allowed = opened_happens name strategy x t p are numbered allowed
-one_happens one name strategy (Measured x) t p are numbered allowed = measured_happens one name strategy x t p are numbered allowed
-one_happens one name strategy (Closed x tallies) t p are numbered allowed = closed_happens name strategy x tallies t p are numbered allowed
+one_happens one name strategy (Measured x) t p are numbered allowed = measured_happens one name x t p are numbered allowed
+one_happens one name strategy (Closed x tallies) t p are numbered allowed = closed_happens name x tallies t p are numbered allowed
 
 others_then : (q : List ℕ) (a b c : Tables) → AreOthersRows a b q → AreOthersRows b c q → AreOthersRows a c q
 others_then q a b c first later = record {

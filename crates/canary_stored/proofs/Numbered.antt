@@ -79,7 +79,7 @@ at_place key k (suc j) (x ∷ xs) f =
 
 -- Parts of lists that rise.
 
-weaker : {X : Type 0} (P Q : X → Type 0) → ((x : X) → P x → Q x) → (xs : List X) → AllByRecursion P xs → AllByRecursion Q xs
+pub weaker : {X : Type 0} (P Q : X → Type 0) → ((x : X) → P x → Q x) → (xs : List X) → AllByRecursion P xs → AllByRecursion Q xs
 weaker P Q so [] all = tt
 weaker P Q so (x ∷ xs) all = (so x all.0, weaker P Q so xs all.1)
 
@@ -110,3 +110,7 @@ by_place P (x ∷ xs) at = (at 0 x refl, by_place P xs (λ i y e. at (suc i) y e
 pub map_both : {X Y Z : Type 0} (f : Y → Z) (g : X → Y) (h : X → Z) (xs : List X) → AllByRecursion (λ x. f (g x) ≡ h x) xs → map f (map g xs) ≡ map h xs
 map_both f g h [] all = refl
 map_both f g h (x ∷ xs) all = λ i. all.0 i ∷ map_both f g h xs all.1 i
+
+pub map_then : {X Y Z : Type 0} (f : Y → Z) (g : X → Y) (xs : List X) → map f (map g xs) ≡ map (λ x. f (g x)) xs
+map_then f g [] = refl
+map_then f g (x ∷ xs) = λ i. f (g x) ∷ map_then f g xs i

@@ -2,12 +2,14 @@
 use Rattle.std.proofs.Common.{◌≡◌, inl, inr, ℕ, zero, suc, List, [], ◌∷◌, length, Bool, true, false, Some, None, refl, sym, ap, ◌∙◌, subst}
 use Rattle.std.specs.Prelude.{Option, map, option_map, slice_get, unwrap_or}
 use Rattle.std.specs.List.{filter_map, cons_option, AllByRecursion}
-use Rattle.canary_metric.specs.Metrics.{MetricValue}
 use Rattle.canary_plan.specs.declared.template.Template.{Template}
+use Rattle.canary_plan.specs.declared.analysis_parts.AnalysisParts.{AnalysisParts}
 use Rattle.canary_plan.specs.declared.strategy.CheckedStrategy.{CheckedStrategy}
 use Rattle.canary_plan.specs.declared.command.Command.TheVariants as command
 use Rattle.canary_plan.specs.declared.line.Line.{Line}
 use Rattle.canary_plan.specs.Lines.{line_at}
+use Rattle.canary_plan.specs.Fit.{no_analysis}
+use Rattle.canary_plan.specs.Plans.{analysis_or_none}
 use Rattle.canary_release.specs.declared.effect.Recorded.{Recorded}
 use Rattle.canary_release.specs.declared.effect.Closing.{Closing}
 use Rattle.canary_release.specs.declared.reply.ReplyStatus.{ReplyStatus}
@@ -21,7 +23,7 @@ use Rattle.canary_release.specs.Desks.{ModelService}
 use Rattle.canary_once.specs.declared.book.Receipt.{Receipt}
 use Rattle.canary_once.specs.Contents.{IsSettledStatus}
 use Rattle.canary_stored.specs.Numbers.{state_of, state_number, truth_of, bit, hold_of, hold_number, status_of}
-use Rattle.canary_stored.specs.Values.{kept_row, receipt_from, receipt_of_row, template_row, template_from, template_of_row, standing_of, stand_from, stand_of, ending_of, closing_from, closing_of, run_row, run_from, run_of_row, lists_in, metric_count, measurement_row, measurement_from, measurement_of_row, history_row, line_of_row}
+use Rattle.canary_stored.specs.Values.{kept_row, receipt_from, receipt_of_row, template_row, template_from, template_of_row, standing_of, stand_from, stand_of, ending_of, closing_from, closing_of, run_row, run_from, run_of_row, lists_in, measurement_row, measurement_from, measurement_of_row, history_row, line_of_row}
 use Rattle.canary_stored.specs.Tables.{IsReadableCommand, IsReadableMeasurement, IsReadableLine, IsReadableClosing, IsReadableRun}
 
 -- Numbers.
@@ -66,15 +68,15 @@ lists_back : (all : List Recorded) (run metric : ℕ) (lists : List (List Record
 lists_back all run metric [] are = refl
 lists_back all run metric (list ∷ lists) are = λ i. sym are.2 i ∷ lists_back all run (suc metric) lists are.3 i
 
--- a run has as many metrics as lists
-pub metrics_back : (s : ModelService) (r : Run) → IsRun s r → metric_count s.stand.strategy r.step ≡ length r.lists
-metrics_back s r is = ap (λ (o : Option (List MetricValue)). length (unwrap_or o [])) is.analysis ∙ sym is.one_each
+-- a run's analysis is the strategy's at its step
+pub analysis_back : (s : ModelService) (r : Run) → IsRun s r → analysis_or_none s.stand.strategy r.step ≡ r.analysis
+analysis_back s r is = ap (λ (o : Option AnalysisParts). unwrap_or o no_analysis) is.analysis
 
 pub run_back : (name : List ℕ) (s : ModelService) (r : Run) → IsRun s r → IsReadableRun r → run_of_row s.stand.strategy s.past.measurements (run_row name r) ≡ Some r
 run_back name s r is readable =
     let all : List Recorded = s.past.measurements in
-    let lists : lists_in all r.number 0 (metric_count s.stand.strategy r.step) ≡ r.lists = ap (lists_in all r.number 0) (metrics_back s r is) ∙ lists_back all r.number 0 r.lists is.lists in
-    (λ i. run_from all (metric_count s.stand.strategy r.step) (run_row name r) (closing_back r.number r.closed readable i)) ∙ (λ i. Some (record r { lists = lists i }))
+    let lists : lists_in all r.number 0 (length r.analysis.metrics) ≡ r.lists = ap (lists_in all r.number 0) (sym is.one_each) ∙ lists_back all r.number 0 r.lists is.lists in
+    (λ i. run_from all (analysis_back s r is i) (run_row name r) (closing_back r.number r.closed readable i)) ∙ (λ i. Some (record r { lists = lists i }))
 
 pub measurement_back : (name : List ℕ) (x : Recorded) → IsReadableMeasurement x → measurement_of_row (measurement_row name x) ≡ Some x
 measurement_back name x readable = λ i. measurement_from (measurement_row name x) (readable.phase i) (readable.outcome i)

@@ -3,7 +3,6 @@ use Rattle.std.proofs.Common.{◌≡◌, ℕ, List, [], ◌∷◌, Bool, true, f
 use Rattle.std.specs.Prelude.{◌==◌, ◌&&◌, if◌then◌else◌, map, Option, Some, None, option_map}
 use Rattle.std.specs.Str.{bytes_eq}
 use Rattle.canary_metric.specs.Counts.{Counts}
-use Rattle.canary_plan.specs.declared.strategy.CheckedStrategy.{CheckedStrategy}
 use Rattle.canary_release.specs.declared.effect.Closing.{Closing}
 use Rattle.canary_release.specs.declared.effect.Effect.TheVariants.{Closed}
 use Rattle.canary_release.specs.Effects.{Closes}
@@ -58,9 +57,9 @@ same_number x r false t = rw t refl
 stands_in_rows : (name : List ℕ) (number : ℕ) (t : Tables) (p : Past) (r : Run) → ArePastRows t name p → run_at number p.runs ≡ Some r → IsOne (is_run name number) t.runs
 stands_in_rows name number t p r are there = (run_row name r, are.runs number ∙ ap (row_if (run_row name)) there)
 
-pub closed_happens : (name : List ℕ) (strategy : CheckedStrategy) (x : Closing) (tallies : List Counts) (t : Tables) (p : Past)
-    → ArePastRows t name p → AreNumbered 1 p.runs → Closes strategy (watched p) x tallies → OneHappens name (Closed x tallies) t p
-closed_happens name strategy x tallies t p are numbered closes =
+pub closed_happens : (name : List ℕ) (x : Closing) (tallies : List Counts) (t : Tables) (p : Past)
+    → ArePastRows t name p → AreNumbered 1 p.runs → Closes (watched p) x tallies → OneHappens name (Closed x tallies) t p
+closed_happens name x tallies t p are numbered closes =
     let stands : StandsThere p.runs x.run closes.run = found_stands p.runs x.run closes.run numbered closes.found in
     record {
       rows = record {

@@ -7,11 +7,12 @@ use Rattle.std.specs.FinMap.{get}
 use Rattle.std.proofs.lemmas.List.Elements.{filter_agree}
 use Rattle.canary_metric.specs.Counts.{Counts}
 use Rattle.canary_plan.specs.declared.command.Command.{Command}
+use Rattle.canary_plan.specs.declared.strategy.CheckedStrategy.{CheckedStrategy}
 use Rattle.canary_plan.specs.Plans.{Templates, strategy_of}
 use Rattle.canary_release.specs.declared.effect.Recorded.{Recorded}
 use Rattle.canary_release.specs.declared.effect.Closing.{Closing}
 use Rattle.canary_release.specs.declared.runs.OpenRun.{OpenRun}
-use Rattle.canary_release.specs.Order.{AreNumbered, IsInOrder}
+use Rattle.canary_release.specs.Order.{AreNumbered, IsRun, IsInOrder}
 use Rattle.canary_release.specs.Pasts.{Run, is_open, counts_of, tallied, watched}
 use Rattle.canary_release.specs.Shapes.{shape}
 use Rattle.canary_release.specs.Desks.{ModelService}
@@ -26,12 +27,12 @@ use Rattle.canary_stored.specs.Tables.{row_if, run_at, tally_rows_of, IsReadable
 use Rattle.canary_stored.specs.Reading.{contents_of, HoldsContents}
 use Rattle.canary_stored.specs.Ordered.{AscendByMetric, AscendByNumber}
 use Rattle.canary_rows.specs.Tables.{is_tally_of}
-use Rattle.canary_stored.specs.Finding.{first_row, IsFound, tallies_told, tallies_of, record_closed, record_of_row, open_run_of, parts_standing, parts_made, parts_of_row}
+use Rattle.canary_stored.specs.Finding.{first_row, IsFound, tallies_told, tallies_of, record_closed, record_of_row, open_run_of, with_analysis, open_runs_by, parts_standing, parts_made, parts_of_row}
 use Rattle.canary_stored.specs.Laws.{TalliesAreFound, RunsAreFound, OpenRunsAreFound, ServicesAreFound}
 use Rattle.canary_stored.proofs.Keys.{optional}
-use Rattle.canary_stored.proofs.RowsBack.{closing_back, stand_back, all_at}
+use Rattle.canary_stored.proofs.RowsBack.{closing_back, stand_back, analysis_back, all_at}
 use Rattle.canary_stored.proofs.InOrder.{filter_twice, filter_map_of, same_one, rises, same_order, none_below}
-use Rattle.canary_stored.proofs.Numbered.{both_in_turn, other_first, either_order, filters_swap, find_first, Follow, follow_above, follow_rises, key_at, at_place, all_filter, rise_filter, rise_map, by_place, map_both}
+use Rattle.canary_stored.proofs.Numbered.{both_in_turn, other_first, either_order, filters_swap, find_first, Follow, follow_above, follow_rises, key_at, at_place, weaker, all_filter, rise_filter, rise_map, by_place, map_both, map_then}
 
 abbrev metric_in : TallyRow → ℕ
 metric_in row = row.metric
@@ -202,21 +203,33 @@ runs_in_order name all rows rs are follow moved ascend =
     ∙ ap (map (run_row name)) (filters_swap (λ r. n == run_number r) is_open rs ∙ ap (filter is_open) (under_number n rs follow)) ∙ open_run name (run_at n rs) in
     same_one is_it (filter (is_open_run_of name) all) rows o moved there ∙ sym here)
 
-run_told : (t : Tables) → HoldsContents t → (name : List ℕ) (i : ℕ) (r : Run) → slice_get (past_of (contents_of t) name).runs i ≡ Some r → open_run_of (contents_of t) name (run_row name r) ≡ tallied r
-run_told t holds name i r e =
+-- a run that is watched, of this strategy's analysis at its step
+abbrev tallied_by : CheckedStrategy → Run → OpenRun
+tallied_by strategy r = with_analysis strategy (tallied r)
+
+run_told : (t : Tables) → HoldsContents t → (name : List ℕ) (strategy : CheckedStrategy) (i : ℕ) (r : Run) → slice_get (past_of (contents_of t) name).runs i ≡ Some r → open_run_of strategy (contents_of t) name (run_row name r) ≡ tallied_by strategy r
+run_told t holds name strategy i r e =
     let rs : List Run = (past_of (contents_of t) name).runs in
     let number : r.number ≡ suc i = (let n : r.number ≡ i + 1 = key_at run_number 1 rs (numbered t holds name) i r e in omega arith) in
     let at : run_at r.number rs ≡ Some r = ap (λ n. run_at n rs) number ∙ e in
     let tallies : tallies_of (contents_of t) name r.number ≡ map counts_of r.lists = sym (ap (λ o. map counts_of (lists_of o)) (sym at) ∙ tallies_are t holds name r.number) in
-    λ i. record (tallied r) { tallies = tallies i }
+    λ i. record (tallied_by strategy r) { tallies = tallies i }
 
 pub open_runs_are_found : OpenRunsAreFound
-open_runs_are_found t holds name rows moved ascend =
+open_runs_are_found t holds name strategy rows moved ascend =
     let c : Contents = contents_of t in
     let rs : List Run = (past_of c name).runs in
-    let P : Run → Type 0 = λ r. open_run_of c name (run_row name r) ≡ tallied r in
-    ap (map (open_run_of c name)) (runs_in_order name t.runs rows rs (holds.rows.runs name) (numbered t holds name) moved ascend)
-    ∙ map_both (open_run_of c name) (run_row name) tallied (filter is_open rs) (all_filter is_open P rs (by_place P rs (run_told t holds name)))
+    let P : Run → Type 0 = λ r. open_run_of strategy c name (run_row name r) ≡ tallied_by strategy r in
+    ap (map (open_run_of strategy c name)) (runs_in_order name t.runs rows rs (holds.rows.runs name) (numbered t holds name) moved ascend)
+    ∙ map_both (open_run_of strategy c name) (run_row name) (tallied_by strategy) (filter is_open rs) (all_filter is_open P rs (by_place P rs (run_told t holds name strategy)))
+    ∙ sym (map_then (with_analysis strategy) tallied (filter is_open rs))
+
+-- by a service's own strategy they are those that are watched
+own_open_runs : (m : ModelService) → AllByRecursion (IsRun m) m.past.runs → map (with_analysis m.stand.strategy) (watched m.past).open_runs ≡ (watched m.past).open_runs
+own_open_runs m runs =
+    let strategy : CheckedStrategy = m.stand.strategy in
+    let P : Run → Type 0 = λ r. tallied_by strategy r ≡ tallied r in
+    map_both (with_analysis strategy) tallied tallied (filter is_open m.past.runs) (all_filter is_open P m.past.runs (weaker (IsRun m) P (λ r is. λ i. record (tallied r) { analysis = analysis_back m r is i }) m.past.runs runs))
 
 -- Services.
 
@@ -224,11 +237,13 @@ pub services_are_found : ServicesAreFound
 services_are_found t holds name =
     let c : Contents = contents_of t in
     let known : Templates = get c.desk.templates in
-    let open_runs : List OpenRun = (watched (past_of c name)).open_runs in
+    let open_runs : CheckedStrategy → List OpenRun = open_runs_by c name in
     found_as (service_row name) (parts_of_row known open_runs) shape _ (get c.desk.services name) (holds.rows.services name) (λ m e.
     let order : IsInOrder known name m = holds.lawful.desk.services name m e in
     let row : ServiceRow = service_row name m in
-    let runs : open_runs ≡ (watched m.past).open_runs = ap (λ o. (watched (past_in o)).open_runs) e in
+    let strategy : CheckedStrategy = strategy_of known m.made in
+    let runs : open_runs strategy ≡ (watched m.past).open_runs =
+    (λ i. map (with_analysis (sym order.strategy i)) (watched (past_in (e i))).open_runs) ∙ own_open_runs m order.runs in
     ap (λ (o : Option Command). option_and_then (parts_made known open_runs row) (made_from o)) (holds.readable.made name m e)
-    ∙ ap (option_map (parts_standing row open_runs)) (stand_back name (strategy_of known m.made) m.stand (length m.past.runs) order.shown order.strategy)
+    ∙ ap (option_map (parts_standing row (open_runs strategy))) (stand_back name strategy m.stand (length m.past.runs) order.shown order.strategy)
     ∙ (λ i. Some (record { stand = m.stand; runs = record { count = length m.past.runs; open_runs = runs i } })))

@@ -4,7 +4,6 @@ use Rattle.std.specs.Prelude.{◌==◌, ◌&&◌, if◌then◌else◌, cond, map
 use Rattle.std.specs.Str.{bytes_eq}
 use Rattle.std.proofs.lemmas.Option.{slice_get-map}
 use Rattle.canary_metric.specs.Counts.{Counts, counts, size, with_one_more, CountsOneMore}
-use Rattle.canary_plan.specs.declared.strategy.CheckedStrategy.{CheckedStrategy}
 use Rattle.canary_release.specs.declared.effect.Recorded.{Recorded}
 use Rattle.canary_release.specs.declared.effect.Effect.TheVariants.{Measured}
 use Rattle.canary_release.specs.declared.runs.OpenRun.{OpenRun}
@@ -157,15 +156,15 @@ tally_stands one name number metric t p r tally are there has room = record {
   room = subst (λ (c : Counts). size c + 1 ≤ 1000000) (sym has.counted) room;
 }
 
-measured_asks : CountsOneMore → (name : List ℕ) (strategy : CheckedStrategy) (x : Recorded) (t : Tables) (p : Past) → ArePastRows t name p → AreNumbered 1 p.runs → Measures strategy (watched p) x → HasTally name x.run x.metric t
-measured_asks one name strategy x t p are numbered measures =
+measured_asks : CountsOneMore → (name : List ℕ) (x : Recorded) (t : Tables) (p : Past) → ArePastRows t name p → AreNumbered 1 p.runs → Measures (watched p) x → HasTally name x.run x.metric t
+measured_asks one name x t p are numbered measures =
     let stands : StandsThere p.runs x.run measures.run = found_stands p.runs x.run measures.run numbered measures.found in
     let has : HasList stands.run.lists x.metric measures.tally = has_list stands.run measures.run x.metric measures.tally (ap (λ (r : OpenRun). r.tallies) stands.alike) measures.is_tally in
     tally_stands one name x.run x.metric t p stands.run measures.tally are stands.there has measures.room
 
-pub measured_happens : CountsOneMore → (name : List ℕ) (strategy : CheckedStrategy) (x : Recorded) (t : Tables) (p : Past)
-    → ArePastRows t name p → AreNumbered 1 p.runs → Measures strategy (watched p) x → OneHappens name (Measured x) t p
-measured_happens one name strategy x t p are numbered measures = record {
+pub measured_happens : CountsOneMore → (name : List ℕ) (x : Recorded) (t : Tables) (p : Past)
+    → ArePastRows t name p → AreNumbered 1 p.runs → Measures (watched p) x → OneHappens name (Measured x) t p
+measured_happens one name x t p are numbered measures = record {
   rows = record {
     runs = λ number. are.runs number ∙ run_rows_measured name x number p.runs;
     tallies = λ number metric.
@@ -178,7 +177,7 @@ measured_happens one name strategy x t p are numbered measures = record {
         ∙ sym (map_more (measurement_row name) p.measurements x);
     history = are.history;
   };
-  asks = measured_asks one name strategy x t p are numbered measures;
+  asks = measured_asks one name x t p are numbered measures;
   others = λ q differ. record {
     runs = λ number. refl;
     tallies = λ number metric.

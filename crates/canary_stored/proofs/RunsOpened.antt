@@ -43,11 +43,15 @@ opened_one_by_one name run metric (suc n) t =
     opened_one_by_one name run (suc metric) n (with_tally first t)
     ∙ (λ i. record t { tallies = append_assoc t.tallies (first ∷ []) (new_tallies name run (suc metric) n) i })
 
+-- how many metrics a run has that is opened
+abbrev metrics_in : Opening → ℕ
+metrics_in x = length x.analysis.metrics
+
 abbrev after_opening : List ℕ → Opening → Tables → Tables
-after_opening name x t = with_tallies (new_tallies name x.run 0 x.metrics) (with_run (run_row name (opened_run x)) t)
+after_opening name x t = with_tallies (new_tallies name x.run 0 (metrics_in x)) (with_run (run_row name (opened_run x)) t)
 
 opening : (name : List ℕ) (x : Opening) (t : Tables) → run_opened name x t ≡ after_opening name x t
-opening name x t = opened_one_by_one name x.run 0 x.metrics (with_run (run_row name (opened_run x)) t)
+opening name x t = opened_one_by_one name x.run 0 (metrics_in x) (with_run (run_row name (opened_run x)) t)
 
 -- The run's row.
 
@@ -132,25 +136,25 @@ each_under name run metric from (suc k) (suc n) e =
     ∙ each_under name run metric (suc from) k n (omega (arith, e))
 
 tallies_pushed : (name : List ℕ) (number metric : ℕ) (x : Opening) (runs : List Run) (t : Bool) → x.run ≡ length runs + 1 → (number == x.run) ≡ t
-    → tally_rows name number metric runs ++ filter (is_tally name number metric) (new_tallies name x.run 0 x.metrics) ≡ tally_rows name number metric (runs ++ opened_run x ∷ [])
+    → tally_rows name number metric runs ++ filter (is_tally name number metric) (new_tallies name x.run 0 (metrics_in x)) ≡ tally_rows name number metric (runs ++ opened_run x ∷ [])
 tallies_pushed name number metric x runs true last e =
     let same : number ≡ x.run = eqb-true number x.run e in
     let here : number ≡ length runs + 1 = same ∙ last in
     let place : metric ≡ metric + 0 = omega arith in
-    ap (λ o. tally_rows_of name number metric o ++ filter (is_tally name number metric) (new_tallies name x.run 0 x.metrics)) (no_run_yet runs number here)
-    ∙ ap (λ n. filter (is_tally name number metric) (new_tallies name n 0 x.metrics)) (sym same)
-    ∙ each_under name number metric 0 metric x.metrics place
+    ap (λ o. tally_rows_of name number metric o ++ filter (is_tally name number metric) (new_tallies name x.run 0 (metrics_in x))) (no_run_yet runs number here)
+    ∙ ap (λ n. filter (is_tally name number metric) (new_tallies name n 0 (metrics_in x))) (sym same)
+    ∙ each_under name number metric 0 metric (metrics_in x) place
     ∙ sym (ap (tally_rows_of name number metric) (run_at_last runs (opened_run x) number here))
 tallies_pushed name number metric x runs false last e =
-    ap (λ (rows : List TallyRow). tally_rows name number metric runs ++ rows) (none_of_other name number x.run metric 0 x.metrics e)
+    ap (λ (rows : List TallyRow). tally_rows name number metric runs ++ rows) (none_of_other name number x.run metric 0 (metrics_in x) e)
     ∙ append-nil (tally_rows name number metric runs)
     ∙ sym (ap (tally_rows_of name number metric) (run_at_other runs (opened_run x) number (λ here. true≢false (sym (eq-eqb number x.run (here ∙ sym last)) ∙ e))))
 
 tally_rows_more : (name : List ℕ) (number metric : ℕ) (x : Opening) (runs : List Run) (rows : List TallyRow) → x.run ≡ length runs + 1 → filter (is_tally name number metric) rows ≡ tally_rows name number metric runs
-    → filter (is_tally name number metric) (rows ++ new_tallies name x.run 0 x.metrics) ≡ tally_rows name number metric (runs ++ opened_run x ∷ [])
+    → filter (is_tally name number metric) (rows ++ new_tallies name x.run 0 (metrics_in x)) ≡ tally_rows name number metric (runs ++ opened_run x ∷ [])
 tally_rows_more name number metric x runs rows last are =
-    filter-append (is_tally name number metric) rows (new_tallies name x.run 0 x.metrics)
-    ∙ ap (λ (old : List TallyRow). old ++ filter (is_tally name number metric) (new_tallies name x.run 0 x.metrics)) are
+    filter-append (is_tally name number metric) rows (new_tallies name x.run 0 (metrics_in x))
+    ∙ ap (λ (old : List TallyRow). old ++ filter (is_tally name number metric) (new_tallies name x.run 0 (metrics_in x))) are
     ∙ tallies_pushed name number metric x runs (number == x.run) last refl
 
 -- The whole effect.
@@ -167,8 +171,8 @@ opened_others : (name : List ℕ) (x : Opening) (t : Tables) (q : List ℕ) → 
 opened_others name x t q differ = record {
   runs = λ number. fails_more (is_run q number) t.runs (run_row name (opened_run x)) (ap (λ b. b && (number == x.run)) differ);
   tallies = λ number metric.
-      filter-append (is_tally q number metric) t.tallies (new_tallies name x.run 0 x.metrics)
-      ∙ ap (λ (rows : List TallyRow). filter (is_tally q number metric) t.tallies ++ rows) (none_of_name q name number x.run metric 0 x.metrics differ)
+      filter-append (is_tally q number metric) t.tallies (new_tallies name x.run 0 (metrics_in x))
+      ∙ ap (λ (rows : List TallyRow). filter (is_tally q number metric) t.tallies ++ rows) (none_of_name q name number x.run metric 0 (metrics_in x) differ)
       ∙ append-nil (filter (is_tally q number metric) t.tallies);
   measurements = refl;
   history = refl;

@@ -3,15 +3,17 @@ use Rattle.std.specs.Prelude.{◌≡◌, ℕ, List, [], map, Option, Some, None,
 use Rattle.std.specs.List.{filter_map}
 use Rattle.canary_metric.specs.Counts.{Counts}
 use Rattle.canary_plan.specs.declared.service.ServiceSpec.{ServiceSpec}
-use Rattle.canary_plan.specs.Plans.{Templates, strategy_of}
+use Rattle.canary_plan.specs.declared.strategy.CheckedStrategy.{CheckedStrategy}
+use Rattle.canary_plan.specs.Plans.{Templates, strategy_of, analysis_or_none}
 use Rattle.canary_canonical.specs.Readings.{canonical_in}
 use Rattle.canary_release.specs.declared.effect.Closing.{Closing}
 use Rattle.canary_release.specs.declared.runs.OpenRun.{OpenRun}
 use Rattle.canary_release.specs.declared.service.ServiceParts.{ServiceParts}
 use Rattle.canary_release.specs.declared.stand.Stand.{Stand}
+use Rattle.canary_release.specs.Pasts.{watched}
 use Rattle.canary_once.specs.declared.record.RunRecord.{RunRecord}
 use Rattle.canary_once.specs.Contents.{Contents}
-use Rattle.canary_once.specs.Records.{run_of}
+use Rattle.canary_once.specs.Records.{past_of, run_of}
 use Rattle.canary_rows.specs.declared.rows.CallerRow.{CallerRow}
 use Rattle.canary_rows.specs.declared.rows.RunRow.{RunRow}
 use Rattle.canary_rows.specs.declared.rows.ServiceRow.{ServiceRow}
@@ -61,15 +63,24 @@ abbrev pub record_of_row : List Counts → RunRow → Option RunRecord
 record_of_row tallies row =
     option_map (record_closed row tallies) (closing_of row.number row.ending)
 
--- an open run, by its row
-abbrev pub open_run_of : Contents → List ℕ → RunRow → OpenRun
-open_run_of c name row =
+-- an open run, by its row, of this strategy's analysis at its step
+abbrev pub open_run_of : CheckedStrategy → Contents → List ℕ → RunRow → OpenRun
+open_run_of strategy c name row =
     record {
       number = row.number;
       step = row.step;
+      analysis = analysis_or_none strategy row.step;
       started = row.started;
       tallies = tallies_of c name row.number;
     }
+
+abbrev pub with_analysis : CheckedStrategy → OpenRun → OpenRun
+with_analysis strategy r = record r { analysis = analysis_or_none strategy r.step }
+
+-- the open runs of a service, each of this strategy's analysis at its step
+abbrev pub open_runs_by : Contents → List ℕ → CheckedStrategy → List OpenRun
+open_runs_by c name strategy =
+    map (with_analysis strategy) (watched (past_of c name)).open_runs
 
 -- Services.
 
@@ -77,12 +88,14 @@ abbrev pub parts_standing : ServiceRow → List OpenRun → Stand → ServicePar
 parts_standing row open_runs stand =
     record { stand = stand; runs = record { count = row.standing.runs; open_runs = open_runs } }
 
-abbrev pub parts_made : Templates → List OpenRun → ServiceRow → ServiceSpec → Option ServiceParts
+abbrev pub parts_made : Templates → (CheckedStrategy → List OpenRun) → ServiceRow → ServiceSpec
+    → Option ServiceParts
 parts_made known open_runs row made =
-    option_map (parts_standing row open_runs)
-    (stand_of row.name (strategy_of known made) row.standing)
+    let strategy = strategy_of known made in
+    option_map (parts_standing row (open_runs strategy)) (stand_of row.name strategy row.standing)
 
--- what is kept of a service, by its row, the templates and its open runs
-abbrev pub parts_of_row : Templates → List OpenRun → ServiceRow → Option ServiceParts
+-- what is kept of a service, by its row, the templates, and its open runs by its strategy
+abbrev pub parts_of_row : Templates → (CheckedStrategy → List OpenRun) → ServiceRow
+    → Option ServiceParts
 parts_of_row known open_runs row =
     option_and_then (parts_made known open_runs row) (made_from (canonical_in row.spec))

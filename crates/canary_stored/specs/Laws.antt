@@ -2,11 +2,11 @@
 use Rattle.std.specs.Prelude.{◌≡◌, ◌≤◌, ℕ, List, length, map, filter, take, drop, Some, IsPermutation}
 use Rattle.std.specs.FinMap.{get}
 use Rattle.canary_canonical.specs.Readings.{IsCanonical}
+use Rattle.canary_plan.specs.declared.strategy.CheckedStrategy.{CheckedStrategy}
 use Rattle.canary_release.specs.Shapes.{seen}
-use Rattle.canary_release.specs.Pasts.{watched}
 use Rattle.canary_once.specs.declared.book.Settlement.{Settlement}
 use Rattle.canary_once.specs.Contents.{Contents, no_contents, count_of, receipt_at, IsSettling, with_settlement}
-use Rattle.canary_once.specs.Records.{past_of, run_of, history_of, measurements_of}
+use Rattle.canary_once.specs.Records.{run_of, history_of, measurements_of}
 use Rattle.canary_once.specs.Sound.{AreContents}
 use Rattle.canary_rows.specs.declared.rows.KeptRow.{KeptRow}
 use Rattle.canary_rows.specs.declared.rows.RunRow.{RunRow}
@@ -17,7 +17,7 @@ use Rattle.canary_stored.specs.Tables.{AreRows, IsReadable}
 use Rattle.canary_stored.specs.Reading.{contents_of, HoldsContents}
 use Rattle.canary_stored.specs.Ordered.{AscendByMetric, AscendByNumber}
 use Rattle.canary_rows.specs.Tables.{is_tally_of}
-use Rattle.canary_stored.specs.Finding.{first_row, IsFound, AreRead, settled_by, tallies_of, record_of_row, open_run_of, parts_of_row}
+use Rattle.canary_stored.specs.Finding.{first_row, IsFound, AreRead, settled_by, tallies_of, record_of_row, open_run_of, open_runs_by, parts_of_row}
 use Rattle.canary_stored.specs.Settling.{request_settled, RequestAsks, IsReadableSettlement}
 
 -- tables with the rows of contents are read as these
@@ -112,19 +112,20 @@ RunsAreFound =
     → IsFound (record_of_row (tallies_of (contents_of t) name number))
     (first_row (filter (is_run name number) t.runs)) (run_of (contents_of t) name number)
 
--- the open runs of a service stand in order of their numbers
+-- the open runs of a service stand in order of their numbers, each of the analysis that a strategy
+-- has at its step
 abbrev pub OpenRunsAreFound : Type 0
 OpenRunsAreFound =
-    (t : Tables) → HoldsContents t → (name : List ℕ) (rows : List RunRow)
+    (t : Tables) → HoldsContents t → (name : List ℕ) (strategy : CheckedStrategy)
+    (rows : List RunRow)
     → IsPermutation (filter (is_open_run_of name) t.runs) rows → AscendByNumber rows
-    → map (open_run_of (contents_of t) name) rows
-    ≡ (watched (past_of (contents_of t) name)).open_runs
+    → map (open_run_of strategy (contents_of t) name) rows
+    ≡ open_runs_by (contents_of t) name strategy
 
--- a service's row, with the templates and its open runs
+-- a service's row, with the templates, and its open runs by its strategy
 abbrev pub ServicesAreFound : Type 0
 ServicesAreFound =
     (t : Tables) → HoldsContents t → (name : List ℕ)
     → IsFound
-    (parts_of_row (get (contents_of t).desk.templates)
-    (watched (past_of (contents_of t) name)).open_runs)
+    (parts_of_row (get (contents_of t).desk.templates) (open_runs_by (contents_of t) name))
     (first_row (filter (is_service name) t.services)) (seen (contents_of t).desk name)

@@ -1,5 +1,5 @@
 -- What the statements of one settled request make of the tables, and what they ask of them.
-use Rattle.std.specs.Prelude.{◌≡◌, ◌==◌, ℕ, Bool, true, false, if◌then◌else◌, List, [], ◌∷◌, Some, None}
+use Rattle.std.specs.Prelude.{◌≡◌, ◌==◌, ℕ, Bool, true, false, if◌then◌else◌, List, [], ◌∷◌, length, Some, None}
 use Rattle.std.specs.List.{AllByRecursion, list_any}
 use Rattle.canary_condition.specs.PhaseTexts.{phase_of_number}
 use Rattle.canary_plan.specs.declared.command.Command.{Command}
@@ -24,7 +24,7 @@ caller_settled name number t =
 
 abbrev pub run_opened : List ℕ → Opening → Tables → Tables
 run_opened name x t =
-    tallies_opened name x.run 0 x.metrics
+    tallies_opened name x.run 0 (length x.analysis.metrics)
     (with_run
     (record {
       service = name;

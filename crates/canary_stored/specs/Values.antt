@@ -1,18 +1,19 @@
 -- The row of a value, and the value of a row.
-use Rattle.std.specs.Prelude.{ℕ, zero, suc, ◌==◌, ◌&&◌, if◌then◌else◌, Bool, List, [], ◌∷◌, length, filter, Option, Some, None, option_map, unwrap_or}
+use Rattle.std.specs.Prelude.{ℕ, zero, suc, ◌==◌, ◌&&◌, if◌then◌else◌, Bool, List, [], ◌∷◌, length, filter, Option, Some, None, option_map}
 use Rattle.canary_condition.specs.declared.outcome.Outcome.{Outcome}
 use Rattle.canary_condition.specs.declared.outcome.Phase.{Phase}
 use Rattle.canary_condition.specs.PhaseTexts.{phase_of_number}
 use Rattle.canary_metric.specs.Counts.{Counts}
 use Rattle.canary_plan.specs.declared.service.ServiceSpec.{ServiceSpec}
 use Rattle.canary_plan.specs.declared.template.Template.{Template}
+use Rattle.canary_plan.specs.declared.analysis_parts.AnalysisParts.{AnalysisParts}
 use Rattle.canary_plan.specs.declared.strategy.CheckedStrategy.{CheckedStrategy}
 use Rattle.canary_plan.specs.declared.command.Command.{Command}
 use Rattle.canary_plan.specs.declared.command.Command.TheVariants as command
 use Rattle.canary_plan.specs.declared.line.Line.{Line}
 use Rattle.canary_plan.specs.Lines.{words, line_at}
 use Rattle.canary_plan.specs.LineReading.{event_of}
-use Rattle.canary_plan.specs.Plans.{template_of, metrics_at}
+use Rattle.canary_plan.specs.Plans.{template_of, analysis_or_none}
 use Rattle.canary_canonical.specs.Texts.{command_text}
 use Rattle.canary_canonical.specs.Readings.{canonical_in}
 use Rattle.canary_release.specs.declared.effect.Recorded.{Recorded}
@@ -178,25 +179,25 @@ lists_in measurements run metric zero = []
 lists_in measurements run metric (suc n) =
     filter (is_of run metric) measurements ∷ lists_in measurements run (suc metric) n
 
-abbrev pub run_from : List Recorded → ℕ → RunRow → Option (Option Closing) → Option Run
-run_from measurements metrics row (Some closed) =
+abbrev pub run_from : List Recorded → AnalysisParts → RunRow → Option (Option Closing)
+    → Option Run
+run_from measurements analysis row (Some closed) =
     Some (record {
       number = row.number;
       step = row.step;
+      analysis = analysis;
       started = row.started;
       closed = closed;
-      lists = lists_in measurements row.number 0 metrics;
+      lists = lists_in measurements row.number 0 (length analysis.metrics);
     })
-run_from measurements metrics row None = None
+run_from measurements analysis row None = None
 
--- how many metrics a run has
-abbrev pub metric_count : CheckedStrategy → Option ℕ → ℕ
-metric_count strategy step = length (unwrap_or (metrics_at strategy step) [])
-
--- a run of a service of that strategy, which has had these measurements
+-- a run of a service of that strategy, which has had these measurements; its analysis is the
+-- strategy's at its step
 abbrev pub run_of_row : CheckedStrategy → List Recorded → RunRow → Option Run
 run_of_row strategy measurements row =
-    run_from measurements (metric_count strategy row.step) row (closing_of row.number row.ending)
+    run_from measurements (analysis_or_none strategy row.step) row
+    (closing_of row.number row.ending)
 
 abbrev pub measurement_from : MeasurementRow → Option Phase → Option Outcome → Option Recorded
 measurement_from row (Some phase) (Some outcome) =
