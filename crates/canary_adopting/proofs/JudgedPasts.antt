@@ -19,6 +19,6 @@ tallied_there t row stand runs measurements are read past =
     (subst (λ ms. AreTallied stand.strategy past.runs ms) (sym past.read.values ∙ read.values) past.tallied)
 
 pub parts_there : (t : Tables) (row : ServiceRow) (stand : Stand) (runs : List RunRecord) → AreRunsOf stand.strategy row.name row.standing.runs t runs → IsPastJudged t row stand
-    → is_broken (record { stand = stand; runs = record { count = row.standing.runs; open_runs = open_runs_in runs } }) ≡ false
+    → is_broken (record { stand = stand; runs = record { count = row.standing.runs; open_runs = open_runs_in stand.strategy runs } }) ≡ false
 parts_there t row stand runs are past =
-    subst (λ rs. is_broken (record { stand = stand; runs = record { count = row.standing.runs; open_runs = open_runs_in rs } }) ≡ false) (same_runs t stand.strategy row.name row.standing.runs past.runs runs past.are are) past.parts
+    subst (λ rs. is_broken (record { stand = stand; runs = record { count = row.standing.runs; open_runs = open_runs_in stand.strategy rs } }) ≡ false) (same_runs t stand.strategy row.name row.standing.runs past.runs runs past.are are) past.parts

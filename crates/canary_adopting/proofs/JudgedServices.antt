@@ -78,7 +78,7 @@ service_judged t row made strategy stand one is plan stands past =
       history = past.history;
       told = past.told.told;
       lines = past.told.lines;
-      parts = subst (λ n. is_broken (record { stand = stand; runs = record { count = n; open_runs = open_runs_in past.runs } }) ≡ false) (sym past.are.as_many) past.parts;
+      parts = subst (λ n. is_broken (record { stand = stand; runs = record { count = n; open_runs = open_runs_in stand.strategy past.runs } }) ≡ false) (sym past.are.as_many) past.parts;
     }
 
 pub past_judged : (t : Tables) (row : ServiceRow) → (j : IsServiceJudged t row) → IsPastJudged t row j.stand
@@ -91,7 +91,7 @@ past_judged t row j =
       tallied = record { counted = j.counted; tallied = j.tallied };
       history = j.history;
       told = record { told = j.told; lines = j.lines };
-      parts = subst (λ n. is_broken (record { stand = j.stand; runs = record { count = n; open_runs = open_runs_in j.runs } }) ≡ false) j.as_many j.parts;
+      parts = subst (λ n. is_broken (record { stand = j.stand; runs = record { count = n; open_runs = open_runs_in j.stand.strategy j.runs } }) ≡ false) j.as_many j.parts;
     }
 
 -- it is made by what is read, and this by a strategy that nothing refuses

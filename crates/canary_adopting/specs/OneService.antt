@@ -49,8 +49,11 @@ pub record IsPastJudged (t : Tables) (row : ServiceRow) (stand : Stand) : Type 0
   pub history : List Line
   pub told : IsHistoryOf row.name t history
   pub parts : is_broken
-      (record
-      { stand = stand; runs = record { count = row.standing.runs; open_runs = open_runs_in runs } })
+      (record {
+        stand = stand;
+        runs = record
+            { count = row.standing.runs; open_runs = open_runs_in stand.strategy runs };
+      })
       ≡ false
 
 abbrev pub measurements_under : Tables → ServiceRow → ℕ

@@ -3,6 +3,7 @@ ghost use Rattle.std.specs.Prelude.{◌≡◌, ◌≢◌, false, [], ◌∷◌, 
 ghost use Rattle.std.specs.Prelude.{filter};
 ghost use Rattle.sqlite.specs.Held.{state};
 ghost use Rattle.canary_plan.specs.declared.service.ServiceSpec.{ServiceSpec};
+ghost use Rattle.canary_plan.specs.Plans.{analysis_or_none};
 ghost use Rattle.canary_canonical.specs.Readings.{canonical_in};
 ghost use Rattle.canary_release.specs.Parts.{is_broken};
 ghost use Rattle.canary_rows.specs.Tables.{is_service};
@@ -21,6 +22,7 @@ use canary_base::error::Memory;
 use canary_base::lists::Listed;
 use canary_base::names::Name;
 use canary_once::record::RunRecord;
+use canary_plan::bound_analysis::BoundAnalysis;
 use canary_plan::service::ServiceSpec;
 use canary_plan::strategy::Strategy;
 use canary_reads::fault::ReadFault;
@@ -153,14 +155,14 @@ fn judge_past<S: Alter>(
 fn judge_parts(alloc: Global, stand: Stand, count: u32, runs: &[RunRecord]) -> Result<(), ReadFault>
     ensures judged { OnOk result (is_broken (record {
       stand = stand;
-      runs = record { count = count; open_runs = open_runs_in runs.now };
+      runs = record { count = count; open_runs = open_runs_in stand.strategy runs.now };
     }) ≡ false) }
     ensures refused { result ≡ Err Broken → is_broken (record {
       stand = stand;
-      runs = record { count = count; open_runs = open_runs_in runs.now };
+      runs = record { count = count; open_runs = open_runs_in stand.strategy runs.now };
     }) ≢ false }
 {
-    let open_runs = open_among(alloc, runs)?;
+    let open_runs = open_among(alloc, &stand.strategy, runs)?;
     let runs = Runs { count, open_runs };
     if is_broken(&ServiceParts { stand, runs }) {
         return Err(ReadFault::Broken);
@@ -168,25 +170,44 @@ fn judge_parts(alloc: Global, stand: Stand, count: u32, runs: &[RunRecord]) -> R
     Ok(())
 }
 
-fn open_among(alloc: Global, runs: &[RunRecord]) -> Result<Listed<OpenRun>, Memory>
-    ensures { IfOk result (λ open_runs. open_runs ≡ open_runs_in runs.now) }
+fn open_among(
+    alloc: Global,
+    strategy: &Strategy,
+    runs: &[RunRecord],
+) -> Result<Listed<OpenRun>, Memory>
+    ensures { IfOk result (λ open_runs. open_runs ≡ open_runs_in strategy.now runs.now) }
 {
     let mut found = Listed::of(Vec::new(alloc));
     for run in runs {
         if run.closed.is_none() {
-            found.push(open_run(run, alloc)?)?;
+            found.push(open_run(run, strategy, alloc)?)?;
         }
     }
     Ok(found)
 }
 
-fn open_run(run: &RunRecord, alloc: Global) -> Result<OpenRun, Memory>
-    ensures { IfOk result (λ open_run. open_run ≡ open_of_record run.now) }
+fn open_run(run: &RunRecord, strategy: &Strategy, alloc: Global) -> Result<OpenRun, Memory>
+    ensures { IfOk result (λ open_run. open_run ≡ open_of_record strategy.now run.now) }
 {
     Ok(OpenRun {
         number: run.number,
         step: run.step,
+        analysis: analysis_at(alloc, strategy, run.step)?,
         started: run.started,
         tallies: run.tallies.copy(alloc)?,
     })
+}
+
+// The analysis at that step, or the background; one of no templates where there is none.
+fn analysis_at(
+    alloc: Global,
+    strategy: &Strategy,
+    step: Option<u32>,
+) -> Result<BoundAnalysis, Memory>
+    ensures { IfOk result (λ analysis. analysis ≡ analysis_or_none strategy.now step) }
+{
+    match strategy.analysis(step) {
+        Some(analysis) => analysis.copy(),
+        None => BoundAnalysis::none(alloc),
+    }
 }

@@ -1,5 +1,5 @@
 //! What happens to a service, one thing after another, as rows inside a transaction.
-ghost use Rattle.std.specs.Prelude.{◌≡◌, Some, IfOk, OnOk};
+ghost use Rattle.std.specs.Prelude.{◌≡◌, length, Some, IfOk, OnOk};
 ghost use Rattle.std.specs.List.{AllByRecursion};
 ghost use Rattle.sqlite.specs.Held.{state};
 ghost use Rattle.canary_condition.specs.PhaseTexts.{phase_of_number};
@@ -46,6 +46,13 @@ fn tell<S: Alter>(
     Ok(())
 }
 
+// How many metrics the run has.
+fn metric_count(opening: &Opening) -> u32
+    ensures { result ≡ length opening.now.analysis.metrics }
+{
+    opening.analysis.metrics().len() as u32
+}
+
 // A run is opened, with a tally of no measurements for each of its metrics.
 fn open_run<S: Alter>(
     tx: &mut Transaction<'_, S>,
@@ -61,7 +68,7 @@ fn open_run<S: Alter>(
     ensures survives { SurvivesCut (state S.Store tx.old.conn.now) (state S.Store tx.new.conn.now) }
 {
     insert_run(tx, service, opening.run, opening.step, opening.started).map_err(fault_of)?;
-    insert_tallies(tx, service, opening.run, opening.metrics).map_err(fault_of)?;
+    insert_tallies(tx, service, opening.run, metric_count(opening)).map_err(fault_of)?;
     Ok(())
 }
 

@@ -1,5 +1,5 @@
 -- What is found of templates and services.
-use Rattle.std.proofs.Common.{◌≡◌, ◌+◌, ◌<◌, ◌≤◌, ℕ, List, filter, take, length, get_or, Option, Some, None, option_map, refl, sym, ap, ap₂, ◌∙◌}
+use Rattle.std.proofs.Common.{◌≡◌, ◌+◌, ◌<◌, ◌≤◌, ℕ, List, filter, take, length, get_or, Option, Some, None, option_map, refl, sym, ap, ◌∙◌}
 use Rattle.std.specs.Prelude.{option_and_then}
 use Rattle.std.specs.Ordering.{nat_cmp}
 use Rattle.std.specs.Cmp.Lexicographic.{slice_cmp}
@@ -15,15 +15,13 @@ use Rattle.canary_plan.specs.PlanRefusals.{analyses}
 use Rattle.canary_canonical.specs.Readings.{canonical_in}
 use Rattle.canary_release.specs.declared.runs.OpenRun.{OpenRun}
 use Rattle.canary_release.specs.declared.service.ServiceParts.{ServiceParts}
-use Rattle.canary_release.specs.Pasts.{watched}
 use Rattle.canary_release.specs.Shapes.{seen}
 use Rattle.canary_once.specs.Contents.{Contents, templates_named}
-use Rattle.canary_once.specs.Records.{past_of}
 use Rattle.canary_rows.specs.declared.rows.ServiceRow.{ServiceRow}
 use Rattle.canary_rows.specs.declared.rows.TemplateRow.{TemplateRow}
 use Rattle.canary_rows.specs.Tables.{Tables, is_service, is_template}
 use Rattle.canary_schema.specs.Stores.{IsUsable, Stores}
-use Rattle.canary_stored.specs.Finding.{parts_standing, parts_made, parts_of_row}
+use Rattle.canary_stored.specs.Finding.{open_runs_by, parts_standing, parts_made, parts_of_row}
 use Rattle.canary_stored.specs.Laws.{TemplatesAreFound, ServicesAreFound}
 use Rattle.canary_stored.specs.Values.{template_from, template_of_row, made_from, stand_of}
 use Rattle.canary_reads.specs.Finds.{IsSame, first}
@@ -97,12 +95,12 @@ pub no_service : (old new : State) (name : List ℕ) → ServicesAreFound → (I
 no_service old new name law desk same usable read =
     let d = desk (same usable).0 in
     let c = contents_in old in
-    ap (option_and_then (parts_of_row (get c.desk.templates) (watched (past_of c name)).open_runs)) (read _ d.stores) ∙ (law _ d.holds name).value
+    ap (option_and_then (parts_of_row (get c.desk.templates) (open_runs_by c name))) (read _ d.stores) ∙ (law _ d.holds name).value
 
 -- the row that is there is the service, with its strategy and its open runs
 pub service_told : (old shown planned new : State) (name : List ℕ) (row : ServiceRow) (made : ServiceSpec) (strategy : CheckedStrategy) (open_runs : List OpenRun) (told : ServiceParts) → ServicesAreFound → (IsUsable old → IsDesk old)
     → IsSame old shown → IsSame shown planned → IsSame planned new → IsUsable new → (IsUsable shown → (t : Tables) → Stores old t → Some row ≡ first (filter (is_service name) t.services))
-    → made_from (canonical_in row.spec) ≡ Some made → (IsUsable planned → strategy ≡ strategy_of (get (contents_in shown).desk.templates) made) → open_runs ≡ (watched (past_of (contents_in planned) name)).open_runs
+    → made_from (canonical_in row.spec) ≡ Some made → (IsUsable planned → strategy ≡ strategy_of (get (contents_in shown).desk.templates) made) → open_runs ≡ open_runs_by (contents_in planned) name strategy
     → option_map (parts_standing row open_runs) (stand_of row.name strategy row.standing) ≡ Some told → Some told ≡ seen (contents_in old).desk name
 service_told old shown planned new name row made strategy open_runs told law desk first_same second_same third_same usable read made_is strategy_is are is =
     let after_plan = (third_same usable).0 in
@@ -110,11 +108,12 @@ service_told old shown planned new name row made strategy open_runs told law des
     let d = desk (first_same after_row).0 in
     let c = contents_in old in
     let known = get c.desk.templates in
-    let opens = (watched (past_of c name)).open_runs in
+    let opens : CheckedStrategy → List OpenRun = open_runs_by c name in
     let plan : strategy ≡ strategy_of known made = strategy_is after_plan ∙ ap (λ (k : Contents). strategy_of (get k.desk.templates) made) (contents_stay old shown first_same after_row) in
-    let runs : open_runs ≡ opens = are ∙ ap (λ (k : Contents). (watched (past_of k name)).open_runs) (contents_stay old planned (same_then old shown planned first_same second_same) after_plan) in
+    let runs : open_runs ≡ opens strategy = are ∙ ap (λ (k : Contents). open_runs_by k name strategy) (contents_stay old planned (same_then old shown planned first_same second_same) after_plan) in
     sym is
-    ∙ ap₂ (λ (s : CheckedStrategy) (rs : List OpenRun). option_map (parts_standing row rs) (stand_of row.name s row.standing)) plan runs
+    ∙ ap (λ (rs : List OpenRun). option_map (parts_standing row rs) (stand_of row.name strategy row.standing)) runs
+    ∙ ap (λ (s : CheckedStrategy). option_map (parts_standing row (opens s)) (stand_of row.name s row.standing)) plan
     ∙ sym (ap (option_and_then (parts_made known opens row)) made_is)
     ∙ ap (option_and_then (parts_of_row known opens)) (read after_row _ d.stores)
     ∙ (law _ d.holds name).value

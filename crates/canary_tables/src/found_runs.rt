@@ -1,11 +1,12 @@
 //! Runs, as the tables tell them.
 ghost use Rattle.std.specs.Prelude.{◌≡◌, false, map, Some, IfOk};
 ghost use Rattle.sqlite.specs.Held.{state};
-ghost use Rattle.canary_release.specs.Pasts.{watched};
-ghost use Rattle.canary_once.specs.Records.{past_of, run_of};
+ghost use Rattle.canary_plan.specs.Plans.{analysis_or_none};
+ghost use Rattle.canary_once.specs.Records.{run_of};
 ghost use Rattle.canary_rows.specs.declared.rows.TallyRow.{TallyRow};
 ghost use Rattle.canary_schema.specs.Stores.{IsUsable};
-ghost use Rattle.canary_stored.specs.Finding.{tallies_of, record_of_row, open_run_of};
+ghost use Rattle.canary_stored.specs.Finding.{tallies_of, record_of_row};
+ghost use Rattle.canary_stored.specs.Finding.{open_run_of, open_runs_by};
 ghost use Rattle.canary_reads.specs.Finds.{IsSame};
 ghost use Rattle.canary_tables.specs.Desk.{IsDesk, contents_in};
 
@@ -15,6 +16,8 @@ use canary_base::names::Name;
 use canary_base::numbers::Number;
 use canary_metric::tally::Tally;
 use canary_once::record::RunRecord;
+use canary_plan::bound_analysis::BoundAnalysis;
+use canary_plan::strategy::Strategy;
 use canary_reads::runs;
 use canary_release::runs::OpenRun;
 use canary_rows::rows::{RunRow, TallyRow};
@@ -96,7 +99,8 @@ fn record_of(row: &RunRow, tallies: Listed<Tally>) -> Result<RunRecord, StoreFau
     })
 }
 
-/// The open runs of a service, by their numbers, each with its tallies.
+/// The open runs of a service, by their numbers, each with its tallies and with the analysis that
+/// this strategy has at its step.
 ///
 /// # Errors
 /// `Memory` where there is not enough, `Storage` where the database fails or holds what no desk
@@ -105,23 +109,25 @@ pub(crate) fn open_runs<S: Alter>(
     conn: &mut Connection<S>,
     alloc: Global,
     name: &Name,
+    strategy: &Strategy,
 ) -> Result<Listed<OpenRun>, StoreFault>
     requires autocommit { conn.old.in_transaction ≡ false }
     requires desk { IsUsable (state S.Store conn.old) → IsDesk (state S.Store conn.old) }
     ensures mode { conn.new.in_transaction ≡ false }
     ensures same { IsSame (state S.Store conn.old) (state S.Store conn.new) }
-    ensures found { IsUsable (state S.Store conn.new) → IfOk result (λ found. found
-        ≡ (watched (past_of (contents_in (state S.Store conn.old)) name.now)).open_runs) }
+    ensures found { IsUsable (state S.Store conn.new) → IfOk result (λ found.
+        found ≡ open_runs_by (contents_in (state S.Store conn.old)) name.now strategy.now) }
 {
     laws::open_runs_found();
     let rows = runs::open_runs(conn, alloc, name)?;
-    with_tallies(conn, alloc, name, rows.as_slice())
+    with_tallies(conn, alloc, name, strategy, rows.as_slice())
 }
 
 fn with_tallies<S: Alter>(
     conn: &mut Connection<S>,
     alloc: Global,
     name: &Name,
+    strategy: &Strategy,
     rows: &[RunRow],
 ) -> Result<Listed<OpenRun>, StoreFault>
     requires autocommit { conn.old.in_transaction ≡ false }
@@ -129,11 +135,12 @@ fn with_tallies<S: Alter>(
     ensures mode { conn.new.in_transaction ≡ false }
     ensures same { IsSame (state S.Store conn.old) (state S.Store conn.new) }
     ensures found { IsUsable (state S.Store conn.new) → IfOk result (λ found.
-        found ≡ map (open_run_of (contents_in (state S.Store conn.old)) name.now) rows.now) }
+        found ≡ map (open_run_of strategy.now (contents_in (state S.Store conn.old)) name.now)
+        rows.now) }
 {
     let mut found = Listed::of(Vec::new(alloc));
     for row in rows {
-        found.push(open_run(conn, alloc, name, row)?)?;
+        found.push(open_run(conn, alloc, name, strategy, row)?)?;
     }
     Ok(found)
 }
@@ -142,6 +149,7 @@ fn open_run<S: Alter>(
     conn: &mut Connection<S>,
     alloc: Global,
     name: &Name,
+    strategy: &Strategy,
     row: &RunRow,
 ) -> Result<OpenRun, StoreFault>
     requires autocommit { conn.old.in_transaction ≡ false }
@@ -149,12 +157,24 @@ fn open_run<S: Alter>(
     ensures mode { conn.new.in_transaction ≡ false }
     ensures same { IsSame (state S.Store conn.old) (state S.Store conn.new) }
     ensures found { IsUsable (state S.Store conn.new) → IfOk result (λ found.
-        found ≡ open_run_of (contents_in (state S.Store conn.old)) name.now row.now) }
+        found ≡ open_run_of strategy.now (contents_in (state S.Store conn.old)) name.now
+        row.now) }
 {
     Ok(OpenRun {
         number: row.number,
         step: row.step,
+        analysis: analysis_at(strategy, row.step)?,
         started: row.started,
         tallies: tallies(conn, alloc, name, row.number)?,
     })
+}
+
+// The analysis at that step, or the background. No desk has a run of none.
+fn analysis_at(strategy: &Strategy, step: Option<u32>) -> Result<BoundAnalysis, StoreFault>
+    ensures { IfOk result (λ analysis. analysis ≡ analysis_or_none strategy.now step) }
+{
+    match strategy.analysis(step) {
+        Some(analysis) => Ok(analysis.copy()?),
+        None => Err(StoreFault::Storage),
+    }
 }

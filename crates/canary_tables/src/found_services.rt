@@ -117,7 +117,7 @@ pub(crate) fn service<S: Alter>(
     };
     let made = made(alloc, row.spec.as_str())?;
     let strategy = strategy(conn, alloc, &made)?;
-    let open_runs = open_runs(conn, alloc, name)?;
+    let open_runs = open_runs(conn, alloc, name, &strategy)?;
     Ok(Some(service_of(&row, &strategy, open_runs)?))
 }
 
