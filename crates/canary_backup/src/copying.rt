@@ -148,8 +148,8 @@ pub struct Part {
 }
 
 impl Part {
-    /// Copies a file of SQLite, with its log, also while a desk serves it: the copy has each request
-    /// that was settled before, and of those that are settled meanwhile the first ones.
+    /// Copies a file of SQLite, with its log, also while a desk serves it: the copy has each
+    /// request that was settled before, and of those that are settled meanwhile the first ones.
     ///
     /// # Errors
     /// `File` if there is no such file, if a file of the copy's names, `copy` and `copy`-wal, or of

@@ -77,9 +77,9 @@ pub struct Terminals {
 ///
 /// 0: what was asked was done, or help or the version was asked for, whose text is written to
 /// `output`. 1: a check found something, or a fault, which one line `canary: WORD` on `errors`
-/// names (`canary_programs::fault::Fault::line`); if `errors` is a terminal, a second line says what
-/// that is, and of which address or file. 2: the command line is none that the desk takes,
-/// and `errors` has the text that says why. `check` also writes there what it warns of. A fault of
+/// names (`canary_programs::fault::Fault::line`); if `errors` is a terminal, a second line says
+/// what that is, and of which address or file. 2: the command line is none that the desk takes, and
+/// `errors` has the text that says why. `check` also writes there what it warns of. A fault of
 /// `errors` itself is ignored.
 pub fn perform<R: Read, W: Write, F: Write>(
     rt: &HostRuntime,

@@ -78,8 +78,8 @@ pub(crate) fn is_missing<P: Files>(files: &P, file: &str) -> bool {
     matches!(fs::exists(files, file), Ok(false))
 }
 
-/// Whether the file of this name has bytes and does not begin as a database of SQLite does, as far as
-/// the system says so.
+/// Whether the file of this name has bytes and does not begin as a database of SQLite does, as far
+/// as the system says so.
 ///
 /// # Errors
 /// `Memory` if an allocation was refused.

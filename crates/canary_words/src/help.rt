@@ -208,12 +208,12 @@ pub(crate) const COPY_HELP: &str = "The file to write the copy to, which must no
 
 pub(crate) const BACKUP_HELP: &str = concat!(
     "The copy is COPY and its log COPY-wal, which belong together; neither may exist before. A\n",
-    "desk may serve FILE meanwhile. backup opens the copy, and looks that its tables are a desk's.\n",
-    "It does not judge their rows.\n\n",
+    "desk may serve FILE meanwhile. backup opens the copy, and looks that its tables are a\n",
+    "desk's. It does not judge their rows.\n\n",
     "Exit status: 0 if the copy is whole, 2 for an invalid command line, and 1 for a fault,\n",
     "which a line on standard error names:\n",
-    "  canary: file          FILE does not exist, or a file cannot be read or written, or COPY or\n",
-    "                        COPY-wal exists\n",
+    "  canary: file          FILE does not exist, or a file cannot be read or written, or\n",
+    "                        COPY or COPY-wal exists\n",
     "  canary: memory        out of memory\n",
     "  canary: storage       FILE cannot be reached, or the copy cannot be opened\n",
     "  canary: other-schema  FILE is not a desk's\n",
