@@ -1,5 +1,5 @@
 -- Rows imported so far, and how an import ends.
-use Rattle.std.proofs.Common.{◌≡◌, ◌∙◌, ℕ, ◌+◌, List, [], ◌∷◌, ◌++◌, true, false, length, refl, sym, ap, subst, inl, inr, arith}
+use Rattle.std.proofs.Common.{◌≡◌, ◌∙◌, ℕ, suc, ◌+◌, List, [], ◌∷◌, ◌++◌, true, false, length, refl, sym, ap, subst, inl, inr, arith}
 use Rattle.std.specs.Prelude.{Result, Ok, Err}
 use Rattle.std.specs.Io.KnownBytes.{Appends}
 use Rattle.std.proofs.lemmas.List.{append-nil, append_assoc, length-append, length-map, map-append}
@@ -12,7 +12,7 @@ use Rattle.canary_files.specs.Writes.{Known, Writes}
 use Rattle.canary_files.specs.Rows.{header, is_header}
 use Rattle.canary_files.specs.RowExchanges.{Exchange, rows_of, lines_from, lines, told_line, Point, Exchanges, Went}
 use Rattle.canary_files.specs.Taking.{Fields, HasTaken, TakesNext, taken_of, spare_of}
-use Rattle.canary_files.specs.Importing.{Answers, ImportsSome, ImportsTaken, ImportsUntil, ImportsTo, EndsSo, KeepsBook, IsSoFar}
+use Rattle.canary_files.specs.Importing.{Answers, ImportsSome, ImportsTaken, ImportsTo, EndsSo, KeepsBook, IsSoFar}
 use Rattle.canary_files.proofs.WriteLemmas.{appends_none, appends_more, writes_all}
 use Rattle.canary_files.proofs.ExchangeLemmas.{went_none, went_one, went_then, holds_of}
 use Rattle.canary_files.proofs.ReadLemmas.{begins}
@@ -72,21 +72,25 @@ module _ {S : Type 0} (left : S → Known) (spare : S → ℕ) where
                   (appends_more w w1 w2 (lines so.exchanges) (told_line (n + 1) x.handling) so.written (writes_all w1 w2 (told_line (n + 1) x.handling) wrote));
             }
 
-        pub so_far_until : RunsOn → (f : WriteFault) → Writes w1 w2 (told_line (n + 1) x.handling) (Err f) → (file : Known) → HasTaken left file r0 (header ∷ []) → ImportsUntil file w w2 p p2
+        pub so_far_until : RunsOn → (f : WriteFault) → Writes w1 w2 (told_line (n + 1) x.handling) (Err f) → (file : Known) → HasTaken left file r0 (header ∷ []) → EndsSo file (taken_of r2) (spare_of spare r2) w w2 p p2 (Err fault.Write)
         so_far_until goes f wrote file s =
             let m : length so.exchanges ≡ n = so.many in
             let number : length so.exchanges + 1 ≡ n + 1 = omega (arith, m) in
-            record {
-              exchanges = so.exchanges;
-              last = x;
-              front = wrote.front;
-              back = wrote.back;
-              begins = begins left file r2.reader (header ∷ rows_of (so.exchanges ++ x ∷ [])) (has_more x same file s).stands;
-              holds = holds_of goes p p2 (so.exchanges ++ x ∷ []) went_more;
-              line = ap (λ k. told_line k x.handling) number ∙ wrote.parts;
-              short = wrote.short;
-              written = appends_more w w1 w2 (lines so.exchanges) wrote.front so.written wrote.written;
-            }
+            let all : List Exchange = so.exchanges ++ x ∷ [] in
+            let many : taken_of r2 ≡ suc (length (rows_of all)) = (has_more x same file s).many in (
+              record {
+                exchanges = so.exchanges;
+                last = x;
+                front = wrote.front;
+                back = wrote.back;
+                begins = begins left file r2.reader (header ∷ rows_of (so.exchanges ++ x ∷ [])) (has_more x same file s).stands;
+                holds = holds_of goes p p2 (so.exchanges ++ x ∷ []) went_more;
+                line = ap (λ k. told_line k x.handling) number ∙ wrote.parts;
+                short = wrote.short;
+                written = appends_more w w1 w2 (lines so.exchanges) wrote.front so.written wrote.written;
+              },
+              omega (arith, many, length-map all (λ (y : Exchange). y.fields), length-append so.exchanges (x ∷ [])),
+            )
 
         pub keeps_more : KeepsBook p.book p2.book
         keeps_more = keeps_of p p2 (so.exchanges ++ x ∷ []) went_more
@@ -102,14 +106,20 @@ module _ {S : Type 0} (left : S → Known) (spare : S → ℕ) where
 
     pub so_far_all : RunsOn → ((file : Known) (records : List Fields) → HasTaken left file r1 records → TakesNext left spare file r2 records fields (Ok false))
         → (file : Known) → HasTaken left file r0 (header ∷ []) → EndsSo file (taken_of r2) (spare_of spare r2) w w1 p p1 (Ok n)
-    so_far_all goes takes file s = (
-      header ∷ rows_of so.exchanges,
-      rows_of so.exchanges,
-      takes file (header ∷ rows_of so.exchanges) (so.stands file s),
-      (refl, refl),
-      sym (length-map so.exchanges (λ (y : Exchange). y.fields) ∙ so.many),
-      answers_of_went goes w w1 p p1 so.exchanges so.went so.written,
-    )
+    so_far_all goes takes file s =
+        let t = takes file (header ∷ rows_of so.exchanges) (so.stands file s) in
+        let rows : length (rows_of so.exchanges) ≡ n = length-map so.exchanges (λ (y : Exchange). y.fields) ∙ so.many in
+        let many : taken_of r2 ≡ suc (length (rows_of so.exchanges)) = t.1 in (
+          (
+            header ∷ rows_of so.exchanges,
+            rows_of so.exchanges,
+            t.0,
+            (refl, refl),
+            sym rows,
+            answers_of_went goes w w1 p p1 so.exchanges so.went so.written,
+          ),
+          omega (arith, many, rows),
+        )
 
     so_far_taken : RunsOn → (file : Known) → HasTaken left file r0 (header ∷ []) → taken_of r2 ≡ length (header ∷ rows_of so.exchanges) → ImportsTaken file (taken_of r2) w w1 p p1
     so_far_taken goes file s many = (
@@ -140,9 +150,9 @@ imports_some : (file : Known) (taken : ℕ) (w w1 : Known) (p q : Point) → Imp
 imports_some file taken w w1 p q t = (t.0, t.1, t.2, t.3, t.4)
 
 pub imports_to : (file : Known) (taken spare : ℕ) (w w1 : Known) (p q : Point) (r : Result ℕ ImportFault) → EndsSo file taken spare w w1 p q r → ImportsTo file w w1 p q r
-imports_to file taken spare w w1 p q (Ok n) e = e
+imports_to file taken spare w w1 p q (Ok n) e = e.0
 imports_to file taken spare w w1 p q (Err fault.Read) e = imports_some file taken w w1 p q e.1
-imports_to file taken spare w w1 p q (Err fault.Write) e = e
+imports_to file taken spare w w1 p q (Err fault.Write) e = e.0
 imports_to file taken spare w w1 p q (Err fault.Memory) e = imports_some file taken w w1 p q e
 imports_to file taken spare w w1 p q (Err fault.Header) e = e
 imports_to file taken spare w w1 p q (Err fault.RowsSpent) (inl e) = inl e
@@ -152,7 +162,7 @@ imports_to file taken spare w w1 p q (Err fault.RowsSpent) (inr e) = inr (import
 
 module _ {S : Type 0} (left : S → Known) (spare : S → ℕ) (file : Known) (r0 r1 : FileReader S) (w : Known) (p : Point) (s : HasTaken left file r0 []) (fields : Fields) where
   pub import_none : RunsOn → TakesNext left spare file r1 [] fields (Ok false) → ImportsTo file w w p p (Ok 0)
-  import_none goes takes = ([], [], takes, refl, refl, answers_none goes w p)
+  import_none goes takes = ([], [], takes.0, refl, refl, answers_none goes w p)
 
   none_taken : RunsOn → ImportsSome file w w p p
   none_taken goes = ([], [], begins left file r0.reader [] s.stands, refl, answers_none goes w p)

@@ -93,10 +93,12 @@ ImportsTaken file taken w new_w old new =
 -- what it did, by how many records were taken, and how many more bytes are asked for at most: the
 -- reader failed if there are some, and the most bytes were read if there are none
 abbrev pub EndsSo : Known → ℕ → ℕ → Known → Known → Point → Point → Result ℕ ImportFault → Type 0
-EndsSo file taken spare w new_w old new (Ok count) = ImportsAll file w new_w old new count
+EndsSo file taken spare w new_w old new (Ok count) =
+    ImportsAll file w new_w old new count × (taken ≡ count + 1)
 EndsSo file taken spare w new_w old new (Err fault.Read) =
     (0 < spare) × ImportsTaken file taken w new_w old new
-EndsSo file taken spare w new_w old new (Err fault.Write) = ImportsUntil file w new_w old new
+EndsSo file taken spare w new_w old new (Err fault.Write) =
+    (until : ImportsUntil file w new_w old new) × (taken ≡ length until.exchanges + 2)
 EndsSo file taken spare w new_w old new (Err fault.Memory) =
     ImportsTaken file taken w new_w old new
 EndsSo file taken spare w new_w old new (Err fault.Header) = HasNoHeader file w new_w old new

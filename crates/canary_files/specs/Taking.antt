@@ -69,7 +69,8 @@ abbrev pub TakesNext : {S : Type 0} → (S → Known) → (S → ℕ) → Known 
     → Fields → Result Bool ImportFault → Type 0
 TakesNext left spare file new records fields (Ok true) =
     HasTaken left file new (records ++ fields ∷ [])
-TakesNext left spare file new records fields (Ok false) = HasRecords file records
+TakesNext left spare file new records fields (Ok false) =
+    HasRecords file records × (taken_of new ≡ length records)
 TakesNext left spare file new records fields (Err fault.Memory) = taken_of new ≡ length records
 TakesNext left spare file new records fields (Err fault.Read) =
     (0 < spare_of spare new) × (taken_of new ≡ length records)

@@ -19,7 +19,7 @@ pub(crate) trait Limited {
         ensures { result ≡ (spare self.now == 0) };
 }
 
-// A reader that fails where so many bytes were read and more are asked for, so that a record that
+// A reader that fails if so many bytes were read and more are asked for, so that a record that
 // never ends takes no more memory than that.
 #[derive(Drop)]
 pub(crate) struct Bounded<R> {

@@ -55,12 +55,12 @@ pub enum ImportFault {
 /// it is read, its status is 503. A file without any record has no rows.
 ///
 /// # Errors
-/// `Header` where the first record is another: nothing was asked and written. `Read` where the
-/// reader failed, `Memory` where there was none for the next record, and `RowsSpent` where a row
-/// follows the 1,000,000th, or the reader gave 1,000,000,000 bytes and more were needed: each row
-/// that was taken before is answered, and its line written. `Write` where the writer failed or took
-/// no byte: what was written are the lines of the rows that were answered, up to the midst of the
-/// last one; if that row was a new request, and not answered 503, it is settled.
+/// `Header` if the first record is another: nothing was asked and written. `Read` if the reader
+/// failed, `Memory` if there was none for the next record, and `RowsSpent` if a row follows the
+/// 1,000,000th, or if the reader gave 1,000,000,000 bytes and more were needed: each row that was
+/// taken before is answered, and its line written. `Write` if the writer failed or took no byte:
+/// what was written are the lines of the rows that were answered, up to the midst of the last one;
+/// if that row was a new request, and not answered 503, it is settled.
 pub fn import<R: Read, W: Write, C: Clock, B: Book>(
     alloc: Global,
     input: &mut R,
