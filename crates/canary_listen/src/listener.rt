@@ -1,5 +1,6 @@
 //! Serving clients on a socket.
-ghost use Rattle.std.specs.Prelude.{◌≡◌, IfOk, OnOk};
+ghost use Rattle.std.specs.Prelude.{◌≡◌, IfOk, OnOk, if◌then◌else◌};
+ghost use Rattle.std.specs.Duration.{as_nanos};
 ghost use Rattle.canary_wire.specs.Exchanges.{point};
 ghost use Rattle.canary_listen.specs.Attending.{Attends, ServesAll, nobody};
 ghost use Rattle.canary_listen.specs.Crowd.{attendance_of, IsDone};
@@ -183,11 +184,7 @@ impl Listener {
     fn wait(&mut self, wait: Duration) -> io::Result<()>
         ensures { attendance_of self.new ≡ attendance_of self.old }
     {
-        let wait = if self.attendant.may_accept() {
-            Duration::ZERO
-        } else {
-            wait
-        };
+        let wait = time_to_wait(self.attendant.may_accept(), wait);
         self.attendant.poll.poll(&mut self.events, Some(wait))
     }
 
@@ -204,6 +201,13 @@ impl Listener {
             self.attendant.now = passed.as_secs();
         }
     }
+}
+
+// How long is waited at most for what comes: not at all if somebody may be accepted.
+fn time_to_wait(may_accept: bool, wait: Duration) -> Duration
+    ensures { as_nanos result ≡ (if may_accept then 0 else as_nanos wait) }
+{
+    if may_accept { Duration::ZERO } else { wait }
 }
 
 // A socket on that address, and what reports who comes there.
