@@ -21,8 +21,8 @@ asks_for_some m = is_at_least_one m.count && is_at_least_one m.pass_after
 abbrev pub have_counts : List MetricValue → Bool
 have_counts ms = list_all asks_for_some ms
 
--- at most 32 metrics, each of which asks for at least 1 measurement and 1 success in a row, where it
--- asks for a number
+-- at most 32 metrics, each of which asks for at least 1 measurement and 1 success in a row, where
+-- it asks for a number
 abbrev pub has_few : AnalysisParts → Bool
 has_few a = nat_le (length a.metrics) 32 && have_counts a.metrics
 
