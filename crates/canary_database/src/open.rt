@@ -78,19 +78,37 @@ pub(crate) fn is_missing<P: Files>(files: &P, file: &str) -> bool {
     matches!(fs::exists(files, file), Ok(false))
 }
 
-/// Whether the file of this name has bytes and does not begin as a database of SQLite does, as far
-/// as the system says so.
+/// Whether the file of this name has bytes, does not begin as a database of SQLite does, and has no
+/// log beside it, as far as the system says so. A desk that failed as it made its file may leave
+/// one that begins otherwise; the log has its pages then.
 ///
 /// # Errors
 /// `Memory` if an allocation was refused.
 pub(crate) fn has_other_bytes<P: Files + AllocGlobal>(rt: &P, file: &str) -> Result<bool, Fault>
     ensures { IfErr result (λ f. f ≡ fault.Memory) }
 {
-    match first_bytes(rt, file) {
-        Ok(bytes) => Ok(!bytes.is_empty() && bytes.as_slice() != FIRST_BYTES),
+    match is_other(rt, file) {
+        Ok(is_other) => Ok(is_other),
         Err(error) if error.kind() == ErrorKind::OutOfMemory => Err(Fault::Memory),
         Err(_) => Ok(false),
     }
+}
+
+fn is_other<P: Files + AllocGlobal>(rt: &P, file: &str) -> io::Result<bool> {
+    Ok(begins_otherwise(rt, file)? && lacks_log(rt, file)?)
+}
+
+// Whether the file of this name has bytes, and not the first ones of a database.
+fn begins_otherwise<P: Files + AllocGlobal>(rt: &P, file: &str) -> io::Result<bool> {
+    let bytes = first_bytes(rt, file)?;
+    Ok(!bytes.is_empty() && bytes.as_slice() != FIRST_BYTES)
+}
+
+// Whether no log stands beside the file, where all links lead.
+fn lacks_log<P: Files + AllocGlobal>(rt: &P, file: &str) -> io::Result<bool> {
+    let real = fs::canonicalize(rt, file)?;
+    let log = format!(in rt.alloc(); "{}-wal", real.as_str())?;
+    Ok(is_missing(rt, log.as_str()))
 }
 
 // The first bytes of the file of this name, as many as a database begins with.
