@@ -261,7 +261,7 @@ def try_shown(trial, step):
         try_line(trial, row, words, (0, shown, b""), step)
 
 
-def try_backup(trial, _):
+def try_backup(trial, step):
     """`backup` makes a copy of a desk's file, or leaves none."""
     make_files(trial)
     words = ["backup", "--db", trial.begun, trial.copy]
@@ -284,7 +284,7 @@ def try_backup(trial, _):
                    [name for name in before if not name.endswith(".counted")])
         return asked
 
-    refuse_each("backup", 1, refuse)
+    refuse_each("backup", step, refuse)
 
 
 CASES = (try_lines, try_stream, try_file, try_import, try_shown, try_backup)
