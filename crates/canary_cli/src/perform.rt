@@ -71,9 +71,9 @@ pub struct Terminals {
 }
 
 /// Runs a command line, the words behind the program's name, on this input, output and error
-/// stream, with the machine's files, sockets and clocks, and answers the exit status. If `errors` is
-/// a terminal, long work shows there how far it has come, and `import`, `history` and `export` say
-/// there that they made a file that was not there.
+/// stream, with the machine's files, sockets and clocks, and answers the exit status. If `errors`
+/// is a terminal, long work shows there how far it has come, and `import`, `history` and `export`
+/// say there that they made a file that was not there.
 ///
 /// 0: what was asked was done, or help or the version was asked for, whose text is written to
 /// `output`. 1: a check found something, or a fault, which one line `canary: WORD` on `errors`
@@ -141,7 +141,8 @@ pub fn refuse<F: Write>(error: &io::Error, errors: &mut F) -> u8
     fail(Fault::Memory, errors)
 }
 
-// Runs a program, and answers the status of what was done; a fault is told with what it is about.
+// Runs a program, and answers its exit status. If it fails on a terminal, it also reports of which
+// address or file.
 fn run_placed<R: Read, W: Write, F: Write>(
     rt: &HostRuntime,
     program: Program,

@@ -11,9 +11,9 @@ use std::thread;
 use std::time::Duration;
 
 /// Draws a table of the services in a file, and of their open runs, as they stand at the present
-/// moment. The file is opened as `open_found` does it, and no row of it is changed. If a desk has it
-/// open, a copy is read, which stands beside the file meanwhile, in a folder that its owner alone
-/// may read.
+/// moment. The file is opened as `open_found` does it, and no row of it is changed. If a desk has
+/// it open, a copy is read, which stands beside the file meanwhile, in a folder that its owner
+/// alone may read.
 ///
 /// # Errors
 /// `File` if there is no such file, and nothing is made then, or if no copy can be made beside it.

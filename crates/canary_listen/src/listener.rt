@@ -105,16 +105,16 @@ impl Listener {
 
     /// Serves so many connections to their ends, or as many as come.
     ///
-    /// A client that takes too long, by the limits, is let go. If there are as many clients as there
-    /// may be, one that waits takes the place of the client that is idle longest, and for a second
-    /// at least. If the system has no descriptor left, those that come wait, and are accepted once
-    /// there is one.
+    /// A client that takes too long, by the limits, is let go. If there are as many clients as
+    /// there may be, one that waits takes the place of the client that is idle longest, and for a
+    /// second at least. If the system has no descriptor left, those that come wait, and are
+    /// accepted once there is one.
     ///
     /// A fault with which a connection ended is reported by a line on `errors`, within two seconds:
-    /// `canary: truncated ADDRESS`, or `read`, `write` or `memory`, and ` (N times)` for more of the
-    /// same in one second; the others are served on. A line that `errors` does not take at once is
-    /// dropped, and how many were is the next line: so nobody who leaves these lines unread stops
-    /// the desk, if a write on `errors` never waits. A fault of `errors` itself is ignored.
+    /// `canary: truncated ADDRESS`, or `read`, `write` or `memory`, and ` (N times)` for more of
+    /// the same in one second; the others are served on. A line that `errors` does not take at once
+    /// is dropped, and how many were is the next line: so nobody who leaves these lines unread
+    /// stops the desk, if a write on `errors` never waits. A fault of `errors` itself is ignored.
     ///
     /// # Errors
     /// `Accept` where the system tells no more of the connections, or after 2^64 - 1 rounds.
@@ -150,8 +150,8 @@ impl Listener {
     }
 
     /// Waits until something comes, at most so long, and gives each client that is ready one turn:
-    /// one message at least, and more for at most 20 milliseconds, of which each has the same share.
-    /// Then those that take too long are let go, and some of those that wait are accepted.
+    /// one message at least, and more for at most 20 milliseconds, of which each has the same
+    /// share. Then those that take too long are let go, and some of those that wait are accepted.
     ///
     /// # Errors
     /// `Accept` where the system tells no more of the connections.

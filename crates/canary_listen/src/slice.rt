@@ -12,8 +12,8 @@ pub(crate) struct Slice<'a, R> {
 }
 
 impl<'a, R: time::Clock> Slice<'a, R> {
-    // A turn that begins now and goes on so long at most. If the clock cannot be read, it ends after
-    // its first message.
+    // A turn that begins now and goes on so long at most. If the clock cannot be read, it ends
+    // after its first message.
     pub(crate) fn begun(rt: &'a R, most: Duration, answers_queries: bool) -> Slice<'a, R> {
         Slice {
             rt,

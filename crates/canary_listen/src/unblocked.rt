@@ -49,7 +49,8 @@ impl Gate {
     }
 }
 
-/// A process's standard error, on which no write waits: one that would wait fails with `WouldBlock`.
+/// A process's standard error, on which no write waits: one that would wait fails with
+/// `WouldBlock`.
 #[derive(Drop)]
 pub struct Unblocked<'a, F> {
     errors: &'a mut F,

@@ -6,8 +6,8 @@ use canary_base::moments::{LAST_MOMENT, Moment};
 use canary_once::clock::Clock;
 use std::time::{self, SystemTime};
 
-/// The machine's clock, in whole seconds of UTC, held within the limits of a moment. It goes back as
-/// the machine's does. If that cannot be read, it tells the last moment again, at first 0.
+/// The machine's clock, in whole seconds of UTC, held within the limits of a moment. It goes back
+/// as the machine's does. If that cannot be read, it tells the last moment again, at first 0.
 #[derive(Drop)]
 pub struct WallClock<'a, R> {
     machine: &'a R,

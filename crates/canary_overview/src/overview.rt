@@ -148,7 +148,8 @@ fn analysis(alloc: Global, step: Option<u32>) -> Result<String, Memory> {
     }
 }
 
-// How many successes in a row a metric has, of those that complete it; `-` if it has no `passAfter`.
+// How many successes in a row a metric has, of those that complete it; `-` if it has no
+// `passAfter`.
 fn passes_text(alloc: Global, wanted: Option<u32>, passes: u32) -> Result<String, Memory> {
     match wanted {
         Some(wanted) => Ok(format!(in alloc; "{passes}/{wanted}")?),

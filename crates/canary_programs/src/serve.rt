@@ -63,8 +63,8 @@ pub fn serve_memory<W: Write, F: Write>(
 }
 
 /// Serves clients over a book, by the machine's clock. The notice goes to `errors` once the address
-/// is listened on, and then the line `listening IP:PORT` to `output`. `errors` has to be the standard
-/// error of the process: the lines of `Listener::serve` do not wait for whoever reads it.
+/// is listened on, and then the line `listening IP:PORT` to `output`. `errors` has to be the
+/// standard error of the process: the lines of `Listener::serve` do not wait for whoever reads it.
 ///
 /// # Errors
 /// `Listen` where the address cannot be listened on; `Memory` where an allocation was refused;

@@ -9,8 +9,8 @@ use canary_base::error::Memory;
 use std::alloc::Global;
 use std::io::Write;
 
-// Room for the reply to any request that is new: a head of some hundred bytes, and at most 32 phases
-// with a service behind them.
+// Room for the reply to any request that is new: a head of some hundred bytes, and at most 32
+// phases with a service behind them.
 const ROOM: usize = 1_024;
 
 // The most memory that is kept once all is written: a long reply gives its memory back.
