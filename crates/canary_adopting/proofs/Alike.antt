@@ -1,4 +1,4 @@
--- What refuses a strategy, and the strategy, are the same by templates that agree on the names that it has.
+-- What refuses a strategy, and what it is bound to, are the same by templates that agree on the names that it has.
 use Rattle.std.proofs.Common.{◌≡◌, ℕ, List, [], ◌∷◌, ◌++◌, refl, ap}
 use Rattle.std.specs.Prelude.{◌||◌, ◌&&◌, nat_lt, not, if◌then◌else◌, Bool, length, map, Option, Some, None, is_none}
 use Rattle.std.specs.List.{AllByRecursion, list_any, list_all, filter_map}
@@ -10,10 +10,10 @@ use Rattle.canary_plan.specs.declared.service.ServiceSpec.{ServiceSpec}
 use Rattle.canary_plan.specs.declared.analysis_parts.AnalysisParts.{AnalysisParts}
 use Rattle.canary_plan.specs.declared.refusal.Refusal.TheVariants.{DuplicateMetric, UnknownTemplate, EndlessMetric, BadStrategy}
 use Rattle.canary_plan.specs.Fit.{are_metrics_of_run}
-use Rattle.canary_plan.specs.Plans.{Templates, metrics_in, metrics_named, has_unknown, has_weight_in_range, analysis_of, bound_step, bound_background, bound_of, strategy_of}
+use Rattle.canary_plan.specs.Plans.{Templates, metrics_in, metrics_named, has_unknown, is_within_limits, is_background_within_limits, analysis_of, bound_step, bound_background, bound_of, strategy_of}
 use Rattle.canary_plan.specs.Commands.{all_names}
 use Rattle.canary_plan.specs.Refusals.{first_that_holds}
-use Rattle.canary_plan.specs.PlanRefusals.{has_duplicate, repeats_metric, is_endless, is_misfit, names_of_step, names_of_background, step_analyses, analyses, strategy_refusal, is_without_end}
+use Rattle.canary_plan.specs.PlanRefusals.{has_duplicate, repeats_metric, is_endless, is_unfit, names_of_step, names_of_background, step_analyses, analyses, strategy_refusal, is_without_end}
 use Rattle.canary_release.specs.Laws.{Agree}
 
 all_left : {X : Type 0} (P : X → Type 0) (xs ys : List X) → AllByRecursion P (xs ++ ys) → AllByRecursion P xs
@@ -46,8 +46,11 @@ repeats known other names h = ap (λ (ms : List MetricValue). has_duplicate (map
 endless : (known other : Templates) (names : List (List ℕ)) → Agree known other names → is_endless known names ≡ is_endless other names
 endless known other names h = ap (λ (ms : List MetricValue). list_any is_without_end ms) (named known other names h)
 
-misfit : (known other : Templates) (names : List (List ℕ)) → Agree known other names → is_misfit known names ≡ is_misfit other names
-misfit known other names h = ap (λ (ms : List MetricValue). nat_lt (length names) 1 || (nat_lt 8 (length names) || not (are_metrics_of_run ms))) (named known other names h)
+unfit : (known other : Templates) (names : List (List ℕ)) → Agree known other names → is_unfit known names ≡ is_unfit other names
+unfit known other names h =
+    let metrics = named known other names h in
+    let unknown_alike = unknown known other names h in
+    λ i. not (not (unknown_alike i) && are_metrics_of_run (metrics i))
 
 -- the refusal of a strategy
 refusal_alike : (known other : Templates) (spec : ServiceSpec) → AllByRecursion (Agree known other) (analyses spec) → strategy_refusal known spec ≡ strategy_refusal other spec
@@ -58,8 +61,9 @@ refusal_alike known other spec h =
     let a = any_alike (Agree known other) (repeats_metric known) (repeats_metric other) (repeats known other) all h in
     let b = any_alike (Agree known other) (has_unknown known) (has_unknown other) (unknown known other) all h in
     let c = any_alike (Agree known other) (is_endless known) (is_endless other) (endless known other) steps in_steps in
-    let d = any_alike (Agree known other) (is_misfit known) (is_misfit other) (misfit known other) all h in
-    λ i. first_that_holds ((a i, DuplicateMetric) ∷ (b i, UnknownTemplate) ∷ (c i, EndlessMetric) ∷ (nat_lt 64 (length spec.steps) || (not (list_all has_weight_in_range spec.steps) || d i), BadStrategy) ∷ [])
+    let d = any_alike (Agree known other) (is_unfit known) (is_unfit other) (unfit known other) all h in
+    let limits : Bool = list_all is_within_limits spec.steps && is_background_within_limits spec.background in
+    λ i. first_that_holds ((a i, DuplicateMetric) ∷ (b i, UnknownTemplate) ∷ (c i, EndlessMetric) ∷ (nat_lt 64 (length spec.steps) || (not limits || d i), BadStrategy) ∷ [])
 
 -- the analyses of a strategy
 bind_alike : (known other : Templates) (names : List (List ℕ)) → Agree known other names → analysis_of known names ≡ analysis_of other names
@@ -78,17 +82,14 @@ background_alike : (known other : Templates) (b : Option Background) → AllByRe
 background_alike known other None h = refl
 background_alike known other (Some b) h = bind_alike known other b.templates h.0
 
-bound_alike : (known other : Templates) (spec : ServiceSpec) → AllByRecursion (Agree known other) (analyses spec) → bound_of known spec ≡ bound_of other spec
+bound_alike : (known other : Templates) (spec : ServiceSpec) → AllByRecursion (Agree known other) (analyses spec) → bound_of known (strategy_of spec) ≡ bound_of other (strategy_of spec)
 bound_alike known other spec h =
     let steps = steps_alike known other spec.steps (all_left (Agree known other) (step_analyses spec) (names_of_background spec.background) h) in
     let background = background_alike known other spec.background (all_right (Agree known other) (step_analyses spec) (names_of_background spec.background) h) in
     λ i. record { steps = steps i; background = background i }
 
-strategy_alike : (known other : Templates) (spec : ServiceSpec) → AllByRecursion (Agree known other) (analyses spec) → strategy_of known spec ≡ strategy_of other spec
-strategy_alike known other spec h = λ i. record { steps = spec.steps; background = spec.background; bound = bound_alike known other spec h i }
-
 pub refused_alike : (known other : Templates) (spec : ServiceSpec) → Agree known other (all_names (analyses spec)) → strategy_refusal known spec ≡ strategy_refusal other spec
 refused_alike known other spec agree = refusal_alike known other spec (each (λ name. known name ≡ other name) (analyses spec) agree)
 
-pub planned_alike : (known other : Templates) (spec : ServiceSpec) → Agree known other (all_names (analyses spec)) → strategy_of known spec ≡ strategy_of other spec
-planned_alike known other spec agree = strategy_alike known other spec (each (λ name. known name ≡ other name) (analyses spec) agree)
+pub bound_as : (known other : Templates) (spec : ServiceSpec) → Agree known other (all_names (analyses spec)) → bound_of known (strategy_of spec) ≡ bound_of other (strategy_of spec)
+bound_as known other spec agree = bound_alike known other spec (each (λ name. known name ≡ other name) (analyses spec) agree)

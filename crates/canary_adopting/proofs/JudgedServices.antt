@@ -4,10 +4,11 @@ use Rattle.std.specs.Prelude.{filter, slice_get}
 use Rattle.std.specs.List.{sum_by}
 use Rattle.std.specs.FinMap.{get}
 use Rattle.std.proofs.lemmas.List.Sums.{sum_by-cons}
+use Rattle.canary_plan.specs.declared.bound.BoundParts.{BoundParts}
 use Rattle.canary_plan.specs.declared.line.Line.{Line}
 use Rattle.canary_plan.specs.declared.service.ServiceSpec.{ServiceSpec}
 use Rattle.canary_plan.specs.declared.strategy.CheckedStrategy.{CheckedStrategy}
-use Rattle.canary_plan.specs.Plans.{strategy_of}
+use Rattle.canary_plan.specs.Plans.{strategy_of, bound_of}
 use Rattle.canary_plan.specs.PlanRefusals.{strategy_refusal}
 use Rattle.canary_canonical.specs.Readings.{canonical_in}
 use Rattle.canary_release.specs.declared.effect.Recorded.{Recorded}
@@ -57,9 +58,9 @@ service_there t name rows row are one under = subst (IsServiceJudged t) (one_val
 
 -- A service's row.
 
-pub service_judged : (t : Tables) (row : ServiceRow) (made : ServiceSpec) (strategy : CheckedStrategy) (stand : Stand) → filter (is_service row.name) t.services ≡ row ∷ [] → (made_from (canonical_in row.spec) ≡ Some made) × (made.name ≡ row.name)
-    → IsStrategyOf t made strategy → stand_of row.name strategy row.standing ≡ Some stand → IsPastJudged t row stand → IsServiceJudged t row
-service_judged t row made strategy stand one is plan stands past =
+pub service_judged : (t : Tables) (row : ServiceRow) (made : ServiceSpec) (strategy : CheckedStrategy) (bound : BoundParts) (stand : Stand) → filter (is_service row.name) t.services ≡ row ∷ [] → (made_from (canonical_in row.spec) ≡ Some made) × (made.name ≡ row.name)
+    → IsStrategyOf t made strategy bound → stand_of row.name strategy bound row.standing ≡ Some stand → IsPastJudged t row stand → IsServiceJudged t row
+service_judged t row made strategy bound stand one is plan stands past =
     record {
       one = one;
       made = made;
@@ -67,7 +68,8 @@ service_judged t row made strategy stand one is plan stands past =
       named = is.1;
       accepted = plan.0;
       stand = stand;
-      stands = subst (λ s. stand_of row.name s row.standing ≡ Some stand) plan.1 stands;
+      stands = subst (λ b. stand_of row.name (strategy_of made) b row.standing ≡ Some stand) plan.1.1
+          (subst (λ s. stand_of row.name s bound row.standing ≡ Some stand) plan.1.0 stands);
       runs = past.runs;
       as_many = past.are.as_many;
       each = past.are.each;
@@ -78,7 +80,7 @@ service_judged t row made strategy stand one is plan stands past =
       history = past.history;
       told = past.told.told;
       lines = past.told.lines;
-      parts = subst (λ n. is_broken (record { stand = stand; runs = record { count = n; open_runs = open_runs_in stand.strategy past.runs } }) ≡ false) (sym past.are.as_many) past.parts;
+      parts = subst (λ n. is_broken (record { stand = stand; runs = record { count = n; open_runs = open_runs_in stand.bound past.runs } }) ≡ false) (sym past.are.as_many) past.parts;
     }
 
 pub past_judged : (t : Tables) (row : ServiceRow) → (j : IsServiceJudged t row) → IsPastJudged t row j.stand
@@ -91,7 +93,7 @@ past_judged t row j =
       tallied = record { counted = j.counted; tallied = j.tallied };
       history = j.history;
       told = record { told = j.told; lines = j.lines };
-      parts = subst (λ n. is_broken (record { stand = j.stand; runs = record { count = n; open_runs = open_runs_in j.stand.strategy j.runs } }) ≡ false) j.as_many j.parts;
+      parts = subst (λ n. is_broken (record { stand = j.stand; runs = record { count = n; open_runs = open_runs_in j.stand.bound j.runs } }) ≡ false) j.as_many j.parts;
     }
 
 -- it is made by what is read, and this by a strategy that nothing refuses
@@ -100,18 +102,26 @@ pub made_there : (t : Tables) (row : ServiceRow) (made : ServiceSpec) → made_f
 made_there t row made is j =
     subst (λ m. strategy_refusal (get (contents_of t).desk.templates) m ≡ None) (one_value (made_from (canonical_in row.spec)) j.made made j.is is) j.accepted
 
-stands_there : (t : Tables) (row : ServiceRow) (made : ServiceSpec) (strategy : CheckedStrategy) → made_from (canonical_in row.spec) ≡ Some made → strategy ≡ strategy_of (get (contents_of t).desk.templates) made → (j : IsServiceJudged t row)
-    → stand_of row.name strategy row.standing ≡ Some j.stand
-stands_there t row made strategy is plan j =
-    ap (λ s. stand_of row.name s row.standing) (plan ∙ ap (strategy_of (get (contents_of t).desk.templates)) (one_value (made_from (canonical_in row.spec)) made j.made is j.is)) ∙ j.stands
+-- it is this strategy, which is bound to this
+abbrev IsBoundIn : Tables → ServiceSpec → CheckedStrategy → BoundParts → Type 0
+IsBoundIn t made strategy bound = (strategy ≡ strategy_of made) × (bound ≡ bound_of (get (contents_of t).desk.templates) (strategy_of made))
 
-pub no_stand : (t : Tables) (row : ServiceRow) (made : ServiceSpec) (strategy : CheckedStrategy) → made_from (canonical_in row.spec) ≡ Some made → strategy ≡ strategy_of (get (contents_of t).desk.templates) made
-    → stand_of row.name strategy row.standing ≡ None → ¬ IsServiceJudged t row
-no_stand t row made strategy is plan none j = let some : None ≡ Some j.stand = sym none ∙ stands_there t row made strategy is plan j in cc
+stands_there : (t : Tables) (row : ServiceRow) (made : ServiceSpec) (strategy : CheckedStrategy) (bound : BoundParts) → made_from (canonical_in row.spec) ≡ Some made → IsBoundIn t made strategy bound → (j : IsServiceJudged t row)
+    → stand_of row.name strategy bound row.standing ≡ Some j.stand
+stands_there t row made strategy bound is plan j =
+    let known = get (contents_of t).desk.templates in
+    ap (λ s. stand_of row.name s bound row.standing) plan.0
+    ∙ ap (λ b. stand_of row.name (strategy_of made) b row.standing) plan.1
+    ∙ ap (λ m. stand_of row.name (strategy_of m) (bound_of known (strategy_of m)) row.standing) (one_value (made_from (canonical_in row.spec)) made j.made is j.is)
+    ∙ j.stands
 
-pub past_there : (t : Tables) (row : ServiceRow) (made : ServiceSpec) (strategy : CheckedStrategy) (stand : Stand) → made_from (canonical_in row.spec) ≡ Some made → strategy ≡ strategy_of (get (contents_of t).desk.templates) made
-    → stand_of row.name strategy row.standing ≡ Some stand → IsServiceJudged t row → IsPastJudged t row stand
-past_there t row made strategy stand is plan stands j = subst (IsPastJudged t row) (one_value (stand_of row.name strategy row.standing) j.stand stand (stands_there t row made strategy is plan j) stands) (past_judged t row j)
+pub no_stand : (t : Tables) (row : ServiceRow) (made : ServiceSpec) (strategy : CheckedStrategy) (bound : BoundParts) → made_from (canonical_in row.spec) ≡ Some made → IsBoundIn t made strategy bound
+    → stand_of row.name strategy bound row.standing ≡ None → ¬ IsServiceJudged t row
+no_stand t row made strategy bound is plan none j = let some : None ≡ Some j.stand = sym none ∙ stands_there t row made strategy bound is plan j in cc
+
+pub past_there : (t : Tables) (row : ServiceRow) (made : ServiceSpec) (strategy : CheckedStrategy) (bound : BoundParts) (stand : Stand) → made_from (canonical_in row.spec) ≡ Some made → IsBoundIn t made strategy bound
+    → stand_of row.name strategy bound row.standing ≡ Some stand → IsServiceJudged t row → IsPastJudged t row stand
+past_there t row made strategy bound stand is plan stands j = subst (IsPastJudged t row) (one_value (stand_of row.name strategy bound row.standing) j.stand stand (stands_there t row made strategy bound is plan j) stands) (past_judged t row j)
 
 -- How much it has.
 
@@ -139,8 +149,8 @@ run_by_run f g (r ∷ rs) each =
     let shift : up_to f (suc (length rs)) ≡ f 1 + up_to (λ k. f (suc k)) (length rs) = up_from_first f (length rs) in
     shift ∙ (let e : f 1 + up_to (λ k. f (suc k)) (length rs) ≡ g r + sum_by g rs = omega arith in e) ∙ sym all
 
-tallies_sum : (t : Tables) (strategy : CheckedStrategy) (name : List ℕ) (count : ℕ) (runs : List RunRecord) → AreRunsOf strategy name count t runs → sum_by (λ (r : RunRecord). length r.tallies) runs ≡ tallies_to t.tallies name count
-tallies_sum t strategy name count runs are =
+tallies_sum : (t : Tables) (bound : BoundParts) (name : List ℕ) (count : ℕ) (runs : List RunRecord) → AreRunsOf bound name count t runs → sum_by (λ (r : RunRecord). length r.tallies) runs ≡ tallies_to t.tallies name count
+tallies_sum t bound name count runs are =
     sym (run_by_run (λ k. length (filter (is_tally_of name k) t.tallies)) (λ (r : RunRecord). length r.tallies) runs (λ place r at.
     let e = are.each place r at in ap (λ k. length (filter (is_tally_of name k) t.tallies)) (sym e.0) ∙ e.1.no_more))
     ∙ sym (tallies_up t.tallies name (length runs))
@@ -156,10 +166,10 @@ same_length : {A B : Type 0} (f : A → B) (xs : List A) → length (map f xs) �
 same_length f [] = refl
 same_length f (x ∷ xs) = ap suc (same_length f xs)
 
-pub past_totals : (t : Tables) (row : ServiceRow) (stand : Stand) (runs : List RunRecord) (measurements : List Recorded) (history : List Line) → AreRunsOf stand.strategy row.name row.standing.runs t runs → AreMeasurementsOf row.name t measurements → IsHistoryOf row.name t history
+pub past_totals : (t : Tables) (row : ServiceRow) (stand : Stand) (runs : List RunRecord) (measurements : List Recorded) (history : List Line) → AreRunsOf stand.bound row.name row.standing.runs t runs → AreMeasurementsOf row.name t measurements → IsHistoryOf row.name t history
     → (totals : Totals) → totals.runs ≡ row.standing.runs → totals.tallies ≡ sum_by (λ (r : RunRecord). length r.tallies) runs → totals.measurements ≡ length measurements → totals.lines ≡ length history → totals ≡ totals_of t row
 past_totals t row stand runs measurements history are read told totals count sum measured lines =
-    let tallies = sum ∙ tallies_sum t stand.strategy row.name row.standing.runs runs are in
+    let tallies = sum ∙ tallies_sum t stand.bound row.name row.standing.runs runs are in
     let taken = measured ∙ as_long measurement_of_row (filter (is_measurement_of row.name) t.measurements) measurements read.each in
     let said = lines ∙ sym (same_length (history_row row.name) history) ∙ ap length (sym told.told) in
     λ i. record { runs = count i; tallies = tallies i; measurements = taken i; lines = said i }

@@ -7,13 +7,14 @@ use Rattle.std.specs.FinMap.{FinMap, get, insert, empty}
 use Rattle.std.specs.List.{AllByRecursion}
 use Rattle.std.proofs.lemmas.List.{take_all}
 use Rattle.sqlite.specs.State.{State}
+use Rattle.canary_plan.specs.declared.bound.BoundParts.{BoundParts}
 use Rattle.canary_plan.specs.declared.command.Command.{Command}
 use Rattle.canary_plan.specs.declared.command.Command.TheVariants as command
 use Rattle.canary_plan.specs.declared.service.ServiceSpec.{ServiceSpec}
 use Rattle.canary_plan.specs.declared.strategy.CheckedStrategy.{CheckedStrategy}
 use Rattle.canary_plan.specs.declared.template.Template.{Template}
 use Rattle.canary_plan.specs.Commands.{all_names}
-use Rattle.canary_plan.specs.Plans.{strategy_of}
+use Rattle.canary_plan.specs.Plans.{strategy_of, bound_of}
 use Rattle.canary_plan.specs.PlanRefusals.{analyses, template_refusal, strategy_refusal}
 use Rattle.canary_canonical.specs.Readings.{canonical_in}
 use Rattle.canary_once.specs.Contents.{templates_named}
@@ -30,7 +31,7 @@ use Rattle.canary_reads.specs.Finds.{IsSame, first}
 use Rattle.canary_adopting.specs.Strategies.{IsStrategyAccepted, IsStrategyOf}
 use Rattle.canary_adopting.specs.Templates.{IsAcceptedIn}
 use Rattle.canary_adopting.proofs.Standing.{same_then, stores_then}
-use Rattle.canary_adopting.proofs.Alike.{refused_alike, planned_alike}
+use Rattle.canary_adopting.proofs.Alike.{refused_alike, bound_as}
 use Rattle.canary_adopting.proofs.NamedTemplates.{none_named, found_more, found_none, agree_then}
 
 -- A text.
@@ -139,14 +140,14 @@ pub templates_done : (names : List (List ℕ)) (i : ℕ) (old now : State) (foun
     → found ≡ templates_named (contents_of t) names
 templates_done names i old now found so_far all usable t has judged = so_far.value usable t has judged ∙ ap (templates_named (contents_of t)) (take_all i names all)
 
--- The strategy by the templates that are named is that by all.
+-- What a strategy is bound to by the templates that are named is what it is bound to by all.
 
-pub strategy_told : (t : Tables) (spec : ServiceSpec) (names : List (List ℕ)) (known : Found) (strategy : CheckedStrategy) → names ≡ all_names (analyses spec) → known ≡ templates_named (contents_of t) names
-    → (strategy_refusal (get known) spec ≡ None) × (strategy ≡ strategy_of (get known) spec) → IsStrategyOf t spec strategy
-strategy_told t spec names known strategy all known_is is =
+pub strategy_told : (t : Tables) (spec : ServiceSpec) (names : List (List ℕ)) (known : Found) (strategy : CheckedStrategy) (bound : BoundParts) → names ≡ all_names (analyses spec) → known ≡ templates_named (contents_of t) names
+    → (strategy_refusal (get known) spec ≡ None) × (strategy ≡ strategy_of spec) → bound ≡ bound_of (get known) strategy → IsStrategyOf t spec strategy bound
+strategy_told t spec names known strategy bound all known_is is to =
     let templates = (contents_of t).desk.templates in
     let agree = agree_then known templates templates names (all_names (analyses spec)) known_is all refl in
-    (sym (refused_alike (get known) (get templates) spec agree) ∙ is.0, is.1 ∙ planned_alike (get known) (get templates) spec agree)
+    (sym (refused_alike (get known) (get templates) spec agree) ∙ is.0, (is.1, to ∙ ap (bound_of (get known)) is.1 ∙ bound_as (get known) (get templates) spec agree))
 
 pub strategy_refused : (t : Tables) (spec : ServiceSpec) (names : List (List ℕ)) (known : Found) → names ≡ all_names (analyses spec) → known ≡ templates_named (contents_of t) names → ¬ (strategy_refusal (get known) spec ≡ None) → ¬ IsStrategyAccepted t spec
 strategy_refused t spec names known all known_is refused accepted =

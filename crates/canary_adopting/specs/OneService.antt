@@ -42,17 +42,17 @@ RefusesJudged P old new result =
 -- what is past of a service that stands so
 pub record IsPastJudged (t : Tables) (row : ServiceRow) (stand : Stand) : Type 0 where
   pub runs : List RunRecord
-  pub are : AreRunsOf stand.strategy row.name row.standing.runs t runs
+  pub are : AreRunsOf stand.bound row.name row.standing.runs t runs
   pub measurements : List Recorded
   pub read : AreMeasurementsOf row.name t measurements
-  pub tallied : AreTallied stand.strategy runs measurements
+  pub tallied : AreTallied stand.bound runs measurements
   pub history : List Line
   pub told : IsHistoryOf row.name t history
   pub parts : is_broken
       (record {
         stand = stand;
         runs = record
-            { count = row.standing.runs; open_runs = open_runs_in stand.strategy runs };
+            { count = row.standing.runs; open_runs = open_runs_in stand.bound runs };
       })
       ≡ false
 

@@ -6,28 +6,28 @@ ghost use Rattle.canary_reads.specs.declared.fault.ReadFault.TheVariants as faul
 ghost use Rattle.canary_recounting.specs.Recounted.{AreTallied};
 
 use canary_once::record::RunRecord;
-use canary_plan::strategy::Strategy;
+use canary_plan::bound::Bound;
 use canary_reads::fault::ReadFault;
 use canary_recounting::counting::are_counted;
 use canary_release::effect::Recorded;
 use std::alloc::Global;
 
 /// That these measurements come one after another, and to the tallies of the runs, which are
-/// numbered from 1 on, and of a service with that strategy.
+/// numbered from 1 on, and of a service that is bound so.
 ///
 /// # Errors
 /// `Broken` where it is not so; `Memory`.
 pub(crate) fn counted(
     alloc: Global,
-    strategy: &Strategy,
+    bound: &Bound,
     runs: &[RunRecord],
     measurements: &[Recorded],
 ) -> Result<(), ReadFault>
-    ensures found { OnOk result (AreTallied strategy.now runs.now measurements.now) }
+    ensures found { OnOk result (AreTallied bound.now runs.now measurements.now) }
     ensures broken { result ≡ Err fault.Broken
-        → ¬ AreTallied strategy.now runs.now measurements.now }
+        → ¬ AreTallied bound.now runs.now measurements.now }
 {
-    if are_counted(alloc, strategy, runs, measurements)? {
+    if are_counted(alloc, bound, runs, measurements)? {
         Ok(())
     } else {
         Err(ReadFault::Broken)

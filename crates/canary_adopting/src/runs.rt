@@ -15,7 +15,7 @@ use canary_base::lists::Listed;
 use canary_base::names::Name;
 use canary_metric::tally::Tally;
 use canary_once::record::RunRecord;
-use canary_plan::strategy::Strategy;
+use canary_plan::bound::Bound;
 use canary_reads::fault::ReadFault;
 use canary_reads::runs;
 use canary_recounting::verdicts::has_analysis;
@@ -24,7 +24,7 @@ use canary_stored::reading;
 use sqlite::{Alter, Connection};
 use std::alloc::Global;
 
-/// The runs 1 to `count` of the service with that strategy, each judged as by `run`.
+/// The runs 1 to `count` of the service that is bound so, each judged as by `run`.
 ///
 /// # Errors
 /// `Broken` where there are no such runs, or the tables hold what no program can; `Memory` where
@@ -33,26 +33,26 @@ pub(crate) fn runs<S: Alter>(
     conn: &mut Connection<S>,
     alloc: Global,
     name: &Name,
-    strategy: &Strategy,
+    bound: &Bound,
     count: u32,
 ) -> Result<Listed<RunRecord>, ReadFault>
     requires autocommit { conn.old.in_transaction ≡ false }
     ensures mode { conn.new.in_transaction ≡ false }
     ensures same { IsSame (state S.Store conn.old) (state S.Store conn.new) }
-    ensures found { FindsSuch (AreRunsOf strategy.now name.now count)
+    ensures found { FindsSuch (AreRunsOf bound.now name.now count)
         (state S.Store conn.old) (state S.Store conn.new) result }
-    ensures broken { RefusesUnless (HasSuch (AreRunsOf strategy.now name.now count))
+    ensures broken { RefusesUnless (HasSuch (AreRunsOf bound.now name.now count))
         (state S.Store conn.old) (state S.Store conn.new) result }
 {
     let mut found = Listed::of(Vec::new(alloc));
     for place in 0..count {
-        found.push(run(conn, alloc, name, strategy, place + 1)?)?;
+        found.push(run(conn, alloc, name, bound, place + 1)?)?;
     }
     Ok(found)
 }
 
-/// The run of that number of the service with that strategy: there is one row of it, its analysis
-/// is there, each of its tallies has one row, it has no others, and its verdict is that of its
+/// The run of that number of the service that is bound so: there is one row of it, its analysis is
+/// there, each of its tallies has one row, it has no others, and its verdict is that of its
 /// tallies.
 ///
 /// # Errors
@@ -62,15 +62,15 @@ pub(crate) fn run<S: Alter>(
     conn: &mut Connection<S>,
     alloc: Global,
     name: &Name,
-    strategy: &Strategy,
+    bound: &Bound,
     number: u32,
 ) -> Result<RunRecord, ReadFault>
     requires autocommit { conn.old.in_transaction ≡ false }
     ensures mode { conn.new.in_transaction ≡ false }
     ensures same { IsSame (state S.Store conn.old) (state S.Store conn.new) }
-    ensures found { FindsSuch (IsRunOf strategy.now name.now number)
+    ensures found { FindsSuch (IsRunOf bound.now name.now number)
         (state S.Store conn.old) (state S.Store conn.new) result }
-    ensures broken { RefusesUnless (HasSuch (IsRunOf strategy.now name.now number))
+    ensures broken { RefusesUnless (HasSuch (IsRunOf bound.now name.now number))
         (state S.Store conn.old) (state S.Store conn.new) result }
 {
     let rows = runs::run_rows(conn, alloc, name, number)?;
@@ -79,7 +79,7 @@ pub(crate) fn run<S: Alter>(
     };
     let tallies = tallies(conn, alloc, name, number)?;
     let run = record_of(&row, tallies)?;
-    if has_analysis(strategy, &run) {
+    if has_analysis(bound, &run) {
         Ok(run)
     } else {
         Err(ReadFault::Broken)

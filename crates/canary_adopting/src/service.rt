@@ -22,6 +22,7 @@ use canary_base::error::Memory;
 use canary_base::lists::Listed;
 use canary_base::names::Name;
 use canary_once::record::RunRecord;
+use canary_plan::bound::Bound;
 use canary_plan::bound_analysis::BoundAnalysis;
 use canary_plan::service::ServiceSpec;
 use canary_plan::strategy::Strategy;
@@ -79,8 +80,8 @@ fn judge_row<S: Alter>(
         (state S.Store conn.old) (state S.Store conn.new) result }
 {
     let made = made_by(alloc, row)?;
-    let strategy = strategies::strategy(conn, alloc, &made)?;
-    let stand = stand_by(row, &strategy)?;
+    let (strategy, bound) = strategies::strategy(conn, alloc, &made)?;
+    let stand = stand_by(row, &strategy, &bound)?;
     judge_past(conn, alloc, row, stand)
 }
 
@@ -107,13 +108,13 @@ fn spec_of(alloc: Global, text: &str) -> Result<ServiceSpec, ReadFault>
 }
 
 // How it stands.
-fn stand_by(row: &ServiceRow, strategy: &Strategy) -> Result<Stand, ReadFault>
+fn stand_by(row: &ServiceRow, strategy: &Strategy, bound: &Bound) -> Result<Stand, ReadFault>
     ensures stand { IfOk result (λ stand.
-        stand_of row.now.name strategy.now row.now.standing ≡ Some stand) }
+        stand_of row.now.name strategy.now bound.now row.now.standing ≡ Some stand) }
     ensures broken { result ≡ Err Broken
-        → stand_of row.now.name strategy.now row.now.standing ≡ None }
+        → stand_of row.now.name strategy.now bound.now row.now.standing ≡ None }
 {
-    reading::stand(row.name, strategy, &row.standing).map_err(read_fault)
+    reading::stand(row.name, strategy, bound, &row.standing).map_err(read_fault)
 }
 
 // How much it has, where its runs, its measurements and its lines come to how it stands.
@@ -133,11 +134,11 @@ fn judge_past<S: Alter>(
         (state S.Store conn.old) (state S.Store conn.new) result }
 {
     let count = row.standing.runs;
-    let runs = runs::runs(conn, alloc, &row.name, &stand.strategy, count)?;
+    let runs = runs::runs(conn, alloc, &row.name, &stand.bound, count)?;
     let measurements = histories::measurements(conn, alloc, &row.name)?;
     counts::counted(
         alloc,
-        &stand.strategy,
+        &stand.bound,
         runs.as_slice(),
         measurements.as_slice(),
     )?;
@@ -155,14 +156,14 @@ fn judge_past<S: Alter>(
 fn judge_parts(alloc: Global, stand: Stand, count: u32, runs: &[RunRecord]) -> Result<(), ReadFault>
     ensures judged { OnOk result (is_broken (record {
       stand = stand;
-      runs = record { count = count; open_runs = open_runs_in stand.strategy runs.now };
+      runs = record { count = count; open_runs = open_runs_in stand.bound runs.now };
     }) ≡ false) }
     ensures refused { result ≡ Err Broken → is_broken (record {
       stand = stand;
-      runs = record { count = count; open_runs = open_runs_in stand.strategy runs.now };
+      runs = record { count = count; open_runs = open_runs_in stand.bound runs.now };
     }) ≢ false }
 {
-    let open_runs = open_among(alloc, &stand.strategy, runs)?;
+    let open_runs = open_among(alloc, &stand.bound, runs)?;
     let runs = Runs { count, open_runs };
     if is_broken(&ServiceParts { stand, runs }) {
         return Err(ReadFault::Broken);
@@ -170,43 +171,35 @@ fn judge_parts(alloc: Global, stand: Stand, count: u32, runs: &[RunRecord]) -> R
     Ok(())
 }
 
-fn open_among(
-    alloc: Global,
-    strategy: &Strategy,
-    runs: &[RunRecord],
-) -> Result<Listed<OpenRun>, Memory>
-    ensures { IfOk result (λ open_runs. open_runs ≡ open_runs_in strategy.now runs.now) }
+fn open_among(alloc: Global, bound: &Bound, runs: &[RunRecord]) -> Result<Listed<OpenRun>, Memory>
+    ensures { IfOk result (λ open_runs. open_runs ≡ open_runs_in bound.now runs.now) }
 {
     let mut found = Listed::of(Vec::new(alloc));
     for run in runs {
         if run.closed.is_none() {
-            found.push(open_run(run, strategy, alloc)?)?;
+            found.push(open_run(run, bound, alloc)?)?;
         }
     }
     Ok(found)
 }
 
-fn open_run(run: &RunRecord, strategy: &Strategy, alloc: Global) -> Result<OpenRun, Memory>
-    ensures { IfOk result (λ open_run. open_run ≡ open_of_record strategy.now run.now) }
+fn open_run(run: &RunRecord, bound: &Bound, alloc: Global) -> Result<OpenRun, Memory>
+    ensures { IfOk result (λ open_run. open_run ≡ open_of_record bound.now run.now) }
 {
     Ok(OpenRun {
         number: run.number,
         step: run.step,
-        analysis: analysis_at(alloc, strategy, run.step)?,
+        analysis: analysis_at(alloc, bound, run.step)?,
         started: run.started,
         tallies: run.tallies.copy(alloc)?,
     })
 }
 
 // The analysis at that step, or the background; one of no templates where there is none.
-fn analysis_at(
-    alloc: Global,
-    strategy: &Strategy,
-    step: Option<u32>,
-) -> Result<BoundAnalysis, Memory>
-    ensures { IfOk result (λ analysis. analysis ≡ analysis_or_none strategy.now step) }
+fn analysis_at(alloc: Global, bound: &Bound, step: Option<u32>) -> Result<BoundAnalysis, Memory>
+    ensures { IfOk result (λ analysis. analysis ≡ analysis_or_none bound.now step) }
 {
-    match strategy.analysis(step) {
+    match bound.analysis(step) {
         Some(analysis) => analysis.copy(),
         None => BoundAnalysis::none(alloc),
     }

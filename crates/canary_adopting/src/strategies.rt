@@ -1,4 +1,4 @@
-//! The strategy of a service, by templates that are judged.
+//! The strategy of a service, and what it is bound to by templates that are judged.
 ghost use Rattle.std.specs.Prelude.{◌≡◌, false, None, IfOk, Err};
 ghost use Rattle.std.specs.FinMap.{get};
 ghost use Rattle.sqlite.specs.Held.{state};
@@ -20,6 +20,7 @@ use canary_base::error::Memory;
 use canary_base::lists::Listed;
 use canary_base::names::Name;
 use canary_judging::laws;
+use canary_plan::bound::Bound;
 use canary_plan::command::Command;
 use canary_plan::fault::CheckFault;
 use canary_plan::service::ServiceSpec;
@@ -31,8 +32,8 @@ use canary_reads::services;
 use sqlite::{Alter, Connection};
 use std::alloc::Global;
 
-/// The strategy of a service that was asked for so, by the templates of the tables, where these are
-/// judged.
+/// The strategy of a service that was asked for so, and what it is bound to by the templates of the
+/// tables, where these are judged.
 ///
 /// # Errors
 /// `Broken` where something refuses the strategy, `Memory` where there is not enough, `Storage`
@@ -41,20 +42,22 @@ pub(crate) fn strategy<S: Alter>(
     conn: &mut Connection<S>,
     alloc: Global,
     spec: &ServiceSpec,
-) -> Result<Strategy, ReadFault>
+) -> Result<(Strategy, Bound), ReadFault>
     requires autocommit { conn.old.in_transaction ≡ false }
     ensures mode { conn.new.in_transaction ≡ false }
     ensures same { IsSame (state S.Store conn.old) (state S.Store conn.new) }
     ensures found { IsUsable (state S.Store conn.new) → (t : Tables)
         → Stores (state S.Store conn.old) t → AreTemplatesJudged t
-        → IfOk result (IsStrategyOf t spec.now) }
+        → IfOk result (λ found. IsStrategyOf t spec.now found.0 found.1) }
     ensures broken { IsUsable (state S.Store conn.new) → (t : Tables)
         → Stores (state S.Store conn.old) t → AreTemplatesJudged t → result ≡ Err Broken
         → AreWithin t → ¬ IsStrategyAccepted t spec.now }
 {
     let names = names_of(alloc, spec)?;
     let known = templates_of(conn, alloc, names.as_slice())?;
-    checked(alloc, spec, &known)
+    let strategy = checked(alloc, spec, &known)?;
+    let bound = strategy.bind(alloc, &known)?;
+    Ok((strategy, bound))
 }
 
 // The templates that it names.
@@ -64,10 +67,10 @@ fn names_of(alloc: Global, spec: &ServiceSpec) -> Result<Listed<Name>, Memory>
     Command::Service(spec.copy(alloc)?).names_looked_up(alloc)
 }
 
-// Its strategy by these templates.
+// Its strategy, which these templates accept.
 fn checked(alloc: Global, spec: &ServiceSpec, known: &Templates) -> Result<Strategy, ReadFault>
     ensures strategy { IfOk result (λ strategy. (strategy_refusal (get known.now) spec.now ≡ None)
-        × (strategy ≡ strategy_of (get known.now) spec.now)) }
+        × (strategy ≡ strategy_of spec.now)) }
     ensures broken { result ≡ Err Broken → ¬ (strategy_refusal (get known.now) spec.now ≡ None) }
 {
     match Strategy::check(alloc, spec, known) {

@@ -8,7 +8,7 @@ use Rattle.std.proofs.lemmas.Bool.Decides.{nat_tests}
 use Rattle.std.proofs.lemmas.Option.{same_Some}
 use Rattle.canary_metric.specs.Metrics.{MetricValue}
 use Rattle.canary_plan.specs.declared.analysis_parts.AnalysisParts.{AnalysisParts}
-use Rattle.canary_plan.specs.declared.strategy.CheckedStrategy.{CheckedStrategy}
+use Rattle.canary_plan.specs.declared.bound.BoundParts.{BoundParts}
 use Rattle.canary_plan.specs.Plans.{Templates}
 use Rattle.canary_release.specs.declared.effect.Recorded.{Recorded}
 use Rattle.canary_release.specs.Pasts.{Run}
@@ -23,7 +23,7 @@ use Rattle.canary_once.specs.Sound.{AreContents}
 use Rattle.canary_once.specs.Books.{BookState, IsFault}
 use Rattle.canary_once.specs.Records.{past_in, past_of, is_numbered, record_of, measurements_of}
 use Rattle.canary_files.specs.declared.export.ExportFault.{ExportFault}
-use Rattle.canary_files.specs.Exporting.{IsExportFault, fault_of, kept_strategy, name_at, IsStrategyOf, IsPlaced, ArePlaced}
+use Rattle.canary_files.specs.Exporting.{IsExportFault, fault_of, kept_bound, name_at, IsBoundOf, IsPlaced, ArePlaced}
 
 pub sure_book : (sure : Bool) (f : BookFault) → IsFault sure f → IsExportFault sure (fault_of f)
 sure_book sure Out h = tt
@@ -110,7 +110,7 @@ few_runs m e = few (length m.past.runs) (third _ _ _ _ e)
 
 -- ---- measurements
 
-pub placed_one : (known : Templates) (name : List ℕ) (m : ModelService) → IsInOrder known name m → (x : Recorded) → is_of_some m.past.runs x ≡ true → IsPlaced m.stand.strategy m.past x
+pub placed_one : (known : Templates) (name : List ℕ) (m : ModelService) → IsInOrder known name m → (x : Recorded) → is_of_some m.past.runs x ≡ true → IsPlaced m.stand.bound m.past x
 placed_one known name m o x e =
     let f = found_run m 1 m.past.runs x o.numbered o.runs e in
     let r : Run = f.run in
@@ -127,36 +127,36 @@ placed_one known name m o x e =
           ∙ ap (option_map (λ (y : MetricValue). y.name)) found.1;
     }
 
-placed_all : (known : Templates) (name : List ℕ) (m : ModelService) → IsInOrder known name m → (xs : List Recorded) → list_all (is_of_some m.past.runs) xs ≡ true → ArePlaced m.stand.strategy m.past xs
+placed_all : (known : Templates) (name : List ℕ) (m : ModelService) → IsInOrder known name m → (xs : List Recorded) → list_all (is_of_some m.past.runs) xs ≡ true → ArePlaced m.stand.bound m.past xs
 placed_all known name m o [] e = tt
 placed_all known name m o (x ∷ xs) e =
     let p = both (is_of_some m.past.runs x) (list_all (is_of_some m.past.runs) xs) e in
     (placed_one known name m o x p.0, placed_all known name m o xs p.1)
 
 placed_by : (known : Templates) (name : List ℕ) (found : Option ModelService) → ((m : ModelService) → found ≡ Some m → IsInOrder known name m)
-    → (strategy : CheckedStrategy) → option_map kept_strategy (option_map shape found) ≡ Some strategy → ArePlaced strategy (past_in found) (past_in found).measurements
-placed_by known name None order strategy is = tt
-placed_by known name (Some m) order strategy is =
+    → (bound : BoundParts) → option_map kept_bound (option_map shape found) ≡ Some bound → ArePlaced bound (past_in found) (past_in found).measurements
+placed_by known name None order bound is = tt
+placed_by known name (Some m) order bound is =
     let o = order m refl in
-    let P : CheckedStrategy → Type 0 = λ k. ArePlaced k m.past m.past.measurements in
+    let P : BoundParts → Type 0 = λ k. ArePlaced k m.past m.past.measurements in
     subst P (same_Some _ _ is) (placed_all known name m o m.past.measurements o.measured)
 
 -- each measurement of a page
-pub page_placed : (c : Contents) (service : List ℕ) (strategy : CheckedStrategy) (from most : ℕ) → AreContents c → IsStrategyOf c service strategy → ArePlaced strategy (past_of c service) (measurements_of c service from most)
-page_placed c service strategy from most lawful is =
+pub page_placed : (c : Contents) (service : List ℕ) (bound : BoundParts) (from most : ℕ) → AreContents c → IsBoundOf c service bound → ArePlaced bound (past_of c service) (measurements_of c service from most)
+page_placed c service bound from most lawful is =
     let all : List Recorded = (past_of c service).measurements in
-    let P : Recorded → Type 0 = IsPlaced strategy (past_of c service) in
-    all_take P most (drop from all) (all_drop P from all (placed_by (get c.desk.templates) service (get c.desk.services service) (lawful.desk.services service) strategy is))
+    let P : Recorded → Type 0 = IsPlaced bound (past_of c service) in
+    all_take P most (drop from all) (all_drop P from all (placed_by (get c.desk.templates) service (get c.desk.services service) (lawful.desk.services service) bound is))
 
 -- a page that a sure book gave is written, or it is not for the store
-pub page_sure : {A : Type 0} (a b d : BookState) (service : List ℕ) (strategy : CheckedStrategy) (from most : ℕ) (page : List Recorded) (r : Result A ExportFault)
+pub page_sure : {A : Type 0} (a b d : BookState) (service : List ℕ) (bound : BoundParts) (from most : ℕ) (page : List Recorded) (r : Result A ExportFault)
     → (d.is_honest → b.is_honest) → (b.is_honest → AreContents a.contents) → (b.is_honest → b.contents ≡ a.contents) → b.is_sure ≡ a.is_sure
     → (b.is_honest → page ≡ measurements_of a.contents service from most)
-    → (d.is_honest → ArePlaced strategy (past_of b.contents service) page → IfErr r (IsExportFault b.is_sure))
-    → d.is_honest → IsStrategyOf a.contents service strategy → IfErr r (IsExportFault a.is_sure)
-page_sure a b d service strategy from most page r honest lawful same sure found told h is =
+    → (d.is_honest → ArePlaced bound (past_of b.contents service) page → IfErr r (IsExportFault b.is_sure))
+    → d.is_honest → IsBoundOf a.contents service bound → IfErr r (IsExportFault a.is_sure)
+page_sure a b d service bound from most page r honest lawful same sure found told h is =
     let kept = honest h in
-    let P : Contents → Type 0 = λ c. ArePlaced strategy (past_of c service) (measurements_of a.contents service from most) in
-    let Q : List Recorded → Type 0 = λ xs. ArePlaced strategy (past_of b.contents service) xs in
+    let P : Contents → Type 0 = λ c. ArePlaced bound (past_of c service) (measurements_of a.contents service from most) in
+    let Q : List Recorded → Type 0 = λ xs. ArePlaced bound (past_of b.contents service) xs in
     let R : Bool → Type 0 = λ s. IfErr r (IsExportFault s) in
-    subst R sure (told h (subst Q (sym (found kept)) (subst P (sym (same kept)) (page_placed a.contents service strategy from most (lawful kept) is))))
+    subst R sure (told h (subst Q (sym (found kept)) (subst P (sym (same kept)) (page_placed a.contents service bound from most (lawful kept) is))))

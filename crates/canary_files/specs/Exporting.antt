@@ -4,7 +4,7 @@ use Rattle.std.specs.List.{AllByRecursion}
 use Rattle.std.specs.FinMap.{get}
 use Rattle.std.specs.Io.KnownBytes.{Appends}
 use Rattle.canary_metric.specs.Metrics.{MetricValue}
-use Rattle.canary_plan.specs.declared.strategy.CheckedStrategy.{CheckedStrategy}
+use Rattle.canary_plan.specs.declared.bound.BoundParts.{BoundParts}
 use Rattle.canary_plan.specs.Plans.{metrics_at}
 use Rattle.canary_release.specs.declared.effect.Recorded.{Recorded}
 use Rattle.canary_release.specs.Pasts.{Past}
@@ -32,17 +32,17 @@ name_at metrics place =
     option_map (λ (m : MetricValue). m.name)
     (option_and_then (λ (ms : List MetricValue). slice_get ms place) metrics)
 
-abbrev pub name_in : CheckedStrategy → Option RunRecord → ℕ → Option (List ℕ)
-name_in strategy run place =
-    option_and_then (λ (r : RunRecord). name_at (metrics_at strategy r.step) place) run
+abbrev pub name_in : BoundParts → Option RunRecord → ℕ → Option (List ℕ)
+name_in bound run place =
+    option_and_then (λ (r : RunRecord). name_at (metrics_at bound r.step) place) run
 
 -- the name of the metric of a measurement
-abbrev pub name_of : CheckedStrategy → Past → Recorded → List ℕ
-name_of strategy p x = unwrap_or (name_in strategy (record_numbered p x.run) x.metric) []
+abbrev pub name_of : BoundParts → Past → Recorded → List ℕ
+name_of bound p x = unwrap_or (name_in bound (record_numbered p x.run) x.metric) []
 
 abbrev pub name_by : Option ModelService → Recorded → List ℕ
 name_by None x = []
-name_by (Some m) x = name_of m.stand.strategy m.past x
+name_by (Some m) x = name_of m.stand.bound m.past x
 
 -- the step of the analysis of a run
 abbrev pub step_in : Contents → List ℕ → ℕ → Option (Option ℕ)
@@ -116,21 +116,21 @@ abbrev pub fault_of : BookFault → ExportFault
 fault_of Out = Memory
 fault_of Failed = Storage
 
--- the strategy of a service that is kept
-abbrev pub kept_strategy : ServiceParts → CheckedStrategy
-kept_strategy s = s.stand.strategy
+-- what a service that is kept is bound to
+abbrev pub kept_bound : ServiceParts → BoundParts
+kept_bound s = s.stand.bound
 
 -- this service's, under this caller
 pub record IsSource (c : Contents) (name sender : List ℕ) (s : Source) : Type 0 where
   pub caller : s.caller ≡ sender
   pub service : s.service ≡ name
-  pub strategy : option_map kept_strategy (seen c.desk name) ≡ Some s.strategy
+  pub bound : option_map kept_bound (seen c.desk name) ≡ Some s.bound
 
 -- Where each measurement has its run and its metric.
 
--- the strategy is that of this service
-abbrev pub IsStrategyOf : Contents → List ℕ → CheckedStrategy → Type 0
-IsStrategyOf c service strategy = option_map kept_strategy (seen c.desk service) ≡ Some strategy
+-- what this service is bound to
+abbrev pub IsBoundOf : Contents → List ℕ → BoundParts → Type 0
+IsBoundOf c service bound = option_map kept_bound (seen c.desk service) ≡ Some bound
 
 -- a run of a past is there
 pub record HasRun (p : Past) (number : ℕ) : Type 0 where
@@ -140,10 +140,10 @@ pub record HasRun (p : Past) (number : ℕ) : Type 0 where
   pub found : record_numbered p number ≡ Some kept
 
 -- a measurement is of a run that is there, and of a metric of it
-pub record IsPlaced (strategy : CheckedStrategy) (p : Past) (x : Recorded) : Type 0 where
+pub record IsPlaced (bound : BoundParts) (p : Past) (x : Recorded) : Type 0 where
   pub run : HasRun p x.run
   pub name : List ℕ
-  pub named : name_at (metrics_at strategy run.kept.step) x.metric ≡ Some name
+  pub named : name_at (metrics_at bound run.kept.step) x.metric ≡ Some name
 
-abbrev pub ArePlaced : CheckedStrategy → Past → List Recorded → Type 0
-ArePlaced strategy p xs = AllByRecursion (IsPlaced strategy p) xs
+abbrev pub ArePlaced : BoundParts → Past → List Recorded → Type 0
+ArePlaced bound p xs = AllByRecursion (IsPlaced bound p) xs

@@ -8,7 +8,7 @@ ghost use Rattle.canary_files.specs.Rows.{header};
 ghost use Rattle.canary_files.specs.Written.{record_text, row_fields, rows_text};
 ghost use Rattle.canary_files.specs.Exporting.{name_at, name_of, recorded_of, file_in, IsLatest};
 ghost use Rattle.canary_files.specs.Exporting.{Stays, Puts, Reads, IsSource, Tells, TellsPage};
-ghost use Rattle.canary_files.specs.Exporting.{IsExportFault, IsStrategyOf, ArePlaced, IsPlaced};
+ghost use Rattle.canary_files.specs.Exporting.{IsExportFault, IsBoundOf, ArePlaced, IsPlaced};
 ghost use Rattle.canary_files.specs.Exporting.{HasRun};
 
 use crate::records::Records;
@@ -18,7 +18,7 @@ use canary_base::lists::Listed;
 use canary_base::names::{Label, Name};
 use canary_base::numbers::Number;
 use canary_once::book::{Book, BookFault};
-use canary_plan::strategy::Strategy;
+use canary_plan::bound::Bound;
 use canary_release::effect::Recorded;
 use std::alloc::Global;
 use std::io::Write;
@@ -73,12 +73,13 @@ impl From<BookFault> for ExportFault {
     }
 }
 
-// Whose measurements are written, under which caller. The strategy has the names of the metrics.
+// Whose measurements are written, under which caller. What the service is bound to has the names of
+// the metrics.
 #[derive(Drop)]
 struct Source {
     caller: Name,
     service: Name,
-    strategy: Strategy,
+    bound: Bound,
 }
 
 // A run, by its number, and the step of its analysis, none for that of the background. That of the
@@ -141,7 +142,7 @@ fn source_of<B: Book>(book: &mut B, service: Name, caller: Name) -> Result<Sourc
         Some(found) => Ok(Source {
             caller,
             service,
-            strategy: found.strategy().copy()?,
+            bound: found.bound().copy()?,
         }),
     }
 }
@@ -167,7 +168,7 @@ fn write_rows<W: Write, B: Book>(
     ensures writes { (B.state book.new).is_honest
         → Puts (W.contents out.old) (W.contents out.new)
         (rows_text source.now.caller source.now.service
-        (name_of source.now.strategy
+        (name_of source.now.bound
         (past_of (B.state book.old).contents source.now.service))
         0 (recorded_of (B.state book.old).contents source.now.service)) result }
     ensures rows { (B.state book.new).is_honest → IfOk result (λ rows.
@@ -177,7 +178,7 @@ fn write_rows<W: Write, B: Book>(
         → IfErr result (TellsPage
         (length (recorded_of (B.state book.old).contents source.now.service))) }
     ensures sure { (B.state book.new).is_honest
-        → IsStrategyOf (B.state book.old).contents source.now.service source.now.strategy
+        → IsBoundOf (B.state book.old).contents source.now.service source.now.bound
         → IfErr result (IsExportFault (B.state book.old).is_sure) }
 {
     let mut rows = 0;
@@ -208,7 +209,7 @@ fn write_page<W: Write, B: Book>(
     ensures writes { (B.state book.new).is_honest
         → Puts (W.contents out.old) (W.contents out.new)
         (rows_text source.now.caller source.now.service
-        (name_of source.now.strategy
+        (name_of source.now.bound
         (past_of (B.state book.old).contents source.now.service))
         from (measurements_of (B.state book.old).contents source.now.service from 256))
         result }
@@ -220,7 +221,7 @@ fn write_page<W: Write, B: Book>(
         (from + length
         (measurements_of (B.state book.old).contents source.now.service from 256))) }
     ensures sure { (B.state book.new).is_honest
-        → IsStrategyOf (B.state book.old).contents source.now.service source.now.strategy
+        → IsBoundOf (B.state book.old).contents source.now.service source.now.bound
         → IfErr result (IsExportFault (B.state book.old).is_sure) }
 {
     let page = book.measurements(&source.service, from, PAGE)?;
@@ -244,12 +245,12 @@ fn write_measurements<W: Write, B: Book>(
     ensures writes { (B.state book.new).is_honest
         → Puts (W.contents out.old) (W.contents out.new)
         (rows_text source.now.caller source.now.service
-        (name_of source.now.strategy
+        (name_of source.now.bound
         (past_of (B.state book.old).contents source.now.service))
         from page.now) result }
     ensures rows { IfOk result (λ rows. (rows ≡ from + length page.now) × (rows ≤ MOST_ROWS)) }
     ensures why { IfErr result (TellsPage (from + length page.now)) }
-    ensures sure { (B.state book.new).is_honest → ArePlaced source.now.strategy
+    ensures sure { (B.state book.new).is_honest → ArePlaced source.now.bound
         (past_of (B.state book.old).contents source.now.service) page.now
         → IfErr result (IsExportFault (B.state book.old).is_sure) }
 {
@@ -275,10 +276,10 @@ fn rows_text<B: Book>(
     ensures latest { OnOk result
         (IsLatest (B.state book.new) source.now.service latest.new) }
     ensures reads { Reads (λ c. rows_text source.now.caller source.now.service
-        (name_of source.now.strategy (past_of c source.now.service)) from page.now)
+        (name_of source.now.bound (past_of c source.now.service)) from page.now)
         (B.state book.old) (B.state book.new) result }
     ensures why { IfErr result (TellsPage 0) }
-    ensures sure { (B.state book.new).is_honest → ArePlaced source.now.strategy
+    ensures sure { (B.state book.new).is_honest → ArePlaced source.now.bound
         (past_of (B.state book.old).contents source.now.service) page.now
         → IfErr result (IsExportFault (B.state book.old).is_sure) }
 {
@@ -304,10 +305,10 @@ fn with_row<B: Book>(
         (IsLatest (B.state book.new) source.now.service latest.new) }
     ensures reads { Reads (λ c. records ++ record_text
         (row_fields source.now.caller number source.now.service recorded.now
-        (name_of source.now.strategy (past_of c source.now.service) recorded.now)))
+        (name_of source.now.bound (past_of c source.now.service) recorded.now)))
         (B.state book.old) (B.state book.new) result }
     ensures why { IfErr result (TellsPage 0) }
-    ensures sure { (B.state book.new).is_honest → IsPlaced source.now.strategy
+    ensures sure { (B.state book.new).is_honest → IsPlaced source.now.bound
         (past_of (B.state book.old).contents source.now.service) recorded.now
         → IfErr result (IsExportFault (B.state book.old).is_sure) }
 {
@@ -327,16 +328,16 @@ fn metric_name<B: Book>(
     ensures latest { OnOk result
         (IsLatest (B.state book.new) source.now.service latest.new) }
     ensures reads { Reads
-        (λ c. name_of source.now.strategy (past_of c source.now.service) recorded.now)
+        (λ c. name_of source.now.bound (past_of c source.now.service) recorded.now)
         (B.state book.old) (B.state book.new) result }
     ensures why { IfErr result (TellsPage 0) }
-    ensures sure { (B.state book.new).is_honest → IsPlaced source.now.strategy
+    ensures sure { (B.state book.new).is_honest → IsPlaced source.now.bound
         (past_of (B.state book.old).contents source.now.service) recorded.now
         → IfErr result (IsExportFault (B.state book.old).is_sure) }
 {
     let placed = place_of(book, source, *latest, recorded.run)?;
     *latest = Some(placed);
-    match name_at(&source.strategy, placed.step, recorded.metric) {
+    match name_at(&source.bound, placed.step, recorded.metric) {
         Some(name) => Ok(name),
         None => Err(ExportFault::Storage),
     }
@@ -376,10 +377,10 @@ fn place_of<B: Book>(
 }
 
 // The name of the metric at a place of an analysis.
-fn name_at(strategy: &Strategy, step: Option<u32>, place: u32) -> Option<Label>
-    ensures { result ≡ name_at (metrics_at strategy.now step) place }
+fn name_at(bound: &Bound, step: Option<u32>, place: u32) -> Option<Label>
+    ensures { result ≡ name_at (metrics_at bound.now step) place }
 {
-    Some(strategy.metrics(step)?.get(place as usize)?.name())
+    Some(bound.metrics(step)?.get(place as usize)?.name())
 }
 
 // Writes a text whole.

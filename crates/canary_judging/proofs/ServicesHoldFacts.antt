@@ -5,7 +5,7 @@ use Rattle.std.proofs.lemmas.Option.{slice_get-map}
 use Rattle.canary_metric.specs.Metrics.{MetricValue}
 use Rattle.canary_metric.specs.Counts.{Counts}
 use Rattle.canary_plan.specs.declared.analysis_parts.AnalysisParts.{AnalysisParts}
-use Rattle.canary_plan.specs.declared.strategy.CheckedStrategy.{CheckedStrategy}
+use Rattle.canary_plan.specs.declared.bound.BoundParts.{BoundParts}
 use Rattle.canary_plan.specs.Fit.{no_analysis}
 use Rattle.canary_plan.specs.Plans.{analysis_at, analysis_or_none}
 use Rattle.canary_release.specs.declared.effect.Recorded.{Recorded}
@@ -26,18 +26,18 @@ metrics_of : (o : Option AnalysisParts) → unwrap_or (option_map (λ (a : Analy
 metrics_of None = refl
 metrics_of (Some a) = refl
 
-pub metrics_same : (plan : CheckedStrategy) (step : Option ℕ) → run_metrics plan step ≡ (analysis_or_none plan step).metrics
+pub metrics_same : (plan : BoundParts) (step : Option ℕ) → run_metrics plan step ≡ (analysis_or_none plan step).metrics
 metrics_same plan step = metrics_of (analysis_at plan step)
 
 analysis_there : (o : Option AnalysisParts) (metrics : List MetricValue) → option_map (λ (a : AnalysisParts). a.metrics) o ≡ Some metrics → o ≡ Some (unwrap_or o no_analysis)
 analysis_there None metrics e = absurd (cc)
 analysis_there (Some a) metrics e = refl
 
-abbrev pub analysed : CheckedStrategy → RunRecord → List MetricValue
+abbrev pub analysed : BoundParts → RunRecord → List MetricValue
 analysed plan r = (analysis_or_none plan r.step).metrics
 
--- a run of this strategy, among these measurements
-pub record IsRunOf (plan : CheckedStrategy) (xs : List Recorded) (number : ℕ) (r : RunRecord) : Type 0 where
+-- a run of what is bound, among these measurements
+pub record IsRunOf (plan : BoundParts) (xs : List Recorded) (number : ℕ) (r : RunRecord) : Type 0 where
   pub numbered : r.number ≡ number
   pub closed : IsReadableClosing r.number r.closed
   pub analysis : analysis_at plan r.step ≡ Some (analysis_or_none plan r.step)
@@ -45,29 +45,29 @@ pub record IsRunOf (plan : CheckedStrategy) (xs : List Recorded) (number : ℕ) 
   pub tallied : map counts_of (lists_in xs r.number 0 (length (analysed plan r))) ≡ r.tallies
   pub lists : (place : ℕ) (metric : MetricValue) → slice_get (analysed plan r) place ≡ Some metric → IsList r.number place metric (filter (is_of r.number place) xs)
 
-pub metrics_there : (plan : CheckedStrategy) (runs : List RunRecord) (place : ℕ) (r : RunRecord) → slice_get runs place ≡ Some r → slice_get (metrics_of_runs plan runs) place ≡ Some (analysed plan r)
+pub metrics_there : (plan : BoundParts) (runs : List RunRecord) (place : ℕ) (r : RunRecord) → slice_get runs place ≡ Some r → slice_get (metrics_of_runs plan runs) place ≡ Some (analysed plan r)
 metrics_there plan runs place r there =
     slice_get-map (λ (x : RunRecord). run_metrics plan x.step) runs place
     ∙ ap (option_map (λ (x : RunRecord). run_metrics plan x.step)) there
     ∙ ap (λ (ms : List MetricValue). Some ms) (metrics_same plan r.step)
 
-pub are_listed : CountingIsExact → (t : Tables) (row : ServiceRow) (j : IsServiceJudged t row) → AreListed (metrics_of_runs j.stand.strategy j.runs) j.measurements
-are_listed exact t row j = (exact (metrics_of_runs j.stand.strategy j.runs) j.measurements).0 j.counted
+pub are_listed : CountingIsExact → (t : Tables) (row : ServiceRow) (j : IsServiceJudged t row) → AreListed (metrics_of_runs j.stand.bound j.runs) j.measurements
+are_listed exact t row j = (exact (metrics_of_runs j.stand.bound j.runs) j.measurements).0 j.counted
 
 tallies_there : RunsAreTallied → (t : Tables) (row : ServiceRow) (j : IsServiceJudged t row) (place : ℕ) (r : RunRecord) → slice_get j.runs place ≡ Some r
-    → map counts_of (lists_in j.measurements (suc place) 0 (length (analysed j.stand.strategy r))) ≡ r.tallies
+    → map counts_of (lists_in j.measurements (suc place) 0 (length (analysed j.stand.bound r))) ≡ r.tallies
 tallies_there tallied t row j place r there =
-    let metrics : List (List MetricValue) = metrics_of_runs j.stand.strategy j.runs in
-    let lists : List (List Recorded) = lists_in j.measurements (suc place) 0 (length (analysed j.stand.strategy r)) in
-    let counted : slice_get (counted_all (none_counted metrics) j.measurements) place ≡ Some (map counts_of lists) = tallied metrics j.measurements place (analysed j.stand.strategy r) (metrics_there j.stand.strategy j.runs place r there) in
+    let metrics : List (List MetricValue) = metrics_of_runs j.stand.bound j.runs in
+    let lists : List (List Recorded) = lists_in j.measurements (suc place) 0 (length (analysed j.stand.bound r)) in
+    let counted : slice_get (counted_all (none_counted metrics) j.measurements) place ≡ Some (map counts_of lists) = tallied metrics j.measurements place (analysed j.stand.bound r) (metrics_there j.stand.bound j.runs place r there) in
     let own : slice_get (map (λ (x : RunRecord). x.tallies) j.runs) place ≡ Some r.tallies = slice_get-map (λ (x : RunRecord). x.tallies) j.runs place ∙ ap (option_map (λ (x : RunRecord). x.tallies)) there in
     let both : Some (map counts_of lists) ≡ Some r.tallies = sym counted ∙ ap (λ (ts : List (List Counts)). slice_get ts place) (sym j.tallied) ∙ own in
     cc both
 
 pub run_of_judged : CountingIsExact → RunsAreTallied → (t : Tables) (row : ServiceRow) (j : IsServiceJudged t row) (place : ℕ) (r : RunRecord) → slice_get j.runs place ≡ Some r
-    → IsRunOf j.stand.strategy j.measurements (suc place) r
+    → IsRunOf j.stand.bound j.measurements (suc place) r
 run_of_judged exact tallied t row j place r there =
-    let plan : CheckedStrategy = j.stand.strategy in
+    let plan : BoundParts = j.stand.bound in
     let number : r.number ≡ suc place = (j.each place r there).0 in
     let is : IsRunJudged t plan row.name r = (j.each place r there).1 in
     let listed : AreListed (metrics_of_runs plan j.runs) j.measurements = are_listed exact t row j in

@@ -6,13 +6,14 @@ use Rattle.std.specs.FinMap.{get}
 use Rattle.std.proofs.Math.Seq.{take-length}
 use Rattle.std.proofs.lemmas.List.{length-map}
 use Rattle.std.proofs.lemmas.Option.{slice_get-map}
+use Rattle.canary_plan.specs.declared.bound.BoundParts.{BoundParts}
 use Rattle.canary_plan.specs.declared.strategy.CheckedStrategy.{CheckedStrategy}
 use Rattle.canary_plan.specs.declared.service.ServiceSpec.{ServiceSpec}
 use Rattle.canary_plan.specs.declared.command.Command.{Command}
 use Rattle.canary_plan.specs.declared.command.Command.TheVariants as command
 use Rattle.canary_plan.specs.declared.line.Line.{Line}
 use Rattle.canary_plan.specs.Lines.{line_at}
-use Rattle.canary_plan.specs.Plans.{Templates, strategy_of, analysis_or_none}
+use Rattle.canary_plan.specs.Plans.{Templates, strategy_of, bound_of, analysis_or_none}
 use Rattle.canary_canonical.specs.Readings.{canonical_in}
 use Rattle.canary_release.specs.declared.effect.Recorded.{Recorded}
 use Rattle.canary_release.specs.declared.effect.Closing.{Closing}
@@ -37,9 +38,10 @@ use Rattle.canary_judging.proofs.RowTexts.{state_again, hold_again, truth_again}
 
 -- How a service stands.
 
-record IsStandFrom (name : List ℕ) (plan : CheckedStrategy) (s : Standing) (a : Option State) (h : Option (Bool × Bool)) (b : Option Bool) (x : Stand) : Type 0 where
+record IsStandFrom (name : List ℕ) (plan : CheckedStrategy) (to : BoundParts) (s : Standing) (a : Option State) (h : Option (Bool × Bool)) (b : Option Bool) (x : Stand) : Type 0 where
   named : x.name ≡ name
   strategy : x.strategy ≡ plan
+  bound : x.bound ≡ to
   stable : x.stable ≡ s.stable
   version : x.version ≡ s.version
   state : a ≡ Some x.state
@@ -49,14 +51,15 @@ record IsStandFrom (name : List ℕ) (plan : CheckedStrategy) (s : Standing) (a 
   background : b ≡ Some x.background
   last : x.last ≡ s.last
 
-of_stand : (name : List ℕ) (plan : CheckedStrategy) (s : Standing) (a : Option State) (h : Option (Bool × Bool)) (b : Option Bool) (x : Stand) → stand_from name plan s a h b ≡ Some x → IsStandFrom name plan s a h b x
-of_stand name plan s None h b x e = absurd (cc)
-of_stand name plan s (Some state) None b x e = absurd (cc)
-of_stand name plan s (Some state) (Some hold) None x e = absurd (cc)
-of_stand name plan s (Some state) (Some hold) (Some background) x e =
+of_stand : (name : List ℕ) (plan : CheckedStrategy) (to : BoundParts) (s : Standing) (a : Option State) (h : Option (Bool × Bool)) (b : Option Bool) (x : Stand) → stand_from name plan to s a h b ≡ Some x → IsStandFrom name plan to s a h b x
+of_stand name plan to s None h b x e = absurd (cc)
+of_stand name plan to s (Some state) None b x e = absurd (cc)
+of_stand name plan to s (Some state) (Some hold) None x e = absurd (cc)
+of_stand name plan to s (Some state) (Some hold) (Some background) x e =
     let made : Stand = record {
       name = name;
       strategy = plan;
+      bound = to;
       stable = s.stable;
       version = s.version;
       state = state;
@@ -68,9 +71,10 @@ of_stand name plan s (Some state) (Some hold) (Some background) x e =
       last = s.last;
     } in
     let same : made ≡ x = cc e in
-    subst (IsStandFrom name plan s (Some state) (Some hold) (Some background)) same (record {
+    subst (IsStandFrom name plan to s (Some state) (Some hold) (Some background)) same (record {
       named = refl;
       strategy = refl;
+      bound = refl;
       stable = refl;
       version = refl;
       state = refl;
@@ -82,20 +86,22 @@ of_stand name plan s (Some state) (Some hold) (Some background) x e =
     })
 
 -- what is read of a standing is written as it is
-pub record IsStanding (name : List ℕ) (plan : CheckedStrategy) (s : Standing) (x : Stand) : Type 0 where
+pub record IsStanding (name : List ℕ) (plan : CheckedStrategy) (to : BoundParts) (s : Standing) (x : Stand) : Type 0 where
   pub named : x.name ≡ name
   pub strategy : x.strategy ≡ plan
+  pub bound : x.bound ≡ to
   pub again : standing_of x s.runs ≡ s
 
-pub stand_again : (name : List ℕ) (plan : CheckedStrategy) (s : Standing) (x : Stand) → stand_of name plan s ≡ Some x → IsStanding name plan s x
-stand_again name plan s x e =
-    let of : IsStandFrom name plan s (state_of s.state) (hold_of s.hold) (truth_of s.background) x = of_stand name plan s (state_of s.state) (hold_of s.hold) (truth_of s.background) x e in
+pub stand_again : (name : List ℕ) (plan : CheckedStrategy) (to : BoundParts) (s : Standing) (x : Stand) → stand_of name plan to s ≡ Some x → IsStanding name plan to s x
+stand_again name plan to s x e =
+    let of : IsStandFrom name plan to s (state_of s.state) (hold_of s.hold) (truth_of s.background) x = of_stand name plan to s (state_of s.state) (hold_of s.hold) (truth_of s.background) x e in
     let state : state_number x.state ≡ s.state = state_again s.state x.state of.state in
     let hold : hold_number x.step_hold x.background_hold ≡ s.hold = hold_again s.hold (x.step_hold, x.background_hold) of.hold in
     let background : bit x.background ≡ s.background = truth_again s.background x.background of.background in
     record {
       named = of.named;
       strategy = of.strategy;
+      bound = of.bound;
       again = λ i. record {
         stable = of.stable i;
         version = of.version i;
@@ -137,12 +143,12 @@ closing_back number None readable = refl
 closing_back number (Some x) readable = (λ i. closing_from number x.at (truth_back x.outside i) (readable.1 i)) ∙ (λ i. Some (Some (record x { run = sym readable.0 i })))
 
 -- the run of a record, among these measurements
-abbrev pub run_made : CheckedStrategy → List Recorded → RunRecord → Run
+abbrev pub run_made : BoundParts → List Recorded → RunRecord → Run
 run_made plan measurements r =
     let analysis = analysis_or_none plan r.step in
     record { number = r.number; step = r.step; analysis = analysis; started = r.started; closed = r.closed; lists = lists_in measurements r.number 0 (length analysis.metrics) }
 
-run_again : (name : List ℕ) (plan : CheckedStrategy) (xs : List Recorded) (r : RunRecord) → IsReadableClosing r.number r.closed → run_of_row plan xs (row_of_record name r) ≡ Some (run_made plan xs r)
+run_again : (name : List ℕ) (plan : BoundParts) (xs : List Recorded) (r : RunRecord) → IsReadableClosing r.number r.closed → run_of_row plan xs (row_of_record name r) ≡ Some (run_made plan xs r)
 run_again name plan xs r readable = λ i. run_from xs (analysis_or_none plan r.step) (row_of_record name r) (closing_back r.number r.closed readable i)
 
 take-one : {A : Type 0} (n : ℕ) (xs : List A) (x : A) → slice_get xs n ≡ Some x → take n xs ++ x ∷ [] ≡ take (suc n) xs
@@ -154,7 +160,7 @@ take-one (suc n) (y ∷ ys) x e = ap (λ (zs : List _). y ∷ zs) (take-one n ys
 abbrev pub HaveRunRows : List RunRow → List ℕ → List RunRecord → Type 0
 HaveRunRows rows name runs = (place : ℕ) (r : RunRecord) → slice_get runs place ≡ Some r → (filter (is_run name (suc place)) rows ≡ row_of_record name r ∷ []) × IsReadableClosing r.number r.closed
 
-runs_taken : (plan : CheckedStrategy) (xs : List Recorded) (rows : List RunRow) (name : List ℕ) (runs : List RunRecord) → HaveRunRows rows name runs → (n : ℕ) → n ≤ length runs
+runs_taken : (plan : BoundParts) (xs : List Recorded) (rows : List RunRow) (name : List ℕ) (runs : List RunRecord) → HaveRunRows rows name runs → (n : ℕ) → n ≤ length runs
     → runs_to plan xs rows name n ≡ take n (map (run_made plan xs) runs)
 runs_taken plan xs rows name runs have zero few = refl
 runs_taken plan xs rows name runs have (suc n) few =
@@ -165,7 +171,7 @@ runs_taken plan xs rows name runs have (suc n) few =
     (λ i. runs_taken plan xs rows name runs have n (omega arith) i ++ one i)
     ∙ take-one n (map (run_made plan xs) runs) made (slice_get-map (run_made plan xs) runs n ∙ ap (option_map (run_made plan xs)) h.there)
 
-pub runs_again : (plan : CheckedStrategy) (xs : List Recorded) (rows : List RunRow) (name : List ℕ) (runs : List RunRecord) → HaveRunRows rows name runs → runs_to plan xs rows name (length runs) ≡ map (run_made plan xs) runs
+pub runs_again : (plan : BoundParts) (xs : List Recorded) (rows : List RunRow) (name : List ℕ) (runs : List RunRecord) → HaveRunRows rows name runs → runs_to plan xs rows name (length runs) ≡ map (run_made plan xs) runs
 runs_again plan xs rows name runs have =
     runs_taken plan xs rows name runs have (length runs) (omega arith)
     ∙ ap (λ n. take n (map (run_made plan xs) runs)) (sym (length-map runs (run_made plan xs)))
@@ -182,7 +188,7 @@ lines_again name (line ∷ lines) all =
 -- The whole.
 
 abbrev pub past_judged : {t : Tables} {row : ServiceRow} → IsServiceJudged t row → Past
-past_judged j = record { runs = map (run_made j.stand.strategy j.measurements) j.runs; measurements = j.measurements; history = j.history }
+past_judged j = record { runs = map (run_made j.stand.bound j.measurements) j.runs; measurements = j.measurements; history = j.history }
 
 abbrev pub service_judged : {t : Tables} {row : ServiceRow} → IsServiceJudged t row → ModelService
 service_judged j = record { made = j.made; stand = j.stand; past = past_judged j }
@@ -190,17 +196,17 @@ service_judged j = record { made = j.made; stand = j.stand; past = past_judged j
 abbrev pub known_of : Tables → Templates
 known_of t = get (contents_of t).desk.templates
 
-pub standing_judged : (t : Tables) (row : ServiceRow) (j : IsServiceJudged t row) → IsStanding row.name (strategy_of (known_of t) j.made) row.standing j.stand
-standing_judged t row j = stand_again row.name (strategy_of (known_of t) j.made) row.standing j.stand j.stands
+pub standing_judged : (t : Tables) (row : ServiceRow) (j : IsServiceJudged t row) → IsStanding row.name (strategy_of j.made) (bound_of (known_of t) (strategy_of j.made)) row.standing j.stand
+standing_judged t row j = stand_again row.name (strategy_of j.made) (bound_of (known_of t) (strategy_of j.made)) row.standing j.stand j.stands
 
 pub have_run_rows : (t : Tables) (row : ServiceRow) (j : IsServiceJudged t row) → HaveRunRows t.runs row.name j.runs
 have_run_rows t row j place r there =
     let is = j.each place r there in
     (subst (λ n. filter (is_run row.name n) t.runs ≡ row_of_record row.name r ∷ []) is.0 is.1.one, is.1.closed)
 
-past_again : (t : Tables) (row : ServiceRow) (j : IsServiceJudged t row) → past_in t row.name j.stand.strategy row.standing.runs ≡ past_judged j
+past_again : (t : Tables) (row : ServiceRow) (j : IsServiceJudged t row) → past_in t row.name j.stand.bound row.standing.runs ≡ past_judged j
 past_again t row j =
-    let plan : CheckedStrategy = j.stand.strategy in
+    let plan : BoundParts = j.stand.bound in
     let measurements : measurements_in t.measurements row.name ≡ j.measurements = j.read.values in
     let history : history_in t.history row.name ≡ j.history = ap (filter_map line_of_row) j.told ∙ lines_again row.name j.history j.lines in
     let many : row.standing.runs ≡ length j.runs = sym j.as_many in
@@ -210,11 +216,11 @@ past_again t row j =
 
 pub service_read : (t : Tables) (row : ServiceRow) (j : IsServiceJudged t row) → service_of_row (known_of t) t row ≡ Some (service_judged j)
 service_read t row j =
-    let plan : CheckedStrategy = strategy_of (known_of t) j.made in
-    let s : IsStanding row.name plan row.standing j.stand = standing_judged t row j in
+    let plan : BoundParts = bound_of (known_of t) (strategy_of j.made) in
+    let s : IsStanding row.name (strategy_of j.made) plan row.standing j.stand = standing_judged t row j in
     ap (option_and_then (service_made (known_of t) t row)) j.is
     ∙ ap (service_from t row j.made plan) j.stands
-    ∙ (λ i. Some (record { made = j.made; stand = j.stand; past = past_in t row.name (sym s.strategy i) row.standing.runs }))
+    ∙ (λ i. Some (record { made = j.made; stand = j.stand; past = past_in t row.name (sym s.bound i) row.standing.runs }))
     ∙ (λ i. Some (record { made = j.made; stand = j.stand; past = past_again t row j i }))
 
 pub made_readable : (t : Tables) (row : ServiceRow) (j : IsServiceJudged t row) → IsReadableCommand (command.Service j.made)
@@ -222,7 +228,7 @@ made_readable t row j = still_canonical row.spec (command.Service j.made) (of_ma
 
 pub row_again : (t : Tables) (row : ServiceRow) (j : IsServiceJudged t row) → service_row row.name (service_judged j) ≡ row
 row_again t row j =
-    let s : IsStanding row.name (strategy_of (known_of t) j.made) row.standing j.stand = standing_judged t row j in
-    let many : length (map (run_made j.stand.strategy j.measurements) j.runs) ≡ row.standing.runs = length-map j.runs (run_made j.stand.strategy j.measurements) ∙ j.as_many in
+    let s : IsStanding row.name (strategy_of j.made) (bound_of (known_of t) (strategy_of j.made)) row.standing j.stand = standing_judged t row j in
+    let many : length (map (run_made j.stand.bound j.measurements) j.runs) ≡ row.standing.runs = length-map j.runs (run_made j.stand.bound j.measurements) ∙ j.as_many in
     let text = canonical_text row.spec (command.Service j.made) (of_made (canonical_in row.spec) j.made j.is).command in
     (λ i. record { name = row.name; spec = text i; standing = standing_of j.stand (many i) }) ∙ (λ i. record { name = row.name; spec = row.spec; standing = s.again i })

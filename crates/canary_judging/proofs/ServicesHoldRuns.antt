@@ -121,13 +121,13 @@ runs_under : (t : Tables) (row : ServiceRow) (s : IsServiceAlone t row) (number 
 runs_under t row s zero = sym (numbered_of t row.name 0) ∙ s.alone 0 (inl (omega arith))
 runs_under t row s (suc place) =
     let j : IsServiceJudged t row = s.judged in
-    let runs : List Run = map (run_made j.stand.strategy j.measurements) j.runs in
-    let many : length runs ≡ length j.runs = length-map j.runs (run_made j.stand.strategy j.measurements) in
+    let runs : List Run = map (run_made j.stand.bound j.measurements) j.runs in
+    let many : length runs ≡ length j.runs = length-map j.runs (run_made j.stand.bound j.measurements) in
     let all : length j.runs ≡ row.standing.runs = j.as_many in
     elim (below_or place (length j.runs)) as (λ x. filter (is_run row.name (suc place)) t.runs ≡ row_if (run_row row.name) (slice_get runs place)) [
       | inl below ↦
           let h : HasPlace j.runs place = has_place j.runs place below in
-          let there : slice_get runs place ≡ Some (run_made j.stand.strategy j.measurements h.value) = slice_get-map (run_made j.stand.strategy j.measurements) j.runs place ∙ ap (option_map (run_made j.stand.strategy j.measurements)) h.there in
+          let there : slice_get runs place ≡ Some (run_made j.stand.bound j.measurements h.value) = slice_get-map (run_made j.stand.bound j.measurements) j.runs place ∙ ap (option_map (run_made j.stand.bound j.measurements)) h.there in
           (have_run_rows t row j place h.value h.there).0 ∙ ap (row_if (run_row row.name)) (sym there)
       | inr above ↦
           sym (numbered_of t row.name (suc place)) ∙ s.alone (suc place) (inr (omega arith))

@@ -9,8 +9,8 @@ use Rattle.std.proofs.lemmas.Option.{slice_get-map}
 use Rattle.canary_metric.specs.Metrics.{MetricValue}
 use Rattle.canary_metric.specs.Counts.{Counts, counts}
 use Rattle.canary_metric.specs.Verdicts.{verdict_of_counts}
-use Rattle.canary_plan.specs.declared.strategy.CheckedStrategy.{CheckedStrategy}
-use Rattle.canary_plan.specs.Plans.{strategy_of, analysis_at, analysis_or_none}
+use Rattle.canary_plan.specs.declared.bound.BoundParts.{BoundParts}
+use Rattle.canary_plan.specs.Plans.{strategy_of, bound_of, analysis_at, analysis_or_none}
 use Rattle.canary_release.specs.declared.effect.Recorded.{Recorded}
 use Rattle.canary_release.specs.declared.effect.Closing.{Closing}
 use Rattle.canary_release.specs.declared.runs.Runs.{Runs}
@@ -35,28 +35,28 @@ use Rattle.canary_judging.proofs.ServicesHoldLists.{measurements_under}
 
 -- Runs one after another, the first of these having this number.
 
-abbrev AreRunsOf : CheckedStrategy → List Recorded → ℕ → List RunRecord → Type 0
+abbrev AreRunsOf : BoundParts → List Recorded → ℕ → List RunRecord → Type 0
 AreRunsOf plan xs number [] = Unit {0}
 AreRunsOf plan xs number (r ∷ rs) = IsRunOf plan xs number r × AreRunsOf plan xs (suc number) rs
 
-in_turn : (plan : CheckedStrategy) (xs : List Recorded) (first : ℕ) (runs : List RunRecord) → ((place : ℕ) (r : RunRecord) → slice_get runs place ≡ Some r → IsRunOf plan xs (first + place) r) → AreRunsOf plan xs first runs
+in_turn : (plan : BoundParts) (xs : List Recorded) (first : ℕ) (runs : List RunRecord) → ((place : ℕ) (r : RunRecord) → slice_get runs place ≡ Some r → IsRunOf plan xs (first + place) r) → AreRunsOf plan xs first runs
 in_turn plan xs first [] each = tt
 in_turn plan xs first (r ∷ rs) each = (
   subst (λ n. IsRunOf plan xs n r) (let e : first + 0 ≡ first = omega arith in e) (each 0 r refl),
   in_turn plan xs (suc first) rs (λ place x there. subst (λ n. IsRunOf plan xs n x) (let e : first + suc place ≡ suc first + place = omega arith in e) (each (suc place) x there)),
 )
 
-runs_of_judged : CountingIsExact → RunsAreTallied → (t : Tables) (row : ServiceRow) (j : IsServiceJudged t row) → AreRunsOf j.stand.strategy j.measurements 1 j.runs
+runs_of_judged : CountingIsExact → RunsAreTallied → (t : Tables) (row : ServiceRow) (j : IsServiceJudged t row) → AreRunsOf j.stand.bound j.measurements 1 j.runs
 runs_of_judged exact tallied t row j =
-    in_turn j.stand.strategy j.measurements 1 j.runs (λ place r there. subst (λ n. IsRunOf j.stand.strategy j.measurements n r) (let e : suc place ≡ 1 + place = omega arith in e) (run_of_judged exact tallied t row j place r there))
+    in_turn j.stand.bound j.measurements 1 j.runs (λ place r there. subst (λ n. IsRunOf j.stand.bound j.measurements n r) (let e : suc place ≡ 1 + place = omega arith in e) (run_of_judged exact tallied t row j place r there))
 
 -- what holds of each run holds of all that are made of them
-each_made : (plan : CheckedStrategy) (xs : List Recorded) (P : Run → Type 0) → ((number : ℕ) (r : RunRecord) → IsRunOf plan xs number r → P (run_made plan xs r)) → (first : ℕ) (runs : List RunRecord) → AreRunsOf plan xs first runs
+each_made : (plan : BoundParts) (xs : List Recorded) (P : Run → Type 0) → ((number : ℕ) (r : RunRecord) → IsRunOf plan xs number r → P (run_made plan xs r)) → (first : ℕ) (runs : List RunRecord) → AreRunsOf plan xs first runs
     → AllByRecursion P (map (run_made plan xs) runs)
 each_made plan xs P so first [] all = tt
 each_made plan xs P so first (r ∷ rs) all = (so first r all.0, each_made plan xs P so (suc first) rs all.1)
 
-numbered_from : (plan : CheckedStrategy) (xs : List Recorded) (first : ℕ) (runs : List RunRecord) → AreRunsOf plan xs first runs → AreNumbered first (map (run_made plan xs) runs)
+numbered_from : (plan : BoundParts) (xs : List Recorded) (first : ℕ) (runs : List RunRecord) → AreRunsOf plan xs first runs → AreNumbered first (map (run_made plan xs) runs)
 numbered_from plan xs first [] all = tt
 numbered_from plan xs first (r ∷ rs) all = (all.0.numbered, numbered_from plan xs (suc first) rs all.1)
 
@@ -77,15 +77,15 @@ so_many : (xs : List Recorded) (run k n : ℕ) → length (lists_in xs run k n) 
 so_many xs run k zero = refl
 so_many xs run k (suc n) = ap suc (so_many xs run (suc k) n)
 
-is_run : (s : ModelService) (plan : CheckedStrategy) (xs : List Recorded) → s.stand.strategy ≡ plan → s.past.measurements ≡ xs → (number : ℕ) (r : RunRecord) → IsRunOf plan xs number r → IsRun s (run_made plan xs r)
-is_run s plan xs strategy measured number r of =
+is_run : (s : ModelService) (plan : BoundParts) (xs : List Recorded) → s.stand.bound ≡ plan → s.past.measurements ≡ xs → (number : ℕ) (r : RunRecord) → IsRunOf plan xs number r → IsRun s (run_made plan xs r)
+is_run s plan xs to measured number r of =
     let metrics : List MetricValue = analysed plan r in
     let lists : AreLists xs r.number 0 (lists_in xs r.number 0 (length metrics)) = are_lists xs r.number 0 (length metrics) (λ place below.
     let h : HasPlace metrics place = has_place metrics place below in
     let l : IsList r.number place h.value (filter (is_of r.number place) xs) = of.lists place h.value h.there in
     subst (λ m. AreOrdered r.number m 1 (filter (is_of r.number m) xs) × (length (filter (is_of r.number m) xs) ≤ 1000000)) (let e : place ≡ 0 + place = omega arith in e) (l.ordered, l.few)) in
     record {
-      analysis = subst (λ p. analysis_at p r.step ≡ Some (analysis_or_none plan r.step)) (sym strategy) of.analysis;
+      analysis = subst (λ p. analysis_at p r.step ≡ Some (analysis_or_none plan r.step)) (sym to) of.analysis;
       one_each = so_many xs r.number 0 (length metrics);
       lists = subst (λ ys. AreLists ys r.number 0 (lists_in xs r.number 0 (length metrics))) (sym measured) lists;
     }
@@ -112,7 +112,7 @@ has_verdict run tallies (Some x) same closed v = (
   v.1,
 )
 
-is_sound_run : (plan : CheckedStrategy) (xs : List Recorded) (number : ℕ) (r : RunRecord) → IsRunOf plan xs number r → IsSoundRun (run_made plan xs r)
+is_sound_run : (plan : BoundParts) (xs : List Recorded) (number : ℕ) (r : RunRecord) → IsRunOf plan xs number r → IsSoundRun (run_made plan xs r)
 is_sound_run plan xs number r of = (
   are_judged xs r.number 0 (analysed plan r) (λ place metric there.
       subst (λ m. AllByRecursion (IsJudgedBy metric) (filter (is_of r.number m) xs)) (let e : place ≡ 0 + place = omega arith in e) (of.lists place metric there).judged),
@@ -121,13 +121,13 @@ is_sound_run plan xs number r of = (
 
 pub runs_sound : CountingIsExact → RunsAreTallied → (t : Tables) (row : ServiceRow) (j : IsServiceJudged t row) → AllByRecursion IsSoundRun (service_judged j).past.runs
 runs_sound exact tallied t row j =
-    each_made j.stand.strategy j.measurements IsSoundRun (λ number r of. is_sound_run j.stand.strategy j.measurements number r of) 1 j.runs (runs_of_judged exact tallied t row j)
+    each_made j.stand.bound j.measurements IsSoundRun (λ number r of. is_sound_run j.stand.bound j.measurements number r of) 1 j.runs (runs_of_judged exact tallied t row j)
 
 -- What is read back.
 
 pub past_readable : CountingIsExact → RunsAreTallied → (t : Tables) (row : ServiceRow) (j : IsServiceJudged t row) → IsReadablePast (service_judged j).past
 past_readable exact tallied t row j = record {
-  runs = each_made j.stand.strategy j.measurements IsReadableRun (λ number r of. of.closed) 1 j.runs (runs_of_judged exact tallied t row j);
+  runs = each_made j.stand.bound j.measurements IsReadableRun (λ number r of. of.closed) 1 j.runs (runs_of_judged exact tallied t row j);
   measurements = (measurements_under t row j).1;
   history = j.lines;
 }
@@ -149,7 +149,7 @@ all_pass : {X : Type 0} (p : X → Bool) (xs : List X) → AllByRecursion (λ x.
 all_pass p [] all = refl
 all_pass p (x ∷ xs) all = λ i. all.0 i && all_pass p xs all.1 i
 
-measured_at : (plan : CheckedStrategy) (xs : List Recorded) (runs : List RunRecord) (place : ℕ) (x : Recorded) (metric : MetricValue) (o : Option RunRecord) → slice_get runs place ≡ o → x.run ≡ suc place
+measured_at : (plan : BoundParts) (xs : List Recorded) (runs : List RunRecord) (place : ℕ) (x : Recorded) (metric : MetricValue) (o : Option RunRecord) → slice_get runs place ≡ o → x.run ≡ suc place
     → ((r : RunRecord) → slice_get runs place ≡ Some r → r.number ≡ suc place) → at_metric x.metric (option_map (λ (r : RunRecord). run_metrics plan r.step) o) ≡ Some metric
     → is_of_some (map (run_made plan xs) runs) x ≡ true
 measured_at plan xs runs place x metric None there run numbered planned = absurd (cc)
@@ -161,7 +161,7 @@ measured_at plan xs runs place x metric (Some r) there run numbered planned =
     let within : nat_lt x.metric (length made.lists) ≡ true = lt-ltb x.metric (length made.lists) (omega arith) in
     some_passes (is_measured_by x) (map (run_made plan xs) runs) place made (slice_get-map (run_made plan xs) runs place ∙ ap (option_map (run_made plan xs)) there) (λ i. own i && within i)
 
-measured_by : (plan : CheckedStrategy) (xs : List Recorded) (runs : List RunRecord) (run : ℕ) (x : Recorded) (metric : MetricValue) → x.run ≡ run → ((place : ℕ) (r : RunRecord) → slice_get runs place ≡ Some r → r.number ≡ suc place)
+measured_by : (plan : BoundParts) (xs : List Recorded) (runs : List RunRecord) (run : ℕ) (x : Recorded) (metric : MetricValue) → x.run ≡ run → ((place : ℕ) (r : RunRecord) → slice_get runs place ≡ Some r → r.number ≡ suc place)
     → of_metric run x.metric (metrics_of_runs plan runs) ≡ Some metric → is_of_some (map (run_made plan xs) runs) x ≡ true
 measured_by plan xs runs zero x metric run numbered planned = absurd (cc)
 measured_by plan xs runs (suc place) x metric run numbered planned =
@@ -169,13 +169,13 @@ measured_by plan xs runs (suc place) x metric run numbered planned =
 
 all_measured : CountingIsExact → (t : Tables) (row : ServiceRow) (j : IsServiceJudged t row) → list_all (is_of_some (service_judged j).past.runs) j.measurements ≡ true
 all_measured exact t row j =
-    let plan : CheckedStrategy = j.stand.strategy in
+    let plan : BoundParts = j.stand.bound in
     all_pass (is_of_some (service_judged j).past.runs) j.measurements
     (weaker (IsOfMetric (metrics_of_runs plan j.runs)) (λ x. is_of_some (service_judged j).past.runs x ≡ true) (λ x h. measured_by plan j.measurements j.runs x.run x h.metric refl (λ place r there. (j.each place r there).0) h.planned) j.measurements (are_listed exact t row j).placed)
 
 -- What is watched.
 
-open_same : (plan : CheckedStrategy) (xs : List Recorded) (first : ℕ) (runs : List RunRecord) → AreRunsOf plan xs first runs → map tallied (filter is_open (map (run_made plan xs) runs)) ≡ open_runs_in plan runs
+open_same : (plan : BoundParts) (xs : List Recorded) (first : ℕ) (runs : List RunRecord) → AreRunsOf plan xs first runs → map tallied (filter is_open (map (run_made plan xs) runs)) ≡ open_runs_in plan runs
 open_same plan xs first [] all = refl
 open_same plan xs first (r ∷ rs) all =
     let rest : map tallied (filter is_open (map (run_made plan xs) rs)) ≡ open_runs_in plan rs = open_same plan xs (suc first) rs all.1 in
@@ -185,24 +185,25 @@ open_same plan xs first (r ∷ rs) all =
       | false ↦ rest
     ]
 
-watched_same : CountingIsExact → RunsAreTallied → (t : Tables) (row : ServiceRow) (j : IsServiceJudged t row) → watched (service_judged j).past ≡ record { count = length j.runs; open_runs = open_runs_in j.stand.strategy j.runs }
+watched_same : CountingIsExact → RunsAreTallied → (t : Tables) (row : ServiceRow) (j : IsServiceJudged t row) → watched (service_judged j).past ≡ record { count = length j.runs; open_runs = open_runs_in j.stand.bound j.runs }
 watched_same exact tallied t row j =
-    let count = length-map j.runs (run_made j.stand.strategy j.measurements) in
-    let open_runs = open_same j.stand.strategy j.measurements 1 j.runs (runs_of_judged exact tallied t row j) in
+    let count = length-map j.runs (run_made j.stand.bound j.measurements) in
+    let open_runs = open_same j.stand.bound j.measurements 1 j.runs (runs_of_judged exact tallied t row j) in
     λ i. record { count = count i; open_runs = open_runs i }
 
 -- In order.
 
 pub in_order : CountingIsExact → RunsAreTallied → (t : Tables) (row : ServiceRow) (j : IsServiceJudged t row) → IsInOrder (known_of t) row.name (service_judged j)
 in_order exact tallied t row j =
-    let plan : CheckedStrategy = j.stand.strategy in
-    let s : IsStanding row.name (strategy_of (known_of t) j.made) row.standing j.stand = standing_judged t row j in
+    let plan : BoundParts = j.stand.bound in
+    let s : IsStanding row.name (strategy_of j.made) (bound_of (known_of t) (strategy_of j.made)) row.standing j.stand = standing_judged t row j in
     let runs : AreRunsOf plan j.measurements 1 j.runs = runs_of_judged exact tallied t row j in
     record {
       named = j.named;
       shown = s.named;
       strategy = s.strategy;
       accepted = j.accepted;
+      bound = s.bound ∙ ap (bound_of (known_of t)) (sym s.strategy);
       numbered = numbered_from plan j.measurements 1 j.runs runs;
       runs = each_made plan j.measurements (IsRun (service_judged j)) (λ number r of. is_run (service_judged j) plan j.measurements refl refl number r of) 1 j.runs runs;
       measured = all_measured exact t row j;

@@ -149,11 +149,11 @@ if_mapped row f None = refl
 if_mapped row f (Some x) = refl
 
 under_made : CountingIsExact → RunsAreTallied → (t : Tables) (row : ServiceRow) (j : IsServiceJudged t row) (place metric : ℕ) (r : RunRecord) → slice_get j.runs place ≡ Some r
-    → filter (is_tally row.name (suc place) metric) t.tallies ≡ tally_rows_of row.name (suc place) metric (Some (run_made j.stand.strategy j.measurements r))
+    → filter (is_tally row.name (suc place) metric) t.tallies ≡ tally_rows_of row.name (suc place) metric (Some (run_made j.stand.bound j.measurements r))
 under_made exact tallied t row j place metric r there =
-    let is : IsRunJudged t j.stand.strategy row.name r = (j.each place r there).1 in
-    let of : IsRunOf j.stand.strategy j.measurements (suc place) r = run_of_judged exact tallied t row j place r there in
-    let made : Run = run_made j.stand.strategy j.measurements r in
+    let is : IsRunJudged t j.stand.bound row.name r = (j.each place r there).1 in
+    let of : IsRunOf j.stand.bound j.measurements (suc place) r = run_of_judged exact tallied t row j place r there in
+    let made : Run = run_made j.stand.bound j.measurements r in
     let number : r.number ≡ suc place = of.numbered in
     let own : filter (is_tally row.name (suc place) metric) t.tallies ≡ row_if (tally_row row.name (suc place) metric) (slice_get r.tallies metric) =
     subst (λ n. filter (is_tally row.name n metric) t.tallies ≡ row_if (tally_row row.name n metric) (slice_get r.tallies metric)) number (under_run t row.name r.number r.tallies is.tallies is.no_more metric) in
@@ -172,15 +172,15 @@ no_run_at t judged q number metric runs are none =
     ∙ ap (tally_rows_of q number metric) (sym none)
 
 tallies_under : CountingIsExact → RunsAreTallied → (t : Tables) → AreServicesJudged t → (row : ServiceRow) (j : IsServiceJudged t row) (number metric : ℕ)
-    → filter (is_tally row.name number metric) t.tallies ≡ tally_rows row.name number metric (map (run_made j.stand.strategy j.measurements) j.runs)
-tallies_under exact tallied t judged row j zero metric = no_run_at t judged row.name 0 metric (map (run_made j.stand.strategy j.measurements) j.runs) (ap (λ (p : Past). p.runs) (past_there t row j)) refl
+    → filter (is_tally row.name number metric) t.tallies ≡ tally_rows row.name number metric (map (run_made j.stand.bound j.measurements) j.runs)
+tallies_under exact tallied t judged row j zero metric = no_run_at t judged row.name 0 metric (map (run_made j.stand.bound j.measurements) j.runs) (ap (λ (p : Past). p.runs) (past_there t row j)) refl
 tallies_under exact tallied t judged row j (suc place) metric =
-    let runs : List Run = map (run_made j.stand.strategy j.measurements) j.runs in
-    let many : length runs ≡ length j.runs = length-map j.runs (run_made j.stand.strategy j.measurements) in
+    let runs : List Run = map (run_made j.stand.bound j.measurements) j.runs in
+    let many : length runs ≡ length j.runs = length-map j.runs (run_made j.stand.bound j.measurements) in
     elim (below_or place (length j.runs)) as (λ x. filter (is_tally row.name (suc place) metric) t.tallies ≡ tally_rows row.name (suc place) metric runs) [
       | inl below ↦
           let h : HasPlace j.runs place = has_place j.runs place below in
-          let there : slice_get runs place ≡ Some (run_made j.stand.strategy j.measurements h.value) = slice_get-map (run_made j.stand.strategy j.measurements) j.runs place ∙ ap (option_map (run_made j.stand.strategy j.measurements)) h.there in
+          let there : slice_get runs place ≡ Some (run_made j.stand.bound j.measurements h.value) = slice_get-map (run_made j.stand.bound j.measurements) j.runs place ∙ ap (option_map (run_made j.stand.bound j.measurements)) h.there in
           under_made exact tallied t row j place metric h.value h.there ∙ ap (tally_rows_of row.name (suc place) metric) (sym there)
       | inr above ↦ no_run_at t judged row.name (suc place) metric runs (ap (λ (p : Past). p.runs) (past_there t row j)) (none_behind runs place (omega arith))
     ]

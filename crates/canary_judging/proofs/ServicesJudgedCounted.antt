@@ -7,7 +7,7 @@ use Rattle.std.specs.List.{AllByRecursion}
 use Rattle.canary_metric.specs.Metrics.{MetricValue}
 use Rattle.canary_metric.specs.Counts.{Counts}
 use Rattle.canary_plan.specs.declared.analysis_parts.AnalysisParts.{AnalysisParts}
-use Rattle.canary_plan.specs.declared.strategy.CheckedStrategy.{CheckedStrategy}
+use Rattle.canary_plan.specs.declared.bound.BoundParts.{BoundParts}
 use Rattle.canary_plan.specs.Plans.{Templates}
 use Rattle.canary_release.specs.declared.effect.Recorded.{Recorded}
 use Rattle.canary_release.specs.Desks.{ModelService}
@@ -30,23 +30,23 @@ use Rattle.canary_judging.proofs.ServicesJudgedRuns.{HasRows, its_number, Stands
 -- The metrics of a service's runs.
 
 abbrev pub metrics_planned : ModelService → List (List MetricValue)
-metrics_planned m = metrics_of_runs m.stand.strategy (map record_of m.past.runs)
+metrics_planned m = metrics_of_runs m.stand.bound (map record_of m.past.runs)
 
-abbrev record_metrics : CheckedStrategy → RunRecord → List MetricValue
-record_metrics strategy r = run_metrics strategy r.step
+abbrev record_metrics : BoundParts → RunRecord → List MetricValue
+record_metrics bound r = run_metrics bound r.step
 
-planned_at : (m : ModelService) (place : ℕ) (r : Run) → slice_get m.past.runs place ≡ Some r → slice_get (metrics_planned m) place ≡ Some (run_metrics m.stand.strategy r.step)
+planned_at : (m : ModelService) (place : ℕ) (r : Run) → slice_get m.past.runs place ≡ Some r → slice_get (metrics_planned m) place ≡ Some (run_metrics m.stand.bound r.step)
 planned_at m place r e =
-    slice_get-map (record_metrics m.stand.strategy) (map record_of m.past.runs) place
-    ∙ ap (option_map (record_metrics m.stand.strategy)) (slice_get-map record_of m.past.runs place ∙ ap (option_map record_of) e)
+    slice_get-map (record_metrics m.stand.bound) (map record_of m.past.runs) place
+    ∙ ap (option_map (record_metrics m.stand.bound)) (slice_get-map record_of m.past.runs place ∙ ap (option_map record_of) e)
 
 as_many_planned : (m : ModelService) → length (metrics_planned m) ≡ length m.past.runs
-as_many_planned m = as_mapped (record_metrics m.stand.strategy) (map record_of m.past.runs) ∙ as_mapped record_of m.past.runs
+as_many_planned m = as_mapped (record_metrics m.stand.bound) (map record_of m.past.runs) ∙ as_mapped record_of m.past.runs
 
-its_metrics : (m : ModelService) (r : Run) → IsRun m r → run_metrics m.stand.strategy r.step ≡ r.analysis.metrics
+its_metrics : (m : ModelService) (r : Run) → IsRun m r → run_metrics m.stand.bound r.step ≡ r.analysis.metrics
 its_metrics m r run = ap (λ (o : Option AnalysisParts). unwrap_or (option_map (λ (a : AnalysisParts). a.metrics) o) []) run.analysis
 
-so_many_metrics : (m : ModelService) (r : Run) → IsRun m r → length (run_metrics m.stand.strategy r.step) ≡ length r.lists
+so_many_metrics : (m : ModelService) (r : Run) → IsRun m r → length (run_metrics m.stand.bound r.step) ≡ length r.lists
 so_many_metrics m r run = ap length (its_metrics m r run) ∙ sym run.one_each
 
 -- Each is of a metric of a run.
@@ -64,9 +64,9 @@ is_placed t known q m has x e =
     let r : Run = h.value in
     let tests : ((x.run == r.number) ≡ true) × (nat_lt x.metric (length r.lists) ≡ true) = both_hold (x.run == r.number) (nat_lt x.metric (length r.lists)) h.passes in
     let at : StandsAt m r = stands_at t known q m has h.place r h.there in
-    let many : length (run_metrics m.stand.strategy r.step) ≡ length r.lists = so_many_metrics m r at.run in
+    let many : length (run_metrics m.stand.bound r.step) ≡ length r.lists = so_many_metrics m r at.run in
     let below : x.metric < length r.lists = below_by x.metric (length r.lists) tests.1 in
-    let p : HasPlace (run_metrics m.stand.strategy r.step) x.metric = has_place (run_metrics m.stand.strategy r.step) x.metric (omega arith) in
+    let p : HasPlace (run_metrics m.stand.bound r.step) x.metric = has_place (run_metrics m.stand.bound r.step) x.metric (omega arith) in
     let number : x.run ≡ suc h.place = (Decides-eqb x.run r.number).0 tests.0 ∙ its_number m.past.runs h.place r has.in_order.numbered h.there in
     record { metric = p.value; planned = ap (λ n. of_metric n x.metric (metrics_planned m)) number ∙ ap (at_metric x.metric) (planned_at m h.place r h.there) ∙ p.there }
 
@@ -101,7 +101,7 @@ of_list all run place metric l = subst (IsList run place metric) l.is (record { 
 record IsPlanned (m : ModelService) (p place : ℕ) (metric : MetricValue) : Type 0 where
   run : Run
   there : slice_get m.past.runs p ≡ Some run
-  planned : slice_get (run_metrics m.stand.strategy run.step) place ≡ Some metric
+  planned : slice_get (run_metrics m.stand.bound run.step) place ≡ Some metric
 
 is_planned : (m : ModelService) (p place : ℕ) (metric : MetricValue) → at_metric place (slice_get (metrics_planned m) p) ≡ Some metric → IsPlanned m p place metric
 is_planned m p place metric e =
@@ -121,9 +121,9 @@ list_of t known q m has zero place metric e = absurd (cc)
 list_of t known q m has (suc p) place metric e =
     let h : IsPlanned m p place metric = is_planned m p place metric e in
     let at : StandsAt m h.run = stands_at t known q m has p h.run h.there in
-    let judged : AreJudged (run_metrics m.stand.strategy h.run.step) h.run.lists = subst (λ (ms : List MetricValue). AreJudged ms h.run.lists) (sym (its_metrics m h.run at.run)) at.sound.0 in
+    let judged : AreJudged (run_metrics m.stand.bound h.run.step) h.run.lists = subst (λ (ms : List MetricValue). AreJudged ms h.run.lists) (sym (its_metrics m h.run at.run)) at.sound.0 in
     let l : ListAt m.past.measurements h.run.number (place + 0) metric =
-    list_at m.past.measurements h.run.number 0 place (run_metrics m.stand.strategy h.run.step) h.run.lists metric (sym (so_many_metrics m h.run at.run)) at.run.lists judged h.planned in
+    list_at m.past.measurements h.run.number 0 place (run_metrics m.stand.bound h.run.step) h.run.lists metric (sym (so_many_metrics m h.run at.run)) at.run.lists judged h.planned in
     of_list m.past.measurements (suc p) place metric
     (subst (λ n. ListAt m.past.measurements n place metric) (its_number m.past.runs p h.run has.in_order.numbered h.there) (subst (λ n. ListAt m.past.measurements h.run.number n metric) (let z : place + 0 ≡ place = omega arith in z) l))
 
@@ -154,12 +154,12 @@ tallied_at tallied t known q m has place =
           let h : HasPlace m.past.runs place = has_place m.past.runs place below in
           let r : Run = h.value in
           let at : StandsAt m r = stands_at t known q m has place r h.there in
-          let lists : lists_in all (suc place) 0 (length (run_metrics m.stand.strategy r.step)) ≡ r.lists =
+          let lists : lists_in all (suc place) 0 (length (run_metrics m.stand.bound r.step)) ≡ r.lists =
           (λ i. lists_in all (sym (its_number m.past.runs place r has.in_order.numbered h.there) i) 0 (so_many_metrics m r at.run i)) ∙ lists_again all r.number 0 r.lists at.run.lists in
           slice_get-map record_tallies (map record_of m.past.runs) place
           ∙ ap (option_map record_tallies) (slice_get-map record_of m.past.runs place ∙ ap (option_map record_of) h.there)
           ∙ ap (λ (l : List (List Recorded)). Some (map counts_of l)) (sym lists)
-          ∙ sym (tallied (metrics_planned m) all place (run_metrics m.stand.strategy r.step) (planned_at m place r h.there))
+          ∙ sym (tallied (metrics_planned m) all place (run_metrics m.stand.bound r.step) (planned_at m place r h.there))
       | inr above ↦
           let one : length (map record_tallies (map record_of m.past.runs)) ≡ length m.past.runs = as_mapped record_tallies (map record_of m.past.runs) ∙ as_mapped record_of m.past.runs in
           let two : length (counted_all (none_counted (metrics_planned m)) all) ≡ length m.past.runs =

@@ -3,8 +3,9 @@ use Rattle.std.proofs.Common.{◌≡◌, ℕ, List, [], ◌∷◌, length, Bool,
 use Rattle.std.specs.Prelude.{Option, filter, map}
 use Rattle.std.specs.List.{AllByRecursion}
 use Rattle.std.specs.FinMap.{get}
+use Rattle.canary_plan.specs.declared.bound.BoundParts.{BoundParts}
 use Rattle.canary_plan.specs.declared.strategy.CheckedStrategy.{CheckedStrategy}
-use Rattle.canary_plan.specs.Plans.{Templates, strategy_of}
+use Rattle.canary_plan.specs.Plans.{Templates, strategy_of, bound_of}
 use Rattle.canary_canonical.specs.Readings.{canonical_in}
 use Rattle.canary_release.specs.declared.effect.Recorded.{Recorded}
 use Rattle.canary_release.specs.declared.stand.Stand.{Stand}
@@ -47,10 +48,10 @@ hold_back true false = refl
 hold_back false true = refl
 hold_back true true = refl
 
-stand_back : (name : List ℕ) (strategy : CheckedStrategy) (s : Stand) (runs : ℕ) → s.name ≡ name → s.strategy ≡ strategy → stand_of name strategy (standing_of s runs) ≡ Some s
-stand_back name strategy s runs named is =
-    (λ i. stand_from name strategy (standing_of s runs) (state_back s.state i) (hold_back s.step_hold s.background_hold i) (truth_back s.background i))
-    ∙ (λ i. Some (record s { name = sym named i; strategy = sym is i }))
+stand_back : (name : List ℕ) (strategy : CheckedStrategy) (bound : BoundParts) (s : Stand) (runs : ℕ) → s.name ≡ name → s.strategy ≡ strategy → s.bound ≡ bound → stand_of name strategy bound (standing_of s runs) ≡ Some s
+stand_back name strategy bound s runs named is to =
+    (λ i. stand_from name strategy bound (standing_of s runs) (state_back s.state i) (hold_back s.step_hold s.background_hold i) (truth_back s.background i))
+    ∙ (λ i. Some (record s { name = sym named i; strategy = sym is i; bound = sym to i }))
 
 -- Its measurements are read back.
 
@@ -102,7 +103,7 @@ is_row_of t hold row at =
     }
 
 parts_again : (m : ModelService) → AllByRecursion (IsRun m) m.past.runs → is_broken (shape m) ≡ false
-    → is_broken (record { stand = m.stand; runs = record { count = length (map record_of m.past.runs); open_runs = open_runs_in m.stand.strategy (map record_of m.past.runs) } }) ≡ false
+    → is_broken (record { stand = m.stand; runs = record { count = length (map record_of m.past.runs); open_runs = open_runs_in m.stand.bound (map record_of m.past.runs) } }) ≡ false
 parts_again m runs e = (λ i. is_broken (record { stand = m.stand; runs = record { count = as_many_records m.past.runs i; open_runs = same_open m m.past.runs runs i } })) ∙ e
 
 pub service_is_judged : CountingIsExact → RunsAreTallied → (t : Tables) (row : ServiceRow) → IsRowOf t row → IsServiceJudged t row
@@ -110,6 +111,9 @@ service_is_judged exact tallied t row of =
     let m : ModelService = of.service in
     let known : Templates = templates_in t in
     let has : HasRows t known row.name m = of.has in
+    let strategy : CheckedStrategy = strategy_of m.made in
+    let bound : BoundParts = bound_of known strategy in
+    let to : m.stand.bound ≡ bound = has.in_order.bound ∙ ap (bound_of known) has.in_order.strategy in
     record {
       one = of.one;
       made = m.made;
@@ -118,8 +122,8 @@ service_is_judged exact tallied t row of =
       accepted = has.in_order.accepted;
       stand = m.stand;
       stands =
-          ap (λ (r : ServiceRow). stand_of row.name (strategy_of known m.made) r.standing) (sym of.is)
-          ∙ stand_back row.name (strategy_of known m.made) m.stand (length m.past.runs) has.in_order.shown has.in_order.strategy;
+          ap (λ (r : ServiceRow). stand_of row.name strategy bound r.standing) (sym of.is)
+          ∙ stand_back row.name strategy bound m.stand (length m.past.runs) has.in_order.shown has.in_order.strategy to;
       runs = map record_of m.past.runs;
       as_many = as_many_records m.past.runs ∙ ap (λ (r : ServiceRow). r.standing.runs) of.is;
       each = runs_are_judged t known row.name m has;

@@ -115,11 +115,11 @@ verdict_by r (Some x) h = (h.1 ∙ same_verdict r x.outside, h.2)
 
 -- A run.
 
--- its analysis is the strategy's at its step
-its_analysis : (m : ModelService) (r : Run) → IsRun m r → analysis_or_none m.stand.strategy r.step ≡ r.analysis
+-- its analysis is that which is bound at its step
+its_analysis : (m : ModelService) (r : Run) → IsRun m r → analysis_or_none m.stand.bound r.step ≡ r.analysis
 its_analysis m r run = ap (λ (o : Option AnalysisParts). unwrap_or o no_analysis) run.analysis
 
-pub run_is_judged : (t : Tables) (known : Templates) (q : List ℕ) (m : ModelService) → HasRows t known q m → (r : Run) → StandsAt m r → IsRunJudged t m.stand.strategy q (record_of r)
+pub run_is_judged : (t : Tables) (known : Templates) (q : List ℕ) (m : ModelService) → HasRows t known q m → (r : Run) → StandsAt m r → IsRunJudged t m.stand.bound q (record_of r)
 run_is_judged t known q m has r at = record {
   one = has.runs r.number ∙ ap (row_if (run_row q)) at.there;
   closed = at.readable;
@@ -133,21 +133,21 @@ run_is_judged t known q m has r at = record {
 }
 
 pub runs_are_judged : (t : Tables) (known : Templates) (q : List ℕ) (m : ModelService) → HasRows t known q m → (place : ℕ) (r : RunRecord) → slice_get (map record_of m.past.runs) place ≡ Some r
-    → (r.number ≡ suc place) × IsRunJudged t m.stand.strategy q r
+    → (r.number ≡ suc place) × IsRunJudged t m.stand.bound q r
 runs_are_judged t known q m has place r e =
     let h : ComesOf record_of m.past.runs place r = comes_of record_of m.past.runs place r e in
-    subst (λ (x : RunRecord). (x.number ≡ suc place) × IsRunJudged t m.stand.strategy q x) h.is
+    subst (λ (x : RunRecord). (x.number ≡ suc place) × IsRunJudged t m.stand.bound q x) h.is
     (its_number m.past.runs place h.value has.in_order.numbered h.there, run_is_judged t known q m has h.value (stands_at t known q m has place h.value h.there))
 
 -- The open ones.
 
-pub same_open : (m : ModelService) (runs : List Run) → AllByRecursion (IsRun m) runs → open_runs_in m.stand.strategy (map record_of runs) ≡ map tallied (filter is_open runs)
+pub same_open : (m : ModelService) (runs : List Run) → AllByRecursion (IsRun m) runs → open_runs_in m.stand.bound (map record_of runs) ≡ map tallied (filter is_open runs)
 same_open m [] all = refl
 same_open m (r ∷ runs) all =
-    let rest : open_runs_in m.stand.strategy (map record_of runs) ≡ map tallied (filter is_open runs) = same_open m runs all.1 in
-    let one : open_of_record m.stand.strategy (record_of r) ≡ tallied r = λ i. record (tallied r) { analysis = its_analysis m r all.0 i } in
+    let rest : open_runs_in m.stand.bound (map record_of runs) ≡ map tallied (filter is_open runs) = same_open m runs all.1 in
+    let one : open_of_record m.stand.bound (record_of r) ≡ tallied r = λ i. record (tallied r) { analysis = its_analysis m r all.0 i } in
     elim (is_none r.closed)
-    as (λ b. map (open_of_record m.stand.strategy) (cond b (record_of r ∷ filter is_open_record (map record_of runs)) (filter is_open_record (map record_of runs))) ≡ map tallied (cond b (r ∷ filter is_open runs) (filter is_open runs))) [
+    as (λ b. map (open_of_record m.stand.bound) (cond b (record_of r ∷ filter is_open_record (map record_of runs)) (filter is_open_record (map record_of runs))) ≡ map tallied (cond b (r ∷ filter is_open runs) (filter is_open runs))) [
       | true ↦ λ i. one i ∷ rest i
       | false ↦ rest
     ]

@@ -8,10 +8,10 @@ use Rattle.canary_metric.specs.MetricPhases.{is_completed}
 use Rattle.canary_metric.specs.Counts.{Counts}
 use Rattle.canary_metric.specs.Verdicts.{verdict_of_counts}
 use Rattle.canary_plan.specs.declared.service.ServiceSpec.{ServiceSpec}
-use Rattle.canary_plan.specs.declared.strategy.CheckedStrategy.{CheckedStrategy}
+use Rattle.canary_plan.specs.declared.bound.BoundParts.{BoundParts}
 use Rattle.canary_plan.specs.declared.command.Command.TheVariants as command
 use Rattle.canary_plan.specs.declared.line.Line.{Line}
-use Rattle.canary_plan.specs.Plans.{strategy_of, metrics_at, analysis_or_none}
+use Rattle.canary_plan.specs.Plans.{strategy_of, bound_of, metrics_at, analysis_or_none}
 use Rattle.canary_plan.specs.PlanRefusals.{strategy_refusal}
 use Rattle.canary_canonical.specs.Readings.{canonical_in}
 use Rattle.canary_release.specs.declared.effect.Recorded.{Recorded}
@@ -56,12 +56,12 @@ row_of_record name r =
 
 -- a run: no other has its number, its analysis is there, its tallies have a row each and it has no
 -- others, and its verdict is theirs
-pub record IsRunJudged (t : Tables) (strategy : CheckedStrategy) (name : List ℕ)
+pub record IsRunJudged (t : Tables) (bound : BoundParts) (name : List ℕ)
     (r : RunRecord) : Type 0 where
   pub one : filter (is_run name r.number) t.runs ≡ row_of_record name r ∷ []
   pub closed : IsReadableClosing r.number r.closed
   pub metrics : List MetricValue
-  pub analysis : metrics_at strategy r.step ≡ Some metrics
+  pub analysis : metrics_at bound r.step ≡ Some metrics
   pub tallies : (place : ℕ) (c : Counts) → slice_get r.tallies place ≡ Some c
       → filter (is_tally name r.number place) t.tallies ≡ tally_row name r.number place c ∷ []
   pub no_more : length (filter (is_tally_of name r.number) t.tallies) ≡ length r.tallies
@@ -70,26 +70,27 @@ pub record IsRunJudged (t : Tables) (strategy : CheckedStrategy) (name : List �
 abbrev pub is_open_record : RunRecord → Bool
 is_open_record r = is_none r.closed
 
--- an open run of a service of this strategy
-abbrev pub open_of_record : CheckedStrategy → RunRecord → OpenRun
-open_of_record strategy r =
+-- an open run of a service that is bound so
+abbrev pub open_of_record : BoundParts → RunRecord → OpenRun
+open_of_record bound r =
     record {
       number = r.number;
       step = r.step;
-      analysis = analysis_or_none strategy r.step;
+      analysis = analysis_or_none bound r.step;
       started = r.started;
       tallies = r.tallies;
     }
 
-abbrev pub open_runs_in : CheckedStrategy → List RunRecord → List OpenRun
-open_runs_in strategy runs = map (open_of_record strategy) (filter is_open_record runs)
+abbrev pub open_runs_in : BoundParts → List RunRecord → List OpenRun
+open_runs_in bound runs = map (open_of_record bound) (filter is_open_record runs)
 
 -- the metrics of each run
-abbrev pub metrics_of_runs : CheckedStrategy → List RunRecord → List (List MetricValue)
-metrics_of_runs strategy runs = map (λ (r : RunRecord). run_metrics strategy r.step) runs
+abbrev pub metrics_of_runs : BoundParts → List RunRecord → List (List MetricValue)
+metrics_of_runs bound runs = map (λ (r : RunRecord). run_metrics bound r.step) runs
 
--- a service's row: no other has its name, its command is accepted, its runs are numbered from 1 on,
--- its measurements come to their tallies, its lines are read, and its parts are accepted
+-- a service's row: no other has its name, its command is accepted, it is bound to the templates,
+-- its runs are numbered from 1 on, its measurements come to their tallies, its lines are read, and
+-- its parts are accepted
 pub record IsServiceJudged (t : Tables) (row : ServiceRow) : Type 0 where
   pub one : filter (is_service row.name) t.services ≡ row ∷ []
   pub made : ServiceSpec
@@ -97,26 +98,26 @@ pub record IsServiceJudged (t : Tables) (row : ServiceRow) : Type 0 where
   pub named : made.name ≡ row.name
   pub accepted : strategy_refusal (get (contents_of t).desk.templates) made ≡ None
   pub stand : Stand
-  pub stands : stand_of row.name
-      (strategy_of (get (contents_of t).desk.templates) made) row.standing ≡ Some stand
+  pub stands : stand_of row.name (strategy_of made)
+      (bound_of (get (contents_of t).desk.templates) (strategy_of made)) row.standing ≡ Some stand
   pub runs : List RunRecord
   pub as_many : length runs ≡ row.standing.runs
   pub each : (place : ℕ) (r : RunRecord) → slice_get runs place ≡ Some r
-      → (r.number ≡ suc place) × IsRunJudged t stand.strategy row.name r
+      → (r.number ≡ suc place) × IsRunJudged t stand.bound row.name r
   pub measurements : List Recorded
   pub read : AreRead measurement_of_row
       (filter (is_measurement_of row.name) t.measurements) measurements
-  pub counted : AreCounted (metrics_of_runs stand.strategy runs)
-      (none_counted (metrics_of_runs stand.strategy runs)) measurements
+  pub counted : AreCounted (metrics_of_runs stand.bound runs)
+      (none_counted (metrics_of_runs stand.bound runs)) measurements
   pub tallied : map (λ (r : RunRecord). r.tallies) runs
-      ≡ counted_all (none_counted (metrics_of_runs stand.strategy runs)) measurements
+      ≡ counted_all (none_counted (metrics_of_runs stand.bound runs)) measurements
   pub history : List Line
   pub told : filter (is_line_of row.name) t.history ≡ map (history_row row.name) history
   pub lines : AllByRecursion IsReadableLine history
   pub parts : is_broken
       (record {
         stand = stand;
-        runs = record { count = length runs; open_runs = open_runs_in stand.strategy runs };
+        runs = record { count = length runs; open_runs = open_runs_in stand.bound runs };
       })
       ≡ false
 

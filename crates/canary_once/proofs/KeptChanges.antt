@@ -18,9 +18,9 @@ pub record AreThat (m : ModelService) (name version : List ℕ) (s : ServicePart
   pub kept : AreKept k
   pub model : model_of name version s k ≡ m
 
-changed_here : WatchesAlike → (name version : List ℕ) (s new : ServiceParts) (k k' : Kept) (xs : List Effect) → AreKept k → k' ≡ keeps_all k xs → new.stand.strategy ≡ s.stand.strategy → AreAllowed new.stand.strategy (watched (past_kept k)) xs → new ≡ shape (after (Some (model_of name version s k)) new.stand xs) → AreThat (after (Some (model_of name version s k)) new.stand xs) name version new k'
+changed_here : WatchesAlike → (name version : List ℕ) (s new : ServiceParts) (k k' : Kept) (xs : List Effect) → AreKept k → k' ≡ keeps_all k xs → new.stand.strategy ≡ s.stand.strategy → AreAllowed new.stand.bound (watched (past_kept k)) xs → new ≡ shape (after (Some (model_of name version s k)) new.stand xs) → AreThat (after (Some (model_of name version s k)) new.stand xs) name version new k'
 changed_here alike name version s new k k' xs kept e strategy allowed is =
-    let grown : IsKept k' (grows_by (past_kept k) xs) = subst (λ (q : Kept). IsKept q (grows_by (past_kept k) xs)) (sym e) (all_kept alike new.stand.strategy k xs kept allowed) in
+    let grown : IsKept k' (grows_by (past_kept k) xs) = subst (λ (q : Kept). IsKept q (grows_by (past_kept k) xs)) (sym e) (all_kept alike new.stand.bound k xs kept allowed) in
     record {
       runs = ap (λ (p : ServiceParts). p.runs) is ∙ sym (ap watched grown.past);
       kept = grown.kept;
@@ -28,10 +28,10 @@ changed_here alike name version s new k k' xs kept e strategy allowed is =
     }
 
 -- after a change
-pub changed : WatchesAlike → (m : ModelService) (name version : List ℕ) (s new : ServiceParts) (k k' : Kept) (xs : List Effect) → model_of name version s k ≡ m → AreKept k → k' ≡ keeps_all k xs → new.stand.strategy ≡ m.stand.strategy → AreAllowed new.stand.strategy (watched m.past) xs → new ≡ shape (after (Some m) new.stand xs) → AreThat (after (Some m) new.stand xs) name version new k'
+pub changed : WatchesAlike → (m : ModelService) (name version : List ℕ) (s new : ServiceParts) (k k' : Kept) (xs : List Effect) → model_of name version s k ≡ m → AreKept k → k' ≡ keeps_all k xs → new.stand.strategy ≡ m.stand.strategy → AreAllowed new.stand.bound (watched m.past) xs → new ≡ shape (after (Some m) new.stand xs) → AreThat (after (Some m) new.stand xs) name version new k'
 changed alike m name version s new k k' xs is kept e =
     subst
-    (λ (m : ModelService). new.stand.strategy ≡ m.stand.strategy → AreAllowed new.stand.strategy (watched m.past) xs → new ≡ shape (after (Some m) new.stand xs) → AreThat (after (Some m) new.stand xs) name version new k')
+    (λ (m : ModelService). new.stand.strategy ≡ m.stand.strategy → AreAllowed new.stand.bound (watched m.past) xs → new ≡ shape (after (Some m) new.stand xs) → AreThat (after (Some m) new.stand xs) name version new k')
     is
     (changed_here alike name version s new k k' xs kept e)
 
@@ -39,9 +39,9 @@ nothing_is_kept : AreKept nothing_kept
 nothing_is_kept = record { numbered = tt; within = tt; last = tt }
 
 -- a new one
-pub made : WatchesAlike → (s : ServiceParts) (k k' : Kept) (xs : List Effect) → k ≡ nothing_kept → k' ≡ keeps_all k xs → AreAllowed s.stand.strategy (watched no_past) xs → s ≡ shape (after None s.stand xs) → AreThat (after None s.stand xs) s.stand.name s.stand.version s k'
+pub made : WatchesAlike → (s : ServiceParts) (k k' : Kept) (xs : List Effect) → k ≡ nothing_kept → k' ≡ keeps_all k xs → AreAllowed s.stand.bound (watched no_past) xs → s ≡ shape (after None s.stand xs) → AreThat (after None s.stand xs) s.stand.name s.stand.version s k'
 made alike s k k' xs none e allowed is =
-    let grown : IsKept k' (grows_by no_past xs) = subst (λ (q : Kept). IsKept q (grows_by no_past xs)) (sym (e ∙ ap (λ (q : Kept). keeps_all q xs) none)) (all_kept alike s.stand.strategy nothing_kept xs nothing_is_kept allowed) in
+    let grown : IsKept k' (grows_by no_past xs) = subst (λ (q : Kept). IsKept q (grows_by no_past xs)) (sym (e ∙ ap (λ (q : Kept). keeps_all q xs) none)) (all_kept alike s.stand.bound nothing_kept xs nothing_is_kept allowed) in
     record {
       runs = ap (λ (p : ServiceParts). p.runs) is ∙ sym (ap watched grown.past);
       kept = grown.kept;

@@ -2,8 +2,8 @@
 use Rattle.std.specs.Prelude.{ℕ, ◌==◌, Bool, List, [], map, find, take, drop, Option, Some, None, option_map, unwrap_or}
 use Rattle.std.specs.FinMap.{get}
 use Rattle.canary_metric.specs.Metrics.{MetricValue}
+use Rattle.canary_plan.specs.declared.bound.BoundParts.{BoundParts}
 use Rattle.canary_plan.specs.declared.line.Line.{Line}
-use Rattle.canary_plan.specs.declared.strategy.CheckedStrategy.{CheckedStrategy}
 use Rattle.canary_plan.specs.Plans.{metrics_at}
 use Rattle.canary_release.specs.declared.effect.Recorded.{Recorded}
 use Rattle.canary_release.specs.Pasts.{Run, Past, no_past, counts_of}
@@ -22,9 +22,9 @@ record_of r =
       tallies = map counts_of r.lists;
     }
 
--- the metrics of a run of the strategy's analysis at that step, or of the background
-abbrev pub run_metrics : CheckedStrategy → Option ℕ → List MetricValue
-run_metrics strategy step = unwrap_or (metrics_at strategy step) []
+-- the metrics of a run of the analysis that is bound at that step, or of the background
+abbrev pub run_metrics : BoundParts → Option ℕ → List MetricValue
+run_metrics bound step = unwrap_or (metrics_at bound step) []
 
 abbrev pub is_numbered : ℕ → Run → Bool
 is_numbered number r = r.number == number

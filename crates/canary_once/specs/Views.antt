@@ -171,7 +171,7 @@ not_found code = record { status = NotFound; body = code_alone code }
 
 abbrev pub run_reply : Stand → Option RunRecord → Reply
 run_reply s None = not_found (codes "unknown-run")
-run_reply s (Some r) = found (run_view s.name (run_metrics s.strategy r.step) r)
+run_reply s (Some r) = found (run_view s.name (run_metrics s.bound r.step) r)
 
 -- the reply to a query, on the service as it is at the query's moment
 abbrev pub view_passed : ModelService → Query → Reply

@@ -51,7 +51,7 @@ impl KeptService {
         service: Service,
         effects: Listed<Effect>,
     ) -> Result<KeptService, Memory>
-        requires allowed { AreAllowed service.stand.strategy (watched no_past) effects }
+        requires allowed { AreAllowed service.stand.bound (watched no_past) effects }
         requires service { service ≡ shape (after None service.stand effects) }
         ensures { IfOk result (λ kept. kept ≡ after None service.stand effects) }
     {
@@ -71,7 +71,7 @@ impl KeptService {
     /// is taken first, and what happened is moved.
     pub(crate) fn change(&mut self, service: Service, effects: Listed<Effect>) -> Result<(), Memory>
         requires strategy { service.stand.strategy ≡ self.old.stand.strategy }
-        requires allowed { AreAllowed service.stand.strategy (watched self.old.past) effects }
+        requires allowed { AreAllowed service.stand.bound (watched self.old.past) effects }
         requires service { service ≡ shape (after (Some self.old) service.stand effects) }
         ensures ok { OnOk result (self.new ≡ after (Some self.old) service.stand effects) }
         ensures err { OnErr result (self.new ≡ self.old) }

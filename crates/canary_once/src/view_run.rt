@@ -21,7 +21,7 @@ use std::alloc::Global;
 pub(crate) fn run_text(alloc: Global, service: &Service, run: &RunRecord) -> Result<String, Memory>
     ensures { IfOk result (λ text. string_bytes text
         ≡ run_view service.now.stand.name
-        (run_metrics service.now.stand.strategy run.now.step) run.now) }
+        (run_metrics service.now.stand.bound run.now.step) run.now) }
 {
     let front = run_front(alloc, service, run)?;
     let middle = run_middle(alloc, service, run)?;
@@ -32,7 +32,7 @@ pub(crate) fn run_text(alloc: Global, service: &Service, run: &RunRecord) -> Res
 // When it was closed, and its metrics.
 fn run_front(alloc: Global, service: &Service, run: &RunRecord) -> Result<String, Memory>
     ensures { IfOk result (λ text. string_bytes text
-        ≡ run_front (run_metrics service.now.stand.strategy run.now.step) run.now) }
+        ≡ run_front (run_metrics service.now.stand.bound run.now.step) run.now) }
 {
     let closed = null_or(alloc, closed_at(run))?;
     let metrics = run_metrics_text(alloc, service, run)?;
@@ -100,9 +100,9 @@ fn null_or(alloc: Global, number: Option<u64>) -> Result<String, Memory>
 fn run_metrics_text(alloc: Global, service: &Service, run: &RunRecord) -> Result<String, Memory>
     ensures { IfOk result (λ text. string_bytes text
         ≡ bracketed (map (metric_view run.now)
-        (zip (run_metrics service.now.stand.strategy run.now.step) run.now.tallies))) }
+        (zip (run_metrics service.now.stand.bound run.now.step) run.now.tallies))) }
 {
-    match service.strategy().metrics(run.step) {
+    match service.bound().metrics(run.step) {
         Some(metrics) => metrics_text(alloc, run, metrics),
         None => Ok(String::from_str(alloc, "[]")?),
     }

@@ -112,7 +112,7 @@ fn add_run(
     run: &OpenRun,
     runs: &mut Table,
 ) -> Result<(), Memory> {
-    let Some(metrics) = service.strategy().metrics(run.step) else {
+    let Some(metrics) = service.bound().metrics(run.step) else {
         return Ok(());
     };
     for (metric, tally) in metrics.iter().zip(run.tallies.as_slice()) {

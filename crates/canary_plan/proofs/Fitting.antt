@@ -1,16 +1,18 @@
--- An analysis of a checked strategy has 1 to 32 metrics.
-use Rattle.std.proofs.Common.{◌≡◌, ℕ, zero, suc, ◌≤◌, Bool, true, false, List, [], ◌∷◌, length, refl, sym, subst, arith}
-use Rattle.std.specs.Prelude.{◌&&◌, nat_le, Option, Some, None, slice_get}
+-- An analysis of a bound strategy has 1 to 32 metrics; and templates that are none.
+use Rattle.std.proofs.Common.{◌≡◌, ℕ, zero, suc, ◌≤◌, Bool, true, false, List, [], ◌∷◌, length, refl, sym, subst, arith, ap, ◌∙◌}
+use Rattle.std.specs.Prelude.{◌&&◌, nat_le, Option, Some, None, IfSome, slice_get, option_map}
 use Rattle.std.specs.List.{list_all}
 use Rattle.std.proofs.lemmas.Bool.Decides.{nat_tests}
+use Rattle.std.specs.Ordering.{nat_cmp}
+use Rattle.std.specs.Cmp.Lexicographic.{slice_cmp}
+use Rattle.std.specs.FinMap.{FinMap, get, empty, get-empty}
 use Rattle.canary_metric.specs.Metrics.{MetricValue}
-use Rattle.canary_plan.specs.declared.step.Step.{Step}
-use Rattle.canary_plan.specs.declared.step.Step.TheVariants.{SetWeight, Pause, Analysis}
-use Rattle.canary_plan.specs.declared.service.Background.{Background}
 use Rattle.canary_plan.specs.declared.analysis_parts.AnalysisParts.{AnalysisParts}
+use Rattle.canary_plan.specs.declared.bound.BoundParts.{BoundParts}
+use Rattle.canary_plan.specs.declared.template.Template.{Template}
 use Rattle.canary_plan.specs.declared.strategy.CheckedStrategy.{CheckedStrategy}
 use Rattle.canary_plan.specs.Fit.{are_metrics_of_run, have_counts}
-use Rattle.canary_plan.specs.Plans.{has_weight_in_range, is_fit_if, fits_step, fit_steps, fits_background, is_accepted, analysis_if, analysis_at}
+use Rattle.canary_plan.specs.Plans.{Templates, no_templates, analysis_if, analysis_at, is_fit_if, are_fit, bound_of, unbound}
 
 first : (a b : Bool) → (a && b) ≡ true → a ≡ true
 first true b h = refl
@@ -33,36 +35,28 @@ IsOfRun ms = (1 ≤ length ms) × (length ms ≤ 32)
 of_run : (ms : List MetricValue) → are_metrics_of_run ms ≡ true → IsOfRun ms
 of_run ms h = (at_least (length ms) (first (nat_le 1 (length ms)) _ h), at_most (length ms) (second (nat_le 1 (length ms)) _ h))
 
-fit_where_asked : (step : Step) (a : Option AnalysisParts) → fits_step step a ≡ true → is_fit_if a ≡ true
-fit_where_asked step None h = refl
-fit_where_asked (Analysis names) (Some a) h = h
-fit_where_asked (SetWeight percent) (Some a) h = cc h
-fit_where_asked (Pause seconds) (Some a) h = cc h
+at_step : (steps : List (Option AnalysisParts)) (i : ℕ) → list_all is_fit_if steps ≡ true → is_fit_if (analysis_if (slice_get steps i)) ≡ true
+at_step [] i h = refl
+at_step (a ∷ steps) zero h = first (is_fit_if a) (list_all is_fit_if steps) h
+at_step (a ∷ steps) (suc i) h = at_step steps i (second (is_fit_if a) (list_all is_fit_if steps) h)
 
-fit_behind : (b : Option Background) (a : Option AnalysisParts) → fits_background b a ≡ true → is_fit_if a ≡ true
-fit_behind b None h = refl
-fit_behind (Some b) (Some a) h = h
-fit_behind None (Some a) h = cc h
+-- an analysis of what is fit for runs is fit
+pub fit_at : (b : BoundParts) (step : Option ℕ) → are_fit b ≡ true → is_fit_if (analysis_at b step) ≡ true
+fit_at b (Some i) h = at_step b.steps i (first (list_all is_fit_if b.steps) (is_fit_if b.background) h)
+fit_at b None h = second (list_all is_fit_if b.steps) (is_fit_if b.background) h
 
-at_step : (steps : List Step) (found : List (Option AnalysisParts)) (i : ℕ) → fit_steps steps found ≡ true → is_fit_if (analysis_if (slice_get found i)) ≡ true
-at_step [] [] i h = refl
-at_step [] (a ∷ found) i h = cc h
-at_step (step ∷ steps) [] i h = cc h
-at_step (step ∷ steps) (a ∷ found) zero h = fit_where_asked step a (first (fits_step step a) (fit_steps steps found) h)
-at_step (step ∷ steps) (a ∷ found) (suc i) h = at_step steps found i (second (fits_step step a) (fit_steps steps found) h)
+of_fit : (o : Option AnalysisParts) → is_fit_if o ≡ true → IfSome (option_map (λ (a : AnalysisParts). a.metrics) o) IsOfRun
+of_fit None h = tt
+of_fit (Some a) h = of_run a.metrics (first (are_metrics_of_run a.metrics) (have_counts a.metrics) h)
 
-all_fit : (s : CheckedStrategy) → is_accepted s ≡ true → (fit_steps s.steps s.bound.steps ≡ true) × (fits_background s.background s.bound.background ≡ true)
-all_fit s h =
-    let from_steps = second (list_all has_weight_in_range s.steps) _ (second (nat_le (length s.steps) 64) _ h) in
-    (first (fit_steps s.steps s.bound.steps) _ from_steps, second (fit_steps s.steps s.bound.steps) _ from_steps)
+-- an empty map has no templates
+none_known : (m : FinMap (slice_cmp nat_cmp) Template) → m ≡ empty → get m ≡ no_templates
+none_known m e = λ i name. (ap (λ (k : FinMap (slice_cmp nat_cmp) Template). get k name) e ∙ get-empty (slice_cmp nat_cmp) name) i
 
--- an analysis of a checked strategy is fit for runs
-fit_at : (s : CheckedStrategy) (step : Option ℕ) → is_accepted s ≡ true → is_fit_if (analysis_at s step) ≡ true
-fit_at s (Some i) h = at_step s.steps s.bound.steps i (all_fit s h).0
-fit_at s None h = fit_behind s.background s.bound.background (all_fit s h).1
+-- what an empty map binds a strategy to
+pub unbound_of : (m : FinMap (slice_cmp nat_cmp) Template) (s : CheckedStrategy) (b : BoundParts) → m ≡ empty → b ≡ bound_of (get m) s → b ≡ unbound s
+unbound_of m s b none e = e ∙ ap (λ (known : Templates). bound_of known s) (none_known m none)
 
--- the metrics of an analysis of it
-pub of_place : (s : CheckedStrategy) (step : Option ℕ) (a : AnalysisParts) (ms : List MetricValue) → is_accepted s ≡ true → Some a ≡ analysis_at s step → ms ≡ a.metrics → IsOfRun ms
-of_place s step a ms h e is =
-    let fit : is_fit_if (Some a) ≡ true = subst (λ o. is_fit_if o ≡ true) (sym e) (fit_at s step h) in
-    subst IsOfRun (sym is) (of_run a.metrics (first (are_metrics_of_run a.metrics) (have_counts a.metrics) fit))
+-- the metrics of an analysis that is bound
+pub of_place : (b : BoundParts) (step : Option ℕ) (a : AnalysisParts) (ms : List MetricValue) → are_fit b ≡ true → Some a ≡ analysis_at b step → ms ≡ a.metrics → IsOfRun ms
+of_place b step a ms h e is = subst IsOfRun (sym is) (of_fit (Some a) (subst (λ o. is_fit_if o ≡ true) (sym e) (fit_at b step h)))

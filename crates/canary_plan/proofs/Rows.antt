@@ -15,7 +15,7 @@ use Rattle.canary_plan.specs.declared.template_spec.TemplateSpec.{TemplateSpec}
 use Rattle.canary_plan.specs.declared.template.ConditionKey.TheVariants.{Success, Failure}
 use Rattle.canary_plan.specs.declared.refusal.Refusal.TheVariants.{BadCondition, IntervalNeeded, DuplicateMetric, BadDryRun, UnknownTemplate, EndlessMetric, BadStrategy}
 use Rattle.canary_plan.specs.Conditions.{condition_of}
-use Rattle.canary_plan.specs.Plans.{Templates, template_of, strategy_of, metrics_at, is_marked}
+use Rattle.canary_plan.specs.Plans.{Templates, template_of, strategy_of, bound_of, unbound, metrics_at, is_marked}
 use Rattle.canary_plan.specs.PlanRefusals.{template_refusal, strategy_refusal}
 use Rattle.canary_plan.specs.Refusals.{code_of}
 use Rattle.canary_plan.specs.Binding.{bad_condition}
@@ -136,17 +136,23 @@ no_steps = refl
 in_a_step : strategy_refusal known (web (step_of (codes "t" ∷ [])) None) ≡ None
 in_a_step = refl
 
-metrics_of_the_step : option_map (map (λ (m : MetricValue). m.name)) (metrics_at (strategy_of known (web (step_of (codes "t" ∷ [])) None)) (Some 1)) ≡ Some (codes "m" ∷ [])
+metrics_of_the_step : option_map (map (λ (m : MetricValue). m.name)) (metrics_at (bound_of known (strategy_of (web (step_of (codes "t" ∷ [])) None))) (Some 1)) ≡ Some (codes "m" ∷ [])
 metrics_of_the_step = refl
 
-none_of_a_weight : metrics_at (strategy_of known (web (step_of (codes "t" ∷ [])) None)) (Some 0) ≡ None
+none_of_a_weight : metrics_at (bound_of known (strategy_of (web (step_of (codes "t" ∷ [])) None))) (Some 0) ≡ None
 none_of_a_weight = refl
+
+none_unbound : metrics_at (unbound (strategy_of (web (step_of (codes "t" ∷ [])) None))) (Some 1) ≡ None
+none_unbound = refl
+
+none_of_an_unknown : metrics_at (bound_of known (strategy_of (web (step_of (codes "t" ∷ codes "u" ∷ [])) None))) (Some 1) ≡ None
+none_of_an_unknown = refl
 
 -- a background may be measured without end, and a step may not
 in_the_background : strategy_refusal known (web (SetWeight 20 ∷ Pause None ∷ []) (behind (codes "errs" ∷ []))) ≡ None
 in_the_background = refl
 
-metrics_behind : option_map (map (λ (m : MetricValue). m.name)) (metrics_at (strategy_of known (web [] (behind (codes "errs" ∷ [])))) None) ≡ Some (codes "e" ∷ [])
+metrics_behind : option_map (map (λ (m : MetricValue). m.name)) (metrics_at (bound_of known (strategy_of (web [] (behind (codes "errs" ∷ []))))) None) ≡ Some (codes "e" ∷ [])
 metrics_behind = refl
 
 endless_in_a_step : strategy_refusal known (web (step_of (codes "errs" ∷ [])) None) ≡ Some EndlessMetric
@@ -183,6 +189,19 @@ of_65_steps = refl
 
 of_no_template : strategy_refusal known (web (step_of []) None) ≡ Some BadStrategy
 of_no_template = refl
+
+-- where each template has a metric of its name
+abbrev each_its_own : Templates
+each_its_own name = Some (template_of (one (metric name)))
+
+abbrev eight : List (List ℕ)
+eight = codes "a" ∷ codes "b" ∷ codes "c" ∷ codes "d" ∷ codes "e" ∷ codes "f" ∷ codes "g" ∷ codes "h" ∷ []
+
+of_8_templates : strategy_refusal each_its_own (web [] (behind eight)) ≡ None
+of_8_templates = refl
+
+of_9_templates : strategy_refusal each_its_own (web [] (behind (codes "i" ∷ eight))) ≡ Some BadStrategy
+of_9_templates = refl
 
 code : code_of BadStrategy ≡ codes "bad-strategy"
 code = refl

@@ -20,6 +20,6 @@ IsBound spec (Err bind.Memory) = Unit {0}
 -- the strategy where nothing refuses it, or the refusal that holds; out of memory at any point
 abbrev pub IsChecked : Templates → ServiceSpec → Result CheckedStrategy CheckFault → Type 0
 IsChecked known spec (Ok strategy) =
-    (strategy_refusal known spec ≡ None) × (strategy ≡ strategy_of known spec)
+    (strategy_refusal known spec ≡ None) × (strategy ≡ strategy_of spec)
 IsChecked known spec (Err (check.Refused refusal)) = strategy_refusal known spec ≡ Some refusal
 IsChecked known spec (Err check.Memory) = Unit {0}

@@ -12,8 +12,7 @@ use Rattle.canary_plan.specs.declared.template_spec.TemplateSpec.{TemplateSpec}
 use Rattle.canary_plan.specs.declared.refusal.Refusal.{Refusal}
 use Rattle.canary_plan.specs.declared.refusal.Refusal.TheVariants.{BadCondition, IntervalNeeded, DuplicateMetric, BadDryRun, UnknownTemplate, EndlessMetric, BadStrategy}
 use Rattle.canary_plan.specs.Conditions.{condition_of}
-use Rattle.canary_plan.specs.Fit.{are_metrics_of_run}
-use Rattle.canary_plan.specs.Plans.{Templates, all_metrics, metrics_named, has_unknown, has_weight_in_range}
+use Rattle.canary_plan.specs.Plans.{Templates, all_metrics, metrics_named, has_unknown, binds, is_within_limits, is_background_within_limits}
 use Rattle.canary_plan.specs.Refusals.{first_that_holds}
 
 -- some name stands twice
@@ -84,16 +83,17 @@ abbrev pub is_endless : Templates → List (List ℕ) → Bool
 is_endless known names =
     list_any is_without_end (metrics_named known names)
 
--- no template or more than 8, or not 1 to 32 metrics
-abbrev pub is_misfit : Templates → List (List ℕ) → Bool
-is_misfit known names =
-    nat_lt (length names) 1
-    || (nat_lt 8 (length names) || not (are_metrics_of_run (metrics_named known names)))
+-- not 1 to 32 metrics, or a template that isn't known
+abbrev pub is_unfit : Templates → List (List ℕ) → Bool
+is_unfit known names = not (binds known names)
 
+-- more than 64 steps, a weight above 100, an analysis of no template or more than 8, or one that is
+-- unfit
 abbrev pub is_bad_strategy : Templates → ServiceSpec → Bool
 is_bad_strategy known s =
     nat_lt 64 (length s.steps)
-    || (not (list_all has_weight_in_range s.steps) || list_any (is_misfit known) (analyses s))
+    || (not (list_all is_within_limits s.steps && is_background_within_limits s.background)
+    || list_any (is_unfit known) (analyses s))
 
 -- why a service's strategy is refused
 abbrev pub strategy_refusal : Templates → ServiceSpec → Option Refusal

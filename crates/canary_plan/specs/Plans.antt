@@ -1,5 +1,6 @@
--- What a template and a strategy are once their conditions are read and their metrics are known.
-use Rattle.std.specs.Prelude.{ℕ, nat_le, ◌||◌, ◌&&◌, not, Bool, true, false, if◌then◌else◌, List, [], ◌∷◌, length, map, flat_map, slice_get, Option, Some, None, is_none, option_map, unwrap_or, codes}
+-- What a template and a strategy are once their conditions are read and their templates are known,
+-- and what a strategy is bound to.
+use Rattle.std.specs.Prelude.{ℕ, nat_le, ◌||◌, ◌&&◌, not, Bool, true, if◌then◌else◌, List, [], length, map, flat_map, slice_get, Option, Some, None, is_none, option_map, unwrap_or, codes}
 use Rattle.std.specs.List.{list_any, list_all}
 use Rattle.std.specs.Str.{bytes_eq}
 use Rattle.canary_condition.specs.Trees.{Tree}
@@ -66,7 +67,33 @@ metrics_in (Some t) = t.metrics
 abbrev pub metrics_named : Templates → List (List ℕ) → List MetricValue
 metrics_named known names = flat_map (λ name. metrics_in (known name)) names
 
--- The analyses of a strategy.
+-- the strategy that a service asks for
+abbrev pub strategy_of : ServiceSpec → CheckedStrategy
+strategy_of spec = record { steps = spec.steps; background = spec.background }
+
+-- Limits of a strategy that was checked.
+
+-- 1 to 8 templates of an analysis
+abbrev pub are_templates_of_run : List (List ℕ) → Bool
+are_templates_of_run names = nat_le 1 (length names) && nat_le (length names) 8
+
+-- a weight is at most 100 percent, and an analysis has 1 to 8 templates
+abbrev pub is_within_limits : Step → Bool
+is_within_limits (SetWeight percent) = nat_le percent 100
+is_within_limits (Pause seconds) = true
+is_within_limits (Analysis names) = are_templates_of_run names
+
+abbrev pub is_background_within_limits : Option Background → Bool
+is_background_within_limits None = true
+is_background_within_limits (Some b) = are_templates_of_run b.templates
+
+-- at most 64 steps, no weight above 100, and 1 to 8 templates of each analysis
+abbrev pub is_accepted : CheckedStrategy → Bool
+is_accepted s =
+    nat_le (length s.steps) 64
+    && (list_all is_within_limits s.steps && is_background_within_limits s.background)
+
+-- What a strategy is bound to.
 
 abbrev pub has_unknown : Templates → List (List ℕ) → Bool
 has_unknown known names = list_any (λ name. is_none (known name)) names
@@ -75,7 +102,7 @@ has_unknown known names = list_any (λ name. is_none (known name)) names
 abbrev pub binds : Templates → List (List ℕ) → Bool
 binds known names = not (has_unknown known names) && are_metrics_of_run (metrics_named known names)
 
--- an analysis of these templates, or none where they don't bind it
+-- an analysis bound to these templates, or none where they don't bind it
 abbrev pub analysis_of : Templates → List (List ℕ) → Option AnalysisParts
 analysis_of known names =
     if binds known names then Some (record { metrics = metrics_named known names }) else None
@@ -89,77 +116,42 @@ abbrev pub bound_background : Templates → Option Background → Option Analysi
 bound_background known None = None
 bound_background known (Some b) = analysis_of known b.templates
 
--- the analyses that a service asks for, with the metrics of the templates that are known
-abbrev pub bound_of : Templates → ServiceSpec → BoundParts
-bound_of known spec =
+-- the analyses of a strategy, bound to the templates that are known
+abbrev pub bound_of : Templates → CheckedStrategy → BoundParts
+bound_of known s =
     record {
-      steps = map (bound_step known) spec.steps;
-      background = bound_background known spec.background;
+      steps = map (bound_step known) s.steps;
+      background = bound_background known s.background;
     }
 
--- the strategy of a service, with its analyses
-abbrev pub strategy_of : Templates → ServiceSpec → CheckedStrategy
-strategy_of known spec =
-    record { steps = spec.steps; background = spec.background; bound = bound_of known spec }
+abbrev pub no_templates : Templates
+no_templates name = None
+
+-- a strategy with no analysis bound
+abbrev pub unbound : CheckedStrategy → BoundParts
+unbound s = bound_of no_templates s
 
 abbrev pub analysis_if : Option (Option AnalysisParts) → Option AnalysisParts
 analysis_if None = None
 analysis_if (Some a) = a
 
--- the analysis at that step, or the background
-abbrev pub analysis_at : CheckedStrategy → Option ℕ → Option AnalysisParts
-analysis_at s (Some i) = analysis_if (slice_get s.bound.steps i)
-analysis_at s None = s.bound.background
+-- the analysis at that step, or the background, where it is bound
+abbrev pub analysis_at : BoundParts → Option ℕ → Option AnalysisParts
+analysis_at b (Some i) = analysis_if (slice_get b.steps i)
+analysis_at b None = b.background
 
--- the same, and one of no templates where there is none
-abbrev pub analysis_or_none : CheckedStrategy → Option ℕ → AnalysisParts
-analysis_or_none s step = unwrap_or (analysis_at s step) no_analysis
+-- the same, and one of no templates where it is not bound
+abbrev pub analysis_or_none : BoundParts → Option ℕ → AnalysisParts
+analysis_or_none b step = unwrap_or (analysis_at b step) no_analysis
 
 -- the metrics of the analysis at that step, or of the background
-abbrev pub metrics_at : CheckedStrategy → Option ℕ → Option (List MetricValue)
-metrics_at s step = option_map (λ (a : AnalysisParts). a.metrics) (analysis_at s step)
-
--- Limits of a strategy that was checked.
-
--- a weight is at most 100 percent
-abbrev pub has_weight_in_range : Step → Bool
-has_weight_in_range (SetWeight percent) = nat_le percent 100
-has_weight_in_range (Pause seconds) = true
-has_weight_in_range (Analysis names) = true
+abbrev pub metrics_at : BoundParts → Option ℕ → Option (List MetricValue)
+metrics_at b step = option_map (λ (a : AnalysisParts). a.metrics) (analysis_at b step)
 
 abbrev pub is_fit_if : Option AnalysisParts → Bool
 is_fit_if None = true
 is_fit_if (Some a) = is_fit a
 
--- each of these analyses is fit for runs
+-- each analysis that is bound is fit for runs
 abbrev pub are_fit : BoundParts → Bool
 are_fit b = list_all is_fit_if b.steps && is_fit_if b.background
-
--- there is an analysis, fit for runs
-abbrev pub is_there_and_fit : Option AnalysisParts → Bool
-is_there_and_fit None = false
-is_there_and_fit (Some a) = is_fit a
-
-abbrev pub fits_step : Step → Option AnalysisParts → Bool
-fits_step (Analysis names) a = is_there_and_fit a
-fits_step (SetWeight percent) a = is_none a
-fits_step (Pause seconds) a = is_none a
-
--- an analysis, fit for runs, for each step that is one, and none for each other
-abbrev pub fit_steps : List Step → List (Option AnalysisParts) → Bool
-fit_steps [] [] = true
-fit_steps [] (a ∷ rest) = false
-fit_steps (step ∷ steps) [] = false
-fit_steps (step ∷ steps) (a ∷ rest) = fits_step step a && fit_steps steps rest
-
-abbrev pub fits_background : Option Background → Option AnalysisParts → Bool
-fits_background None a = is_none a
-fits_background (Some b) a = is_there_and_fit a
-
--- at most 64 steps, no weight above 100, and just the analyses that its steps and its background
--- ask for, each of them fit for runs
-abbrev pub is_accepted : CheckedStrategy → Bool
-is_accepted s =
-    nat_le (length s.steps) 64
-    && (list_all has_weight_in_range s.steps && (fit_steps s.steps s.bound.steps
-    && fits_background s.background s.bound.background))

@@ -1,13 +1,14 @@
 //! What analyses ask for, among the templates that are known.
-ghost use Rattle.std.specs.Prelude.{◌≡◌, [], ◌∷◌, ◌++◌, is_none, length, map, IfOk};
+ghost use Rattle.std.specs.Prelude.{◌≡◌, [], ◌∷◌, ◌++◌, is_none, map, IfOk};
 ghost use Rattle.std.specs.List.{list_any, filter_map};
 ghost use Rattle.std.specs.FinMap.{get};
 ghost use Rattle.canary_metric.specs.Metrics.{MetricValue};
 ghost use Rattle.canary_plan.specs.Plans.{metrics_in, metrics_named, has_unknown, binds};
+ghost use Rattle.canary_plan.specs.Plans.{are_templates_of_run};
 ghost use Rattle.canary_plan.specs.Fit.{are_metrics_of_run};
 ghost use Rattle.canary_plan.specs.PlanRefusals.{names_of_step, step_analyses, analyses};
 ghost use Rattle.canary_plan.specs.PlanRefusals.{repeats_metric};
-ghost use Rattle.canary_plan.specs.PlanRefusals.{is_endless, is_misfit, is_without_end};
+ghost use Rattle.canary_plan.specs.PlanRefusals.{is_endless, is_without_end};
 
 use crate::labels::has_duplicate;
 use crate::service::{Background, ServiceSpec};
@@ -184,14 +185,11 @@ fn is_without_end(metric: &Metric) -> bool
     effective_count(metric).is_none() && metric.pass_after().is_none()
 }
 
-/// Whether there is no template, or more than 8, or not 1 to 32 metrics.
-pub(crate) fn is_misfit(known: &Templates, names: &[Name]) -> bool
-    ensures { result ≡ is_misfit (get known.now) names.now }
+/// Whether there are 1 to 8 templates.
+pub(crate) fn are_templates_of_run(names: &[Name]) -> bool
+    ensures { result ≡ are_templates_of_run names.now }
 {
-    if names.len() < LEAST_TEMPLATES || names.len() > MOST_TEMPLATES {
-        return true;
-    }
-    !are_metrics_of_run(known, names)
+    LEAST_TEMPLATES <= names.len() && names.len() <= MOST_TEMPLATES
 }
 
 /// Whether each of these templates is known, and they have 1 to 32 metrics together.

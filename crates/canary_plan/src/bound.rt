@@ -1,15 +1,16 @@
-//! The analyses of a strategy.
-ghost use Rattle.std.specs.Prelude.{◌≡◌, map, IsTrue, IfOk};
+//! What strategies are bound to: their analyses with their metrics.
+ghost use Rattle.std.specs.Prelude.{◌≡◌, ◌≤◌, map, length, IsTrue, Some};
+ghost use Rattle.std.specs.Prelude.{IfOk, IfSome, option_copied};
 ghost use Rattle.std.specs.List.{list_all};
 ghost use Rattle.std.specs.FinMap.{get};
-ghost use Rattle.canary_plan.specs.Plans.{analysis_of, bound_step, bound_background, bound_of};
-ghost use Rattle.canary_plan.specs.Plans.{is_fit_if, are_fit};
+ghost use Rattle.canary_plan.specs.Plans.{analysis_of, bound_step, bound_background};
+ghost use Rattle.canary_plan.specs.Plans.{analysis_at, metrics_at, is_fit_if, are_fit};
 ghost use Rattle.canary_plan.specs.Fit.{have_counts};
 
 use crate::analysis;
 use crate::analysis_parts::AnalysisParts;
 use crate::bound_analysis::BoundAnalysis;
-use crate::service::{Background, ServiceSpec};
+use crate::service::Background;
 use crate::step::Step;
 use crate::templates::Templates;
 use canary_base::error::Memory;
@@ -17,26 +18,113 @@ use canary_base::lists::Listed;
 use canary_base::names::Name;
 use canary_metric::metric::Metric;
 use std::alloc::Global;
+use std::marker::Model;
+use std::rc::Rc;
 
-/// The analysis of each step, none where the step is no analysis, and that of the background.
+/// The analysis of each step, and that of the background, where they are bound.
 #[derive(Drop)]
 pub struct BoundParts {
     pub steps: Listed<Option<BoundAnalysis>>,
     pub background: Option<BoundAnalysis>,
 }
 
-/// The analyses that a service asks for, with the metrics of the templates that are known.
-pub(crate) fn bound_of(
+impl BoundParts {
+    fn step_analysis(&self, step: u32) -> Option<&BoundAnalysis>
+        ensures { option_copied result ≡ analysis_at self.now (Some step) }
+    {
+        self.steps.as_slice().get(step as usize)?.as_ref()
+    }
+}
+
+/// What a strategy is bound to: its analyses, each with 1 to 32 metrics. Its copies share it, so
+/// that a copy takes no memory.
+#[derive(Drop)]
+pub struct Bound {
+    parts: Rc<BoundParts>,
+}
+
+impl Model for Bound {
+    ghost use Rattle.std.specs.Prelude.{IsTrue};
+    ghost use Rattle.canary_plan.specs.Plans.{are_fit};
+    ghost use Rattle.canary_plan.specs.declared.bound.BoundParts.{BoundParts};
+    ghost use Rattle.canary_plan.specs.contracts.bound.BoundParts.{the_row};
+
+    ghost Value = { BoundParts };
+
+    ghost coded = { the_row.coded };
+
+    ghost view = { λ s. s.parts.value };
+
+    ghost invariant = { λ s. IsTrue (are_fit s.parts.value) };
+}
+
+impl Bound {
+    /// What a strategy is bound to, of these parts.
+    pub(crate) fn of(alloc: Global, parts: BoundParts) -> Result<Bound, Memory>
+        requires { IsTrue (are_fit parts) }
+        ensures { IfOk result (λ bound. bound ≡ parts) }
+    {
+        let parts = Rc::new(alloc, parts)?;
+        Ok(Bound { parts })
+    }
+
+    /// A copy of it, which takes no memory; `Memory` where it has as many copies as can be counted.
+    pub fn copy(&self) -> Result<Bound, Memory>
+        ensures { IfOk result (λ copy. copy ≡ self.now) }
+    {
+        let parts = self.parts.clone()?;
+        Ok(Bound { parts })
+    }
+
+    /// The analysis of each step, where it is bound.
+    pub fn steps(&self) -> &[Option<BoundAnalysis>]
+        ensures value { result.now ≡ self.now.steps }
+    {
+        self.parts.steps.as_slice()
+    }
+
+    /// The analysis at that step, from 0, or the background; none where there is no such analysis,
+    /// or it is not bound.
+    pub fn analysis(&self, step: Option<u32>) -> Option<&BoundAnalysis>
+        ensures value { option_copied result ≡ analysis_at self.now step }
+        ensures fit { IsTrue (are_fit self.now) }
+    {
+        match step {
+            Some(step) => self.parts.step_analysis(step),
+            None => self.parts.background.as_ref(),
+        }
+    }
+
+    /// The metrics of the analysis at that step, from 0, or of the background; none where there is
+    /// no such analysis, or it is not bound. 1 to 32.
+    pub fn metrics(&self, step: Option<u32>) -> Option<&[Metric]>
+        ensures value { option_copied result ≡ metrics_at self.now step }
+        ensures limit { IfSome result (λ metrics. (1 ≤ length metrics.now)
+            × (length metrics.now ≤ 32)) }
+    {
+        match self.analysis(step) {
+            Some(analysis) => Some(analysis.metrics()),
+            None => None,
+        }
+    }
+}
+
+/// The analyses of these steps and this background, bound to the templates that are known.
+pub(crate) fn bound_parts(
     alloc: Global,
-    spec: &ServiceSpec,
+    steps: &[Step],
+    background: Option<&Background>,
     known: &Templates,
 ) -> Result<BoundParts, Memory>
-    ensures bound { IfOk result (λ parts. parts ≡ bound_of (get known.now) spec.now) }
+    ensures steps { IfOk result
+        (λ parts. parts.steps ≡ map (bound_step (get known.now)) steps.now) }
+    ensures background { IfOk result (λ parts. parts.background
+        ≡ bound_background (get known.now) (option_copied background.entry)) }
     ensures fit { IfOk result (λ parts. IsTrue (are_fit parts)) }
 {
     Ok(BoundParts {
-        steps: bound_steps(alloc, spec.steps.as_slice(), known)?,
-        background: bound_background(alloc, &spec.background, known)?,
+        steps: bound_steps(alloc, steps, known)?,
+        background: bound_background(alloc, background, known)?,
     })
 }
 
@@ -72,11 +160,11 @@ fn bound_step(
 
 fn bound_background(
     alloc: Global,
-    background: &Option<Background>,
+    background: Option<&Background>,
     known: &Templates,
 ) -> Result<Option<BoundAnalysis>, Memory>
-    ensures bound { IfOk result
-        (λ found. found ≡ bound_background (get known.now) background.now) }
+    ensures bound { IfOk result (λ found. found
+        ≡ bound_background (get known.now) (option_copied background.entry)) }
     ensures fit { IfOk result (λ found. IsTrue (is_fit_if found)) }
 {
     match background {
@@ -85,7 +173,7 @@ fn bound_background(
     }
 }
 
-// The analysis of these templates, or none where they do not bind it.
+// The analysis bound to these templates, or none where they do not bind it.
 fn analysis_of(
     alloc: Global,
     known: &Templates,

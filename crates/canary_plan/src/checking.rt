@@ -1,17 +1,17 @@
 //! Why a service's strategy is refused, and the strategy that it asks for.
-ghost use Rattle.std.specs.Prelude.{◌≡◌, IfOk, IsTrue};
+ghost use Rattle.std.specs.Prelude.{◌≡◌, IfOk};
 ghost use Rattle.std.specs.List.{list_any, list_all};
 ghost use Rattle.std.specs.FinMap.{get};
-ghost use Rattle.canary_plan.specs.Plans.{has_weight_in_range, has_unknown, strategy_of, are_fit};
+ghost use Rattle.canary_plan.specs.Plans.{has_unknown, strategy_of, is_within_limits};
+ghost use Rattle.canary_plan.specs.Plans.{is_background_within_limits};
 ghost use Rattle.canary_plan.specs.PlanRefusals.{step_analyses, analyses, strategy_refusal};
 ghost use Rattle.canary_plan.specs.PlanRefusals.{repeats_metric};
-ghost use Rattle.canary_plan.specs.PlanRefusals.{is_endless, is_misfit};
+ghost use Rattle.canary_plan.specs.PlanRefusals.{is_endless, is_unfit};
 ghost use Rattle.canary_plan.specs.PlanRefusals.{is_bad_strategy};
 
 use crate::analysis;
-use crate::bound::bound_of;
 use crate::refusal::Refusal;
-use crate::service::{ServiceSpec, copy_background};
+use crate::service::{Background, ServiceSpec, copy_background};
 use crate::step::{Step, copy_steps};
 use crate::strategy::{CheckedStrategy, GREATEST_WEIGHT, MOST_STEPS};
 use crate::templates::Templates;
@@ -91,12 +91,16 @@ fn some_is_endless(known: &Templates, analyses: &[Listed<Name>]) -> bool
         .any(|names| analysis::is_endless(known, names.as_slice()))
 }
 
-fn some_is_misfit(known: &Templates, analyses: &[Listed<Name>]) -> bool
-    ensures { result ≡ list_any (is_misfit (get known.now)) analyses.now }
+fn some_is_unfit(known: &Templates, analyses: &[Listed<Name>]) -> bool
+    ensures { result ≡ list_any (is_unfit (get known.now)) analyses.now }
 {
-    analyses
-        .iter()
-        .any(|names| analysis::is_misfit(known, names.as_slice()))
+    analyses.iter().any(|names| is_unfit(known, names))
+}
+
+fn is_unfit(known: &Templates, names: &Listed<Name>) -> bool
+    ensures { result ≡ is_unfit (get known.now) names.now }
+{
+    !analysis::binds(known, names.as_slice())
 }
 
 // Whether there are more than 64 steps, a weight above 100, or an analysis that may not stand.
@@ -108,40 +112,43 @@ fn is_bad_strategy(spec: &ServiceSpec, known: &Templates, in_all: &[Listed<Name>
     if steps.len() > MOST_STEPS {
         return true;
     }
-    if !have_weights_in_range(steps) {
+    if !are_within_limits(steps) || !is_background_within_limits(&spec.background) {
         return true;
     }
-    some_is_misfit(known, in_all)
+    some_is_unfit(known, in_all)
 }
 
-fn have_weights_in_range(steps: &[Step]) -> bool
-    ensures { result ≡ list_all has_weight_in_range steps.now }
+fn are_within_limits(steps: &[Step]) -> bool
+    ensures { result ≡ list_all is_within_limits steps.now }
 {
-    steps.iter().all(has_weight_in_range)
+    steps.iter().all(is_within_limits)
 }
 
-fn has_weight_in_range(step: &Step) -> bool
-    ensures { result ≡ has_weight_in_range step.now }
+fn is_within_limits(step: &Step) -> bool
+    ensures { result ≡ is_within_limits step.now }
 {
     match step {
         Step::SetWeight(percent) => *percent <= GREATEST_WEIGHT,
         Step::Pause(_) => true,
-        Step::Analysis(_) => true,
+        Step::Analysis(names) => analysis::are_templates_of_run(names.as_slice()),
     }
 }
 
-/// The strategy that is asked for, its analyses with their metrics.
-pub(crate) fn strategy_of(
-    alloc: Global,
-    spec: &ServiceSpec,
-    known: &Templates,
-) -> Result<CheckedStrategy, Memory>
-    ensures checked { IfOk result (λ strategy. strategy ≡ strategy_of (get known.now) spec.now) }
-    ensures fit { IfOk result (λ strategy. IsTrue (are_fit strategy.bound)) }
+fn is_background_within_limits(background: &Option<Background>) -> bool
+    ensures { result ≡ is_background_within_limits background.now }
+{
+    match background {
+        None => true,
+        Some(background) => analysis::are_templates_of_run(background.templates.as_slice()),
+    }
+}
+
+/// The strategy that is asked for.
+pub(crate) fn strategy_of(alloc: Global, spec: &ServiceSpec) -> Result<CheckedStrategy, Memory>
+    ensures { IfOk result (λ strategy. strategy ≡ strategy_of spec.now) }
 {
     Ok(CheckedStrategy {
         steps: copy_steps(alloc, spec.steps.as_slice())?,
         background: copy_background(alloc, &spec.background)?,
-        bound: bound_of(alloc, spec, known)?,
     })
 }

@@ -2,10 +2,11 @@
 //! strategy, the commands, the lines of a history, and why a command is refused.
 //!
 //! Callers may rest on this: `Template::bind` gives the conditions that a template's texts spell,
-//! and `Strategy::check` a strategy with the metrics of its analyses, each exactly where nothing
-//! refuses it; else the first refusal that holds is answered (`Memory` aside). Each `Strategy` was
-//! checked. Two commands are told to be the same exactly where they are equal. The words of a line
-//! are read as its event, and as no other.
+//! and `Strategy::check` the strategy that a service asks for, each exactly where nothing refuses
+//! it; else the first refusal that holds is answered (`Memory` aside). Each `Strategy` was checked,
+//! and `Strategy::bind` gives the metrics of its analyses by the templates that are known. Two
+//! commands are told to be the same exactly where they are equal. The words of a line are read as
+//! its event, and as no other.
 //!
 //! In use (canary_check, src/alone.rt):
 //!

@@ -1,12 +1,10 @@
 //! Strategies that have been checked.
-ghost use Rattle.std.specs.Prelude.{◌≡◌, ◌≤◌, Some, None};
-ghost use Rattle.std.specs.Prelude.{IsTrue, IfOk, IfSome, length, option_copied};
+ghost use Rattle.std.specs.Prelude.{◌≡◌, IsTrue, IfOk, option_copied};
 ghost use Rattle.std.specs.FinMap.{get};
-ghost use Rattle.canary_plan.specs.Plans.{is_accepted, analysis_at, metrics_at};
+ghost use Rattle.canary_plan.specs.Plans.{is_accepted, unbound, bound_of};
 ghost use Rattle.canary_plan.specs.Checking.{IsChecked};
 
-use crate::bound::BoundParts;
-use crate::bound_analysis::BoundAnalysis;
+use crate::bound::{self, Bound};
 use crate::checking;
 use crate::fault::CheckFault;
 use crate::service::{Background, ServiceSpec};
@@ -14,7 +12,6 @@ use crate::step::Step;
 use crate::templates::Templates;
 use canary_base::error::Memory;
 use canary_base::lists::Listed;
-use canary_metric::metric::Metric;
 use std::alloc::Global;
 use std::marker::Model;
 use std::rc::Rc;
@@ -25,30 +22,14 @@ pub const MOST_STEPS: usize = 64;
 /// The greatest weight, in percent.
 pub const GREATEST_WEIGHT: u32 = 100;
 
-/// A strategy with its analyses.
+/// What a strategy asks for: its steps, and its background analysis. Its analyses name templates.
 #[derive(Drop)]
 pub struct CheckedStrategy {
     pub steps: Listed<Step>,
     pub background: Option<Background>,
-    /// Its analyses with their metrics.
-    pub bound: BoundParts,
 }
 
-impl CheckedStrategy {
-    fn step_analysis(&self, step: u32) -> Option<&BoundAnalysis>
-        ensures { option_copied result ≡ analysis_at self.now (Some step) }
-    {
-        self.bound.steps.as_slice().get(step as usize)?.as_ref()
-    }
-
-    fn background_analysis(&self) -> Option<&BoundAnalysis>
-        ensures { option_copied result ≡ analysis_at self.now None }
-    {
-        self.bound.background.as_ref()
-    }
-}
-
-/// A strategy that was checked: at most 64 steps, no weight above 100, and 1 to 32 metrics of each
+/// A strategy that was checked: at most 64 steps, no weight above 100, and 1 to 8 templates of each
 /// analysis. Its copies share it, so that a copy takes no memory.
 #[derive(Drop)]
 pub struct Strategy {
@@ -71,8 +52,7 @@ impl Model for Strategy {
 }
 
 impl Strategy {
-    /// The strategy that a service asks for, its analyses with the metrics of the templates that
-    /// are known.
+    /// The strategy that a service asks for, whose analyses name templates that are known.
     ///
     /// # Errors
     /// `Refused` with the first of these that holds: `DuplicateMetric` where two metrics of one
@@ -91,7 +71,7 @@ impl Strategy {
         if let Some(refusal) = checking::refusal(alloc, spec, known)? {
             return Err(CheckFault::Refused(refusal));
         }
-        let checked = checking::strategy_of(alloc, spec, known)?;
+        let checked = checking::strategy_of(alloc, spec)?;
         Ok(Strategy::of(alloc, checked)?)
     }
 
@@ -102,6 +82,22 @@ impl Strategy {
     {
         let checked = Rc::new(alloc, checked)?;
         Ok(Strategy { checked })
+    }
+
+    /// What it is bound to by the templates that are known: its analyses with their metrics, where
+    /// these templates have 1 to 32 of them; or `Memory`.
+    pub fn bind(&self, alloc: Global, known: &Templates) -> Result<Bound, Memory>
+        ensures { IfOk result (λ bound. bound ≡ bound_of (get known.now) self.now) }
+    {
+        let parts = bound::bound_parts(alloc, self.steps(), self.background(), known)?;
+        Bound::of(alloc, parts)
+    }
+
+    /// It with no analysis bound, or `Memory`.
+    pub fn unbound(&self, alloc: Global) -> Result<Bound, Memory>
+        ensures { IfOk result (λ bound. bound ≡ unbound self.now) }
+    {
+        self.bind(alloc, &Templates::new(alloc))
     }
 
     /// A copy of it, which takes no memory; `Memory` where it has as many copies as can be counted.
@@ -125,29 +121,5 @@ impl Strategy {
         ensures { option_copied result ≡ self.now.background }
     {
         self.checked.background.as_ref()
-    }
-
-    /// The analysis at that step, from 0, or the background; none where there is no such analysis.
-    pub fn analysis(&self, step: Option<u32>) -> Option<&BoundAnalysis>
-        ensures value { option_copied result ≡ analysis_at self.now step }
-        ensures accepted { IsTrue (is_accepted self.now) }
-    {
-        match step {
-            Some(step) => self.checked.step_analysis(step),
-            None => self.checked.background_analysis(),
-        }
-    }
-
-    /// The metrics of the analysis at that step, from 0, or of the background; none where there is
-    /// no such analysis. 1 to 32.
-    pub fn metrics(&self, step: Option<u32>) -> Option<&[Metric]>
-        ensures value { option_copied result ≡ metrics_at self.now step }
-        ensures limit { IfSome result (λ metrics. (1 ≤ length metrics.now)
-            × (length metrics.now ≤ 32)) }
-    {
-        match self.analysis(step) {
-            Some(analysis) => Some(analysis.metrics()),
-            None => None,
-        }
     }
 }

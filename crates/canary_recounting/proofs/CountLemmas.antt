@@ -4,7 +4,7 @@ use Rattle.std.specs.Prelude.{Option, Some, None, option_map, slice_get, slice_s
 use Rattle.std.proofs.lemmas.Option.{slice_get-map}
 use Rattle.canary_metric.specs.Metrics.{MetricValue}
 use Rattle.canary_metric.specs.Counts.{Counts}
-use Rattle.canary_plan.specs.declared.strategy.CheckedStrategy.{CheckedStrategy}
+use Rattle.canary_plan.specs.declared.bound.BoundParts.{BoundParts}
 use Rattle.canary_release.specs.declared.effect.Recorded.{Recorded}
 use Rattle.canary_release.specs.Pasts.{change_at}
 use Rattle.canary_once.specs.declared.record.RunRecord.{RunRecord}
@@ -39,12 +39,12 @@ run_at : {A B : Type 0} (f : A → B) (xs : List A) (run : ℕ) → at_run run (
 run_at f xs zero = refl
 run_at f xs (suc place) = slice_get-map f xs place
 
-pub unplanned : (strategy : CheckedStrategy) (runs : List RunRecord) (run metric : ℕ) → None ≡ at_run run runs → None ≡ of_metric run metric (metrics_of_runs strategy runs)
-unplanned strategy runs run metric is =
-    let metrics : RunRecord → List MetricValue = λ r. run_metrics strategy r.step in
+pub unplanned : (bound : BoundParts) (runs : List RunRecord) (run metric : ℕ) → None ≡ at_run run runs → None ≡ of_metric run metric (metrics_of_runs bound runs)
+unplanned bound runs run metric is =
+    let metrics : RunRecord → List MetricValue = λ r. run_metrics bound r.step in
     ap (λ (o : Option RunRecord). at_metric metric (option_map metrics o)) is ∙ sym (ap (at_metric metric) (run_at metrics runs run))
 
-pub planned : (strategy : CheckedStrategy) (runs : List RunRecord) (run metric : ℕ) (r : RunRecord) → Some r ≡ at_run run runs → slice_get (run_metrics strategy r.step) metric ≡ of_metric run metric (metrics_of_runs strategy runs)
-planned strategy runs run metric r is =
-    let metrics : RunRecord → List MetricValue = λ r. run_metrics strategy r.step in
+pub planned : (bound : BoundParts) (runs : List RunRecord) (run metric : ℕ) (r : RunRecord) → Some r ≡ at_run run runs → slice_get (run_metrics bound r.step) metric ≡ of_metric run metric (metrics_of_runs bound runs)
+planned bound runs run metric r is =
+    let metrics : RunRecord → List MetricValue = λ r. run_metrics bound r.step in
     ap (λ (o : Option RunRecord). at_metric metric (option_map metrics o)) is ∙ sym (ap (at_metric metric) (run_at metrics runs run))

@@ -14,29 +14,29 @@ use canary_condition::measurement::measure;
 use canary_metric::metric::Metric;
 use canary_metric::tally::Tally;
 use canary_once::record::RunRecord;
-use canary_plan::strategy::Strategy;
+use canary_plan::bound::Bound;
 use canary_release::effect::Recorded;
 use canary_release::runs::new_tallies;
 use std::alloc::Global;
 
 /// Whether these measurements come one after another, each the next of a metric of its run and of
 /// the phase that the metric's conditions give its outcome, and the tallies of the runs are their
-/// counts. The runs are numbered from 1 on, and of a service with that strategy.
+/// counts. The runs are numbered from 1 on, and of a service that is bound so.
 ///
 /// # Errors
 /// `Memory` where an allocation was refused.
 pub fn are_counted(
     alloc: Global,
-    strategy: &Strategy,
+    bound: &Bound,
     runs: &[RunRecord],
     measurements: &[Recorded],
 ) -> Result<bool, Memory>
     ensures { IfOk result (λ are. IsTrue are
-        ↔ AreTallied strategy.now runs.now measurements.now) }
+        ↔ AreTallied bound.now runs.now measurements.now) }
 {
-    let mut counts = none_counted(alloc, strategy, runs)?;
+    let mut counts = none_counted(alloc, bound, runs)?;
     for measurement in measurements {
-        if !is_next(strategy, runs, &counts, measurement) {
+        if !is_next(bound, runs, &counts, measurement) {
             return Ok(false);
         }
         counts.count(measurement);
@@ -45,33 +45,33 @@ pub fn are_counted(
 }
 
 // No measurements of any metric of the runs.
-fn none_counted(alloc: Global, strategy: &Strategy, runs: &[RunRecord]) -> Result<Counts, Memory>
+fn none_counted(alloc: Global, bound: &Bound, runs: &[RunRecord]) -> Result<Counts, Memory>
     ensures { IfOk result (λ counts. counts
-        ≡ none_counted (metrics_of_runs strategy.now runs.now)) }
+        ≡ none_counted (metrics_of_runs bound.now runs.now)) }
 {
     let mut counts = Counts::new(alloc);
     for run in runs {
-        let tallies = new_tallies(alloc, metric_count(strategy, run.step))?;
+        let tallies = new_tallies(alloc, metric_count(bound, run.step))?;
         counts.push(RunCounts::of(tallies))?;
     }
     Ok(counts)
 }
 
-fn metric_count(strategy: &Strategy, step: Option<u32>) -> u32
-    ensures { result ≡ length (run_metrics strategy.now step) }
+fn metric_count(bound: &Bound, step: Option<u32>) -> u32
+    ensures { result ≡ length (run_metrics bound.now step) }
 {
-    match strategy.metrics(step) {
+    match bound.metrics(step) {
         Some(metrics) => metrics.len() as u32,
         None => 0,
     }
 }
 
 // Whether the measurement may come next.
-fn is_next(strategy: &Strategy, runs: &[RunRecord], counts: &Counts, next: &Recorded) -> bool
+fn is_next(bound: &Bound, runs: &[RunRecord], counts: &Counts, next: &Recorded) -> bool
     ensures { IsTrue result
-        ↔ IsNext (metrics_of_runs strategy.now runs.now) counts.now next.now }
+        ↔ IsNext (metrics_of_runs bound.now runs.now) counts.now next.now }
 {
-    let Some(metric) = metric_of(strategy, runs, next) else {
+    let Some(metric) = metric_of(bound, runs, next) else {
         return false;
     };
     let Some(tally) = counts.tally(next) else {
@@ -82,16 +82,12 @@ fn is_next(strategy: &Strategy, runs: &[RunRecord], counts: &Counts, next: &Reco
 
 // The metric of the measurement, if it is one of its run.
 #[tactic(auto, using(crate::proofs::CountLemmas::unplanned, crate::proofs::CountLemmas::planned))]
-fn metric_of<'a>(
-    strategy: &'a Strategy,
-    runs: &[RunRecord],
-    measurement: &Recorded,
-) -> Option<&'a Metric>
+fn metric_of<'a>(bound: &'a Bound, runs: &[RunRecord], measurement: &Recorded) -> Option<&'a Metric>
     ensures { option_copied result ≡ of_metric measurement.now.run measurement.now.metric
-        (metrics_of_runs strategy.now runs.now) }
+        (metrics_of_runs bound.now runs.now) }
 {
     match run_of(runs, measurement.run) {
-        Some(run) => metric_in(strategy, run.step, measurement.metric),
+        Some(run) => metric_in(bound, run.step, measurement.metric),
         None => None,
     }
 }
@@ -103,10 +99,10 @@ fn run_of(runs: &[RunRecord], number: u32) -> Option<&RunRecord>
     runs.get(place as usize)
 }
 
-fn metric_in(strategy: &Strategy, step: Option<u32>, place: u32) -> Option<&Metric>
-    ensures { option_copied result ≡ slice_get (run_metrics strategy.now step) place }
+fn metric_in(bound: &Bound, step: Option<u32>, place: u32) -> Option<&Metric>
+    ensures { option_copied result ≡ slice_get (run_metrics bound.now step) place }
 {
-    match strategy.metrics(step) {
+    match bound.metrics(step) {
         Some(metrics) => metrics.get(place as usize),
         None => None,
     }

@@ -7,7 +7,7 @@
 //!
 //! In use (canary_adopting, src/counts.rt):
 //!
-//!     if are_counted(alloc, strategy, runs, measurements)? {
+//!     if are_counted(alloc, bound, runs, measurements)? {
 //!         Ok(())
 //!     } else {
 //!         Err(ReadFault::Broken)

@@ -8,15 +8,15 @@ use canary_metric::metric::Metric;
 use canary_metric::tally::Tally;
 use canary_metric::verdict::{is_completed, verdict};
 use canary_once::record::RunRecord;
-use canary_plan::strategy::Strategy;
+use canary_plan::bound::Bound;
 use canary_release::effect::Closing;
 
-/// Whether the run has an analysis of the strategy, and is closed, or open, as the verdict of its
+/// Whether the run has an analysis that is bound, and is closed, or open, as the verdict of its
 /// tallies tells.
-pub fn has_analysis(strategy: &Strategy, run: &RunRecord) -> bool
-    ensures { IsTrue result ↔ HasAnalysis strategy.now run.now }
+pub fn has_analysis(bound: &Bound, run: &RunRecord) -> bool
+    ensures { IsTrue result ↔ HasAnalysis bound.now run.now }
 {
-    match strategy.metrics(run.step) {
+    match bound.metrics(run.step) {
         Some(metrics) => has_verdict(metrics, run.tallies.as_slice(), run.closed),
         None => false,
     }

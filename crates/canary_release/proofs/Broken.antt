@@ -14,10 +14,6 @@ some_of_four false false true d = refl
 some_of_four false false false true = refl
 some_of_four false false false false = refl
 
-pub some_of_five : (a b c d e : Bool) → some_of (a ∷ b ∷ c ∷ d ∷ e ∷ []) ≡ (a || (b || (c || (d || e))))
-some_of_five true b c d e = refl
-some_of_five false b c d e = some_of_four b c d e
-
 -- the second group asked after the third
 pub later_first : (p q r s : Bool) → (p || (q || (r || s))) ≡ (p || (r || (q || s)))
 later_first true q r s = refl
@@ -31,12 +27,22 @@ four_groups ps qs rs ts =
     list_any-append (λ (b : Bool). b) ps (qs ++ (rs ++ ts))
     ∙ ap (λ x. some_of ps || x) (list_any-append (λ (b : Bool). b) qs (rs ++ ts) ∙ ap (λ x. some_of qs || x) (list_any-append (λ (b : Bool). b) rs ts))
 
--- the seventeen causes, in the groups in which they are asked
-pub in_groups : (a1 a2 a3 a4 b1 b2 b3 b4 c1 c2 c3 c4 d1 d2 d3 d4 d5 : Bool) → some_of (a1 ∷ a2 ∷ a3 ∷ a4 ∷ b1 ∷ b2 ∷ b3 ∷ b4 ∷ c1 ∷ c2 ∷ c3 ∷ c4 ∷ d1 ∷ d2 ∷ d3 ∷ d4 ∷ d5 ∷ []) ≡ ((a1 || (a2 || (a3 || a4))) || ((c1 || (c2 || (c3 || c4))) || ((b1 || (b2 || (b3 || b4))) || (d1 || (d2 || (d3 || (d4 || d5)))))))
-in_groups a1 a2 a3 a4 b1 b2 b3 b4 c1 c2 c3 c4 d1 d2 d3 d4 d5 =
-    four_groups (a1 ∷ a2 ∷ a3 ∷ a4 ∷ []) (b1 ∷ b2 ∷ b3 ∷ b4 ∷ []) (c1 ∷ c2 ∷ c3 ∷ c4 ∷ []) (d1 ∷ d2 ∷ d3 ∷ d4 ∷ d5 ∷ [])
-    ∙ ap (λ x. x || (some_of (b1 ∷ b2 ∷ b3 ∷ b4 ∷ []) || (some_of (c1 ∷ c2 ∷ c3 ∷ c4 ∷ []) || some_of (d1 ∷ d2 ∷ d3 ∷ d4 ∷ d5 ∷ [])))) (some_of_four a1 a2 a3 a4)
-    ∙ ap (λ x. (a1 || (a2 || (a3 || a4))) || (x || (some_of (c1 ∷ c2 ∷ c3 ∷ c4 ∷ []) || some_of (d1 ∷ d2 ∷ d3 ∷ d4 ∷ d5 ∷ [])))) (some_of_four b1 b2 b3 b4)
-    ∙ ap (λ x. (a1 || (a2 || (a3 || a4))) || ((b1 || (b2 || (b3 || b4))) || (x || some_of (d1 ∷ d2 ∷ d3 ∷ d4 ∷ d5 ∷ [])))) (some_of_four c1 c2 c3 c4)
-    ∙ ap (λ x. (a1 || (a2 || (a3 || a4))) || ((b1 || (b2 || (b3 || b4))) || ((c1 || (c2 || (c3 || c4))) || x))) (some_of_five d1 d2 d3 d4 d5)
-    ∙ later_first (a1 || (a2 || (a3 || a4))) (b1 || (b2 || (b3 || b4))) (c1 || (c2 || (c3 || c4))) (d1 || (d2 || (d3 || (d4 || d5))))
+pub some_of_six : (a b c d e f : Bool) → some_of (a ∷ b ∷ c ∷ d ∷ e ∷ f ∷ []) ≡ ((a || (b || (c || (d || e)))) || f)
+some_of_six true b c d e f = refl
+some_of_six false true c d e f = refl
+some_of_six false false true d e f = refl
+some_of_six false false false true e f = refl
+some_of_six false false false false true f = refl
+some_of_six false false false false false true = refl
+some_of_six false false false false false false = refl
+
+-- the eighteen causes, in the groups in which they are asked
+pub in_groups : (a1 a2 a3 a4 b1 b2 b3 b4 c1 c2 c3 c4 d1 d2 d3 d4 d5 e : Bool) → some_of (a1 ∷ a2 ∷ a3 ∷ a4 ∷ b1 ∷ b2 ∷ b3 ∷ b4 ∷ c1 ∷ c2 ∷ c3 ∷ c4 ∷ d1 ∷ d2 ∷ d3 ∷ d4 ∷ d5 ∷ e ∷ []) ≡ ((a1 || (a2 || (a3 || a4))) || ((c1 || (c2 || (c3 || c4))) || ((b1 || (b2 || (b3 || b4))) || ((d1 || (d2 || (d3 || (d4 || d5)))) || e))))
+in_groups a1 a2 a3 a4 b1 b2 b3 b4 c1 c2 c3 c4 d1 d2 d3 d4 d5 e =
+    let last = some_of (d1 ∷ d2 ∷ d3 ∷ d4 ∷ d5 ∷ e ∷ []) in
+    four_groups (a1 ∷ a2 ∷ a3 ∷ a4 ∷ []) (b1 ∷ b2 ∷ b3 ∷ b4 ∷ []) (c1 ∷ c2 ∷ c3 ∷ c4 ∷ []) (d1 ∷ d2 ∷ d3 ∷ d4 ∷ d5 ∷ e ∷ [])
+    ∙ ap (λ x. x || (some_of (b1 ∷ b2 ∷ b3 ∷ b4 ∷ []) || (some_of (c1 ∷ c2 ∷ c3 ∷ c4 ∷ []) || last))) (some_of_four a1 a2 a3 a4)
+    ∙ ap (λ x. (a1 || (a2 || (a3 || a4))) || (x || (some_of (c1 ∷ c2 ∷ c3 ∷ c4 ∷ []) || last))) (some_of_four b1 b2 b3 b4)
+    ∙ ap (λ x. (a1 || (a2 || (a3 || a4))) || ((b1 || (b2 || (b3 || b4))) || (x || last))) (some_of_four c1 c2 c3 c4)
+    ∙ ap (λ x. (a1 || (a2 || (a3 || a4))) || ((b1 || (b2 || (b3 || b4))) || ((c1 || (c2 || (c3 || c4))) || x))) (some_of_six d1 d2 d3 d4 d5 e)
+    ∙ later_first (a1 || (a2 || (a3 || a4))) (b1 || (b2 || (b3 || b4))) (c1 || (c2 || (c3 || c4))) ((d1 || (d2 || (d3 || (d4 || d5)))) || e)

@@ -17,7 +17,8 @@ use Rattle.canary_plan.specs.declared.strategy.CheckedStrategy.{CheckedStrategy}
 use Rattle.canary_plan.specs.declared.command.Command.{Command}
 use Rattle.canary_plan.specs.declared.command.Command.TheVariants.{Template as AddTemplate, Service as AddService, Start, Promote, PromoteFull, Abort, Retry, Tick, Report}
 use Rattle.canary_plan.specs.declared.refusal.Refusal.{Refusal}
-use Rattle.canary_plan.specs.Plans.{Templates, is_accepted}
+use Rattle.canary_plan.specs.declared.bound.BoundParts.{BoundParts}
+use Rattle.canary_plan.specs.Plans.{Templates, is_accepted, bound_of, are_fit}
 use Rattle.canary_plan.specs.PlanRefusals.{template_refusal, strategy_refusal}
 use Rattle.canary_plan.specs.Commands.{subject_of}
 use Rattle.canary_release.specs.declared.runs.OpenRun.{OpenRun}
@@ -31,7 +32,7 @@ use Rattle.canary_release.specs.Commands.{Acted, unless, leads}
 use Rattle.canary_release.specs.Desks.{ModelService, Desk, no_desk, Change, course_of, watch_of, rules, act_passed, act_new, new_service, adds_unless, rule_template, rule_service, ruling, ruling_on, after, desk_after, apply}
 use Rattle.canary_release.specs.Desks.Change.{Nothing, Adds, Becomes}
 use Rattle.canary_release.specs.Shapes.{kept_course, kept_after, shape}
-use Rattle.canary_release.specs.Parts.{runs_wanted, is_misplaced, is_misnumbered, repeats_number, has_wrong_tallies, is_background_run, is_step_run, has_background_run, is_astray, is_judged, is_broken}
+use Rattle.canary_release.specs.Parts.{runs_wanted, is_misplaced, is_misnumbered, repeats_number, has_wrong_tallies, is_background_run, is_step_run, has_background_run, is_astray, is_judged, is_misbound, is_broken}
 use Rattle.canary_release.specs.Passing.{next_move, is_by}
 use Rattle.canary_release.specs.PartsLaws.{ActingKeepsParts, NewPartsAreUnbroken}
 use Rattle.canary_release.specs.Laws.{WatchesAlike}
@@ -40,9 +41,11 @@ use Rattle.canary_release.proofs.Alike.{one_watch}
 use Rattle.canary_release.proofs.OrderingBasics.{neither, each, none_passes, some_same}
 use Rattle.canary_release.specs.Effects.{AreAllowed}
 use Rattle.canary_release.proofs.OrderingAllowed.{IsNumbered, AreDistinct, IsAtMost, IsFollowing}
+use Rattle.canary_release.proofs.PartsKept.{fit_of}
+use Rattle.canary_release.proofs.PartsFresh.{Basis, Accepted, basis, accepted as accepted_basis}
 use Rattle.canary_release.proofs.OrderingReports.{follows}
 use Rattle.canary_release.proofs.OrderingPasts.{HasLists, IsOrdered, ordered_after_all}
-use Rattle.canary_release.proofs.OrderingTemplates.{KeepsKnown, AreBound, stays_same, strategy_accepted}
+use Rattle.canary_release.proofs.OrderingTemplates.{KeepsKnown, AreBound, stays_same, strategy_accepted, all_fit}
 
 -- What unbroken parts say of the open runs.
 
@@ -91,6 +94,7 @@ parts_say p e =
     ∷ (stand.background_hold && not stand.background)
     ∷ list_any is_judged runs
     ∷ is_by stand.last (next_move stand)
+    ∷ is_misbound stand
     ∷ []
     ) in
     let within = no_cause 4 causes (list_any (is_misnumbered p.runs.count) runs) e refl in
@@ -100,13 +104,13 @@ parts_say p e =
 
 -- A service.
 
-to_lists : (s : ModelService) (rs : List Run) → AllByRecursion (IsRun s) rs → AllByRecursion (HasLists s.stand.strategy s.past.measurements) rs
-to_lists s rs h = each (IsRun s) (HasLists s.stand.strategy s.past.measurements) (λ r k. record { analysis = k.analysis; one_each = k.one_each; lists = k.lists }) rs h
+to_lists : (s : ModelService) (rs : List Run) → AllByRecursion (IsRun s) rs → AllByRecursion (HasLists s.stand.bound s.past.measurements) rs
+to_lists s rs h = each (IsRun s) (HasLists s.stand.bound s.past.measurements) (λ r k. record { analysis = k.analysis; one_each = k.one_each; lists = k.lists }) rs h
 
-from_lists : (s : ModelService) (rs : List Run) → AllByRecursion (HasLists s.stand.strategy s.past.measurements) rs → AllByRecursion (IsRun s) rs
-from_lists s rs h = each (HasLists s.stand.strategy s.past.measurements) (IsRun s) (λ r k. record { analysis = k.analysis; one_each = k.one_each; lists = k.lists }) rs h
+from_lists : (s : ModelService) (rs : List Run) → AllByRecursion (HasLists s.stand.bound s.past.measurements) rs → AllByRecursion (IsRun s) rs
+from_lists s rs h = each (HasLists s.stand.bound s.past.measurements) (IsRun s) (λ r k. record { analysis = k.analysis; one_each = k.one_each; lists = k.lists }) rs h
 
-pub past_ordered : (known : Templates) (name : List ℕ) (m : ModelService) → IsInOrder known name m → IsOrdered m.stand.strategy m.past
+pub past_ordered : (known : Templates) (name : List ℕ) (m : ModelService) → IsInOrder known name m → IsOrdered m.stand.bound m.past
 past_ordered known name m o = record { numbered = o.numbered; runs = to_lists m m.past.runs o.runs; measured = o.measured }
 
 -- the change of a service that was found, and what came of it
@@ -117,22 +121,28 @@ pub record HasBecome (known : Templates) (name : List ℕ) (m : ModelService) (c
 service_becomes : WatchesAlike → ActingKeepsParts → (known : Templates) → AreBound known → (name : List ℕ) (m : ModelService) (command : Command) (now : ℕ) (a : Acted) → IsInOrder known name m → act_passed command (course_of m) now ≡ Ok a → HasBecome known name m command a.course
 service_becomes alike acting known bound name m command now a o e =
     let w : Runs = watched m.past in
-    let accepted : IsTrue (is_accepted m.stand.strategy) = subst (λ (st : CheckedStrategy). IsTrue (is_accepted st)) (sym o.strategy) (strategy_accepted known m.made bound o.accepted) in
+    let accepted : IsTrue (is_accepted m.stand.strategy) = subst (λ (st : CheckedStrategy). IsTrue (is_accepted st)) (sym o.strategy) (strategy_accepted known m.made o.accepted) in
+    let fit : IsTrue (are_fit m.stand.bound) = ap are_fit o.bound ∙ all_fit known bound m.stand.strategy in
+    let parts = fit_of (shape m) o.parts in
+    let basis_accepted : Accepted (basis m.stand) = accepted_basis m.stand accepted fit parts.3 in
     let same : watch_of m.past ≡ after_all w = one_watch alike m.past w refl in
     let kept : act_passed command (kept_course (shape m)) now ≡ Ok a = ap (λ (v : Watch). act_passed command (course_from m.stand v) now) (sym same) ∙ e in
-    let f0 : IsFollowing m.stand w (kept_course (shape m)) = record { strategy = refl; name = refl; watch = refl; allowed = tt } in
-    let f : IsFollowing m.stand w a.course = follows m.stand w accepted (parts_say (shape m) o.parts).numbered command (kept_course (shape m)) now a f0 kept in
-    let unbroken : is_broken (kept_after a.course) ≡ false = (acting command (shape m) now a accepted o.parts kept).0 in
+    let f0 : IsFollowing m.stand w (kept_course (shape m)) = record { same = refl; name = refl; watch = refl; allowed = tt } in
+    let f : IsFollowing m.stand w a.course = follows m.stand w basis_accepted (parts_say (shape m) o.parts).numbered command (kept_course (shape m)) now a f0 kept in
+    let unbroken : is_broken (kept_after a.course) ≡ false = (acting command (shape m) now a accepted fit o.parts kept).0 in
     let grown : Past = grows_by m.past a.course.effects in
     let now_watched : runs_now a.course ≡ watched grown = (λ i. f.watch i a.course.effects) ∙ sym (alike m.past a.course.effects) in
-    let ordered : IsOrdered a.course.stand.strategy grown = subst (λ (st : CheckedStrategy). IsOrdered st grown) (sym f.strategy) (ordered_after_all alike m.stand.strategy m.past a.course.effects f.allowed (past_ordered known name m o)) in
+    let strategy : a.course.stand.strategy ≡ m.stand.strategy = ap (λ (b : Basis). b.strategy) f.same in
+    let same_bound : a.course.stand.bound ≡ m.stand.bound = ap (λ (b : Basis). b.bound) f.same in
+    let ordered : IsOrdered a.course.stand.bound grown = subst (λ (b : BoundParts). IsOrdered b grown) (sym same_bound) (ordered_after_all alike m.stand.bound m.past a.course.effects f.allowed (past_ordered known name m o)) in
     record {
       order =
           record {
             named = o.named;
             shown = f.name ∙ o.shown;
-            strategy = f.strategy ∙ o.strategy;
+            strategy = strategy ∙ o.strategy;
             accepted = o.accepted;
+            bound = same_bound ∙ o.bound ∙ ap (bound_of known) (sym strategy);
             numbered = ordered.numbered;
             runs = from_lists (after (Some m) a.course.stand a.course.effects) grown.runs ordered.runs;
             measured = ordered.measured;
@@ -148,10 +158,11 @@ service_begins adding known spec now none =
       shown = refl;
       strategy = refl;
       accepted = none;
+      bound = refl;
       numbered = tt;
       runs = tt;
       measured = refl;
-      parts = adding known spec now;
+      parts = adding known spec now none;
     }
 
 -- What a command brings, from the service of its name as it was found.
@@ -164,7 +175,7 @@ OrderIf known name (Some m) = IsInOrder known name m
 pub record HasBegun (known : Templates) (name : List ℕ) (c : Course) : Type 0 where
   pub order : IsInOrder known name (after None c.stand c.effects)
   pub no_runs : (grows_by no_past c.effects).runs ≡ []
-  pub allowed : AreAllowed c.stand.strategy (watched no_past) c.effects
+  pub allowed : AreAllowed c.stand.bound (watched no_past) c.effects
 
 pub record HasAdded (known : Templates) (name : List ℕ) (t : Template) : Type 0 where
   pub order : IsTemplate name t
@@ -251,8 +262,9 @@ order_kept known other name s keeps o =
     record {
       named = o.named;
       shown = o.shown;
-      strategy = o.strategy ∙ same.0;
+      strategy = o.strategy;
       accepted = same.1;
+      bound = o.bound ∙ ap (bound_of known) o.strategy ∙ same.0 ∙ ap (bound_of other) (sym o.strategy);
       numbered = o.numbered;
       runs = o.runs;
       measured = o.measured;

@@ -1,6 +1,6 @@
 -- Reports and all other commands bring allowed effects alone.
 use Rattle.std.proofs.Common.{◌≡◌, ℕ, zero, suc, ◌+◌, ◌≤◌, List, [], ◌∷◌, ◌++◌, length, Bool, true, false, refl, ap, sym, ◌∙◌, subst, arith, eqb-true, true≢false}
-use Rattle.std.specs.Prelude.{◌==◌, ◌||◌, nat_lt, nat_le, if◌then◌else◌, IsTrue, Option, Some, None, slice_get, option_map, Result, Ok, Err}
+use Rattle.std.specs.Prelude.{◌==◌, ◌||◌, nat_lt, nat_le, if◌then◌else◌, Option, Some, None, slice_get, option_map, Result, Ok, Err}
 use Rattle.std.specs.List.{find, list_any}
 use Rattle.std.specs.Str.{bytes_eq}
 use Rattle.std.proofs.lemmas.Slice.Eq.{bytes_eq-Decides}
@@ -15,7 +15,6 @@ use Rattle.canary_plan.specs.declared.line.LineEvent.{LineEvent}
 use Rattle.canary_plan.specs.declared.line.LineEvent.TheVariants.{Started, Retried, Promoted, PromotedFull, Aborted as AbortLine}
 use Rattle.canary_plan.specs.declared.refusal.Refusal.{Refusal}
 use Rattle.canary_plan.specs.declared.refusal.Refusal.TheVariants.{RepeatedMetric, MetricClosed, AlreadyRecorded, OutOfTurn, Spent, Future, TooEarly}
-use Rattle.canary_plan.specs.Plans.{is_accepted}
 use Rattle.canary_plan.specs.Refusals.{or_refusal}
 use Rattle.canary_release.specs.declared.effect.Recorded.{Recorded}
 use Rattle.canary_release.specs.declared.effect.Effect.TheVariants.{Measured}
@@ -31,6 +30,7 @@ use Rattle.canary_release.specs.Passing.{pass, judged_at}
 use Rattle.canary_release.specs.Reports.{Place, place_from, place_of, names_metric, entry_refusal_at, entry_refusal, entries_refusal, report_refusal, recorded_at, recorded_if, brought, record_all, report_on}
 use Rattle.canary_release.specs.Commands.{Acted, unless, leads, reports, reports_if, start_refusal, retry_refusal, promote_refusal, progress_refusal, begun, begin, started_at, start, retry, promoted_to, promote, promote_full, abort_by_command, act}
 use Rattle.canary_release.specs.Desks.{passed_on, act_passed}
+use Rattle.canary_release.proofs.PartsFresh.{basis, Accepted}
 use Rattle.canary_release.proofs.OrderingBasics.{found_passes, found_mapped, some_same, neither, row_false}
 use Rattle.canary_release.proofs.OrderingAllowed.{IsNumbered, IsFollowing, counted_number, follows_on, now_after, stands_on}
 use Rattle.canary_release.proofs.OrderingWalk.{told, entered, aborted, passed, assessed}
@@ -128,7 +128,7 @@ none_more name (b ∷ before) e h =
     let rest = none_more name before e one.1 in
     (ap (λ t. t || list_any (names_metric name) before) one.0 ∙ rest.0, rest.1)
 
-module _ (s : Stand) (w : Runs) (accepted : IsTrue (is_accepted s.strategy)) (numbered : IsNumbered w) where
+module _ (s : Stand) (w : Runs) (accepted : Accepted (basis s)) (numbered : IsNumbered w) where
   -- entries that aren't refused are recorded, one after another
   recorded : (r : OpenRun) (t : ℕ) (before es : List Entry) (c : Course) (now : OpenRun) → IsFollowing s w c → open_run_now c r.number ≡ Some now → now.analysis ≡ r.analysis → Untouched r.analysis.metrics r.tallies before now.tallies → entries_refusal r.analysis.metrics r t before es ≡ None → IsFollowing s w (record_all c (brought r.analysis.metrics r es))
   recorded r t before [] c now f found same untouched none = f

@@ -1,6 +1,6 @@
 -- Entering, passing and aborting bring allowed effects alone.
 use Rattle.std.proofs.Common.{◌≡◌, ℕ, zero, suc, ◌+◌, ◌-◌, List, [], ◌∷◌, length, Bool, true, false, refl, ap, sym, ◌∙◌, eqb-true, eq-eqb, true≢false, subst}
-use Rattle.std.specs.Prelude.{◌==◌, not, if◌then◌else◌, IsTrue, Option, Some, None, slice_get, unwrap_or, map, filter}
+use Rattle.std.specs.Prelude.{◌==◌, not, if◌then◌else◌, Option, Some, None, slice_get, unwrap_or, map, filter}
 use Rattle.std.specs.List.{AllByRecursion, find, zip}
 use Rattle.canary_condition.specs.declared.outcome.Phase.{Phase}
 use Rattle.canary_condition.specs.declared.outcome.Phase.TheVariants.{Pending, Running, Successful, Inconclusive, Error, Failed}
@@ -9,11 +9,10 @@ use Rattle.canary_metric.specs.Verdicts.{counted_phase, judging}
 use Rattle.canary_plan.specs.declared.step.Step.{Step}
 use Rattle.canary_plan.specs.declared.step.Step.TheVariants.{SetWeight, Pause, Analysis}
 use Rattle.canary_plan.specs.declared.analysis_parts.AnalysisParts.{AnalysisParts}
-use Rattle.canary_plan.specs.declared.strategy.CheckedStrategy.{CheckedStrategy}
 use Rattle.canary_plan.specs.declared.line.LineEvent.{LineEvent}
 use Rattle.canary_plan.specs.declared.line.LineEvent.TheVariants.{BackgroundOpened, AnalysisEntered, WeightEntered, PauseEntered, TimedPauseEntered, Finished, Completed, AbortedBy, BackgroundHeld, StepHeld, Ended}
 use Rattle.canary_plan.specs.Fit.{no_analysis}
-use Rattle.canary_plan.specs.Plans.{analysis_at, analysis_or_none, is_accepted}
+use Rattle.canary_plan.specs.Plans.{analysis_at, analysis_or_none}
 use Rattle.canary_release.specs.declared.effect.Effect.TheVariants.{Told, Opened, Closed}
 use Rattle.canary_release.specs.declared.runs.OpenRun.{OpenRun}
 use Rattle.canary_release.specs.declared.runs.Runs.{Runs}
@@ -24,7 +23,7 @@ use Rattle.canary_release.specs.Courses.{Course, with_stand, tell, runs_now, has
 use Rattle.canary_release.specs.Entering.{begins_background, begin_background, open_background, done, finish, show_step, enter, abort, without_holds}
 use Rattle.canary_release.specs.Passing.{next_move, is_by, move_at, chain_end, pass, judged_at, followed}
 use Rattle.canary_release.specs.Reports.{consequence, complete, assess_run, assess}
-use Rattle.canary_release.proofs.PartsFresh.{accepted as accepted_of, step_analysis, background_analysis}
+use Rattle.canary_release.proofs.PartsFresh.{Basis, basis, Accepted, step_analysis, background_analysis}
 use Rattle.canary_release.proofs.PartsReady.{begins}
 use Rattle.canary_release.proofs.OrderingBasics.{not_same, each_both, found_passes, found_behind, found_first, found_filtered, fold_completed}
 use Rattle.canary_release.proofs.OrderingAllowed.{AreDistinct, IsNumbered, IsFollowing, numbered_now, follows_on, now_after, stands_on}
@@ -59,21 +58,21 @@ still_found k m rs differ = found_filtered (has_number k) (is_other m) (λ r. go
         ] refl e
 
 -- an analysis step has an analysis
-analysis_there : (st : CheckedStrategy) (i : ℕ) (names : List (List ℕ)) → IsTrue (is_accepted st) → slice_get st.steps i ≡ Some (Analysis names) → (a : AnalysisParts) × (analysis_at st (Some i) ≡ Some a)
-analysis_there st i names h e = let has = step_analysis st i names (accepted_of st h) e in (has.analysis, has.found)
+analysis_there : (b : Basis) (i : ℕ) (names : List (List ℕ)) → Accepted b → slice_get b.strategy.steps i ≡ Some (Analysis names) → (a : AnalysisParts) × (analysis_at b.bound (Some i) ≡ Some a)
+analysis_there b i names h e = let has = step_analysis b i names h e in (has.analysis, has.found)
 
 -- a background that begins has one
-background_there : (st : CheckedStrategy) (i : ℕ) (started : Bool) → IsTrue (is_accepted st) → begins_background st.background i started ≡ true → (a : AnalysisParts) × (analysis_at st None ≡ Some a)
-background_there st i started h e =
-    let begun = begins st.background i started e in
-    let has = background_analysis st begun.background (accepted_of st h) begun.is in
+background_there : (b : Basis) (i : ℕ) (started : Bool) → Accepted b → begins_background b.strategy.background i started ≡ true → (a : AnalysisParts) × (analysis_at b.bound None ≡ Some a)
+background_there b i started h e =
+    let begun = begins b.strategy.background i started e in
+    let has = background_analysis b begun.background h begun.is in
     (has.analysis, has.found)
 
 -- a run that is ended from outside has a completed verdict
 ended_completed : (r : OpenRun) → is_completed (run_verdict true r) ≡ true
 ended_completed r = fold_completed Successful (map (counted_phase true) (judging (zip r.analysis.metrics r.tallies))) refl
 
-module _ (s : Stand) (w : Runs) (accepted : IsTrue (is_accepted s.strategy)) (numbered : IsNumbered w) where
+module _ (s : Stand) (w : Runs) (accepted : Accepted (basis s)) (numbered : IsNumbered w) where
   pub told : (c : Course) (at : ℕ) (event : LineEvent) → IsFollowing s w c → IsFollowing s w (tell c at event)
   told c at event f = follows_on s w c (Told (record { moment = at; event = event })) f tt
 
@@ -106,20 +105,20 @@ module _ (s : Stand) (w : Runs) (accepted : IsTrue (is_accepted s.strategy)) (nu
       let n = numbered_now s w numbered c f in
       ended at c (runs_now c).open_runs f (each_found (runs_now c).open_runs n.distinct) n.distinct
 
-  opened : (c : Course) (step : Option ℕ) (at : ℕ) (a : AnalysisParts) → IsFollowing s w c → analysis_at s.strategy step ≡ Some a → IsFollowing s w (open_run c step at)
+  opened : (c : Course) (step : Option ℕ) (at : ℕ) (a : AnalysisParts) → IsFollowing s w c → analysis_at s.bound step ≡ Some a → IsFollowing s w (open_run c step at)
   opened c step at a f e =
-      let own : analysis_or_none c.stand.strategy step ≡ a = (λ i. analysis_or_none (f.strategy i) step) ∙ ap (λ (o : Option AnalysisParts). unwrap_or o no_analysis) e in
-      follows_on s w c (Opened (record { run = next_run c; step = step; analysis = analysis_or_none c.stand.strategy step; started = at })) f (record { number = refl; analysis = e ∙ ap (λ (x : AnalysisParts). Some x) (sym own) })
+      let own : analysis_or_none c.stand.bound step ≡ a = (λ i. analysis_or_none (f.same i).bound step) ∙ ap (λ (o : Option AnalysisParts). unwrap_or o no_analysis) e in
+      follows_on s w c (Opened (record { run = next_run c; step = step; analysis = analysis_or_none c.stand.bound step; started = at })) f (record { number = refl; analysis = e ∙ ap (λ (x : AnalysisParts). Some x) (sym own) })
 
   background_opened : (c : Course) (i at : ℕ) → IsFollowing s w c → IsFollowing s w (open_background c i at)
   background_opened c i at f =
       elim (begins_background c.stand.strategy.background i c.stand.background)
       as (λ b. begins_background c.stand.strategy.background i c.stand.background ≡ b → IsFollowing s w (if b then begin_background c at else c)) [
         | true ↦ λ e.
-            let there = background_there c.stand.strategy i c.stand.background (subst (λ (st : CheckedStrategy). IsTrue (is_accepted st)) (sym f.strategy) accepted) e in
+            let there = background_there (basis c.stand) i c.stand.background (subst Accepted (sym f.same) accepted) e in
             let d : Course = with_stand c (record c.stand { background = true }) in
             let fd : IsFollowing s w d = stands_on s w c (record c.stand { background = true }) f refl refl in
-            let fo : IsFollowing s w (open_run d None at) = opened d None at there.0 fd (ap (λ (st : CheckedStrategy). analysis_at st None) (sym f.strategy) ∙ there.1) in
+            let fo : IsFollowing s w (open_run d None at) = opened d None at there.0 fd (ap (λ (b : Basis). analysis_at b.bound None) (sym f.same) ∙ there.1) in
             told (open_run d None at) at (BackgroundOpened (next_run c)) fo
         | false ↦ λ e. f
       ] refl
@@ -129,7 +128,7 @@ module _ (s : Stand) (w : Runs) (accepted : IsTrue (is_accepted s.strategy)) (nu
   shown c (Some (Pause None)) i at f e = told c at (PauseEntered i) f
   shown c (Some (Pause (Some seconds))) i at f e = told c at (TimedPauseEntered i seconds) f
   shown c (Some (Analysis names)) i at f e =
-      let there = analysis_there s.strategy i names accepted e in
+      let there = analysis_there (basis s) i names accepted e in
       told (open_run c (Some i) at) at (AnalysisEntered i (next_run c)) (opened c (Some i) at there.0 f there.1)
   shown c None i at f e = f
 
@@ -148,7 +147,7 @@ module _ (s : Stand) (w : Runs) (accepted : IsTrue (is_accepted s.strategy)) (nu
       elim (i == length c.stand.strategy.steps)
       as (λ b. IsFollowing s w (if b then finish there at else show_step (open_background there i at) (slice_get c.stand.strategy.steps i) i at)) [
         | true ↦ finished there at ft
-        | false ↦ shown (open_background there i at) (slice_get c.stand.strategy.steps i) i at (background_opened there i at ft) (ap (λ (st : CheckedStrategy). slice_get st.steps i) (sym f.strategy))
+        | false ↦ shown (open_background there i at) (slice_get c.stand.strategy.steps i) i at (background_opened there i at ft) (ap (λ (b : Basis). slice_get b.strategy.steps i) (sym f.same))
       ]
 
   pub aborted : (c : Course) (at : ℕ) → IsFollowing s w c → IsFollowing s w (abort c at)

@@ -1,7 +1,8 @@
 -- A run that is opened has a tally for each metric, and is not judged.
 use Rattle.std.proofs.Common.{◌≡◌, ℕ, zero, suc, ◌≤◌, List, [], ◌∷◌, length, refl, ap, sym, ◌∙◌, arith, subst}
-use Rattle.std.specs.Prelude.{Bool, true, false, cond, not, ◌&&◌, ◌||◌, ◌==◌, nat_lt, nat_le, if◌then◌else◌, IsTrue, map, replicate, slice_get, is_none, Option, Some, None}
+use Rattle.std.specs.Prelude.{Bool, true, false, cond, not, ◌&&◌, ◌||◌, ◌==◌, nat_lt, nat_le, if◌then◌else◌, IsTrue, map, replicate, slice_get, is_some, is_none, Option, Some, None}
 use Rattle.std.specs.List.{list_any, list_all, zip}
+use Rattle.std.specs.Cmp.Lexicographic.{pointwise}
 use Rattle.std.proofs.lemmas.Bool.Decides.{nat_tests}
 use Rattle.canary_condition.specs.declared.outcome.Phase.{Phase}
 use Rattle.canary_condition.specs.declared.outcome.Phase.TheVariants.{Pending, Running}
@@ -13,13 +14,15 @@ use Rattle.canary_plan.specs.declared.step.Step.{Step}
 use Rattle.canary_plan.specs.declared.step.Step.TheVariants.{SetWeight, Pause, Analysis}
 use Rattle.canary_plan.specs.declared.service.Background.{Background}
 use Rattle.canary_plan.specs.declared.analysis_parts.AnalysisParts.{AnalysisParts}
+use Rattle.canary_plan.specs.declared.bound.BoundParts.{BoundParts}
 use Rattle.canary_plan.specs.declared.strategy.CheckedStrategy.{CheckedStrategy}
 use Rattle.canary_plan.specs.Fit.{are_metrics_of_run, is_at_least_one, asks_for_some, have_counts}
-use Rattle.canary_plan.specs.Plans.{analysis_if, analysis_at, analysis_or_none, has_weight_in_range, is_there_and_fit, fits_step, fit_steps, fits_background, is_accepted}
+use Rattle.canary_plan.specs.Plans.{analysis_if, analysis_at, analysis_or_none, is_within_limits, is_background_within_limits, is_accepted, is_fit_if, are_fit}
+use Rattle.canary_release.specs.declared.stand.Stand.{Stand}
 use Rattle.canary_release.specs.declared.runs.OpenRun.{OpenRun}
 use Rattle.canary_release.specs.Watching.{opened_now}
 use Rattle.canary_release.specs.Courses.{run_verdict}
-use Rattle.canary_release.specs.Parts.{has_wrong_tallies}
+use Rattle.canary_release.specs.Parts.{has_wrong_tallies, is_step_bound, is_background_bound, is_bound, is_misbound}
 
 -- no measurements
 abbrev nothing : Counts
@@ -74,16 +77,24 @@ undecided closing completed p g h = rw (g, h) refl
 running : (ms : List MetricValue) → 1 ≤ length ms → have_counts ms ≡ true → verdict_of_counts false (unmeasured ms) ≡ Running
 running ms some h = undecided (is_closing false (unmeasured ms)) (are_completed (unmeasured ms)) (λ b. worst_of (map (counted_phase b) (judging (unmeasured ms)))) (none_bad ms h) (some_incomplete ms some h)
 
--- an analysis of an accepted strategy
-pub record HasAnalysis (s : CheckedStrategy) (step : Option ℕ) : Type 0 where
+-- a strategy, and what it is bound to
+pub record Basis : Type 0 where
+  pub strategy : CheckedStrategy
+  pub bound : BoundParts
+
+abbrev pub basis : Stand → Basis
+basis s = record { strategy = s.strategy; bound = s.bound }
+
+-- an analysis that is bound, and fit for runs
+pub record HasAnalysis (b : BoundParts) (step : Option ℕ) : Type 0 where
   pub analysis : AnalysisParts
-  pub found : analysis_at s step ≡ Some analysis
+  pub found : analysis_at b step ≡ Some analysis
   pub some : 1 ≤ length analysis.metrics
   pub counted : have_counts analysis.metrics ≡ true
 
--- a run that is opened with its analysis
-abbrev pub new_run : CheckedStrategy → ℕ → Option ℕ → ℕ → OpenRun
-new_run s number step at = opened_now (record { run = number; step = step; analysis = analysis_or_none s step; started = at })
+-- a run that is opened, of its analysis
+abbrev pub new_run : BoundParts → ℕ → Option ℕ → ℕ → OpenRun
+new_run b number step at = opened_now (record { run = number; step = step; analysis = analysis_or_none b step; started = at })
 
 length-copies : {X : Type 0} (n : ℕ) (x : X) → length (replicate n x) ≡ n
 length-copies zero x = refl
@@ -92,81 +103,96 @@ length-copies (suc n) x = ap suc (length-copies n x)
 same : (n : ℕ) → (n == n) ≡ true
 same n = grind (arith, nat_tests)
 
-pub new_fits : (s : CheckedStrategy) (number : ℕ) (step : Option ℕ) (at : ℕ) → has_wrong_tallies (new_run s number step at) ≡ false
-new_fits s number step at =
-    let n = length (analysis_or_none s step).metrics in
+pub new_fits : (b : BoundParts) (number : ℕ) (step : Option ℕ) (at : ℕ) → has_wrong_tallies (new_run b number step at) ≡ false
+new_fits b number step at =
+    let n = length (analysis_or_none b step).metrics in
     ap (λ k. not (n == k)) (length-copies n nothing) ∙ ap not (same n)
 
-pub new_is_open : (s : CheckedStrategy) (number : ℕ) (step : Option ℕ) (at : ℕ) → HasAnalysis s step → is_completed (run_verdict false (new_run s number step at)) ≡ false
-new_is_open s number step at has = rw has.found (ap is_completed (running has.analysis.metrics has.some has.counted))
+pub new_is_open : (b : BoundParts) (number : ℕ) (step : Option ℕ) (at : ℕ) → HasAnalysis b step → is_completed (run_verdict false (new_run b number step at)) ≡ false
+new_is_open b number step at has = rw has.found (ap is_completed (running has.analysis.metrics has.some has.counted))
 
 at_least_one : (ms : List MetricValue) → are_metrics_of_run ms ≡ true → 1 ≤ length ms
 at_least_one ms h = let one = and_left (nat_le 1 (length ms)) (nat_le (length ms) 32) h in grind (arith, nat_tests)
 
--- what an accepted strategy is
-pub record Accepted (s : CheckedStrategy) : Type 0 where
-  pub short : length s.steps ≤ 64
-  pub steps : fit_steps s.steps s.bound.steps ≡ true
-  pub background : fits_background s.background s.bound.background ≡ true
+-- an accepted strategy, each analysis of which is bound and fit for runs
+pub record Accepted (b : Basis) : Type 0 where
+  pub short : length b.strategy.steps ≤ 64
+  pub steps : pointwise is_step_bound b.strategy.steps b.bound.steps ≡ true
+  pub background : is_background_bound b.strategy.background b.bound.background ≡ true
+  pub fit : are_fit b.bound ≡ true
 
 up_to : (a b : ℕ) → nat_le a b ≡ true → a ≤ b
 up_to a b h = grind (arith, nat_tests)
 
-pub accepted : (s : CheckedStrategy) → IsTrue (is_accepted s) → Accepted s
-accepted s h =
-    let last : Bool = fit_steps s.steps s.bound.steps && fits_background s.background s.bound.background in
-    let a = and_right (nat_le (length s.steps) 64) (list_all has_weight_in_range s.steps && last) h in
-    let b = and_right (list_all has_weight_in_range s.steps) last a in
+not_false : (b : Bool) → not b ≡ false → b ≡ true
+not_false true h = refl
+not_false false h = cc h
+
+pub accepted : (s : Stand) → IsTrue (is_accepted s.strategy) → IsTrue (are_fit s.bound) → is_misbound s ≡ false → Accepted (basis s)
+accepted s h fit bound =
+    let steps : Bool = pointwise is_step_bound s.strategy.steps s.bound.steps in
+    let behind : Bool = is_background_bound s.strategy.background s.bound.background in
+    let both : is_bound s ≡ true = not_false (is_bound s) bound in
     record {
-      short = up_to (length s.steps) 64 (and_left (nat_le (length s.steps) 64) (list_all has_weight_in_range s.steps && last) h);
-      steps = and_left (fit_steps s.steps s.bound.steps) (fits_background s.background s.bound.background) b;
-      background = and_right (fit_steps s.steps s.bound.steps) (fits_background s.background s.bound.background) b;
+      short = up_to (length s.strategy.steps) 64 (and_left (nat_le (length s.strategy.steps) 64) (list_all is_within_limits s.strategy.steps && is_background_within_limits s.strategy.background) h);
+      steps = and_left steps behind both;
+      background = and_right steps behind both;
+      fit = fit;
     }
 
--- an analysis that is there and fit for runs
-pub record IsThere (o : Option AnalysisParts) : Type 0 where
-  pub analysis : AnalysisParts
-  pub found : o ≡ Some analysis
-  pub some : 1 ≤ length analysis.metrics
-  pub counted : have_counts analysis.metrics ≡ true
+pub and_both : (a b : Bool) → a ≡ true → b ≡ true → (a && b) ≡ true
+and_both a b ha hb = ap (λ x. x && b) ha ∙ hb
 
-there : (o : Option AnalysisParts) → is_there_and_fit o ≡ true → IsThere o
-there None h = cc h
-there (Some a) h =
+pub well_bound : (s : Stand) → Accepted (basis s) → is_misbound s ≡ false
+well_bound s a = ap not (and_both (pointwise is_step_bound s.strategy.steps s.bound.steps) (is_background_bound s.strategy.background s.bound.background) a.steps a.background)
+
+-- of what is bound and fit
+found_fit : (b : BoundParts) (step : Option ℕ) (o : Option AnalysisParts) → analysis_at b step ≡ o → is_some o ≡ true → is_fit_if o ≡ true → HasAnalysis b step
+found_fit b step None is bound fit = cc bound
+found_fit b step (Some a) is bound fit =
     record {
       analysis = a;
-      found = refl;
-      some = at_least_one a.metrics (and_left (are_metrics_of_run a.metrics) (have_counts a.metrics) h);
-      counted = and_right (are_metrics_of_run a.metrics) (have_counts a.metrics) h;
+      found = is;
+      some = at_least_one a.metrics (and_left (are_metrics_of_run a.metrics) (have_counts a.metrics) fit);
+      counted = and_right (are_metrics_of_run a.metrics) (have_counts a.metrics) fit;
     }
 
-pub background_analysis : (s : CheckedStrategy) (b : Background) → Accepted s → s.background ≡ Some b → HasAnalysis s None
-background_analysis s b a e =
-    let t = there s.bound.background (subst (λ o. fits_background o s.bound.background ≡ true) e a.background) in
-    record { analysis = t.analysis; found = t.found; some = t.some; counted = t.counted }
+pub background_analysis : (s : Basis) (b : Background) → Accepted s → s.strategy.background ≡ Some b → HasAnalysis s.bound None
+background_analysis s b acc e =
+    let fit = and_right (list_all is_fit_if s.bound.steps) (is_fit_if s.bound.background) acc.fit in
+    found_fit s.bound None s.bound.background refl (subst (λ o. is_background_bound o s.bound.background ≡ true) e acc.background) fit
 
-listed : (steps : List Step) (bound : List (Option AnalysisParts)) (i : ℕ) (names : List (List ℕ)) → fit_steps steps bound ≡ true → slice_get steps i ≡ Some (Analysis names) → IsThere (analysis_if (slice_get bound i))
-listed [] bound i names f h = cc h
-listed (s ∷ ss) [] i names f h = cc f
-listed (s ∷ ss) (a ∷ rest) zero names f h =
+-- the analysis of a step, by its place
+record Listed (o : Option AnalysisParts) : Type 0 where
+  bound : is_some o ≡ true
+  fit : is_fit_if o ≡ true
+
+listed : (steps : List Step) (found : List (Option AnalysisParts)) (i : ℕ) (names : List (List ℕ)) → pointwise is_step_bound steps found ≡ true → list_all is_fit_if found ≡ true → slice_get steps i ≡ Some (Analysis names) → Listed (analysis_if (slice_get found i))
+listed [] found i names f g h = cc h
+listed (s ∷ ss) [] i names f g h = cc f
+listed (s ∷ ss) (a ∷ rest) zero names f g h =
     let is : s ≡ Analysis names = cc h in
-    there a (subst (λ x. fits_step x a ≡ true) is (and_left (fits_step s a) (fit_steps ss rest) f))
-listed (s ∷ ss) (a ∷ rest) (suc i) names f h = listed ss rest i names (and_right (fits_step s a) (fit_steps ss rest) f) h
+    record {
+      bound = subst (λ x. is_step_bound x a ≡ true) is (and_left (is_step_bound s a) (pointwise is_step_bound ss rest) f);
+      fit = and_left (is_fit_if a) (list_all is_fit_if rest) g;
+    }
+listed (s ∷ ss) (a ∷ rest) (suc i) names f g h =
+    listed ss rest i names (and_right (is_step_bound s a) (pointwise is_step_bound ss rest) f) (and_right (is_fit_if a) (list_all is_fit_if rest) g) h
 
-pub step_analysis : (s : CheckedStrategy) (i : ℕ) (names : List (List ℕ)) → Accepted s → slice_get s.steps i ≡ Some (Analysis names) → HasAnalysis s (Some i)
-step_analysis s i names a e =
-    let t = listed s.steps s.bound.steps i names a.steps e in
-    record { analysis = t.analysis; found = t.found; some = t.some; counted = t.counted }
+pub step_analysis : (s : Basis) (i : ℕ) (names : List (List ℕ)) → Accepted s → slice_get s.strategy.steps i ≡ Some (Analysis names) → HasAnalysis s.bound (Some i)
+step_analysis s i names acc e =
+    let l = listed s.strategy.steps s.bound.steps i names acc.steps (and_left (list_all is_fit_if s.bound.steps) (is_fit_if s.bound.background) acc.fit) e in
+    found_fit s.bound (Some i) (analysis_at s.bound (Some i)) refl l.bound l.fit
 
-unlisted : (steps : List Step) (bound : List (Option AnalysisParts)) (i : ℕ) → fit_steps steps bound ≡ true → ((names : List (List ℕ)) → slice_get steps i ≡ Some (Analysis names) → ⊥) → is_none (analysis_if (slice_get bound i)) ≡ true
+unlisted : (steps : List Step) (found : List (Option AnalysisParts)) (i : ℕ) → pointwise is_step_bound steps found ≡ true → ((names : List (List ℕ)) → slice_get steps i ≡ Some (Analysis names) → ⊥) → is_none (analysis_if (slice_get found i)) ≡ true
 unlisted [] [] i f none = refl
 unlisted [] (a ∷ rest) i f none = cc f
 unlisted (s ∷ ss) [] i f none = refl
-unlisted (SetWeight percent ∷ ss) (a ∷ rest) zero f none = and_left (is_none a) (fit_steps ss rest) f
-unlisted (Pause seconds ∷ ss) (a ∷ rest) zero f none = and_left (is_none a) (fit_steps ss rest) f
+unlisted (SetWeight percent ∷ ss) (a ∷ rest) zero f none = and_left (is_none a) (pointwise is_step_bound ss rest) f
+unlisted (Pause seconds ∷ ss) (a ∷ rest) zero f none = and_left (is_none a) (pointwise is_step_bound ss rest) f
 unlisted (Analysis names ∷ ss) (a ∷ rest) zero f none = absurd (none names refl)
-unlisted (s ∷ ss) (a ∷ rest) (suc i) f none = unlisted ss rest i (and_right (fits_step s a) (fit_steps ss rest) f) none
+unlisted (s ∷ ss) (a ∷ rest) (suc i) f none = unlisted ss rest i (and_right (is_step_bound s a) (pointwise is_step_bound ss rest) f) none
 
--- where a step is no analysis, there is none at it
-pub no_analysis_at : (s : CheckedStrategy) (i : ℕ) (o : Option Step) → Accepted s → slice_get s.steps i ≡ o → ((names : List (List ℕ)) → o ≡ Some (Analysis names) → ⊥) → is_none (analysis_at s (Some i)) ≡ true
-no_analysis_at s i o a e none = unlisted s.steps s.bound.steps i a.steps (λ names is. none names (sym e ∙ is))
+-- where a step is no analysis, none is bound at it
+pub no_analysis_at : (s : Basis) (i : ℕ) (o : Option Step) → Accepted s → slice_get s.strategy.steps i ≡ o → ((names : List (List ℕ)) → o ≡ Some (Analysis names) → ⊥) → is_none (analysis_at s.bound (Some i)) ≡ true
+no_analysis_at s i o a e none = unlisted s.strategy.steps s.bound.steps i a.steps (λ names is. none names (sym e ∙ is))

@@ -9,7 +9,7 @@ use Rattle.canary_release.specs.declared.runs.Runs.{Runs}
 use Rattle.canary_release.specs.declared.service.ServiceParts.{ServiceParts}
 use Rattle.canary_release.specs.Services.{is_going, is_held}
 use Rattle.canary_release.specs.Passing.{next_move, is_by}
-use Rattle.canary_release.specs.Parts.{one_if, is_background_run, is_step_run, has_background_run, runs_wanted, is_misplaced, is_misnumbered, repeats_number, has_wrong_tallies, is_astray, is_judged, is_broken}
+use Rattle.canary_release.specs.Parts.{one_if, is_background_run, is_step_run, has_background_run, runs_wanted, is_misplaced, is_misnumbered, repeats_number, has_wrong_tallies, is_misbound, is_astray, is_judged, is_broken}
 use Rattle.canary_release.proofs.PartsLists.{or_left, or_right, neither, and_with}
 
 -- the run numbers of the background: it is there or not, was started or not, is open or not, and is held or not
@@ -27,7 +27,7 @@ background_needs s w = of_background (is_some s.strategy.background) s.backgroun
 abbrev pub Unjudged : Runs → Type 0
 Unjudged w = list_any is_judged w.open_runs ≡ false
 
--- all that makes parts unbroken, but for verdicts and time
+-- all that makes parts unbroken, but for verdicts, time and what is bound
 pub record Fit (s : Stand) (w : Runs) : Type 0 where
   pub placed : is_misplaced s ≡ false
   pub few : w.count ≤ 1000000
@@ -67,6 +67,7 @@ causes s =
     ∷ (stand.background_hold && not stand.background)
     ∷ list_any is_judged runs
     ∷ is_by stand.last (next_move stand)
+    ∷ is_misbound stand
     ∷ []
 
 abbrev pub AreFalse : List Bool → Type 0
@@ -105,7 +106,7 @@ idle_if : (g : Bool) (rs : List OpenRun) → (g ≡ false → rs ≡ []) → (no
 idle_if true rs h = refl
 idle_if false rs h = rw (h refl) refl
 
-pub fit_of : (s : ServiceParts) → is_broken s ≡ false → Fit s.stand s.runs × Unjudged s.runs × (s.stand.entered ≤ s.stand.last)
+pub fit_of : (s : ServiceParts) → is_broken s ≡ false → Fit s.stand s.runs × Unjudged s.runs × (s.stand.entered ≤ s.stand.last) × (is_misbound s.stand ≡ false)
 fit_of s h =
     let f = all_false (causes s) h in
     let a = f.1.1.1 in
@@ -129,10 +130,11 @@ fit_of s h =
       },
       d.1.1.1.1.0,
       not_below s.stand.last s.stand.entered f.1.0,
+      d.1.1.1.1.1.1.0,
     )
 
-pub unbroken_of : (s : ServiceParts) → Fit s.stand s.runs → Unjudged s.runs → s.stand.entered ≤ s.stand.last → is_by s.stand.last (next_move s.stand) ≡ false → is_broken s ≡ false
-unbroken_of s f u le rest =
+pub unbroken_of : (s : ServiceParts) → Fit s.stand s.runs → Unjudged s.runs → s.stand.entered ≤ s.stand.last → is_by s.stand.last (next_move s.stand) ≡ false → is_misbound s.stand ≡ false → is_broken s ≡ false
+unbroken_of s f u le rest bound =
     none_true (causes s) (
       f.placed,
       (
@@ -153,7 +155,7 @@ unbroken_of s f u le rest =
                       at_least 1 (length (filter is_background_run s.runs.open_runs)) f.one_background,
                       (
                         at_least 1 (length (filter is_step_run s.runs.open_runs)) f.one_step,
-                        (f.home, (f.background_run, (f.held, (f.known, (f.hold, (u, (rest, tt))))))),
+                        (f.home, (f.background_run, (f.held, (f.known, (f.hold, (u, (rest, (bound, tt)))))))),
                       ),
                     ),
                   ),

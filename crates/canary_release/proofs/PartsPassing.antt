@@ -5,7 +5,6 @@ use Rattle.std.specs.List.{list_any}
 use Rattle.std.proofs.lemmas.Bool.Decides.{nat_tests}
 use Rattle.canary_plan.specs.declared.step.Step.{Step}
 use Rattle.canary_plan.specs.declared.step.Step.TheVariants.{SetWeight, Pause, Analysis}
-use Rattle.canary_plan.specs.declared.strategy.CheckedStrategy.{CheckedStrategy}
 use Rattle.canary_plan.specs.Plans.{analysis_at}
 use Rattle.canary_release.specs.declared.stand.Stand.{Stand}
 use Rattle.canary_release.specs.declared.runs.OpenRun.{OpenRun}
@@ -19,7 +18,7 @@ use Rattle.canary_release.specs.Shapes.{kept_after}
 use Rattle.canary_release.proofs.Chains.{going, chain_ends}
 use Rattle.canary_release.proofs.PartsLists.{or_left, or_right, any_weaker}
 use Rattle.canary_release.proofs.PartsKept.{of_background, has_background, Unjudged, Fit, unbroken_of}
-use Rattle.canary_release.proofs.PartsFresh.{and_left, and_right, Accepted, no_analysis_at}
+use Rattle.canary_release.proofs.PartsFresh.{and_left, and_right, Basis, basis, Accepted, well_bound, no_analysis_at}
 use Rattle.canary_release.proofs.PartsReady.{Ready, contradicts, going_not_done}
 use Rattle.canary_release.proofs.PartsEntering.{Loose, enters}
 
@@ -40,15 +39,15 @@ goes_below s w f g = step_below (length s.strategy.steps) s.step (is_done s.stat
 
 -- where the present step has no analysis, or is held, no step run is open
 
-step_away : (s : Stand) (o : Option ℕ) → (is_none (analysis_at s.strategy (Some s.step)) || is_held s) ≡ true → is_elsewhere s o ≡ false → is_some o ≡ false
+step_away : (s : Stand) (o : Option ℕ) → (is_none (analysis_at s.bound (Some s.step)) || is_held s) ≡ true → is_elsewhere s o ≡ false → is_some o ≡ false
 step_away s None away h = refl
 step_away s (Some i) away h =
-    let here : not (i == s.step) ≡ false = or_left (not (i == s.step)) (is_none (analysis_at s.strategy (Some i)) || is_held s) h in
+    let here : not (i == s.step) ≡ false = or_left (not (i == s.step)) (is_none (analysis_at s.bound (Some i)) || is_held s) h in
     let same : i ≡ s.step = grind (arith, nat_tests) in
-    let none : (is_none (analysis_at s.strategy (Some i)) || is_held s) ≡ false = or_right (not (i == s.step)) (is_none (analysis_at s.strategy (Some i)) || is_held s) h in
-    contradicts (is_none (analysis_at s.strategy (Some s.step)) || is_held s) away (subst (λ k. (is_none (analysis_at s.strategy (Some k)) || is_held s) ≡ false) same none)
+    let none : (is_none (analysis_at s.bound (Some i)) || is_held s) ≡ false = or_right (not (i == s.step)) (is_none (analysis_at s.bound (Some i)) || is_held s) h in
+    contradicts (is_none (analysis_at s.bound (Some s.step)) || is_held s) away (subst (λ k. (is_none (analysis_at s.bound (Some k)) || is_held s) ≡ false) same none)
 
-pub no_step_run : (s : Stand) (rs : List OpenRun) → (is_none (analysis_at s.strategy (Some s.step)) || is_held s) ≡ true → list_any (is_astray s) rs ≡ false → list_any is_step_run rs ≡ false
+pub no_step_run : (s : Stand) (rs : List OpenRun) → (is_none (analysis_at s.bound (Some s.step)) || is_held s) ≡ true → list_any (is_astray s) rs ≡ false → list_any is_step_run rs ≡ false
 no_step_run s rs away h = any_weaker (is_astray s) is_step_run (λ r e. step_away s r.step away e) rs h
 
 pub not_begun : (a b h : Bool) → (a && (not b || h)) ≡ false → (a && not b) ≡ false
@@ -71,34 +70,34 @@ next_ready s w f u g unheld background_unheld no_step =
       known = f.known;
     }
 
-pub later : (s : CheckedStrategy) (t u : ℕ) (c : Course) → t ≤ u → Loose s t c → Loose s u c
+pub later : (s : Basis) (t u : ℕ) (c : Course) → t ≤ u → Loose s t c → Loose s u c
 later s t u c le l = record { steady = l.steady; same = l.same; entered = (let e : c.stand.entered ≤ t = l.entered in omega arith); fit = l.fit; unjudged = l.unjudged }
 
 -- a move
 
-leaves_none : (s : Stand) (o : Option Step) (entered e : ℕ) → Accepted s.strategy → step_of s ≡ o → leaves_at o entered ≡ Some e → is_none (analysis_at s.strategy (Some s.step)) ≡ true
-leaves_none s (Some (SetWeight percent)) entered e acc is h = no_analysis_at s.strategy s.step (Some (SetWeight percent)) acc is (λ names x. cc x)
-leaves_none s (Some (Pause seconds)) entered e acc is h = no_analysis_at s.strategy s.step (Some (Pause seconds)) acc is (λ names x. cc x)
+leaves_none : (s : Stand) (o : Option Step) (entered e : ℕ) → Accepted (basis s) → step_of s ≡ o → leaves_at o entered ≡ Some e → is_none (analysis_at s.bound (Some s.step)) ≡ true
+leaves_none s (Some (SetWeight percent)) entered e acc is h = no_analysis_at (basis s) s.step (Some (SetWeight percent)) acc is (λ names x. cc x)
+leaves_none s (Some (Pause seconds)) entered e acc is h = no_analysis_at (basis s) s.step (Some (Pause seconds)) acc is (λ names x. cc x)
 leaves_none s (Some (Analysis names)) entered e acc is h = cc h
-leaves_none s None entered e acc is h = no_analysis_at s.strategy s.step None acc is (λ names x. cc x)
+leaves_none s None entered e acc is h = no_analysis_at (basis s) s.step None acc is (λ names x. cc x)
 
 pub not_true : (b : Bool) → not b ≡ true → b ≡ false
 not_true true h = cc h
 not_true false h = refl
 
-moves_loose : (s : CheckedStrategy) (t e : ℕ) (c next : Course) → Accepted s → Loose s t c → Moves c e next → e ≤ t → Loose s t next
+moves_loose : (s : Basis) (t e : ℕ) (c next : Course) → Accepted s → Loose s t c → Moves c e next → e ≤ t → Loose s t next
 moves_loose s t e c next acc l m le =
     let st : Stand = c.stand in
-    let own : Accepted st.strategy = subst Accepted (sym l.same) acc in
+    let own : Accepted (basis st) = subst Accepted (sym l.same) acc in
     let goes : is_going st.state ≡ true = and_left (is_going st.state) (not (is_held st)) m.0 in
     let free : is_held st ≡ false = not_true (is_held st) (and_right (is_going st.state) (not (is_held st)) m.0) in
-    let away : (is_none (analysis_at st.strategy (Some st.step)) || is_held st) ≡ true = ap (λ b. b || is_held st) (leaves_none st (step_of st) st.entered e own refl m.1) in
+    let away : (is_none (analysis_at st.bound (Some st.step)) || is_held st) ≡ true = ap (λ b. b || is_held st) (leaves_none st (step_of st) st.entered e own refl m.1) in
     let ready = next_ready st (runs_now c) l.fit l.unjudged goes (or_left st.step_hold st.background_hold free) (or_right st.step_hold st.background_hold free) (no_step_run st (runs_now c).open_runs away l.fit.home) in
     let below : st.step < length st.strategy.steps = goes_below st (runs_now c) l.fit goes in
-    let there : Loose st.strategy e (enter c (st.step + 1) e) = enters c (st.step + 1) e own l.steady (omega arith) ready in
+    let there : Loose (basis st) e (enter c (st.step + 1) e) = enters c (st.step + 1) e own l.steady (omega arith) ready in
     subst (Loose s t) (sym m.2) (later s e t (enter c (st.step + 1) e) le (subst (λ x. Loose x e (enter c (st.step + 1) e)) l.same there))
 
-chain_loose : (n t : ℕ) (s : CheckedStrategy) (c : Course) → Accepted s → Loose s t c → Loose s t (chain_end n t c)
+chain_loose : (n t : ℕ) (s : Basis) (c : Course) → Accepted s → Loose s t c → Loose s t (chain_end n t c)
 chain_loose zero t s c acc l = l
 chain_loose (suc n) t s c acc l =
     elim (is_by t (next_move c.stand))
@@ -138,12 +137,12 @@ at_rest n t c h =
     ] refl
 
 -- a course that is unbroken but for time is unbroken once it is passed on
-pub record Whole (s : CheckedStrategy) (t : ℕ) (c : Course) : Type 0 where
+pub record Whole (s : Basis) (t : ℕ) (c : Course) : Type 0 where
   pub loose : Loose s t c
   pub last : c.stand.last ≡ t
   pub unbroken : is_broken (kept_after c) ≡ false
 
-pub passes : (s : CheckedStrategy) (c : Course) (t : ℕ) → Accepted s → Loose s (judged_at c.stand t) c → Whole s (judged_at c.stand t) (pass c t)
+pub passes : (s : Basis) (c : Course) (t : ℕ) → Accepted s → Loose s (judged_at c.stand t) c → Whole s (judged_at c.stand t) (pass c t)
 passes s c t acc l =
     let at : ℕ = judged_at c.stand t in
     let d : Course = followed c at in
@@ -153,5 +152,5 @@ passes s c t acc l =
     record {
       loose = record { steady = end'.steady; same = end'.same; entered = end'.entered; fit = fit; unjudged = end'.unjudged };
       last = refl;
-      unbroken = unbroken_of (kept_after (pass c t)) fit end'.unjudged end'.entered (at_rest n at c (omega arith));
+      unbroken = unbroken_of (kept_after (pass c t)) fit end'.unjudged end'.entered (at_rest n at c (omega arith)) (well_bound d.stand (subst Accepted (sym end'.same) acc));
     }

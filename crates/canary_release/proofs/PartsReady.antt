@@ -4,7 +4,7 @@ use Rattle.std.specs.Prelude.{Bool, true, false, not, ◌&&◌, ◌||◌, ◌==�
 use Rattle.std.specs.List.{list_any}
 use Rattle.std.proofs.lemmas.Bool.Decides.{nat_tests}
 use Rattle.canary_plan.specs.declared.service.Background.{Background}
-use Rattle.canary_plan.specs.declared.strategy.CheckedStrategy.{CheckedStrategy}
+use Rattle.canary_plan.specs.declared.bound.BoundParts.{BoundParts}
 use Rattle.canary_plan.specs.Plans.{analysis_at}
 use Rattle.canary_release.specs.declared.stand.State.{State}
 use Rattle.canary_release.specs.declared.stand.State.TheVariants.{InProgress, Aborted, Done}
@@ -17,7 +17,7 @@ use Rattle.canary_release.specs.Entering.{begins_background}
 use Rattle.canary_release.specs.Parts.{is_background_run, is_step_run, is_misnumbered, repeats_number, has_wrong_tallies, is_elsewhere, is_astray, is_judged}
 use Rattle.canary_release.proofs.PartsLists.{any_weaker, any_push, any_push_other, few_push_other, few_push_first, few_none, repeats_push, and_false, or_left, or_right, neither}
 use Rattle.canary_release.proofs.PartsKept.{of_background, has_background, Unjudged, Fit}
-use Rattle.canary_release.proofs.PartsFresh.{HasAnalysis, Accepted, new_run, new_fits, new_is_open, background_analysis}
+use Rattle.canary_release.proofs.PartsFresh.{HasAnalysis, Accepted, basis, new_run, new_fits, new_is_open, background_analysis}
 
 -- open runs: numbered, each number once, with a tally for each metric, and not judged
 pub record AreRuns (w : Runs) : Type 0 where
@@ -40,8 +40,8 @@ pub record Ready (s : Stand) (w : Runs) (need : ℕ) : Type 0 where
   pub known : (s.background && is_none s.strategy.background) ≡ false
 
 -- one run more is open
-abbrev pub with_new : CheckedStrategy → Runs → Option ℕ → ℕ → Runs
-with_new s w step at = record { count = w.count + 1; open_runs = w.open_runs ++ new_run s (w.count + 1) step at ∷ [] }
+abbrev pub with_new : BoundParts → Runs → Option ℕ → ℕ → Runs
+with_new b w step at = record { count = w.count + 1; open_runs = w.open_runs ++ new_run b (w.count + 1) step at ∷ [] }
 
 misnumbered_more : (n k : ℕ) → (k == 0 || nat_lt n k) ≡ false → (k == 0 || nat_lt (n + 1) k) ≡ false
 misnumbered_more n k h = neither (k == 0) (nat_lt (n + 1) k) (or_left (k == 0) (nat_lt n k) h) (let below = or_right (k == 0) (nat_lt n k) h in grind (arith, nat_tests))
@@ -52,14 +52,14 @@ numbered_next n = neither (n + 1 == 0) (nat_lt (n + 1) (n + 1)) (grind (arith, n
 not_next : (n k : ℕ) → (k == 0 || nat_lt n k) ≡ false → (k == n + 1) ≡ false
 not_next n k h = let below = or_right (k == 0) (nat_lt n k) h in grind (arith, nat_tests)
 
-more_runs : (s : CheckedStrategy) (w : Runs) (step : Option ℕ) (at : ℕ) → HasAnalysis s step → AreRuns w → AreRuns (with_new s w step at)
-more_runs s w step at has a =
-    let new : OpenRun = new_run s (w.count + 1) step at in
+more_runs : (b : BoundParts) (w : Runs) (step : Option ℕ) (at : ℕ) → HasAnalysis b step → AreRuns w → AreRuns (with_new b w step at)
+more_runs b w step at has a =
+    let new : OpenRun = new_run b (w.count + 1) step at in
     record {
       numbered = any_push (is_misnumbered (w.count + 1)) w.open_runs new (any_weaker (is_misnumbered w.count) (is_misnumbered (w.count + 1)) (λ r h. misnumbered_more w.count r.number h) w.open_runs a.numbered) (numbered_next w.count);
       distinct = repeats_push w.open_runs new a.distinct (any_weaker (is_misnumbered w.count) (has_number (w.count + 1)) (λ r h. not_next w.count r.number h) w.open_runs a.numbered);
-      tallied = any_push has_wrong_tallies w.open_runs new a.tallied (new_fits s (w.count + 1) step at);
-      unjudged = any_push is_judged w.open_runs new a.unjudged (new_is_open s (w.count + 1) step at has);
+      tallied = any_push has_wrong_tallies w.open_runs new a.tallied (new_fits b (w.count + 1) step at);
+      unjudged = any_push is_judged w.open_runs new a.unjudged (new_is_open b (w.count + 1) step at has);
     }
 
 -- the background run begins
@@ -94,9 +94,9 @@ not_open true true h e = cc e
 not_open true false h e = cc h
 not_open false b h e = refl
 
-pub ready_begun : (s : Stand) (w : Runs) (need at : ℕ) → Accepted s.strategy → Begins s.strategy.background s.background → Ready s w need → Ready (record s { background = true }) (with_new s.strategy w None at) need
+pub ready_begun : (s : Stand) (w : Runs) (need at : ℕ) → Accepted (basis s) → Begins s.strategy.background s.background → Ready s w need → Ready (record s { background = true }) (with_new s.bound w None at) need
 ready_begun s w need at acc b r =
-    let new : OpenRun = new_run s.strategy (w.count + 1) None at in
+    let new : OpenRun = new_run s.bound (w.count + 1) None at in
     let there : is_some s.strategy.background ≡ true = ap is_some b.is in
     let none : has_background w.open_runs ≡ false = not_open (has_background w.open_runs) s.background r.background_run b.new in
     record {
@@ -105,7 +105,7 @@ ready_begun s w need at acc b r =
       background_unheld = r.background_unheld;
       few = few_begun need w.count (is_some s.strategy.background) s.background (has_background w.open_runs) there b.new r.few r.room;
       room = room_begun need w.count (is_some s.strategy.background) s.background (has_background w.open_runs) (has_background (w.open_runs ++ new ∷ [])) there b.new r.few r.room;
-      runs = more_runs s.strategy w None at (background_analysis s.strategy b.background acc b.is) r.runs;
+      runs = more_runs s.bound w None at (background_analysis (basis s) b.background acc b.is) r.runs;
       one_background = few_push_first is_background_run w.open_runs new none;
       no_step = any_push is_step_run w.open_runs new r.no_step refl;
       background_run = and_false (has_background (w.open_runs ++ new ∷ [])) false refl;
@@ -187,10 +187,10 @@ settled s w below r =
 here : (i : ℕ) (none held : Bool) → none ≡ false → held ≡ false → (not (i == i) || (none || held)) ≡ false
 here i none held e h = let same : (i == i) ≡ true = grind (arith, nat_tests) in rw (same, e, h) refl
 
-pub settled_open : (s : Stand) (w : Runs) (at : ℕ) → s.step < length s.strategy.steps → HasAnalysis s.strategy (Some s.step) → Ready s w (length s.strategy.steps - s.step) → Fit s (with_new s.strategy w (Some s.step) at) × Unjudged (with_new s.strategy w (Some s.step) at)
+pub settled_open : (s : Stand) (w : Runs) (at : ℕ) → s.step < length s.strategy.steps → HasAnalysis s.bound (Some s.step) → Ready s w (length s.strategy.steps - s.step) → Fit s (with_new s.bound w (Some s.step) at) × Unjudged (with_new s.bound w (Some s.step) at)
 settled_open s w at below has r =
-    let new : OpenRun = new_run s.strategy (w.count + 1) (Some s.step) at in
-    let runs = more_runs s.strategy w (Some s.step) at has r.runs in
+    let new : OpenRun = new_run s.bound (w.count + 1) (Some s.step) at in
+    let runs = more_runs s.bound w (Some s.step) at has r.runs in
     let same : has_background (w.open_runs ++ new ∷ []) ≡ has_background w.open_runs = any_push_other is_background_run w.open_runs new refl in
     let unheld : is_held s ≡ false = neither s.step_hold s.background_hold r.unheld r.background_unheld in (
       record {
@@ -203,7 +203,7 @@ settled_open s w at below has r =
         idle = λ i. contradicts (is_going s.state) r.going i;
         one_background = subst (λ n. n ≤ 1) (sym (few_push_other is_background_run w.open_runs new refl)) r.one_background;
         one_step = few_push_first is_step_run w.open_runs new r.no_step;
-        home = any_push (is_astray s) w.open_runs new (none_astray s w.open_runs r.no_step) (here s.step (is_none (analysis_at s.strategy (Some s.step))) (is_held s) (ap is_none has.found) unheld);
+        home = any_push (is_astray s) w.open_runs new (none_astray s w.open_runs r.no_step) (here s.step (is_none (analysis_at s.bound (Some s.step))) (is_held s) (ap is_none has.found) unheld);
         background_run = rw same (unheld_run (has_background w.open_runs) s.background s.background_hold r.background_run r.background_unheld);
         held = held_going (is_held s) (is_going s.state) r.going;
         known = r.known;

@@ -29,7 +29,7 @@ told : (c : Course) (at : ℕ) (event : LineEvent) → AreQuiet c → AreQuiet (
 told c at event q = happened c (Told (record { moment = at; event = event })) q tt
 
 opened : (c : Course) (step : Option ℕ) (at : ℕ) → AreQuiet c → AreQuiet (open_run c step at)
-opened c step at q = happened c (Opened (record { run = next_run c; step = step; analysis = analysis_or_none c.stand.strategy step; started = at })) q tt
+opened c step at q = happened c (Opened (record { run = next_run c; step = step; analysis = analysis_or_none c.stand.bound step; started = at })) q tt
 
 closed : (c : Course) (r : OpenRun) (at : ℕ) → AreQuiet c → AreQuiet (close_run c r at true)
 closed c r at q = happened c (Closed (record { run = r.number; at = at; outside = true; verdict = run_verdict true r }) r.tallies) q tt

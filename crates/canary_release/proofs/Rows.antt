@@ -54,7 +54,8 @@ paused_service : service_after to_second_pause web ≡ Some (record {
   made = record { name = web; version = v1; steps = two_pauses; background = None };
   stand = record {
     name = web;
-    strategy = record { steps = two_pauses; background = None; bound = record { steps = replicate 4 None; background = None } };
+    strategy = record { steps = two_pauses; background = None };
+    bound = record { steps = replicate 4 None; background = None };
     stable = v1;
     version = v2;
     state = InProgress;
@@ -87,7 +88,8 @@ falling_service : service_after falling web ≡ Some (record {
   made = record { name = web; version = v1; steps = SetWeight 20 ∷ Pause None ∷ []; background = None };
   stand = record {
     name = web;
-    strategy = record { steps = SetWeight 20 ∷ Pause None ∷ []; background = None; bound = record { steps = replicate 2 None; background = None } };
+    strategy = record { steps = SetWeight 20 ∷ Pause None ∷ []; background = None };
+    bound = record { steps = replicate 2 None; background = None };
     stable = v2;
     version = v3;
     state = InProgress;
@@ -143,7 +145,8 @@ weights_service : service_after weights_alone web ≡ Some (record {
   made = record { name = web; version = v1; steps = SetWeight 5 ∷ SetWeight 100 ∷ []; background = None };
   stand = record {
     name = web;
-    strategy = record { steps = SetWeight 5 ∷ SetWeight 100 ∷ []; background = None; bound = record { steps = replicate 2 None; background = None } };
+    strategy = record { steps = SetWeight 5 ∷ SetWeight 100 ∷ []; background = None };
+    bound = record { steps = replicate 2 None; background = None };
     stable = v2;
     version = v2;
     state = Done;
@@ -179,7 +182,8 @@ refused_late_service : service_after refused_late web ≡ Some (record {
   made = record { name = web; version = v1; steps = Pause None ∷ Pause None ∷ []; background = None };
   stand = record {
     name = web;
-    strategy = record { steps = Pause None ∷ Pause None ∷ []; background = None; bound = record { steps = replicate 2 None; background = None } };
+    strategy = record { steps = Pause None ∷ Pause None ∷ []; background = None };
+    bound = record { steps = replicate 2 None; background = None };
     stable = v1;
     version = v2;
     state = InProgress;
@@ -210,7 +214,8 @@ new_service_of : service_after late web ≡ Some (record {
   made = record { name = web; version = v1; steps = two_pauses; background = None };
   stand = record {
     name = web;
-    strategy = record { steps = two_pauses; background = None; bound = record { steps = replicate 4 None; background = None } };
+    strategy = record { steps = two_pauses; background = None };
+    bound = record { steps = replicate 4 None; background = None };
     stable = v1;
     version = v1;
     state = Done;
@@ -252,7 +257,8 @@ measured_service : service_after measured_once web ≡ Some (record {
   made = record { name = web; version = v1; steps = SetWeight 20 ∷ Pause None ∷ []; background = background (codes "errs") 0 };
   stand = record {
     name = web;
-    strategy = record { steps = SetWeight 20 ∷ Pause None ∷ []; background = background (codes "errs") 0; bound = record { steps = replicate 2 None; background = Some each_minute } };
+    strategy = record { steps = SetWeight 20 ∷ Pause None ∷ []; background = background (codes "errs") 0 };
+    bound = record { steps = replicate 2 None; background = Some each_minute };
     stable = v1;
     version = v2;
     state = Aborted;

@@ -5,6 +5,7 @@ use Rattle.canary_metric.specs.Counts.{Counts}
 use Rattle.canary_plan.specs.declared.step.Step.TheVariants.{SetWeight, Pause, Analysis}
 use Rattle.canary_plan.specs.declared.service.Background.{Background}
 use Rattle.canary_plan.specs.declared.service.ServiceSpec.{ServiceSpec}
+use Rattle.canary_plan.specs.declared.analysis_parts.AnalysisParts.{AnalysisParts}
 use Rattle.canary_plan.specs.Plans.{Templates, template_of, metrics_named}
 use Rattle.canary_release.specs.declared.stand.State.{State}
 use Rattle.canary_release.specs.declared.stand.State.TheVariants.{InProgress, Aborted, Done}
@@ -303,3 +304,35 @@ pause_lasts = refl
 
 held_pause_stays : is_broken (parts (background_held (in_time 7 307 (at_step InProgress 4))) 1 []) ≡ false
 held_pause_stays = refl
+
+-- What is bound: the analysis of each analysis step and that of the background, and nothing else.
+
+abbrev once : Option AnalysisParts
+once = Some (record { metrics = metrics_named three_times (codes "t" ∷ []) })
+
+abbrev bound_to : List (Option AnalysisParts) → Option AnalysisParts → Stand → Stand
+bound_to steps background s = record s { bound = record { steps = steps; background = background } }
+
+each_bound : is_broken (parts (bound_to (None ∷ once ∷ once ∷ None ∷ None ∷ []) once (at_step InProgress 3)) 1 []) ≡ false
+each_bound = refl
+
+analysis_unbound : is_broken (parts (bound_to (None ∷ once ∷ None ∷ None ∷ None ∷ []) once (at_step InProgress 3)) 1 []) ≡ true
+analysis_unbound = refl
+
+weight_bound : is_broken (parts (bound_to (once ∷ once ∷ once ∷ None ∷ None ∷ []) once (at_step InProgress 3)) 1 []) ≡ true
+weight_bound = refl
+
+pause_bound : is_broken (parts (bound_to (None ∷ once ∷ once ∷ None ∷ once ∷ []) once (at_step InProgress 3)) 1 []) ≡ true
+pause_bound = refl
+
+bound_too_few : is_broken (parts (bound_to (None ∷ once ∷ once ∷ None ∷ []) once (at_step InProgress 3)) 1 []) ≡ true
+bound_too_few = refl
+
+bound_too_many : is_broken (parts (bound_to (None ∷ once ∷ once ∷ None ∷ None ∷ None ∷ []) once (at_step InProgress 3)) 1 []) ≡ true
+bound_too_many = refl
+
+background_unbound : is_broken (parts (bound_to (None ∷ once ∷ once ∷ None ∷ None ∷ []) None (at_step InProgress 3)) 1 []) ≡ true
+background_unbound = refl
+
+bound_without_background : is_broken (parts (bound_to (None ∷ once ∷ once ∷ None ∷ None ∷ []) once (stands None InProgress 3)) 1 []) ≡ true
+bound_without_background = refl

@@ -8,7 +8,7 @@ use Rattle.canary_plan.specs.declared.command.Command.{Command}
 use Rattle.canary_plan.specs.declared.command.Command.TheVariants as command
 use Rattle.canary_plan.specs.Plans.{Templates}
 use Rattle.canary_plan.specs.Commands.{template_in, service_in}
-use Rattle.canary_plan.specs.Plans.{is_accepted}
+use Rattle.canary_plan.specs.Plans.{is_accepted, are_fit}
 use Rattle.canary_plan.specs.declared.refusal.Refusal.{Refusal}
 use Rattle.canary_release.specs.declared.service.ServiceParts.{ServiceParts}
 use Rattle.canary_release.specs.declared.commands.Led.{Led}
@@ -63,6 +63,6 @@ new_unknown known now (command.Tick s) h = refl
 new_unknown known now (command.Report r) h = refl
 
 -- where a command leads the code, the parts are unbroken
-pub acting_keeps : ActingKeepsParts → (command : Command) (s : ServiceParts) (now : ℕ) (acted : Result Led Refusal) → IsTrue (is_accepted s.stand.strategy) → is_broken s ≡ false → acted_as acted ≡ act_passed command (kept_course s) now → IfOk acted (λ led. is_broken (kept_after (whole led.draft)) ≡ false)
-acting_keeps law command s now (Ok led) accepted unbroken e = (law command s now (led_as led) accepted unbroken (sym e)).0
-acting_keeps law command s now (Err refusal) accepted unbroken e = tt
+pub acting_keeps : ActingKeepsParts → (command : Command) (s : ServiceParts) (now : ℕ) (acted : Result Led Refusal) → IsTrue (is_accepted s.stand.strategy) → IsTrue (are_fit s.stand.bound) → is_broken s ≡ false → acted_as acted ≡ act_passed command (kept_course s) now → IfOk acted (λ led. is_broken (kept_after (whole led.draft)) ≡ false)
+acting_keeps law command s now (Ok led) accepted fit unbroken e = (law command s now (led_as led) accepted fit unbroken (sym e)).0
+acting_keeps law command s now (Err refusal) accepted fit unbroken e = tt

@@ -12,7 +12,7 @@ use Rattle.canary_metric.specs.Metrics.{MetricValue}
 use Rattle.canary_metric.specs.Counts.{Counts, counts}
 use Rattle.canary_metric.specs.MetricPhases.{is_completed}
 use Rattle.canary_metric.specs.Verdicts.{MetricCounts, worst_of, counted_phase, judging, is_closing, are_completed, verdict_of_counts}
-use Rattle.canary_plan.specs.declared.strategy.CheckedStrategy.{CheckedStrategy}
+use Rattle.canary_plan.specs.declared.bound.BoundParts.{BoundParts}
 use Rattle.canary_plan.specs.declared.command.Command.{Command}
 use Rattle.canary_plan.specs.Plans.{Templates}
 use Rattle.canary_plan.specs.Commands.{subject_of}
@@ -102,22 +102,22 @@ sound_closed x w is_verdict completed r h that =
       | false ↦ λ e. h
     ] refl
 
-sound_after : (st : CheckedStrategy) (p : Past) (x : Effect) → Allowed st (watched p) x → IsOrdered st p → AllByRecursion IsSoundSoFar p.runs → AllByRecursion IsSoundSoFar (grows p x).runs
-sound_after st p (Told line) a o h = h
-sound_after st p (Opened x) a o h = each_and_more IsSoundSoFar p.runs (opened_run x) h (none_judged x.analysis.metrics (length x.analysis.metrics), tt)
-sound_after st p (Measured x) a o h =
+sound_after : (b : BoundParts) (p : Past) (x : Effect) → Allowed b (watched p) x → IsOrdered b p → AllByRecursion IsSoundSoFar p.runs → AllByRecursion IsSoundSoFar (grows p x).runs
+sound_after b p (Told line) a o h = h
+sound_after b p (Opened x) a o h = each_and_more IsSoundSoFar p.runs (opened_run x) h (none_judged x.analysis.metrics (length x.analysis.metrics), tt)
+sound_after b p (Measured x) a o h =
     let that = that_run x.run 1 p.runs a.run o.numbered a.found in
     each_mapped (λ (r : Run). IsSoundSoFar (measured_in x r)) IsSoundSoFar (measured_in x) (λ r k. k) p.runs
     (each_both IsSoundSoFar (IsThatRun x.run a.run) (λ (r : Run). IsSoundSoFar (measured_in x r)) (sound_measured x a.run a.metric a.is_metric a.judged) p.runs h that)
-sound_after st p (Closed x tallies) a o h =
+sound_after b p (Closed x tallies) a o h =
     let that = that_run x.run 1 p.runs a.run o.numbered a.found in
     each_mapped (λ (r : Run). IsSoundSoFar (closed_in x r)) IsSoundSoFar (closed_in x) (λ r k. k) p.runs
     (each_both IsSoundSoFar (IsThatRun x.run a.run) (λ (r : Run). IsSoundSoFar (closed_in x r)) (sound_closed x a.run a.verdict a.completed) p.runs h that)
 
-sound_after_all : WatchesAlike → (st : CheckedStrategy) (p : Past) (xs : List Effect) → AreAllowed st (watched p) xs → IsOrdered st p → AllByRecursion IsSoundSoFar p.runs → AllByRecursion IsSoundSoFar (grows_by p xs).runs
-sound_after_all alike st p [] a o h = h
-sound_after_all alike st p (x ∷ xs) a o h =
-    sound_after_all alike st (grows p x) xs (subst (λ (w : Runs). AreAllowed st w xs) (sym (watched_then alike p x)) a.1) (ordered_after st p x a.0 o) (sound_after st p x a.0 o h)
+sound_after_all : WatchesAlike → (b : BoundParts) (p : Past) (xs : List Effect) → AreAllowed b (watched p) xs → IsOrdered b p → AllByRecursion IsSoundSoFar p.runs → AllByRecursion IsSoundSoFar (grows_by p xs).runs
+sound_after_all alike b p [] a o h = h
+sound_after_all alike b p (x ∷ xs) a o h =
+    sound_after_all alike b (grows p x) xs (subst (λ (w : Runs). AreAllowed b w xs) (sym (watched_then alike p x)) a.1) (ordered_after b p x a.0 o) (sound_after b p x a.0 o h)
 
 -- A service whose open runs aren't judged.
 
@@ -165,7 +165,7 @@ sound_becomes alike known (Some m) command c o h came =
     let s : ModelService = after (Some m) c.stand c.effects in
     let f = came.following in
     let so_far = each IsSoundRun IsSoundSoFar to_so_far m.past.runs h in
-    let now : AllByRecursion IsSoundSoFar s.past.runs = sound_after_all alike m.stand.strategy m.past c.effects f.allowed (past_ordered known (subject_of command) m o) so_far in
+    let now : AllByRecursion IsSoundSoFar s.past.runs = sound_after_all alike m.stand.bound m.past c.effects f.allowed (past_ordered known (subject_of command) m o) so_far in
     each_both IsSoundSoFar IsUnjudged IsSoundRun from_so_far s.past.runs now (unjudged s.past.runs (parts_say (shape s) came.order.parts).unjudged)
 
 sound_of : (desk : Desk) → AreSound desk → (name : List ℕ) → SoundIf (get desk.services name)

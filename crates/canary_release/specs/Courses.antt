@@ -55,14 +55,14 @@ run_verdict outside r = verdict_of_counts outside (zip r.analysis.metrics r.tall
 abbrev pub next_run : Course → ℕ
 next_run c = (runs_now c).count + 1
 
--- the next run is opened, of the strategy's analysis at a step or of its background
+-- the next run is opened, of the analysis that is bound at a step or behind it
 abbrev pub open_run : Course → Option ℕ → ℕ → Course
 open_run c step at =
     happen c (Opened
     (record {
       run = next_run c;
       step = step;
-      analysis = analysis_or_none c.stand.strategy step;
+      analysis = analysis_or_none c.stand.bound step;
       started = at;
     }))
 

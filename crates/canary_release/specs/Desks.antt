@@ -11,7 +11,7 @@ use Rattle.canary_plan.specs.declared.command.Command.TheVariants.{Template as A
 use Rattle.canary_plan.specs.declared.line.LineEvent.TheVariants.{Created}
 use Rattle.canary_plan.specs.declared.refusal.Refusal.{Refusal}
 use Rattle.canary_plan.specs.declared.refusal.Refusal.TheVariants.{UnknownService, TemplateExists}
-use Rattle.canary_plan.specs.Plans.{Templates, template_of, strategy_of}
+use Rattle.canary_plan.specs.Plans.{Templates, template_of, strategy_of, bound_of}
 use Rattle.canary_plan.specs.PlanRefusals.{template_refusal, strategy_refusal}
 use Rattle.canary_plan.specs.Commands.{subject_of}
 use Rattle.canary_release.specs.declared.effect.Effect.{Effect}
@@ -69,12 +69,14 @@ act_passed command c now =
     let t = judged_at c.stand now in
     passed_on (act command (pass c now) t) t
 
--- a new service is done: its version is the stable one, and it stands after its last step
+-- a new service is done, and bound to the templates that are known: its version is the stable one,
+-- and it stands after its last step
 abbrev pub new_stand : Templates → ServiceSpec → ℕ → Stand
 new_stand known spec now =
     record {
       name = spec.name;
-      strategy = strategy_of known spec;
+      strategy = strategy_of spec;
+      bound = bound_of known (strategy_of spec);
       stable = spec.version;
       version = spec.version;
       state = Done;

@@ -7,7 +7,7 @@ use Rattle.canary_condition.specs.Phases.{phase_of}
 use Rattle.canary_metric.specs.Metrics.{MetricValue}
 use Rattle.canary_metric.specs.Counts.{Counts, size}
 use Rattle.canary_metric.specs.MetricPhases.{is_completed}
-use Rattle.canary_plan.specs.declared.strategy.CheckedStrategy.{CheckedStrategy}
+use Rattle.canary_plan.specs.declared.bound.BoundParts.{BoundParts}
 use Rattle.canary_plan.specs.declared.command.Command.{Command}
 use Rattle.canary_plan.specs.Plans.{analysis_at}
 use Rattle.canary_plan.specs.Commands.{subject_of}
@@ -29,11 +29,10 @@ use Rattle.canary_release.specs.Desks.{ModelService, Desk, before, course_of, ru
 use Rattle.canary_release.specs.Order.{AreInOrder}
 use Rattle.canary_release.specs.Shapes.{said}
 
--- a run that is opened has the next number, and the strategy's analysis at its step or of the
--- background
-pub record Opens (st : CheckedStrategy) (w : Runs) (x : Opening) : Type 0 where
+-- a run that is opened has the next number, and the analysis that is bound at its step or behind it
+pub record Opens (bound : BoundParts) (w : Runs) (x : Opening) : Type 0 where
   pub number : x.run ≡ w.count + 1
-  pub analysis : analysis_at st x.step ≡ Some x.analysis
+  pub analysis : analysis_at bound x.step ≡ Some x.analysis
 
 -- a measurement is of an open run and of a metric of it, and the next of that metric
 pub record Measures (w : Runs) (x : Recorded) : Type 0 where
@@ -56,25 +55,26 @@ pub record Closes (w : Runs) (x : Closing) (tallies : List Counts) : Type 0 wher
   pub completed : is_completed x.verdict ≡ true
   pub last : tallies ≡ run.tallies
 
--- an effect may happen to a service of this strategy, of which this is watched
-abbrev pub Allowed : CheckedStrategy → Runs → Effect → Type 0
-Allowed st w (Told line) = Unit {0}
-Allowed st w (Opened x) = Opens st w x
-Allowed st w (Measured x) = Measures w x
-Allowed st w (Closed x tallies) = Closes w x tallies
+-- an effect may happen to a service that is bound so, of which this is watched
+abbrev pub Allowed : BoundParts → Runs → Effect → Type 0
+Allowed bound w (Told line) = Unit {0}
+Allowed bound w (Opened x) = Opens bound w x
+Allowed bound w (Measured x) = Measures w x
+Allowed bound w (Closed x tallies) = Closes w x tallies
 
 -- each of them may, one after another
-abbrev pub AreAllowed : CheckedStrategy → Runs → List Effect → Type 0
-AreAllowed st w [] = Unit {0}
-AreAllowed st w (x ∷ xs) = Allowed st w x × AreAllowed st (happens w x) xs
+abbrev pub AreAllowed : BoundParts → Runs → List Effect → Type 0
+AreAllowed bound w [] = Unit {0}
+AreAllowed bound w (x ∷ xs) = Allowed bound w x × AreAllowed bound (happens w x) xs
 
 -- a service as it was found, or a new one, becomes this one: under that name, with the strategy
--- that it had, and what happens may happen
+-- that it had and bound as it was, and what happens may happen
 pub record Changes (found : Option ModelService) (name : List ℕ) (s : ServiceParts)
     (effects : List Effect) : Type 0 where
   pub named : s.stand.name ≡ name
   pub strategy : s.stand.strategy ≡ (before found s.stand).stand.strategy
-  pub allowed : AreAllowed s.stand.strategy (watched (before found s.stand).past) effects
+  pub bound : s.stand.bound ≡ (before found s.stand).stand.bound
+  pub allowed : AreAllowed s.stand.bound (watched (before found s.stand).past) effects
 
 -- a change of what a command names: a template has that name, and so has a service
 abbrev pub IsChange : Desk → List ℕ → DeskChange → Type 0

@@ -4,7 +4,7 @@ use Rattle.std.specs.FinMap.{get}
 use Rattle.std.specs.List.{AllByRecursion, list_all, list_any}
 use Rattle.canary_plan.specs.declared.template.Template.{Template}
 use Rattle.canary_plan.specs.declared.command.Command.{Command}
-use Rattle.canary_plan.specs.Plans.{Templates, template_of, strategy_of, analysis_at}
+use Rattle.canary_plan.specs.Plans.{Templates, template_of, strategy_of, bound_of, analysis_at}
 use Rattle.canary_plan.specs.PlanRefusals.{template_refusal, strategy_refusal}
 use Rattle.canary_release.specs.declared.effect.Recorded.{Recorded}
 use Rattle.canary_release.specs.Pasts.{Run}
@@ -34,10 +34,10 @@ AreLists all run metric (list ∷ lists) =
     AreOrdered run metric 1 list × (length list ≤ 1000000) × (list ≡ filter (is_of run metric) all)
     × AreLists all run (suc metric) lists
 
--- a run's analysis is the strategy's at its step or the background, and the run has a list for each
--- of its metrics
+-- a run's analysis is that to which the service is bound at its step or behind it, and the run has
+-- a list for each of its metrics
 pub record IsRun (s : ModelService) (r : Run) : Type 0 where
-  pub analysis : analysis_at s.stand.strategy r.step ≡ Some r.analysis
+  pub analysis : analysis_at s.stand.bound r.step ≡ Some r.analysis
   pub one_each : length r.lists ≡ length r.analysis.metrics
   pub lists : AreLists s.past.measurements r.number 0 r.lists
 
@@ -49,13 +49,14 @@ abbrev pub is_of_some : List Run → Recorded → Bool
 is_of_some runs x = list_any (is_measured_by x) runs
 
 -- a service under a name: the name is its command's and its own; its strategy is its command's,
--- which these templates accept; its runs are numbered from 1, each with the lists of an analysis;
--- each measurement is of one of them; and its parts are accepted
+-- which these templates accept; it is bound to them; its runs are numbered from 1, each with the
+-- lists of an analysis; each measurement is of one of them; and its parts are accepted
 pub record IsInOrder (known : Templates) (name : List ℕ) (s : ModelService) : Type 0 where
   pub named : s.made.name ≡ name
   pub shown : s.stand.name ≡ name
-  pub strategy : s.stand.strategy ≡ strategy_of known s.made
+  pub strategy : s.stand.strategy ≡ strategy_of s.made
   pub accepted : strategy_refusal known s.made ≡ None
+  pub bound : s.stand.bound ≡ bound_of known s.stand.strategy
   pub numbered : AreNumbered 1 s.past.runs
   pub runs : AllByRecursion (IsRun s) s.past.runs
   pub measured : IsTrue (list_all (is_of_some s.past.runs) s.past.measurements)

@@ -1,7 +1,12 @@
 -- Which parts make no service.
 use Rattle.std.specs.Prelude.{◌≡◌, ℕ, ◌+◌, ◌-◌, ◌==◌, nat_lt, ◌&&◌, ◌||◌, not, Bool, true, false, if◌then◌else◌, List, [], ◌∷◌, length, filter, Option, Some, None, is_some, is_none, Result, Ok, Err}
 use Rattle.std.specs.List.{list_any}
+use Rattle.std.specs.Cmp.Lexicographic.{pointwise}
 use Rattle.canary_metric.specs.MetricPhases.{is_completed}
+use Rattle.canary_plan.specs.declared.step.Step.{Step}
+use Rattle.canary_plan.specs.declared.step.Step.TheVariants.{SetWeight, Pause, Analysis}
+use Rattle.canary_plan.specs.declared.service.Background.{Background}
+use Rattle.canary_plan.specs.declared.analysis_parts.AnalysisParts.{AnalysisParts}
 use Rattle.canary_plan.specs.Plans.{analysis_at}
 use Rattle.canary_release.specs.declared.stand.Stand.{Stand}
 use Rattle.canary_release.specs.declared.runs.OpenRun.{OpenRun}
@@ -55,10 +60,31 @@ repeats_number (r ∷ rs) = list_any (has_number r.number) rs || repeats_number 
 abbrev pub has_wrong_tallies : OpenRun → Bool
 has_wrong_tallies r = not (length r.analysis.metrics == length r.tallies)
 
+-- What a service is bound to.
+
+abbrev pub is_step_bound : Step → Option AnalysisParts → Bool
+is_step_bound (Analysis names) a = is_some a
+is_step_bound (SetWeight percent) a = is_none a
+is_step_bound (Pause seconds) a = is_none a
+
+abbrev pub is_background_bound : Option Background → Option AnalysisParts → Bool
+is_background_bound None a = is_none a
+is_background_bound (Some b) a = is_some a
+
+-- each analysis of the strategy is bound, and nothing else
+abbrev pub is_bound : Stand → Bool
+is_bound s =
+    pointwise is_step_bound s.strategy.steps s.bound.steps
+    && is_background_bound s.strategy.background s.bound.background
+
+-- an analysis is not bound, or one that its strategy does not have
+abbrev pub is_misbound : Stand → Bool
+is_misbound s = not (is_bound s)
+
 abbrev pub is_elsewhere : Stand → Option ℕ → Bool
 is_elsewhere s None = false
 is_elsewhere s (Some i) =
-    not (i == s.step) || (is_none (analysis_at s.strategy (Some i)) || is_held s)
+    not (i == s.step) || (is_none (analysis_at s.bound (Some i)) || is_held s)
 
 -- a step run elsewhere than at its own analysis step, or while held
 abbrev pub is_astray : Stand → OpenRun → Bool
@@ -92,6 +118,7 @@ is_broken s =
     ∷ (stand.background_hold && not stand.background)
     ∷ list_any is_judged runs
     ∷ is_by stand.last (next_move stand)
+    ∷ is_misbound stand
     ∷ []
     )
 

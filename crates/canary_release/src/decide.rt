@@ -1,10 +1,10 @@
 //! Decisions: what a command answers, and what it changes.
-ghost use Rattle.std.specs.Prelude.{◌≡◌, Ok, Err, false, IfOk, option_map};
+ghost use Rattle.std.specs.Prelude.{◌≡◌, None, Ok, Err, false, IfOk, option_map};
 ghost use Rattle.std.specs.Option.{option_copied};
 ghost use Rattle.std.specs.FinMap.{get};
 ghost use Rattle.canary_plan.specs.declared.command.Command.TheVariants as command_of;
-ghost use Rattle.canary_plan.specs.Plans.{strategy_of};
-ghost use Rattle.canary_plan.specs.PlanRefusals.{template_refusal};
+ghost use Rattle.canary_plan.specs.Plans.{strategy_of, bound_of};
+ghost use Rattle.canary_plan.specs.PlanRefusals.{template_refusal, strategy_refusal};
 ghost use Rattle.canary_plan.specs.Commands.{subject_of, names_looked_up};
 ghost use Rattle.canary_release.specs.Desks.{Desk, rules, refuses, new_stand, new_service};
 ghost use Rattle.canary_release.specs.Desks.{act_new, act_passed, rule_template, rule_service};
@@ -25,6 +25,7 @@ use crate::stand::{Stand, State};
 use canary_base::error::Memory;
 use canary_base::lists::Listed;
 use canary_base::moments::Moment;
+use canary_plan::bound::Bound;
 use canary_plan::command::Command;
 use canary_plan::fault::{BindFault, CheckFault};
 use canary_plan::line::LineEvent;
@@ -305,7 +306,8 @@ fn new_service(
     strategy: Strategy,
     now: Moment,
 ) -> Result<Draft, Memory>
-    requires { strategy ≡ strategy_of (get templates.now) spec.now }
+    requires accepted { strategy_refusal (get templates.now) spec.now ≡ None }
+    requires checked { strategy ≡ strategy_of spec.now }
     ensures new { IfOk result (λ draft. whole draft
         ≡ new_service (get templates.now) spec.now now) }
     ensures unbroken { IfOk result (λ draft. is_broken (kept_after (whole draft)) ≡ false) }
@@ -321,27 +323,36 @@ fn new_draft(
     strategy: Strategy,
     now: Moment,
 ) -> Result<Draft, Memory>
-    requires { strategy ≡ strategy_of (get templates.now) spec.now }
+    requires { strategy ≡ strategy_of spec.now }
     ensures { IfOk result (λ draft. whole draft ≡ new_service (get templates.now) spec.now now) }
 {
     laws::watching();
+    let bound = strategy.bind(alloc, templates)?;
     let parts = ServiceParts {
-        stand: new_stand(templates, spec, strategy, now),
+        stand: new_stand(templates, spec, strategy, bound, now),
         runs: Runs::new(alloc),
     };
     let version = spec.version;
     Draft::of(alloc, &parts)?.tell(now, LineEvent::Created { version })
 }
 
-// A new service is done: its version is the stable one.
-fn new_stand(templates: &Templates, spec: &ServiceSpec, strategy: Strategy, now: Moment) -> Stand
-    requires { strategy ≡ strategy_of (get templates.now) spec.now }
+// A new service is done, and bound to these templates: its version is the stable one.
+fn new_stand(
+    templates: &Templates,
+    spec: &ServiceSpec,
+    strategy: Strategy,
+    bound: Bound,
+    now: Moment,
+) -> Stand
+    requires checked { strategy ≡ strategy_of spec.now }
+    requires bound { bound ≡ bound_of (get templates.now) strategy }
     ensures { result ≡ new_stand (get templates.now) spec.now now }
 {
     let step = strategy.steps().len() as u32;
     Stand {
         name: spec.name,
         strategy,
+        bound,
         stable: spec.version,
         version: spec.version,
         state: State::Done,

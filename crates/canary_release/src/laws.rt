@@ -92,10 +92,10 @@ pub fn sound()
 }
 
 /// What a command changes of a desk in order tells all that a store writes: a template, or a
-/// service with its strategy, is under the name that the command names; a run that is opened has
-/// the next number and the metrics of its analysis; a measurement is of an open run, the next of
-/// its metric, and judged by the metric's conditions; and a run that is closed is open, has its
-/// verdict, and comes with its last tallies.
+/// service with its strategy and bound as it was, is under the name that the command names; a run
+/// that is opened has the next number and the analysis that is bound; a measurement is of an open
+/// run, the next of its metric, and judged by the metric's conditions; and a run that is closed is
+/// open, has its verdict, and comes with its last tallies.
 pub fn effects()
     ensures { CommandsChange }
 {

@@ -1,7 +1,9 @@
 //! Parts that make a service, and those that make none.
 ghost use Rattle.std.specs.Prelude.{◌≡◌, ◌-◌, ◌≤◌, true, ◌||◌, ◌&&◌, not, nat_lt, length, filter};
 ghost use Rattle.std.specs.Prelude.{is_none, is_some};
+ghost use Rattle.std.specs.Option.{option_copied};
 ghost use Rattle.std.specs.List.{list_any};
+ghost use Rattle.std.specs.Cmp.Lexicographic.{pointwise};
 ghost use Rattle.canary_release.specs.Courses.{has_number};
 ghost use Rattle.canary_release.specs.Passing.{next_move, is_by};
 ghost use Rattle.canary_release.specs.Services.{is_going, is_done, is_held};
@@ -9,12 +11,15 @@ ghost use Rattle.canary_release.specs.Parts.{IsAccepted, is_broken, is_misplaced
 ghost use Rattle.canary_release.specs.Parts.{background_wanted, is_misnumbered};
 ghost use Rattle.canary_release.specs.Parts.{repeats_number, has_wrong_tallies, is_astray};
 ghost use Rattle.canary_release.specs.Parts.{is_judged, is_background_run, is_step_run};
-ghost use Rattle.canary_release.specs.Parts.{has_background_run};
+ghost use Rattle.canary_release.specs.Parts.{has_background_run, is_misbound, is_bound};
+ghost use Rattle.canary_release.specs.Parts.{is_step_bound, is_background_bound};
 
 use crate::runs::{MOST_RUNS, OpenRun};
 use crate::service::{Service, ServiceParts};
 use crate::stand::{Stand, State};
 use canary_metric::verdict::is_completed;
+use canary_plan::bound_analysis::BoundAnalysis;
+use canary_plan::step::Step;
 use std::error::Error;
 use std::fmt;
 
@@ -58,7 +63,11 @@ impl Service {
 pub fn is_broken(parts: &ServiceParts) -> bool
     ensures { result ≡ is_broken parts.now }
 {
-    is_behind(parts) || has_stray_run(parts) || has_bad_runs(parts) || has_bad_mark(parts)
+    is_behind(parts)
+        || has_stray_run(parts)
+        || has_bad_runs(parts)
+        || has_bad_mark(parts)
+        || is_misbound(&parts.stand)
 }
 
 // A step or an entry out of place, or runs beyond their limit.
@@ -119,6 +128,52 @@ fn has_bad_mark(parts: &ServiceParts) -> bool
         || has_stray_background_hold(stand)
         || some_is_judged(parts.runs.open_runs.as_slice())
         || has_move_due(stand)
+}
+
+// An analysis is not bound, or one that its strategy does not have.
+fn is_misbound(stand: &Stand) -> bool
+    ensures { result ≡ is_misbound stand.now }
+{
+    !is_bound(stand)
+}
+
+// Each analysis of the strategy is bound, and nothing else.
+fn is_bound(stand: &Stand) -> bool
+    ensures { result ≡ is_bound stand.now }
+{
+    are_steps_bound(stand.strategy.steps(), stand.bound.steps()) && is_background_bound(stand)
+}
+
+fn are_steps_bound(steps: &[Step], bound: &[Option<BoundAnalysis>]) -> bool
+    ensures { result ≡ pointwise is_step_bound steps.now bound.now }
+{
+    match (steps, bound) {
+        ([], []) => true,
+        ([step, rest @ ..], [analysis, later @ ..]) => {
+            is_step_bound(step, analysis.as_ref()) && are_steps_bound(rest, later)
+        }
+        _ => false,
+    }
+}
+
+fn is_step_bound(step: &Step, analysis: Option<&BoundAnalysis>) -> bool
+    ensures { result ≡ is_step_bound step.now (option_copied analysis.entry) }
+{
+    match step {
+        Step::SetWeight(_) => analysis.is_none(),
+        Step::Pause(_) => analysis.is_none(),
+        Step::Analysis(_) => analysis.is_some(),
+    }
+}
+
+fn is_background_bound(stand: &Stand) -> bool
+    ensures { result
+        ≡ is_background_bound stand.now.strategy.background stand.now.bound.background }
+{
+    match stand.strategy.background() {
+        None => stand.bound.analysis(None).is_none(),
+        Some(_) => stand.bound.analysis(None).is_some(),
+    }
 }
 
 fn is_misplaced(stand: &Stand) -> bool
@@ -246,7 +301,7 @@ fn is_astray(stand: &Stand, run: &OpenRun) -> bool
     let Some(step) = run.step else {
         return false;
     };
-    step != stand.step || stand.strategy.analysis(Some(step)).is_none() || stand.is_held()
+    step != stand.step || stand.bound.analysis(Some(step)).is_none() || stand.is_held()
 }
 
 // The background run is open that was not begun, or that is held.

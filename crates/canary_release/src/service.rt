@@ -1,6 +1,6 @@
 //! Services: what the desk keeps of each.
 ghost use Rattle.std.specs.Prelude.{◌≡◌, false, IfOk, IsTrue};
-ghost use Rattle.canary_plan.specs.Plans.{is_accepted};
+ghost use Rattle.canary_plan.specs.Plans.{is_accepted, are_fit};
 ghost use Rattle.canary_release.specs.Services.{status, weight};
 ghost use Rattle.canary_release.specs.Passing.{pass};
 ghost use Rattle.canary_release.specs.Parts.{is_broken};
@@ -16,6 +16,7 @@ use canary_base::error::Memory;
 use canary_base::lists::Listed;
 use canary_base::moments::Moment;
 use canary_base::names::{Label, Name};
+use canary_plan::bound::Bound;
 use canary_plan::strategy::Strategy;
 use std::alloc::Global;
 use std::marker::Model;
@@ -87,12 +88,15 @@ impl Service {
         Draft::of(alloc, &self.parts)
     }
 
-    /// The limits of its strategy, which a checked strategy promises.
+    /// The limits of its strategy, which a checked strategy promises, and those of the analyses to
+    /// which it is bound.
     pub(crate) fn has_checked_strategy(&self)
         ensures accepted { IsTrue (is_accepted self.now.stand.strategy) }
+        ensures fit { IsTrue (are_fit self.now.stand.bound) }
         ensures unbroken { is_broken self.now ≡ false }
     {
         let _ = self.parts.stand.strategy.steps();
+        let _ = self.parts.stand.bound.analysis(None);
     }
 
     /// The service passed to a moment, as it changes.
@@ -144,6 +148,13 @@ impl Service {
         ensures value { result.now ≡ self.now.stand.strategy }
     {
         &self.parts.stand.strategy
+    }
+
+    /// Its analyses, with their metrics.
+    pub fn bound(&self) -> &Bound
+        ensures value { result.now ≡ self.now.stand.bound }
+    {
+        &self.parts.stand.bound
     }
 
     /// Its stable version.

@@ -11,6 +11,7 @@ ghost use Rattle.canary_release.specs.Replies.{status_text};
 use canary_base::error::Memory;
 use canary_base::moments::Moment;
 use canary_base::names::{Label, Name};
+use canary_plan::bound::Bound;
 use canary_plan::bound_analysis::BoundAnalysis;
 use canary_plan::step::Step;
 use canary_plan::strategy::Strategy;
@@ -56,6 +57,8 @@ impl Status {
 pub struct Stand {
     pub name: Name,
     pub strategy: Strategy,
+    /// Its analyses with their metrics.
+    pub bound: Bound,
     pub stable: Label,
     pub version: Label,
     pub state: State,
@@ -81,6 +84,7 @@ impl Stand {
         Ok(Stand {
             name: self.name,
             strategy: self.strategy.copy()?,
+            bound: self.bound.copy()?,
             stable: self.stable,
             version: self.version,
             state: self.state,
@@ -192,13 +196,13 @@ impl Stand {
         }
     }
 
-    /// A copy of its strategy's analysis at a step, or of its background; one of no templates where
-    /// there is no such analysis.
+    /// A copy of the analysis that is bound at a step, or of the background; one of no templates
+    /// where there is no such analysis.
     pub(crate) fn analysis(&self, alloc: Global, step: Option<u32>) -> Result<BoundAnalysis, Memory>
         ensures { IfOk result
-            (λ analysis. analysis ≡ analysis_or_none self.now.strategy step) }
+            (λ analysis. analysis ≡ analysis_or_none self.now.bound step) }
     {
-        match self.strategy.analysis(step) {
+        match self.bound.analysis(step) {
             Some(analysis) => analysis.copy(),
             None => BoundAnalysis::none(alloc),
         }

@@ -75,7 +75,7 @@ happens_to : EffectsHappen → (t put : Tables) (services : NameMap ModelService
     → Happens s.stand.name effects put (before (get services s.stand.name) s.stand).past
 happens_to law t put services asked s effects is numbered same are =
     let p : Past = (before (get services s.stand.name) s.stand).past in
-    law s.stand.name s.stand.strategy effects put p
+    law s.stand.name s.stand.bound effects put p
     (subst (ArePastRows put s.stand.name) (past_before (get services s.stand.name) s) (pasts_kept t put s.stand.name (past_in (get services s.stand.name)) same.pasts are))
     (numbered_before (get services s.stand.name) s numbered)
     is.changes.allowed

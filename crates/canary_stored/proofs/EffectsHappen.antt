@@ -4,7 +4,7 @@ use Rattle.std.specs.Prelude.{ℕ, ◌==◌, map, Some}
 use Rattle.std.specs.List.{AllByRecursion}
 use Rattle.canary_condition.specs.PhaseTexts.{phase_of_number}
 use Rattle.canary_metric.specs.Counts.{CountsOneMore}
-use Rattle.canary_plan.specs.declared.strategy.CheckedStrategy.{CheckedStrategy}
+use Rattle.canary_plan.specs.declared.bound.BoundParts.{BoundParts}
 use Rattle.canary_release.specs.declared.effect.Closing.{Closing}
 use Rattle.canary_release.specs.declared.effect.Recorded.{Recorded}
 use Rattle.canary_release.specs.declared.effect.Effect.{Effect}
@@ -26,12 +26,12 @@ use Rattle.canary_stored.proofs.RunsClosed.{closed_happens}
 
 -- What happens.
 
-one_happens : CountsOneMore → (name : List ℕ) (strategy : CheckedStrategy) (x : Effect) (t : Tables) (p : Past)
-    → ArePastRows t name p → AreNumbered 1 p.runs → Allowed strategy (watched p) x → OneHappens name x t p
-one_happens one name strategy (Told line) t p are numbered allowed = told_happens name line t p are numbered
-one_happens one name strategy (Opened x) t p are numbered allowed = opened_happens name strategy x t p are numbered allowed
-one_happens one name strategy (Measured x) t p are numbered allowed = measured_happens one name x t p are numbered allowed
-one_happens one name strategy (Closed x tallies) t p are numbered allowed = closed_happens name x tallies t p are numbered allowed
+one_happens : CountsOneMore → (name : List ℕ) (bound : BoundParts) (x : Effect) (t : Tables) (p : Past)
+    → ArePastRows t name p → AreNumbered 1 p.runs → Allowed bound (watched p) x → OneHappens name x t p
+one_happens one name bound (Told line) t p are numbered allowed = told_happens name line t p are numbered
+one_happens one name bound (Opened x) t p are numbered allowed = opened_happens name bound x t p are numbered allowed
+one_happens one name bound (Measured x) t p are numbered allowed = measured_happens one name x t p are numbered allowed
+one_happens one name bound (Closed x tallies) t p are numbered allowed = closed_happens name x tallies t p are numbered allowed
 
 others_then : (q : List ℕ) (a b c : Tables) → AreOthersRows a b q → AreOthersRows b c q → AreOthersRows a c q
 others_then q a b c first later = record {
@@ -66,12 +66,12 @@ happens_then name x xs t p first later = record {
 }
 
 pub effects_happen : CountsOneMore → WatchesAlike → EffectsHappen
-effects_happen one alike name strategy [] t p are numbered allowed = none_happens name t p are
-effects_happen one alike name strategy (x ∷ xs) t p are numbered allowed =
-    let first : OneHappens name x t p = one_happens one name strategy x t p are numbered allowed.0 in
+effects_happen one alike name bound [] t p are numbered allowed = none_happens name t p are
+effects_happen one alike name bound (x ∷ xs) t p are numbered allowed =
+    let first : OneHappens name x t p = one_happens one name bound x t p are numbered allowed.0 in
     let watch : happens (watched p) x ≡ watched (grows p x) = sym (alike p (x ∷ [])) in
-    let allowed_later : AreAllowed strategy (watched (grows p x)) xs = subst (λ w. AreAllowed strategy w xs) watch allowed.1 in
-    happens_then name x xs t p first (effects_happen one alike name strategy xs (happened name x t) (grows p x) first.rows first.numbered allowed_later)
+    let allowed_later : AreAllowed bound (watched (grows p x)) xs = subst (λ w. AreAllowed bound w xs) watch allowed.1 in
+    happens_then name x xs t p first (effects_happen one alike name bound xs (happened name x t) (grows p x) first.rows first.numbered allowed_later)
 
 -- What is read back.
 

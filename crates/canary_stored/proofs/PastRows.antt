@@ -2,7 +2,7 @@
 use Rattle.std.specs.Prelude.{◌≡◌, ℕ, false, List, map, filter}
 use Rattle.std.specs.Str.{bytes_eq}
 use Rattle.std.specs.List.{AllByRecursion}
-use Rattle.canary_plan.specs.declared.strategy.CheckedStrategy.{CheckedStrategy}
+use Rattle.canary_plan.specs.declared.bound.BoundParts.{BoundParts}
 use Rattle.canary_release.specs.declared.effect.Effect.{Effect}
 use Rattle.canary_release.specs.Effects.{AreAllowed}
 use Rattle.canary_release.specs.Order.{AreNumbered}
@@ -41,8 +41,8 @@ pub record Happens (name : List ℕ) (effects : List Effect) (t : Tables) (p : P
   pub rest : AreElseSame t (all_happened name effects t)
 
 abbrev pub EffectsHappen : Type 0
-EffectsHappen = (name : List ℕ) (strategy : CheckedStrategy) (effects : List Effect) (t : Tables) (p : Past)
-    → ArePastRows t name p → AreNumbered 1 p.runs → AreAllowed strategy (watched p) effects → Happens name effects t p
+EffectsHappen = (name : List ℕ) (bound : BoundParts) (effects : List Effect) (t : Tables) (p : Past)
+    → ArePastRows t name p → AreNumbered 1 p.runs → AreAllowed bound (watched p) effects → Happens name effects t p
 
 -- and what is read back stays so
 abbrev pub EffectsStayReadable : Type 0

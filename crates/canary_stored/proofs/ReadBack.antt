@@ -8,10 +8,11 @@ use Rattle.std.specs.Option.{option_or}
 use Rattle.std.specs.List.{filter_map, cons_option, AllByRecursion}
 use Rattle.std.specs.FinMap.{FinMap, get, get-empty}
 use Rattle.std.proofs.Math.Seq.{take-length}
+use Rattle.canary_plan.specs.declared.bound.BoundParts.{BoundParts}
 use Rattle.canary_plan.specs.declared.strategy.CheckedStrategy.{CheckedStrategy}
 use Rattle.canary_plan.specs.declared.command.Command.{Command}
 use Rattle.canary_plan.specs.declared.command.Command.TheVariants as command
-use Rattle.canary_plan.specs.Plans.{Templates, strategy_of}
+use Rattle.canary_plan.specs.Plans.{Templates, strategy_of, bound_of}
 use Rattle.canary_release.specs.Order.{IsRun, IsInOrder}
 use Rattle.canary_release.specs.Pasts.{Run, Past}
 use Rattle.canary_release.specs.Desks.{ModelService}
@@ -110,10 +111,10 @@ caller_is kept q (Some rs) rows good = ap Some (receipts-to kept q rs rows good 
 -- Services.
 
 runs-to : (rows : List RunRow) (q : List ℕ) (s : ModelService) → ((number : ℕ) → filter (is_run q number) rows ≡ run_rows q number s.past.runs)
-    → AllByRecursion (IsRun s) s.past.runs → AllByRecursion IsReadableRun s.past.runs → (n : ℕ) → runs_to s.stand.strategy s.past.measurements rows q n ≡ take n s.past.runs
+    → AllByRecursion (IsRun s) s.past.runs → AllByRecursion IsReadableRun s.past.runs → (n : ℕ) → runs_to s.stand.bound s.past.measurements rows q n ≡ take n s.past.runs
 runs-to rows q s are runs readable zero = refl
 runs-to rows q s are runs readable (suc n) =
-    let value : RunRow → Option Run = run_of_row s.stand.strategy s.past.measurements in
+    let value : RunRow → Option Run = run_of_row s.stand.bound s.past.measurements in
     let one : filter_map value (filter (is_run q (suc n)) rows) ≡ optional (slice_get s.past.runs n) = ap (filter_map value) (are (suc n))
     ∙ optional_back (run_row q) value (slice_get s.past.runs n) (λ r e. run_back q s r (all_at (IsRun s) s.past.runs runs n r e) (all_at IsReadableRun s.past.runs readable n r e)) in
     (λ i. runs-to rows q s are runs readable n i ++ one i) ∙ take-more n s.past.runs
@@ -124,22 +125,24 @@ record HasRows (t : Tables) (q : List ℕ) (p : Past) : Type 0 where
   measurements : filter (is_measurement_of q) t.measurements ≡ map (measurement_row q) p.measurements
   history : filter (is_line_of q) t.history ≡ map (history_row q) p.history
 
-past_back : (known : Templates) (t : Tables) (q : List ℕ) (s : ModelService) → HasRows t q s.past → IsReadablePast s.past → IsInOrder known q s → past_read t q s.stand.strategy (length s.past.runs) ≡ s.past
+past_back : (known : Templates) (t : Tables) (q : List ℕ) (s : ModelService) → HasRows t q s.past → IsReadablePast s.past → IsInOrder known q s → past_read t q s.stand.bound (length s.past.runs) ≡ s.past
 past_back known t q s rows readable is =
     let measurements : measurements_in t.measurements q ≡ s.past.measurements = ap (filter_map measurement_of_row) rows.measurements
     ∙ all_back (measurement_row q) measurement_of_row IsReadableMeasurement (measurement_back q) s.past.measurements readable.measurements in
     let history : history_in t.history q ≡ s.past.history = ap (filter_map line_of_row) rows.history ∙ all_back (history_row q) line_of_row IsReadableLine (line_back q) s.past.history readable.history in
-    let runs : runs_to s.stand.strategy s.past.measurements t.runs q (length s.past.runs) ≡ s.past.runs = runs-to t.runs q s rows.runs is.runs readable.runs (length s.past.runs) ∙ take-length s.past.runs in
-    (λ i. record { runs = runs_to s.stand.strategy (measurements i) t.runs q (length s.past.runs); measurements = measurements i; history = history i }) ∙ (λ i. record s.past { runs = runs i })
+    let runs : runs_to s.stand.bound s.past.measurements t.runs q (length s.past.runs) ≡ s.past.runs = runs-to t.runs q s rows.runs is.runs readable.runs (length s.past.runs) ∙ take-length s.past.runs in
+    (λ i. record { runs = runs_to s.stand.bound (measurements i) t.runs q (length s.past.runs); measurements = measurements i; history = history i }) ∙ (λ i. record s.past { runs = runs i })
 
 service_back : (known : Templates) (t : Tables) (q : List ℕ) (s : ModelService) → HasRows t q s.past → IsReadableCommand (command.Service s.made) → IsReadablePast s.past → IsInOrder known q s
     → service_of_row known t (service_row q s) ≡ Some s
 service_back known t q s rows readable past is =
-    let strategy : CheckedStrategy = strategy_of known s.made in
+    let strategy : CheckedStrategy = strategy_of s.made in
+    let bound : BoundParts = bound_of known strategy in
+    let to : s.stand.bound ≡ bound = is.bound ∙ ap (bound_of known) is.strategy in
     let row : ServiceRow = service_row q s in
     ap (λ (o : Option Command). option_and_then (service_made known t row) (made_from o)) readable
-    ∙ ap (service_from t row s.made strategy) (stand_back q strategy s.stand (length s.past.runs) is.shown is.strategy)
-    ∙ (λ i. Some (record s { past = past_read t q (sym is.strategy i) (length s.past.runs) }))
+    ∙ ap (service_from t row s.made bound) (stand_back q strategy bound s.stand (length s.past.runs) is.shown is.strategy to)
+    ∙ (λ i. Some (record s { past = past_read t q (sym to i) (length s.past.runs) }))
     ∙ (λ i. Some (record s { past = past_back known t q s rows past is i }))
 
 service_is : (known : Templates) (t : Tables) (q : List ℕ) (o : Option ModelService) → HasRows t q (past_in o) → ((s : ModelService) → o ≡ Some s → IsReadableCommand (command.Service s.made)) → IsReadablePast (past_in o)

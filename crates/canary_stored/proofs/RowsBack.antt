@@ -4,6 +4,7 @@ use Rattle.std.specs.Prelude.{Option, map, option_map, slice_get, unwrap_or}
 use Rattle.std.specs.List.{filter_map, cons_option, AllByRecursion}
 use Rattle.canary_plan.specs.declared.template.Template.{Template}
 use Rattle.canary_plan.specs.declared.analysis_parts.AnalysisParts.{AnalysisParts}
+use Rattle.canary_plan.specs.declared.bound.BoundParts.{BoundParts}
 use Rattle.canary_plan.specs.declared.strategy.CheckedStrategy.{CheckedStrategy}
 use Rattle.canary_plan.specs.declared.command.Command.TheVariants as command
 use Rattle.canary_plan.specs.declared.line.Line.{Line}
@@ -55,10 +56,10 @@ receipt_back caller number r command status = λ i. receipt_from (kept_row calle
 pub template_back : (name : List ℕ) (t : Template) → IsReadableCommand (command.Template t.spec) → IsTemplate name t → template_of_row (template_row name t) ≡ Some t
 template_back name t readable is = ap template_from readable ∙ ap Some (sym is.bound)
 
-pub stand_back : (name : List ℕ) (strategy : CheckedStrategy) (s : Stand) (runs : ℕ) → s.name ≡ name → s.strategy ≡ strategy → stand_of name strategy (standing_of s runs) ≡ Some s
-stand_back name strategy s runs named is =
-    (λ i. stand_from name strategy (standing_of s runs) (state_back s.state i) (hold_back s.step_hold s.background_hold i) (truth_back s.background i))
-    ∙ (λ i. Some (record s { name = sym named i; strategy = sym is i }))
+pub stand_back : (name : List ℕ) (strategy : CheckedStrategy) (bound : BoundParts) (s : Stand) (runs : ℕ) → s.name ≡ name → s.strategy ≡ strategy → s.bound ≡ bound → stand_of name strategy bound (standing_of s runs) ≡ Some s
+stand_back name strategy bound s runs named is to =
+    (λ i. stand_from name strategy bound (standing_of s runs) (state_back s.state i) (hold_back s.step_hold s.background_hold i) (truth_back s.background i))
+    ∙ (λ i. Some (record s { name = sym named i; strategy = sym is i; bound = sym to i }))
 
 pub closing_back : (number : ℕ) (o : Option Closing) → IsReadableClosing number o → closing_of number (ending_of o) ≡ Some o
 closing_back number None readable = refl
@@ -68,11 +69,11 @@ lists_back : (all : List Recorded) (run metric : ℕ) (lists : List (List Record
 lists_back all run metric [] are = refl
 lists_back all run metric (list ∷ lists) are = λ i. sym are.2 i ∷ lists_back all run (suc metric) lists are.3 i
 
--- a run's analysis is the strategy's at its step
-pub analysis_back : (s : ModelService) (r : Run) → IsRun s r → analysis_or_none s.stand.strategy r.step ≡ r.analysis
+-- a run's analysis is that which is bound at its step
+pub analysis_back : (s : ModelService) (r : Run) → IsRun s r → analysis_or_none s.stand.bound r.step ≡ r.analysis
 analysis_back s r is = ap (λ (o : Option AnalysisParts). unwrap_or o no_analysis) is.analysis
 
-pub run_back : (name : List ℕ) (s : ModelService) (r : Run) → IsRun s r → IsReadableRun r → run_of_row s.stand.strategy s.past.measurements (run_row name r) ≡ Some r
+pub run_back : (name : List ℕ) (s : ModelService) (r : Run) → IsRun s r → IsReadableRun r → run_of_row s.stand.bound s.past.measurements (run_row name r) ≡ Some r
 run_back name s r is readable =
     let all : List Recorded = s.past.measurements in
     let lists : lists_in all r.number 0 (length r.analysis.metrics) ≡ r.lists = ap (lists_in all r.number 0) (sym is.one_each) ∙ lists_back all r.number 0 r.lists is.lists in

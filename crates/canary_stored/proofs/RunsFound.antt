@@ -7,8 +7,9 @@ use Rattle.std.specs.FinMap.{get}
 use Rattle.std.proofs.lemmas.List.Elements.{filter_agree}
 use Rattle.canary_metric.specs.Counts.{Counts}
 use Rattle.canary_plan.specs.declared.command.Command.{Command}
+use Rattle.canary_plan.specs.declared.bound.BoundParts.{BoundParts}
 use Rattle.canary_plan.specs.declared.strategy.CheckedStrategy.{CheckedStrategy}
-use Rattle.canary_plan.specs.Plans.{Templates, strategy_of}
+use Rattle.canary_plan.specs.Plans.{Templates, strategy_of, bound_of}
 use Rattle.canary_release.specs.declared.effect.Recorded.{Recorded}
 use Rattle.canary_release.specs.declared.effect.Closing.{Closing}
 use Rattle.canary_release.specs.declared.runs.OpenRun.{OpenRun}
@@ -203,33 +204,33 @@ runs_in_order name all rows rs are follow moved ascend =
     ∙ ap (map (run_row name)) (filters_swap (λ r. n == run_number r) is_open rs ∙ ap (filter is_open) (under_number n rs follow)) ∙ open_run name (run_at n rs) in
     same_one is_it (filter (is_open_run_of name) all) rows o moved there ∙ sym here)
 
--- a run that is watched, of this strategy's analysis at its step
-abbrev tallied_by : CheckedStrategy → Run → OpenRun
-tallied_by strategy r = with_analysis strategy (tallied r)
+-- a run that is watched, of the analysis that is bound at its step
+abbrev tallied_by : BoundParts → Run → OpenRun
+tallied_by bound r = with_analysis bound (tallied r)
 
-run_told : (t : Tables) → HoldsContents t → (name : List ℕ) (strategy : CheckedStrategy) (i : ℕ) (r : Run) → slice_get (past_of (contents_of t) name).runs i ≡ Some r → open_run_of strategy (contents_of t) name (run_row name r) ≡ tallied_by strategy r
-run_told t holds name strategy i r e =
+run_told : (t : Tables) → HoldsContents t → (name : List ℕ) (bound : BoundParts) (i : ℕ) (r : Run) → slice_get (past_of (contents_of t) name).runs i ≡ Some r → open_run_of bound (contents_of t) name (run_row name r) ≡ tallied_by bound r
+run_told t holds name bound i r e =
     let rs : List Run = (past_of (contents_of t) name).runs in
     let number : r.number ≡ suc i = (let n : r.number ≡ i + 1 = key_at run_number 1 rs (numbered t holds name) i r e in omega arith) in
     let at : run_at r.number rs ≡ Some r = ap (λ n. run_at n rs) number ∙ e in
     let tallies : tallies_of (contents_of t) name r.number ≡ map counts_of r.lists = sym (ap (λ o. map counts_of (lists_of o)) (sym at) ∙ tallies_are t holds name r.number) in
-    λ i. record (tallied_by strategy r) { tallies = tallies i }
+    λ i. record (tallied_by bound r) { tallies = tallies i }
 
 pub open_runs_are_found : OpenRunsAreFound
-open_runs_are_found t holds name strategy rows moved ascend =
+open_runs_are_found t holds name bound rows moved ascend =
     let c : Contents = contents_of t in
     let rs : List Run = (past_of c name).runs in
-    let P : Run → Type 0 = λ r. open_run_of strategy c name (run_row name r) ≡ tallied_by strategy r in
-    ap (map (open_run_of strategy c name)) (runs_in_order name t.runs rows rs (holds.rows.runs name) (numbered t holds name) moved ascend)
-    ∙ map_both (open_run_of strategy c name) (run_row name) (tallied_by strategy) (filter is_open rs) (all_filter is_open P rs (by_place P rs (run_told t holds name strategy)))
-    ∙ sym (map_then (with_analysis strategy) tallied (filter is_open rs))
+    let P : Run → Type 0 = λ r. open_run_of bound c name (run_row name r) ≡ tallied_by bound r in
+    ap (map (open_run_of bound c name)) (runs_in_order name t.runs rows rs (holds.rows.runs name) (numbered t holds name) moved ascend)
+    ∙ map_both (open_run_of bound c name) (run_row name) (tallied_by bound) (filter is_open rs) (all_filter is_open P rs (by_place P rs (run_told t holds name bound)))
+    ∙ sym (map_then (with_analysis bound) tallied (filter is_open rs))
 
--- by a service's own strategy they are those that are watched
-own_open_runs : (m : ModelService) → AllByRecursion (IsRun m) m.past.runs → map (with_analysis m.stand.strategy) (watched m.past).open_runs ≡ (watched m.past).open_runs
+-- by what a service is bound to they are those that are watched
+own_open_runs : (m : ModelService) → AllByRecursion (IsRun m) m.past.runs → map (with_analysis m.stand.bound) (watched m.past).open_runs ≡ (watched m.past).open_runs
 own_open_runs m runs =
-    let strategy : CheckedStrategy = m.stand.strategy in
-    let P : Run → Type 0 = λ r. tallied_by strategy r ≡ tallied r in
-    map_both (with_analysis strategy) tallied tallied (filter is_open m.past.runs) (all_filter is_open P m.past.runs (weaker (IsRun m) P (λ r is. λ i. record (tallied r) { analysis = analysis_back m r is i }) m.past.runs runs))
+    let bound : BoundParts = m.stand.bound in
+    let P : Run → Type 0 = λ r. tallied_by bound r ≡ tallied r in
+    map_both (with_analysis bound) tallied tallied (filter is_open m.past.runs) (all_filter is_open P m.past.runs (weaker (IsRun m) P (λ r is. λ i. record (tallied r) { analysis = analysis_back m r is i }) m.past.runs runs))
 
 -- Services.
 
@@ -237,13 +238,15 @@ pub services_are_found : ServicesAreFound
 services_are_found t holds name =
     let c : Contents = contents_of t in
     let known : Templates = get c.desk.templates in
-    let open_runs : CheckedStrategy → List OpenRun = open_runs_by c name in
+    let open_runs : BoundParts → List OpenRun = open_runs_by c name in
     found_as (service_row name) (parts_of_row known open_runs) shape _ (get c.desk.services name) (holds.rows.services name) (λ m e.
     let order : IsInOrder known name m = holds.lawful.desk.services name m e in
     let row : ServiceRow = service_row name m in
-    let strategy : CheckedStrategy = strategy_of known m.made in
-    let runs : open_runs strategy ≡ (watched m.past).open_runs =
-    (λ i. map (with_analysis (sym order.strategy i)) (watched (past_in (e i))).open_runs) ∙ own_open_runs m order.runs in
+    let strategy : CheckedStrategy = strategy_of m.made in
+    let bound : BoundParts = bound_of known strategy in
+    let to : m.stand.bound ≡ bound = order.bound ∙ ap (bound_of known) order.strategy in
+    let runs : open_runs bound ≡ (watched m.past).open_runs =
+    (λ i. map (with_analysis (sym to i)) (watched (past_in (e i))).open_runs) ∙ own_open_runs m order.runs in
     ap (λ (o : Option Command). option_and_then (parts_made known open_runs row) (made_from o)) (holds.readable.made name m e)
-    ∙ ap (option_map (parts_standing row (open_runs strategy))) (stand_back name strategy m.stand (length m.past.runs) order.shown order.strategy)
+    ∙ ap (option_map (parts_standing row (open_runs bound))) (stand_back name strategy bound m.stand (length m.past.runs) order.shown order.strategy to)
     ∙ (λ i. Some (record { stand = m.stand; runs = record { count = length m.past.runs; open_runs = runs i } })))

@@ -4,7 +4,7 @@ use Rattle.std.specs.Prelude.{◌==◌, ◌&&◌, cond, filter, replicate, Optio
 use Rattle.std.specs.Str.{bytes_eq}
 use Rattle.std.proofs.lemmas.List.Elements.{filter-append}
 use Rattle.canary_metric.specs.Counts.{counts}
-use Rattle.canary_plan.specs.declared.strategy.CheckedStrategy.{CheckedStrategy}
+use Rattle.canary_plan.specs.declared.bound.BoundParts.{BoundParts}
 use Rattle.canary_release.specs.declared.effect.Opening.{Opening}
 use Rattle.canary_release.specs.declared.effect.Recorded.{Recorded}
 use Rattle.canary_release.specs.declared.effect.Effect.TheVariants.{Opened}
@@ -181,9 +181,9 @@ opened_others name x t q differ = record {
 opened_rest : (name : List ℕ) (x : Opening) (t : Tables) → AreElseSame t (after_opening name x t)
 opened_rest name x t = record { callers = refl; kept = refl; templates = refl; services = refl }
 
-pub opened_happens : (name : List ℕ) (strategy : CheckedStrategy) (x : Opening) (t : Tables) (p : Past)
-    → ArePastRows t name p → AreNumbered 1 p.runs → Opens strategy (watched p) x → OneHappens name (Opened x) t p
-opened_happens name strategy x t p are numbered opens =
+pub opened_happens : (name : List ℕ) (bound : BoundParts) (x : Opening) (t : Tables) (p : Past)
+    → ArePastRows t name p → AreNumbered 1 p.runs → Opens bound (watched p) x → OneHappens name (Opened x) t p
+opened_happens name bound x t p are numbered opens =
     let tables : after_opening name x t ≡ run_opened name x t = sym (opening name x t) in
     let grown : Past = record p { runs = p.runs ++ opened_run x ∷ [] } in
     let last : x.run ≡ length p.runs + 1 = opens.number in

@@ -3,8 +3,8 @@ use Rattle.std.specs.Prelude.{◌≡◌, ℕ, List, [], map, Option, Some, None,
 use Rattle.std.specs.List.{filter_map}
 use Rattle.canary_metric.specs.Counts.{Counts}
 use Rattle.canary_plan.specs.declared.service.ServiceSpec.{ServiceSpec}
-use Rattle.canary_plan.specs.declared.strategy.CheckedStrategy.{CheckedStrategy}
-use Rattle.canary_plan.specs.Plans.{Templates, strategy_of, analysis_or_none}
+use Rattle.canary_plan.specs.declared.bound.BoundParts.{BoundParts}
+use Rattle.canary_plan.specs.Plans.{Templates, strategy_of, bound_of, analysis_or_none}
 use Rattle.canary_canonical.specs.Readings.{canonical_in}
 use Rattle.canary_release.specs.declared.effect.Closing.{Closing}
 use Rattle.canary_release.specs.declared.runs.OpenRun.{OpenRun}
@@ -63,24 +63,24 @@ abbrev pub record_of_row : List Counts → RunRow → Option RunRecord
 record_of_row tallies row =
     option_map (record_closed row tallies) (closing_of row.number row.ending)
 
--- an open run, by its row, of this strategy's analysis at its step
-abbrev pub open_run_of : CheckedStrategy → Contents → List ℕ → RunRow → OpenRun
-open_run_of strategy c name row =
+-- an open run, by its row, of the analysis that is bound at its step
+abbrev pub open_run_of : BoundParts → Contents → List ℕ → RunRow → OpenRun
+open_run_of bound c name row =
     record {
       number = row.number;
       step = row.step;
-      analysis = analysis_or_none strategy row.step;
+      analysis = analysis_or_none bound row.step;
       started = row.started;
       tallies = tallies_of c name row.number;
     }
 
-abbrev pub with_analysis : CheckedStrategy → OpenRun → OpenRun
-with_analysis strategy r = record r { analysis = analysis_or_none strategy r.step }
+abbrev pub with_analysis : BoundParts → OpenRun → OpenRun
+with_analysis bound r = record r { analysis = analysis_or_none bound r.step }
 
--- the open runs of a service, each of this strategy's analysis at its step
-abbrev pub open_runs_by : Contents → List ℕ → CheckedStrategy → List OpenRun
-open_runs_by c name strategy =
-    map (with_analysis strategy) (watched (past_of c name)).open_runs
+-- the open runs of a service, each of the analysis that is bound at its step
+abbrev pub open_runs_by : Contents → List ℕ → BoundParts → List OpenRun
+open_runs_by c name bound =
+    map (with_analysis bound) (watched (past_of c name)).open_runs
 
 -- Services.
 
@@ -88,14 +88,15 @@ abbrev pub parts_standing : ServiceRow → List OpenRun → Stand → ServicePar
 parts_standing row open_runs stand =
     record { stand = stand; runs = record { count = row.standing.runs; open_runs = open_runs } }
 
-abbrev pub parts_made : Templates → (CheckedStrategy → List OpenRun) → ServiceRow → ServiceSpec
+abbrev pub parts_made : Templates → (BoundParts → List OpenRun) → ServiceRow → ServiceSpec
     → Option ServiceParts
 parts_made known open_runs row made =
-    let strategy = strategy_of known made in
-    option_map (parts_standing row (open_runs strategy)) (stand_of row.name strategy row.standing)
+    let strategy = strategy_of made in let bound = bound_of known strategy in
+    option_map (parts_standing row (open_runs bound))
+    (stand_of row.name strategy bound row.standing)
 
--- what is kept of a service, by its row, the templates, and its open runs by its strategy
-abbrev pub parts_of_row : Templates → (CheckedStrategy → List OpenRun) → ServiceRow
+-- what is kept of a service, by its row, the templates, and its open runs by what it is bound to
+abbrev pub parts_of_row : Templates → (BoundParts → List OpenRun) → ServiceRow
     → Option ServiceParts
 parts_of_row known open_runs row =
     option_and_then (parts_made known open_runs row) (made_from (canonical_in row.spec))

@@ -2,7 +2,7 @@
 use Rattle.std.specs.Prelude.{◌≡◌, ◌≤◌, ℕ, List, length, map, filter, take, drop, Some, IsPermutation}
 use Rattle.std.specs.FinMap.{get}
 use Rattle.canary_canonical.specs.Readings.{IsCanonical}
-use Rattle.canary_plan.specs.declared.strategy.CheckedStrategy.{CheckedStrategy}
+use Rattle.canary_plan.specs.declared.bound.BoundParts.{BoundParts}
 use Rattle.canary_release.specs.Shapes.{seen}
 use Rattle.canary_once.specs.declared.book.Settlement.{Settlement}
 use Rattle.canary_once.specs.Contents.{Contents, no_contents, count_of, receipt_at, IsSettling, with_settlement}
@@ -112,17 +112,17 @@ RunsAreFound =
     → IsFound (record_of_row (tallies_of (contents_of t) name number))
     (first_row (filter (is_run name number) t.runs)) (run_of (contents_of t) name number)
 
--- the open runs of a service stand in order of their numbers, each of the analysis that a strategy
--- has at its step
+-- the open runs of a service stand in order of their numbers, each of the analysis that is bound at
+-- its step
 abbrev pub OpenRunsAreFound : Type 0
 OpenRunsAreFound =
-    (t : Tables) → HoldsContents t → (name : List ℕ) (strategy : CheckedStrategy)
+    (t : Tables) → HoldsContents t → (name : List ℕ) (bound : BoundParts)
     (rows : List RunRow)
     → IsPermutation (filter (is_open_run_of name) t.runs) rows → AscendByNumber rows
-    → map (open_run_of strategy (contents_of t) name) rows
-    ≡ open_runs_by (contents_of t) name strategy
+    → map (open_run_of bound (contents_of t) name) rows
+    ≡ open_runs_by (contents_of t) name bound
 
--- a service's row, with the templates, and its open runs by its strategy
+-- a service's row, with the templates, and its open runs by what it is bound to
 abbrev pub ServicesAreFound : Type 0
 ServicesAreFound =
     (t : Tables) → HoldsContents t → (name : List ℕ)

@@ -7,9 +7,9 @@ use Rattle.std.specs.Cmp.Lexicographic.{slice_cmp}
 use Rattle.std.specs.FinMap.{FinMap, get, insert, empty}
 use Rattle.canary_plan.specs.declared.service.ServiceSpec.{ServiceSpec}
 use Rattle.canary_plan.specs.declared.template.Template.{Template}
-use Rattle.canary_plan.specs.declared.strategy.CheckedStrategy.{CheckedStrategy}
+use Rattle.canary_plan.specs.declared.bound.BoundParts.{BoundParts}
 use Rattle.canary_plan.specs.declared.line.Line.{Line}
-use Rattle.canary_plan.specs.Plans.{Templates, strategy_of}
+use Rattle.canary_plan.specs.Plans.{Templates, strategy_of, bound_of}
 use Rattle.canary_canonical.specs.Readings.{canonical_in}
 use Rattle.canary_release.specs.declared.effect.Recorded.{Recorded}
 use Rattle.canary_release.specs.declared.stand.Stand.{Stand}
@@ -64,34 +64,35 @@ abbrev pub history_in : List HistoryRow → List ℕ → List Line
 history_in rows name = filter_map line_of_row (filter (is_line_of name) rows)
 
 -- its runs 1 to n
-abbrev pub runs_to : CheckedStrategy → List Recorded → List RunRow → List ℕ → ℕ → List Run
-runs_to strategy measurements rows name zero = []
-runs_to strategy measurements rows name (suc n) =
-    runs_to strategy measurements rows name n
-    ++ filter_map (run_of_row strategy measurements) (filter (is_run name (suc n)) rows)
+abbrev pub runs_to : BoundParts → List Recorded → List RunRow → List ℕ → ℕ → List Run
+runs_to bound measurements rows name zero = []
+runs_to bound measurements rows name (suc n) =
+    runs_to bound measurements rows name n
+    ++ filter_map (run_of_row bound measurements) (filter (is_run name (suc n)) rows)
 
-abbrev pub past_in : Tables → List ℕ → CheckedStrategy → ℕ → Past
-past_in t name strategy runs =
+abbrev pub past_in : Tables → List ℕ → BoundParts → ℕ → Past
+past_in t name bound runs =
     let measurements = measurements_in t.measurements name in
     record {
-      runs = runs_to strategy measurements t.runs name runs;
+      runs = runs_to bound measurements t.runs name runs;
       measurements = measurements;
       history = history_in t.history name;
     }
 
 -- services
 
-abbrev pub service_from : Tables → ServiceRow → ServiceSpec → CheckedStrategy → Option Stand
+abbrev pub service_from : Tables → ServiceRow → ServiceSpec → BoundParts → Option Stand
     → Option ModelService
-service_from t row made strategy None = None
-service_from t row made strategy (Some stand) =
+service_from t row made bound None = None
+service_from t row made bound (Some stand) =
     Some (record
-    { made = made; stand = stand; past = past_in t row.name strategy row.standing.runs })
+    { made = made; stand = stand; past = past_in t row.name bound row.standing.runs })
 
+-- it is bound to the templates that are known
 abbrev pub service_made : Templates → Tables → ServiceRow → ServiceSpec → Option ModelService
 service_made known t row made =
-    let strategy = strategy_of known made in service_from t row made strategy
-    (stand_of row.name strategy row.standing)
+    let strategy = strategy_of made in let bound = bound_of known strategy in
+    service_from t row made bound (stand_of row.name strategy bound row.standing)
 
 abbrev pub service_of_row : Templates → Tables → ServiceRow → Option ModelService
 service_of_row known t row =

@@ -7,6 +7,7 @@ use Rattle.canary_metric.specs.Counts.{Counts}
 use Rattle.canary_plan.specs.declared.service.ServiceSpec.{ServiceSpec}
 use Rattle.canary_plan.specs.declared.template.Template.{Template}
 use Rattle.canary_plan.specs.declared.analysis_parts.AnalysisParts.{AnalysisParts}
+use Rattle.canary_plan.specs.declared.bound.BoundParts.{BoundParts}
 use Rattle.canary_plan.specs.declared.strategy.CheckedStrategy.{CheckedStrategy}
 use Rattle.canary_plan.specs.declared.command.Command.{Command}
 use Rattle.canary_plan.specs.declared.command.Command.TheVariants as command
@@ -136,11 +137,12 @@ abbrev pub made_from : Option Command → Option ServiceSpec
 made_from (Some (command.Service spec)) = Some spec
 made_from command = None
 
-abbrev pub stand_from : List ℕ → CheckedStrategy → Standing → Option State → Option (Bool × Bool)
-    → Option Bool → Option Stand
-stand_from name strategy s (Some state) (Some hold) (Some background) = Some (record {
+abbrev pub stand_from : List ℕ → CheckedStrategy → BoundParts → Standing → Option State
+    → Option (Bool × Bool) → Option Bool → Option Stand
+stand_from name strategy bound s (Some state) (Some hold) (Some background) = Some (record {
   name = name;
   strategy = strategy;
+  bound = bound;
   stable = s.stable;
   version = s.version;
   state = state;
@@ -151,12 +153,12 @@ stand_from name strategy s (Some state) (Some hold) (Some background) = Some (re
   background = background;
   last = s.last;
 })
-stand_from name strategy s state hold background = None
+stand_from name strategy bound s state hold background = None
 
--- a service of that name and strategy that stands so
-abbrev pub stand_of : List ℕ → CheckedStrategy → Standing → Option Stand
-stand_of name strategy s =
-    stand_from name strategy s (state_of s.state) (hold_of s.hold) (truth_of s.background)
+-- a service of that name and strategy, bound so, that stands so
+abbrev pub stand_of : List ℕ → CheckedStrategy → BoundParts → Standing → Option Stand
+stand_of name strategy bound s =
+    stand_from name strategy bound s (state_of s.state) (hold_of s.hold) (truth_of s.background)
 
 abbrev pub closing_from : ℕ → ℕ → Option Bool → Option Phase → Option (Option Closing)
 closing_from number at (Some outside) (Some verdict) =
@@ -192,11 +194,11 @@ run_from measurements analysis row (Some closed) =
     })
 run_from measurements analysis row None = None
 
--- a run of a service of that strategy, which has had these measurements; its analysis is the
--- strategy's at its step
-abbrev pub run_of_row : CheckedStrategy → List Recorded → RunRow → Option Run
-run_of_row strategy measurements row =
-    run_from measurements (analysis_or_none strategy row.step) row
+-- a run of a service that is bound so, which has had these measurements; its analysis is that which
+-- is bound at its step
+abbrev pub run_of_row : BoundParts → List Recorded → RunRow → Option Run
+run_of_row bound measurements row =
+    run_from measurements (analysis_or_none bound row.step) row
     (closing_of row.number row.ending)
 
 abbrev pub measurement_from : MeasurementRow → Option Phase → Option Outcome → Option Recorded

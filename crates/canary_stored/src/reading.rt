@@ -17,6 +17,7 @@ use canary_canonical::command::CanonicalCommand;
 use canary_canonical::reading::from_canonical;
 use canary_condition::outcome::{Outcome, Phase};
 use canary_once::book::Receipt;
+use canary_plan::bound::Bound;
 use canary_plan::command::Command;
 use canary_plan::fault::BindFault;
 use canary_plan::line::Line;
@@ -96,12 +97,17 @@ pub fn made(alloc: Global, spec: &str) -> Result<ServiceSpec, RowFault>
     }
 }
 
-/// How the service of that name and strategy stands.
+/// How the service of that name and strategy stands, which is bound so.
 ///
 /// # Errors
 /// `Broken` where a number is of no state, hold or truth value; `Memory`.
-pub fn stand(name: Name, strategy: &Strategy, row: &Standing) -> Result<Stand, RowFault>
-    ensures { IsRowRead (stand_of name strategy.now row.now) result }
+pub fn stand(
+    name: Name,
+    strategy: &Strategy,
+    bound: &Bound,
+    row: &Standing,
+) -> Result<Stand, RowFault>
+    ensures { IsRowRead (stand_of name strategy.now bound.now row.now) result }
 {
     let state = state_of(row.state)?;
     let (step_hold, background_hold) = hold_of(row.hold)?;
@@ -109,6 +115,7 @@ pub fn stand(name: Name, strategy: &Strategy, row: &Standing) -> Result<Stand, R
     Ok(Stand {
         name,
         strategy: strategy.copy()?,
+        bound: bound.copy()?,
         stable: row.stable,
         version: row.version,
         state,

@@ -4,7 +4,7 @@ use Rattle.std.specs.Prelude.{option_and_then}
 use Rattle.std.proofs.lemmas.List.{take_more, take_all, map-append}
 use Rattle.sqlite.specs.State.{State}
 use Rattle.canary_metric.specs.Counts.{Counts}
-use Rattle.canary_plan.specs.declared.strategy.CheckedStrategy.{CheckedStrategy}
+use Rattle.canary_plan.specs.declared.bound.BoundParts.{BoundParts}
 use Rattle.canary_release.specs.declared.runs.OpenRun.{OpenRun}
 use Rattle.canary_once.specs.declared.record.RunRecord.{RunRecord}
 use Rattle.canary_once.specs.Contents.{Contents}
@@ -52,37 +52,37 @@ run_told old between new name number asked again row tallies told law desk first
 -- Open runs.
 
 -- the open runs of the first rows are found
-pub record RunsSoFar (strategy : CheckedStrategy) (name : List ℕ) (rows : List RunRow) (i : ℕ) (old now : State) (found : List OpenRun) : Type 0 where
+pub record RunsSoFar (bound : BoundParts) (name : List ℕ) (rows : List RunRow) (i : ℕ) (old now : State) (found : List OpenRun) : Type 0 where
   pub same : IsSame old now
-  pub value : IsUsable now → found ≡ map (open_run_of strategy (contents_in old) name) (take i rows)
+  pub value : IsUsable now → found ≡ map (open_run_of bound (contents_in old) name) (take i rows)
 
-pub run_more : (strategy : CheckedStrategy) (name : List ℕ) (rows : List RunRow) (i : ℕ) (old between new : State) (found more : List OpenRun) (row : RunRow) (one : OpenRun) → i < length rows → row ≡ get_or rows i row → RunsSoFar strategy name rows i old between found
-    → IsSame between new → (IsUsable new → one ≡ open_run_of strategy (contents_in between) name row) → more ≡ found ++ one ∷ [] → RunsSoFar strategy name rows (i + 1) old new more
-run_more strategy name rows i old between new found more row one below at before same is pushed =
+pub run_more : (bound : BoundParts) (name : List ℕ) (rows : List RunRow) (i : ℕ) (old between new : State) (found more : List OpenRun) (row : RunRow) (one : OpenRun) → i < length rows → row ≡ get_or rows i row → RunsSoFar bound name rows i old between found
+    → IsSame between new → (IsUsable new → one ≡ open_run_of bound (contents_in between) name row) → more ≡ found ++ one ∷ [] → RunsSoFar bound name rows (i + 1) old new more
+run_more bound name rows i old between new found more row one below at before same is pushed =
     record {
       same = same_then old between new before.same same;
       value = λ usable.
           let midway = (same usable).0 in
-          let this : one ≡ open_run_of strategy (contents_in old) name row = is usable ∙ ap (λ (c : Contents). open_run_of strategy c name row) (contents_stay old between before.same midway) in
-          let f = open_run_of strategy (contents_in old) name in
+          let this : one ≡ open_run_of bound (contents_in old) name row = is usable ∙ ap (λ (c : Contents). open_run_of bound c name row) (contents_stay old between before.same midway) in
+          let f = open_run_of bound (contents_in old) name in
           pushed
           ∙ ap (λ (xs : List OpenRun). xs ++ one ∷ []) (before.value midway)
           ∙ ap (λ (x : OpenRun). map f (take i rows) ++ x ∷ []) this
           ∙ sym (ap (map f) (take_more rows i row below ∙ ap (λ (r : RunRow). take i rows ++ r ∷ []) (sym at)) ∙ map-append f (take i rows) (row ∷ []));
     }
 
-pub runs_done : (strategy : CheckedStrategy) (name : List ℕ) (rows : List RunRow) (i : ℕ) (old now : State) (found : List OpenRun) → RunsSoFar strategy name rows i old now found → length rows ≤ i → IsUsable now → found ≡ map (open_run_of strategy (contents_in old) name) rows
-runs_done strategy name rows i old now found so_far all usable = so_far.value usable ∙ ap (map (open_run_of strategy (contents_in old) name)) (take_all i rows all)
+pub runs_done : (bound : BoundParts) (name : List ℕ) (rows : List RunRow) (i : ℕ) (old now : State) (found : List OpenRun) → RunsSoFar bound name rows i old now found → length rows ≤ i → IsUsable now → found ≡ map (open_run_of bound (contents_in old) name) rows
+runs_done bound name rows i old now found so_far all usable = so_far.value usable ∙ ap (map (open_run_of bound (contents_in old) name)) (take_all i rows all)
 
--- they are those of the service, each of the analysis that the strategy has at its step
-pub open_runs_told : (old between new : State) (strategy : CheckedStrategy) (name : List ℕ) (rows shown : List RunRow) (found : List OpenRun) → OpenRunsAreFound → (IsUsable old → IsDesk old) → IsSame old between → IsSame between new → IsUsable new
-    → (IsUsable between → (t : Tables) → Stores old t → Sorts number_of (filter (is_open_run_of name) t.runs) rows) → shown ≡ rows → found ≡ map (open_run_of strategy (contents_in between) name) shown
-    → found ≡ open_runs_by (contents_in old) name strategy
-open_runs_told old between new strategy name rows shown found law desk first_same second_same usable read are is =
+-- they are those of the service, each of the analysis that is bound at its step
+pub open_runs_told : (old between new : State) (bound : BoundParts) (name : List ℕ) (rows shown : List RunRow) (found : List OpenRun) → OpenRunsAreFound → (IsUsable old → IsDesk old) → IsSame old between → IsSame between new → IsUsable new
+    → (IsUsable between → (t : Tables) → Stores old t → Sorts number_of (filter (is_open_run_of name) t.runs) rows) → shown ≡ rows → found ≡ map (open_run_of bound (contents_in between) name) shown
+    → found ≡ open_runs_by (contents_in old) name bound
+open_runs_told old between new bound name rows shown found law desk first_same second_same usable read are is =
     let midway = (second_same usable).0 in
     let d = desk (first_same midway).0 in
     let sorted = read midway _ d.stores in
     is
-    ∙ ap (λ (c : Contents). map (open_run_of strategy c name) shown) (contents_stay old between first_same midway)
-    ∙ ap (map (open_run_of strategy (contents_in old) name)) are
-    ∙ law _ d.holds name strategy rows sorted.same sorted.ascend
+    ∙ ap (λ (c : Contents). map (open_run_of bound c name) shown) (contents_stay old between first_same midway)
+    ∙ ap (map (open_run_of bound (contents_in old) name)) are
+    ∙ law _ d.holds name bound rows sorted.same sorted.ascend

@@ -6,11 +6,12 @@ use Rattle.std.specs.Cmp.Lexicographic.{slice_cmp}
 use Rattle.std.specs.FinMap.{FinMap, get, insert, empty}
 use Rattle.std.proofs.lemmas.List.{take_all}
 use Rattle.sqlite.specs.State.{State}
+use Rattle.canary_plan.specs.declared.bound.BoundParts.{BoundParts}
 use Rattle.canary_plan.specs.declared.service.ServiceSpec.{ServiceSpec}
 use Rattle.canary_plan.specs.declared.strategy.CheckedStrategy.{CheckedStrategy}
 use Rattle.canary_plan.specs.declared.template.Template.{Template}
 use Rattle.canary_plan.specs.Commands.{all_names}
-use Rattle.canary_plan.specs.Plans.{strategy_of}
+use Rattle.canary_plan.specs.Plans.{strategy_of, bound_of}
 use Rattle.canary_plan.specs.PlanRefusals.{analyses}
 use Rattle.canary_canonical.specs.Readings.{canonical_in}
 use Rattle.canary_release.specs.declared.runs.OpenRun.{OpenRun}
@@ -27,7 +28,7 @@ use Rattle.canary_stored.specs.Values.{template_from, template_of_row, made_from
 use Rattle.canary_reads.specs.Finds.{IsSame, first}
 use Rattle.canary_tables.specs.Desk.{IsDesk, contents_in}
 use Rattle.canary_tables.proofs.Standing.{contents_stay, same_then}
-use Rattle.canary_tables.proofs.Strategies.{strategy_alike}
+use Rattle.canary_tables.proofs.Strategies.{bound_alike}
 use Rattle.canary_tables.proofs.TemplateLemmas.{none_named, found_more, found_none, agree_then}
 
 -- Templates.
@@ -82,12 +83,12 @@ templates_done names i old now found so_far all usable = so_far.value usable ∙
 
 -- Services.
 
--- the strategy by the templates that are named is that by all
-pub strategy_told : (old : State) (made : ServiceSpec) (names shown : List (List ℕ)) (known : Found) (strategy : CheckedStrategy) → names ≡ all_names (analyses made) → shown ≡ names → known ≡ templates_named (contents_in old) shown
-    → strategy ≡ strategy_of (get known) made → strategy ≡ strategy_of (get (contents_in old).desk.templates) made
-strategy_told old made names shown known strategy all same known_is is =
+-- what a strategy is bound to by the templates that are named is what it is bound to by all
+pub strategy_told : (old : State) (made : ServiceSpec) (names shown : List (List ℕ)) (known : Found) (strategy : CheckedStrategy) (bound : BoundParts) → names ≡ all_names (analyses made) → shown ≡ names → known ≡ templates_named (contents_in old) shown
+    → strategy ≡ strategy_of made → bound ≡ bound_of (get known) strategy → (strategy ≡ strategy_of made) × (bound ≡ bound_of (get (contents_in old).desk.templates) (strategy_of made))
+strategy_told old made names shown known strategy bound all same known_is is to =
     let templates = (contents_in old).desk.templates in
-    is ∙ strategy_alike (get known) (get templates) made (agree_then known templates templates shown (all_names (analyses made)) known_is (same ∙ all) refl)
+    (is, to ∙ ap (bound_of (get known)) is ∙ bound_alike (get known) (get templates) made (agree_then known templates templates shown (all_names (analyses made)) known_is (same ∙ all) refl))
 
 -- where there is no row there is no service
 pub no_service : (old new : State) (name : List ℕ) → ServicesAreFound → (IsUsable old → IsDesk old) → IsSame old new → IsUsable new → ((t : Tables) → Stores old t → None ≡ first (filter (is_service name) t.services))
@@ -97,23 +98,25 @@ no_service old new name law desk same usable read =
     let c = contents_in old in
     ap (option_and_then (parts_of_row (get c.desk.templates) (open_runs_by c name))) (read _ d.stores) ∙ (law _ d.holds name).value
 
--- the row that is there is the service, with its strategy and its open runs
-pub service_told : (old shown planned new : State) (name : List ℕ) (row : ServiceRow) (made : ServiceSpec) (strategy : CheckedStrategy) (open_runs : List OpenRun) (told : ServiceParts) → ServicesAreFound → (IsUsable old → IsDesk old)
+-- the row that is there is the service, with its strategy, what it is bound to, and its open runs
+pub service_told : (old shown planned new : State) (name : List ℕ) (row : ServiceRow) (made : ServiceSpec) (strategy : CheckedStrategy) (bound : BoundParts) (open_runs : List OpenRun) (told : ServiceParts) → ServicesAreFound → (IsUsable old → IsDesk old)
     → IsSame old shown → IsSame shown planned → IsSame planned new → IsUsable new → (IsUsable shown → (t : Tables) → Stores old t → Some row ≡ first (filter (is_service name) t.services))
-    → made_from (canonical_in row.spec) ≡ Some made → (IsUsable planned → strategy ≡ strategy_of (get (contents_in shown).desk.templates) made) → open_runs ≡ open_runs_by (contents_in planned) name strategy
-    → option_map (parts_standing row open_runs) (stand_of row.name strategy row.standing) ≡ Some told → Some told ≡ seen (contents_in old).desk name
-service_told old shown planned new name row made strategy open_runs told law desk first_same second_same third_same usable read made_is strategy_is are is =
+    → made_from (canonical_in row.spec) ≡ Some made → (IsUsable planned → (strategy ≡ strategy_of made) × (bound ≡ bound_of (get (contents_in shown).desk.templates) (strategy_of made))) → open_runs ≡ open_runs_by (contents_in planned) name bound
+    → option_map (parts_standing row open_runs) (stand_of row.name strategy bound row.standing) ≡ Some told → Some told ≡ seen (contents_in old).desk name
+service_told old shown planned new name row made strategy bound open_runs told law desk first_same second_same third_same usable read made_is strategy_is are is =
     let after_plan = (third_same usable).0 in
     let after_row = (second_same after_plan).0 in
     let d = desk (first_same after_row).0 in
     let c = contents_in old in
     let known = get c.desk.templates in
-    let opens : CheckedStrategy → List OpenRun = open_runs_by c name in
-    let plan : strategy ≡ strategy_of known made = strategy_is after_plan ∙ ap (λ (k : Contents). strategy_of (get k.desk.templates) made) (contents_stay old shown first_same after_row) in
-    let runs : open_runs ≡ opens strategy = are ∙ ap (λ (k : Contents). open_runs_by k name strategy) (contents_stay old planned (same_then old shown planned first_same second_same) after_plan) in
+    let opens : BoundParts → List OpenRun = open_runs_by c name in
+    let own : strategy ≡ strategy_of made = (strategy_is after_plan).0 in
+    let to : bound ≡ bound_of known (strategy_of made) = (strategy_is after_plan).1 ∙ ap (λ (k : Contents). bound_of (get k.desk.templates) (strategy_of made)) (contents_stay old shown first_same after_row) in
+    let runs : open_runs ≡ opens bound = are ∙ ap (λ (k : Contents). open_runs_by k name bound) (contents_stay old planned (same_then old shown planned first_same second_same) after_plan) in
     sym is
-    ∙ ap (λ (rs : List OpenRun). option_map (parts_standing row rs) (stand_of row.name strategy row.standing)) runs
-    ∙ ap (λ (s : CheckedStrategy). option_map (parts_standing row (opens s)) (stand_of row.name s row.standing)) plan
+    ∙ ap (λ (rs : List OpenRun). option_map (parts_standing row rs) (stand_of row.name strategy bound row.standing)) runs
+    ∙ ap (λ (s : CheckedStrategy). option_map (parts_standing row (opens bound)) (stand_of row.name s bound row.standing)) own
+    ∙ ap (λ (b : BoundParts). option_map (parts_standing row (opens b)) (stand_of row.name (strategy_of made) b row.standing)) to
     ∙ sym (ap (option_and_then (parts_made known opens row)) made_is)
     ∙ ap (option_and_then (parts_of_row known opens)) (read after_row _ d.stores)
     ∙ (law _ d.holds name).value

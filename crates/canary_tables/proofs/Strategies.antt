@@ -1,4 +1,4 @@
--- The strategy of a service is the same by templates that agree on the names that it has.
+-- A strategy is bound to the same by templates that agree on the names that it has.
 use Rattle.std.proofs.Common.{◌≡◌, ℕ, List, [], ◌∷◌, ◌++◌, refl, ap}
 use Rattle.std.specs.Prelude.{◌||◌, ◌&&◌, not, if◌then◌else◌, Bool, map, Option, Some, None, is_none}
 use Rattle.std.specs.List.{AllByRecursion, list_any, filter_map}
@@ -53,13 +53,9 @@ background_alike : (known other : Templates) (b : Option Background) → AllByRe
 background_alike known other None h = refl
 background_alike known other (Some b) h = bind_alike known other b.templates h.0
 
-bound_alike : (known other : Templates) (spec : ServiceSpec) → AllByRecursion (Agree known other) (analyses spec) → bound_of known spec ≡ bound_of other spec
-bound_alike known other spec h =
+pub bound_alike : (known other : Templates) (spec : ServiceSpec) → Agree known other (all_names (analyses spec)) → bound_of known (strategy_of spec) ≡ bound_of other (strategy_of spec)
+bound_alike known other spec agree =
+    let h = each (λ name. known name ≡ other name) (analyses spec) agree in
     let steps = steps_alike known other spec.steps (all_left (Agree known other) (step_analyses spec) (names_of_background spec.background) h) in
     let background = background_alike known other spec.background (all_right (Agree known other) (step_analyses spec) (names_of_background spec.background) h) in
     λ i. record { steps = steps i; background = background i }
-
-pub strategy_alike : (known other : Templates) (spec : ServiceSpec) → Agree known other (all_names (analyses spec)) → strategy_of known spec ≡ strategy_of other spec
-strategy_alike known other spec agree =
-    let h = each (λ name. known name ≡ other name) (analyses spec) agree in
-    λ i. record { steps = spec.steps; background = spec.background; bound = bound_alike known other spec h i }

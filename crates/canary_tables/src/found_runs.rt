@@ -16,8 +16,8 @@ use canary_base::names::Name;
 use canary_base::numbers::Number;
 use canary_metric::tally::Tally;
 use canary_once::record::RunRecord;
+use canary_plan::bound::Bound;
 use canary_plan::bound_analysis::BoundAnalysis;
-use canary_plan::strategy::Strategy;
 use canary_reads::runs;
 use canary_release::runs::OpenRun;
 use canary_rows::rows::{RunRow, TallyRow};
@@ -100,7 +100,7 @@ fn record_of(row: &RunRow, tallies: Listed<Tally>) -> Result<RunRecord, StoreFau
 }
 
 /// The open runs of a service, by their numbers, each with its tallies and with the analysis that
-/// this strategy has at its step.
+/// is bound at its step.
 ///
 /// # Errors
 /// `Memory` where there is not enough, `Storage` where the database fails or holds what no desk
@@ -109,25 +109,25 @@ pub(crate) fn open_runs<S: Alter>(
     conn: &mut Connection<S>,
     alloc: Global,
     name: &Name,
-    strategy: &Strategy,
+    bound: &Bound,
 ) -> Result<Listed<OpenRun>, StoreFault>
     requires autocommit { conn.old.in_transaction ≡ false }
     requires desk { IsUsable (state S.Store conn.old) → IsDesk (state S.Store conn.old) }
     ensures mode { conn.new.in_transaction ≡ false }
     ensures same { IsSame (state S.Store conn.old) (state S.Store conn.new) }
     ensures found { IsUsable (state S.Store conn.new) → IfOk result (λ found.
-        found ≡ open_runs_by (contents_in (state S.Store conn.old)) name.now strategy.now) }
+        found ≡ open_runs_by (contents_in (state S.Store conn.old)) name.now bound.now) }
 {
     laws::open_runs_found();
     let rows = runs::open_runs(conn, alloc, name)?;
-    with_tallies(conn, alloc, name, strategy, rows.as_slice())
+    with_tallies(conn, alloc, name, bound, rows.as_slice())
 }
 
 fn with_tallies<S: Alter>(
     conn: &mut Connection<S>,
     alloc: Global,
     name: &Name,
-    strategy: &Strategy,
+    bound: &Bound,
     rows: &[RunRow],
 ) -> Result<Listed<OpenRun>, StoreFault>
     requires autocommit { conn.old.in_transaction ≡ false }
@@ -135,12 +135,12 @@ fn with_tallies<S: Alter>(
     ensures mode { conn.new.in_transaction ≡ false }
     ensures same { IsSame (state S.Store conn.old) (state S.Store conn.new) }
     ensures found { IsUsable (state S.Store conn.new) → IfOk result (λ found.
-        found ≡ map (open_run_of strategy.now (contents_in (state S.Store conn.old)) name.now)
+        found ≡ map (open_run_of bound.now (contents_in (state S.Store conn.old)) name.now)
         rows.now) }
 {
     let mut found = Listed::of(Vec::new(alloc));
     for row in rows {
-        found.push(open_run(conn, alloc, name, strategy, row)?)?;
+        found.push(open_run(conn, alloc, name, bound, row)?)?;
     }
     Ok(found)
 }
@@ -149,7 +149,7 @@ fn open_run<S: Alter>(
     conn: &mut Connection<S>,
     alloc: Global,
     name: &Name,
-    strategy: &Strategy,
+    bound: &Bound,
     row: &RunRow,
 ) -> Result<OpenRun, StoreFault>
     requires autocommit { conn.old.in_transaction ≡ false }
@@ -157,23 +157,23 @@ fn open_run<S: Alter>(
     ensures mode { conn.new.in_transaction ≡ false }
     ensures same { IsSame (state S.Store conn.old) (state S.Store conn.new) }
     ensures found { IsUsable (state S.Store conn.new) → IfOk result (λ found.
-        found ≡ open_run_of strategy.now (contents_in (state S.Store conn.old)) name.now
+        found ≡ open_run_of bound.now (contents_in (state S.Store conn.old)) name.now
         row.now) }
 {
     Ok(OpenRun {
         number: row.number,
         step: row.step,
-        analysis: analysis_at(strategy, row.step)?,
+        analysis: analysis_at(bound, row.step)?,
         started: row.started,
         tallies: tallies(conn, alloc, name, row.number)?,
     })
 }
 
 // The analysis at that step, or the background. No desk has a run of none.
-fn analysis_at(strategy: &Strategy, step: Option<u32>) -> Result<BoundAnalysis, StoreFault>
-    ensures { IfOk result (λ analysis. analysis ≡ analysis_or_none strategy.now step) }
+fn analysis_at(bound: &Bound, step: Option<u32>) -> Result<BoundAnalysis, StoreFault>
+    ensures { IfOk result (λ analysis. analysis ≡ analysis_or_none bound.now step) }
 {
-    match strategy.analysis(step) {
+    match bound.analysis(step) {
         Some(analysis) => Ok(analysis.copy()?),
         None => Err(StoreFault::Storage),
     }

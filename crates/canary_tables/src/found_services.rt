@@ -2,7 +2,7 @@
 ghost use Rattle.std.specs.Prelude.{◌≡◌, false, Some, option_map, IfOk};
 ghost use Rattle.std.specs.FinMap.{get};
 ghost use Rattle.sqlite.specs.Held.{state};
-ghost use Rattle.canary_plan.specs.Plans.{strategy_of};
+ghost use Rattle.canary_plan.specs.Plans.{strategy_of, bound_of};
 ghost use Rattle.canary_plan.specs.PlanRefusals.{analyses};
 ghost use Rattle.canary_plan.specs.Commands.{all_names};
 ghost use Rattle.canary_canonical.specs.Readings.{canonical_in};
@@ -19,6 +19,7 @@ use crate::found_runs::open_runs;
 use canary_base::error::Memory;
 use canary_base::lists::Listed;
 use canary_base::names::Name;
+use canary_plan::bound::Bound;
 use canary_plan::command::Command;
 use canary_plan::fault::CheckFault;
 use canary_plan::service::ServiceSpec;
@@ -116,9 +117,9 @@ pub(crate) fn service<S: Alter>(
         return Ok(None);
     };
     let made = made(alloc, row.spec.as_str())?;
-    let strategy = strategy(conn, alloc, &made)?;
-    let open_runs = open_runs(conn, alloc, name, &strategy)?;
-    Ok(Some(service_of(&row, &strategy, open_runs)?))
+    let (strategy, bound) = strategy(conn, alloc, &made)?;
+    let open_runs = open_runs(conn, alloc, name, &bound)?;
+    Ok(Some(service_of(&row, &strategy, &bound, open_runs)?))
 }
 
 // The service that this text makes, as it was asked for.
@@ -128,22 +129,26 @@ fn made(alloc: Global, spec: &str) -> Result<ServiceSpec, StoreFault>
     reading::made(alloc, spec).map_err(store_fault)
 }
 
-// The strategy of a service that was asked for so.
+// The strategy of a service that was asked for so, and what it is bound to.
 fn strategy<S: Alter>(
     conn: &mut Connection<S>,
     alloc: Global,
     made: &ServiceSpec,
-) -> Result<Strategy, StoreFault>
+) -> Result<(Strategy, Bound), StoreFault>
     requires autocommit { conn.old.in_transaction ≡ false }
     requires desk { IsUsable (state S.Store conn.old) → IsDesk (state S.Store conn.old) }
     ensures mode { conn.new.in_transaction ≡ false }
     ensures same { IsSame (state S.Store conn.old) (state S.Store conn.new) }
     ensures found { IsUsable (state S.Store conn.new) → IfOk result (λ found.
-        found ≡ strategy_of (get (contents_in (state S.Store conn.old)).desk.templates) made.now) }
+        (found.0 ≡ strategy_of made.now)
+        × (found.1 ≡ bound_of (get (contents_in (state S.Store conn.old)).desk.templates)
+        (strategy_of made.now))) }
 {
     let names = names_of(alloc, made)?;
     let known = templates(conn, alloc, names.as_slice())?;
-    checked(alloc, made, &known)
+    let strategy = checked(alloc, made, &known)?;
+    let bound = strategy.bind(alloc, &known)?;
+    Ok((strategy, bound))
 }
 
 // The templates that it names.
@@ -153,9 +158,9 @@ fn names_of(alloc: Global, made: &ServiceSpec) -> Result<Listed<Name>, Memory>
     Command::Service(made.copy(alloc)?).names_looked_up(alloc)
 }
 
-// Its strategy by these templates.
+// Its strategy, which these templates accept.
 fn checked(alloc: Global, made: &ServiceSpec, known: &Templates) -> Result<Strategy, StoreFault>
-    ensures { IfOk result (λ strategy. strategy ≡ strategy_of (get known.now) made.now) }
+    ensures { IfOk result (λ strategy. strategy ≡ strategy_of made.now) }
 {
     match Strategy::check(alloc, made, known) {
         Ok(strategy) => Ok(strategy),
@@ -164,16 +169,17 @@ fn checked(alloc: Global, made: &ServiceSpec, known: &Templates) -> Result<Strat
     }
 }
 
-// The service of a row, with its strategy and its open runs.
+// The service of a row, with its strategy, what it is bound to, and its open runs.
 fn service_of(
     row: &ServiceRow,
     strategy: &Strategy,
+    bound: &Bound,
     open_runs: Listed<OpenRun>,
 ) -> Result<Service, StoreFault>
     ensures { IfOk result (λ service. option_map (parts_standing row.now open_runs)
-        (stand_of row.now.name strategy.now row.now.standing) ≡ Some service) }
+        (stand_of row.now.name strategy.now bound.now row.now.standing) ≡ Some service) }
 {
-    let stand = reading::stand(row.name, strategy, &row.standing).map_err(store_fault)?;
+    let stand = reading::stand(row.name, strategy, bound, &row.standing).map_err(store_fault)?;
     let count = row.standing.runs;
     let runs = Runs { count, open_runs };
     match Service::from_parts(ServiceParts { stand, runs }) {

@@ -19,17 +19,17 @@ returns-in_err-strategy-clause-refused g c usable t has judged is within row_jud
 pub returns-in_err-stand-clause-refused : goal.returns-in_err-stand-clause-refused
 returns-in_err-stand-clause-refused g c usable t has judged is within row_judged =
     let broken : c.stand_by.result ≡ Err Broken = search rules in
-    no_stand t c.args.row.now c.in_ok-made.made c.in_ok-strategy.strategy c.in_ok-made.ensures.made.0 (c.in_ok-strategy.ensures.found usable t has judged).1 (c.stand_by.ensures.broken broken) row_judged
+    no_stand t c.args.row.now c.in_ok-made.made c.in_ok-strategy.strategy c.in_ok-strategy.bound c.in_ok-made.ensures.made.0 (c.in_ok-strategy.ensures.found usable t has judged).1 (c.stand_by.ensures.broken broken) row_judged
 
 pub returns-clause-judged : goal.returns-clause-judged
 returns-clause-judged g c usable t has judged =
     let mid = (c.judge_past.ensures.same usable).0 in
     IfOk-weaker c.judge_past.result _ _
-    (λ totals is one. (service_judged t c.args.row.now c.in_ok-made.made c.in_ok-strategy.strategy c.in_ok-stand.stand one c.in_ok-made.ensures.made (c.in_ok-strategy.ensures.found mid t has judged) c.in_ok-stand.ensures.stand is.0, is.1))
+    (λ totals is one. (service_judged t c.args.row.now c.in_ok-made.made c.in_ok-strategy.strategy c.in_ok-strategy.bound c.in_ok-stand.stand one c.in_ok-made.ensures.made (c.in_ok-strategy.ensures.found mid t has judged) c.in_ok-stand.ensures.stand is.0, is.1))
     (c.judge_past.ensures.judged usable t (stores_then (state g.S.Store c.args.conn.now) (state g.S.Store c.strategy.new.conn) t c.strategy.ensures.same mid has))
 
 pub returns-clause-refused : goal.returns-clause-refused
 returns-clause-refused g c usable t has judged is within row_judged =
     let mid = (c.judge_past.ensures.same usable).0 in
     c.judge_past.ensures.refused usable t (stores_then (state g.S.Store c.args.conn.now) (state g.S.Store c.strategy.new.conn) t c.strategy.ensures.same mid has) is
-    (within, past_there t c.args.row.now c.in_ok-made.made c.in_ok-strategy.strategy c.in_ok-stand.stand c.in_ok-made.ensures.made.0 (c.in_ok-strategy.ensures.found mid t has judged).1 c.in_ok-stand.ensures.stand row_judged)
+    (within, past_there t c.args.row.now c.in_ok-made.made c.in_ok-strategy.strategy c.in_ok-strategy.bound c.in_ok-stand.stand c.in_ok-made.ensures.made.0 (c.in_ok-strategy.ensures.found mid t has judged).1 c.in_ok-stand.ensures.stand row_judged)

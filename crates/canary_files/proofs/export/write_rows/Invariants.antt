@@ -13,7 +13,7 @@ invariant-loop-next g l =
     Stays old now
     × (l.rows ≤ 1000000000)
     × IsLatest now l.source.service l.latest
-    × (now.is_honest → SoFar (g.W.Write.contents l.fn.out) (g.W.Write.contents l.out) l.source.caller l.source.service (name_of l.source.strategy past) past.measurements l.rows)
+    × (now.is_honest → SoFar (g.W.Write.contents l.fn.out) (g.W.Write.contents l.out) l.source.caller l.source.service (name_of l.source.bound past) past.measurements l.rows)
 
 abbrev pub decreases-loop-next : goal.decreases-loop-next
 decreases-loop-next g l = 1000000000 - l.rows

@@ -23,7 +23,7 @@ change-requires-clause-strategy c = c.requires.changes.strategy ∙ ap (λ (o : 
 pub change-requires-clause-allowed : goal.change-requires-clause-allowed
 change-requires-clause-allowed c =
     subst
-    (λ (o : Option ModelService). AreAllowed c.args.service.stand.strategy (watched (before o c.args.service.stand).past) c.args.effects)
+    (λ (o : Option ModelService). AreAllowed c.args.service.stand.bound (watched (before o c.args.service.stand).past) c.args.effects)
     (there (goal.at.change-requires-clause-allowed c).In-Some)
     c.requires.changes.allowed
 
@@ -33,7 +33,7 @@ change-requires-clause-service c = c.requires.service ∙ ap (λ (o : Option Mod
 pub new-requires-clause-allowed : goal.new-requires-clause-allowed
 new-requires-clause-allowed c =
     subst
-    (λ (o : Option ModelService). AreAllowed c.args.service.stand.strategy (watched (before o c.args.service.stand).past) c.args.effects)
+    (λ (o : Option ModelService). AreAllowed c.args.service.stand.bound (watched (before o c.args.service.stand).past) c.args.effects)
     (none_there (goal.at.new-requires-clause-allowed c).In_default)
     c.requires.changes.allowed
 

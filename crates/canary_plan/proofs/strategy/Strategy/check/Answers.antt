@@ -4,4 +4,4 @@ use Rattle.canary_plan.proofs.Accepting.{accepted}
 use Rattle.canary_plan.proofs.strategy.Strategy.check.Goals as goal
 
 pub of-requires : goal.of-requires
-of-requires c = accepted (get c.args.known.now) c.args.spec.now c.in_ok-checked.checked c.in_ok-checked.ensures.checked (search rules) c.in_ok-checked.ensures.fit
+of-requires c = accepted (get c.args.known.now) c.args.spec.now c.in_ok-checked.checked c.in_ok-checked.ensures (search rules)

@@ -1,6 +1,0 @@
-use Rattle.std.proofs.Common.{rules}
-use Rattle.canary_plan.proofs.Fitting.{of_place}
-use Rattle.canary_plan.proofs.strategy.Strategy.metrics.Goals as goal
-
-pub returns-in-Some-clause-limit : goal.returns-in-Some-clause-limit
-returns-in-Some-clause-limit c = of_place c.args.self.now c.args.step c.in-Some.analysis.now c.metrics.result.now c.analysis.ensures.accepted (search rules) c.metrics.ensures.value
