@@ -11,7 +11,7 @@ use Rattle.canary_rows.specs.Tables.{Tables, is_service}
 use Rattle.canary_schema.specs.Stores.{IsUsable, Stores}
 use Rattle.canary_judging.specs.Judged.{AreTemplatesJudged}
 use Rattle.canary_judging.specs.Services.{AreServicesJudged, IsServiceJudged}
-use Rattle.canary_judging.specs.Totals.{RunsAreSummedByService, tallies_under}
+use Rattle.canary_judging.specs.Totals.{RunsAreSummedByService, BindingsAreSummedByService, tallies_under, bindings_under}
 use Rattle.canary_reads.specs.Finds.{IsSame}
 use Rattle.canary_adopting.specs.declared.totals.Totals.{Totals}
 use Rattle.canary_adopting.specs.OneService.{measurements_under, lines_under, AreTotalsOf, IsServiceFound, IsServiceUnder, AreServicesFound, HaveTotals}
@@ -23,7 +23,7 @@ abbrev pub name_of : ServiceRow → List ℕ
 name_of row = row.name
 
 abbrev pub with_more : Totals → Totals → Totals
-with_more a b = record { runs = a.runs + b.runs; tallies = a.tallies + b.tallies; measurements = a.measurements + b.measurements; lines = a.lines + b.lines }
+with_more a b = record { runs = a.runs + b.runs; bindings = a.bindings + b.bindings; tallies = a.tallies + b.tallies; measurements = a.measurements + b.measurements; lines = a.lines + b.lines }
 
 names_more : (rows more : List ServiceRow) → map name_of (rows ++ more) ≡ map name_of rows ++ map name_of more
 names_more [] more = refl
@@ -37,13 +37,13 @@ sum_more f rows row a b first last =
     omega arith
 
 -- no service yet
-pub none_found : (t : Tables) (totals : Totals) → totals ≡ record { runs = 0; tallies = 0; measurements = 0; lines = 0 } → AreServicesFound [] t totals
+pub none_found : (t : Tables) (totals : Totals) → totals ≡ record { runs = 0; bindings = 0; tallies = 0; measurements = 0; lines = 0 } → AreServicesFound [] t totals
 none_found t totals is =
     record {
       rows = [];
       named = refl;
       each = tt;
-      are = record { runs = ap (λ (x : Totals). x.runs) is; tallies = ap (λ (x : Totals). x.tallies) is; measurements = ap (λ (x : Totals). x.measurements) is; lines = ap (λ (x : Totals). x.lines) is };
+      are = record { runs = ap (λ (x : Totals). x.runs) is; bindings = ap (λ (x : Totals). x.bindings) is; tallies = ap (λ (x : Totals). x.tallies) is; measurements = ap (λ (x : Totals). x.measurements) is; lines = ap (λ (x : Totals). x.lines) is };
     }
 
 -- one more
@@ -55,6 +55,7 @@ found_more t names name totals more all found one is =
       each = all_more (IsServiceJudged t) found.rows (one.row ∷ []) found.each (one.has.0, tt);
       are = record {
         runs = ap (λ (x : Totals). x.runs) is ∙ sum_more (λ (row : ServiceRow). row.standing.runs) found.rows one.row totals.runs more.runs found.are.runs (ap (λ (x : Totals). x.runs) one.has.1);
+        bindings = ap (λ (x : Totals). x.bindings) is ∙ sum_more (bindings_under t) found.rows one.row totals.bindings more.bindings found.are.bindings (ap (λ (x : Totals). x.bindings) one.has.1);
         tallies = ap (λ (x : Totals). x.tallies) is ∙ sum_more (tallies_under t) found.rows one.row totals.tallies more.tallies found.are.tallies (ap (λ (x : Totals). x.tallies) one.has.1);
         measurements = ap (λ (x : Totals). x.measurements) is ∙ sum_more (measurements_under t) found.rows one.row totals.measurements more.measurements found.are.measurements (ap (λ (x : Totals). x.measurements) one.has.1);
         lines = ap (λ (x : Totals). x.lines) is ∙ sum_more (lines_under t) found.rows one.row totals.lines more.lines found.are.lines (ap (λ (x : Totals). x.lines) one.has.1);
@@ -67,7 +68,7 @@ pub record ServicesSoFar (names : List (List ℕ)) (i : ℕ) (old now : State) (
   pub same : IsSame old now
   pub found : IsUsable now → (t : Tables) → Stores old t → AreTemplatesJudged t → AreServicesFound (take i names) t totals
 
-pub none_so_far : (names : List (List ℕ)) (old : State) (totals : Totals) → totals ≡ record { runs = 0; tallies = 0; measurements = 0; lines = 0 } → ServicesSoFar names 0 old old totals
+pub none_so_far : (names : List (List ℕ)) (old : State) (totals : Totals) → totals ≡ record { runs = 0; bindings = 0; tallies = 0; measurements = 0; lines = 0 } → ServicesSoFar names 0 old old totals
 none_so_far names old totals is = record { same = λ usable. (usable, refl); found = λ usable t has judged. none_found t totals is }
 
 pub service_more : (names : List (List ℕ)) (i : ℕ) (name : List ℕ) (old between new : State) (totals more all : Totals) → i < length names → name ≡ get_or names i name → ServicesSoFar names i old between totals → IsSame between new
@@ -106,8 +107,8 @@ these_rows t (x ∷ all) (row ∷ rows) within named each =
 pub rows_are : (t : Tables) (names : List (List ℕ)) (totals : Totals) → names ≡ map name_of t.services → (found : AreServicesFound names t totals) → found.rows ≡ t.services
 rows_are t names totals are found = these_rows t t.services found.rows (λ row at. at) (found.named ∙ are) found.each
 
-pub services_judged : (t : Tables) (names : List (List ℕ)) (totals : Totals) → RunsAreSummedByService → names ≡ map name_of t.services → AreServicesFound names t totals → HaveTotals t totals → AreServicesJudged t
-services_judged t names totals law are found have =
+pub services_judged : (t : Tables) (names : List (List ℕ)) (totals : Totals) → RunsAreSummedByService → BindingsAreSummedByService → names ≡ map name_of t.services → AreServicesFound names t totals → HaveTotals t totals → AreServicesJudged t
+services_judged t names totals law bound are found have =
     let rows = rows_are t names totals are found in
     let each = subst (AllByRecursion (IsServiceJudged t)) rows found.each in
     let totals_are : AreTotalsOf t t.services totals = subst (λ rs. AreTotalsOf t rs totals) rows found.are in
@@ -115,16 +116,18 @@ services_judged t names totals law are found have =
     record {
       each = each;
       runs = runs;
+      bindings = bound t each runs ∙ sym totals_are.bindings ∙ have.bindings;
       tallies = law t each runs ∙ sym totals_are.tallies ∙ have.tallies;
       measurements = sym totals_are.measurements ∙ have.measurements;
       history = sym totals_are.lines ∙ have.lines;
     }
 
-pub totals_there : (t : Tables) (names : List (List ℕ)) (totals : Totals) → RunsAreSummedByService → names ≡ map name_of t.services → AreServicesFound names t totals → AreServicesJudged t → HaveTotals t totals
-totals_there t names totals law are found judged =
+pub totals_there : (t : Tables) (names : List (List ℕ)) (totals : Totals) → RunsAreSummedByService → BindingsAreSummedByService → names ≡ map name_of t.services → AreServicesFound names t totals → AreServicesJudged t → HaveTotals t totals
+totals_there t names totals law bound are found judged =
     let totals_are : AreTotalsOf t t.services totals = subst (λ rs. AreTotalsOf t rs totals) (rows_are t names totals are found) found.are in
     record {
       runs = totals_are.runs ∙ judged.runs;
+      bindings = totals_are.bindings ∙ sym (bound t judged.each judged.runs) ∙ judged.bindings;
       tallies = totals_are.tallies ∙ sym (law t judged.each judged.runs) ∙ judged.tallies;
       measurements = totals_are.measurements ∙ judged.measurements;
       lines = totals_are.lines ∙ judged.history;

@@ -1,7 +1,8 @@
 -- What is judged of callers, from what is read of them.
-use Rattle.std.proofs.Common.{◌≡◌, ◌≢◌, ◌⊎◌, inl, inr, ◌+◌, ◌<◌, ◌≤◌, ℕ, zero, suc, List, [], ◌∷◌, length, Bool, Option, Some, refl, sym, ap, ◌∙◌, subst, arith}
+use Rattle.std.proofs.Common.{◌≡◌, ◌≢◌, ◌⊎◌, inl, inr, ◌+◌, ◌<◌, ◌≤◌, ℕ, zero, suc, List, [], ◌∷◌, length, take, get_or, Bool, Option, Some, refl, sym, ap, ◌∙◌, subst, arith}
 use Rattle.std.specs.Prelude.{filter, min}
 use Rattle.std.specs.List.{AllByRecursion, sum_by}
+use Rattle.std.proofs.lemmas.List.Sums.{sum_by_more}
 use Rattle.sqlite.specs.State.{State}
 use Rattle.canary_rows.specs.declared.rows.CallerRow.{CallerRow}
 use Rattle.canary_rows.specs.Tables.{Tables, is_caller, is_kept}
@@ -73,6 +74,12 @@ pub only_caller : (t : Tables) (rows : List CallerRow) (caller : CallerRow) → 
 only_caller t rows caller are judged = ap only (are ∙ judged.one)
 
 -- All callers.
+
+pub settled_more : (callers : List CallerRow) (i : ℕ) (caller : CallerRow) (so_far more : ℕ) → i < length callers → caller ≡ get_or callers i caller → so_far ≡ sum_by (λ (row : CallerRow). row.settled) (take i callers) → more ≡ so_far + caller.settled
+    → more ≡ sum_by (λ (row : CallerRow). row.settled) (take (i + 1) callers)
+settled_more callers i caller so_far more below at sum is =
+    let next = sum_by_more (λ (row : CallerRow). row.settled) callers i caller below in
+    is ∙ ap (λ n. n + caller.settled) sum ∙ ap (λ (row : CallerRow). sum_by (λ (r : CallerRow). r.settled) (take i callers) + row.settled) at ∙ sym next
 
 pub all_kept : (t : Tables) (callers : List CallerRow) (settled kept : ℕ) → callers ≡ t.callers → AllByRecursion (IsCallerJudged t) callers → settled ≡ sum_by (λ (row : CallerRow). row.settled) callers → kept ≡ min (length t.kept) 9223372036854775807
     → ((rows : ℕ) → kept ≡ min rows 9223372036854775807 → settled ≡ rows) → AreCallersJudged t

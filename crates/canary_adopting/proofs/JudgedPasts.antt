@@ -12,13 +12,13 @@ use Rattle.canary_recounting.specs.Recounted.{AreTallied}
 use Rattle.canary_adopting.specs.OneService.{IsPastJudged}
 use Rattle.canary_adopting.proofs.RunsSame.{same_runs}
 
-pub tallied_there : (t : Tables) (row : ServiceRow) (stand : Stand) (runs : List RunRecord) (measurements : List Recorded) → AreRunsOf stand.bound row.name row.standing.runs t runs → AreMeasurementsOf row.name t measurements → IsPastJudged t row stand
-    → AreTallied stand.bound runs measurements
+pub tallied_there : (t : Tables) (row : ServiceRow) (stand : Stand) (runs : List RunRecord) (measurements : List Recorded) → AreRunsOf stand.strategy row.name row.standing.runs t runs → AreMeasurementsOf row.name t measurements → IsPastJudged t row stand
+    → AreTallied runs measurements
 tallied_there t row stand runs measurements are read past =
-    subst (λ rs. AreTallied stand.bound rs measurements) (same_runs t stand.bound row.name row.standing.runs past.runs runs past.are are)
-    (subst (λ ms. AreTallied stand.bound past.runs ms) (sym past.read.values ∙ read.values) past.tallied)
+    subst (λ rs. AreTallied rs measurements) (same_runs t stand.strategy row.name row.standing.runs past.runs runs past.are are)
+    (subst (λ ms. AreTallied past.runs ms) (sym past.read.values ∙ read.values) past.tallied)
 
-pub parts_there : (t : Tables) (row : ServiceRow) (stand : Stand) (runs : List RunRecord) → AreRunsOf stand.bound row.name row.standing.runs t runs → IsPastJudged t row stand
-    → is_broken (record { stand = stand; runs = record { count = row.standing.runs; open_runs = open_runs_in stand.bound runs } }) ≡ false
+pub parts_there : (t : Tables) (row : ServiceRow) (stand : Stand) (runs : List RunRecord) → AreRunsOf stand.strategy row.name row.standing.runs t runs → IsPastJudged t row stand
+    → is_broken (record { stand = stand; runs = record { count = row.standing.runs; open_runs = open_runs_in runs } }) ≡ false
 parts_there t row stand runs are past =
-    subst (λ rs. is_broken (record { stand = stand; runs = record { count = row.standing.runs; open_runs = open_runs_in stand.bound rs } }) ≡ false) (same_runs t stand.bound row.name row.standing.runs past.runs runs past.are are) past.parts
+    subst (λ rs. is_broken (record { stand = stand; runs = record { count = row.standing.runs; open_runs = open_runs_in rs } }) ≡ false) (same_runs t stand.strategy row.name row.standing.runs past.runs runs past.are are) past.parts

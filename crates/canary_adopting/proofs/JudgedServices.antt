@@ -1,32 +1,36 @@
 -- What is judged of services, from what is read of them.
-use Rattle.std.proofs.Common.{◌≡◌, ◌+◌, ℕ, zero, suc, List, [], ◌∷◌, length, map, false, Option, Some, None, refl, sym, ap, ◌∙◌, subst, arith}
+use Rattle.std.proofs.Common.{◌≡◌, ◌+◌, ℕ, zero, suc, List, [], ◌∷◌, length, map, Bool, false, Option, Some, None, refl, sym, ap, ◌∙◌, subst, arith}
 use Rattle.std.specs.Prelude.{filter, slice_get}
 use Rattle.std.specs.List.{sum_by}
-use Rattle.std.specs.FinMap.{get}
 use Rattle.std.proofs.lemmas.List.Sums.{sum_by-cons}
 use Rattle.canary_plan.specs.declared.bound.BoundParts.{BoundParts}
 use Rattle.canary_plan.specs.declared.line.Line.{Line}
 use Rattle.canary_plan.specs.declared.service.ServiceSpec.{ServiceSpec}
 use Rattle.canary_plan.specs.declared.strategy.CheckedStrategy.{CheckedStrategy}
-use Rattle.canary_plan.specs.Plans.{strategy_of, bound_of}
+use Rattle.canary_plan.specs.Plans.{strategy_of, bound_of, all_revisions, distinct}
 use Rattle.canary_plan.specs.PlanRefusals.{strategy_refusal}
 use Rattle.canary_canonical.specs.Readings.{canonical_in}
 use Rattle.canary_release.specs.declared.effect.Recorded.{Recorded}
 use Rattle.canary_release.specs.declared.stand.Stand.{Stand}
+use Rattle.canary_release.specs.declared.stand.State.{State}
 use Rattle.canary_release.specs.Parts.{is_broken}
 use Rattle.canary_once.specs.declared.record.RunRecord.{RunRecord}
+use Rattle.canary_rows.specs.declared.rows.BindingRow.{BindingRow}
+use Rattle.canary_rows.specs.declared.rows.Standing.{Standing}
 use Rattle.canary_rows.specs.declared.rows.ServiceRow.{ServiceRow}
 use Rattle.canary_rows.specs.declared.rows.TallyRow.{TallyRow}
-use Rattle.canary_rows.specs.Tables.{Tables, is_service, is_tally_of, is_measurement_of}
-use Rattle.canary_stored.specs.Reading.{contents_of}
-use Rattle.canary_stored.specs.Values.{made_from, stand_of, history_row, measurement_of_row}
+use Rattle.canary_rows.specs.Tables.{Tables, is_service, is_binding_of, is_tally_of, is_measurement_of}
+use Rattle.canary_stored.specs.Numbers.{state_of, hold_of, truth_of}
+use Rattle.canary_stored.specs.Reading.{known_in}
+use Rattle.canary_stored.specs.Values.{made_from, stand_from, stand_of, history_row, measurement_of_row}
 use Rattle.canary_judging.specs.Services.{IsServiceJudged, open_runs_in}
-use Rattle.canary_judging.specs.Totals.{tallies_to}
+use Rattle.canary_judging.specs.Totals.{tallies_to, bindings_to}
 use Rattle.canary_adopting.specs.declared.totals.Totals.{Totals}
 use Rattle.canary_adopting.specs.OfService.{AreRunsOf, AreMeasurementsOf, IsHistoryOf}
 use Rattle.canary_adopting.specs.Alone.{only}
-use Rattle.canary_adopting.specs.OneService.{IsPastJudged, IsServiceUnder, IsServiceFound, totals_of}
-use Rattle.canary_adopting.specs.Strategies.{IsStrategyOf, IsStrategyAccepted}
+use Rattle.canary_adopting.specs.OneService.{IsPastJudged, IsServiceUnder, IsServiceFound, totals_bound, totals_of}
+use Rattle.canary_adopting.specs.Bindings.{IsAttemptBound}
+use Rattle.canary_adopting.specs.Strategies.{newest_in, IsStrategyOf, IsStrategyAccepted}
 use Rattle.canary_adopting.proofs.JudgedCallers.{only_one}
 use Rattle.canary_adopting.proofs.Names.{equal_names, first_passes}
 
@@ -58,9 +62,43 @@ service_there t name rows row are one under = subst (IsServiceJudged t) (one_val
 
 -- A service's row.
 
+-- how a service of a strategy stands, it stands with it, and bound so
+
+record StandsBy (strategy : CheckedStrategy) (bound : BoundParts) (stand : Stand) : Type 0 where
+  strategy_is : stand.strategy ≡ strategy
+  bound_is : stand.bound ≡ bound
+
+of_stand : (name : List ℕ) (strategy : CheckedStrategy) (bound : BoundParts) (s : Standing) (a : Option State) (h : Option (Bool × Bool)) (b : Option Bool) (x : Stand) → stand_from name strategy bound s a h b ≡ Some x → StandsBy strategy bound x
+of_stand name strategy bound s None h b x e = cc
+of_stand name strategy bound s (Some state) None b x e = cc
+of_stand name strategy bound s (Some state) (Some hold) None x e = cc
+of_stand name strategy bound s (Some state) (Some hold) (Some background) x e =
+    let made : Stand = record {
+      name = name;
+      strategy = strategy;
+      bound = bound;
+      stable = s.stable;
+      version = s.version;
+      state = state;
+      step = s.step;
+      entered = s.entered;
+      step_hold = hold.0;
+      background_hold = hold.1;
+      background = background;
+      last = s.last;
+    } in
+    let same : made ≡ x = cc e in
+    subst (StandsBy strategy bound) same (record { strategy_is = refl; bound_is = refl })
+
+stands_by : (name : List ℕ) (strategy : CheckedStrategy) (bound : BoundParts) (s : Standing) (x : Stand) → stand_of name strategy bound s ≡ Some x → StandsBy strategy bound x
+stands_by name strategy bound s x e = of_stand name strategy bound s (state_of s.state) (hold_of s.hold) (truth_of s.background) x e
+
 pub service_judged : (t : Tables) (row : ServiceRow) (made : ServiceSpec) (strategy : CheckedStrategy) (bound : BoundParts) (stand : Stand) → filter (is_service row.name) t.services ≡ row ∷ [] → (made_from (canonical_in row.spec) ≡ Some made) × (made.name ≡ row.name)
-    → IsStrategyOf t made strategy bound → stand_of row.name strategy bound row.standing ≡ Some stand → IsPastJudged t row stand → IsServiceJudged t row
-service_judged t row made strategy bound stand one is plan stands past =
+    → IsStrategyOf t made strategy → IsAttemptBound row.name strategy t bound → stand_of row.name strategy bound row.standing ≡ Some stand → IsPastJudged t row stand → IsServiceJudged t row
+service_judged t row made strategy bound stand one is plan attempt stands past =
+    let by : StandsBy strategy bound stand = stands_by row.name strategy bound row.standing stand stands in
+    let own : stand.strategy ≡ strategy_of made = by.strategy_is ∙ plan.1 in
+    let are : AreRunsOf (strategy_of made) row.name row.standing.runs t past.runs = subst (λ s. AreRunsOf s row.name row.standing.runs t past.runs) own past.are in
     record {
       one = one;
       made = made;
@@ -68,11 +106,11 @@ service_judged t row made strategy bound stand one is plan stands past =
       named = is.1;
       accepted = plan.0;
       stand = stand;
-      stands = subst (λ b. stand_of row.name (strategy_of made) b row.standing ≡ Some stand) plan.1.1
-          (subst (λ s. stand_of row.name s bound row.standing ≡ Some stand) plan.1.0 stands);
+      stands = (λ i. stand_of row.name (sym plan.1 i) (bound_of (known_in t row.name 0) (sym plan.1 i)) row.standing) ∙ ap (λ b. stand_of row.name strategy b row.standing) (sym attempt.is) ∙ stands;
+      bindings = attempt.rows ∙ ap (λ b. length (distinct (all_revisions b))) (sym by.bound_is);
       runs = past.runs;
-      as_many = past.are.as_many;
-      each = past.are.each;
+      as_many = are.as_many;
+      each = are.each;
       measurements = past.measurements;
       read = past.read;
       counted = past.tallied.counted;
@@ -80,48 +118,62 @@ service_judged t row made strategy bound stand one is plan stands past =
       history = past.history;
       told = past.told.told;
       lines = past.told.lines;
-      parts = subst (λ n. is_broken (record { stand = stand; runs = record { count = n; open_runs = open_runs_in stand.bound past.runs } }) ≡ false) (sym past.are.as_many) past.parts;
+      parts = subst (λ n. is_broken (record { stand = stand; runs = record { count = n; open_runs = open_runs_in past.runs } }) ≡ false) (sym past.are.as_many) past.parts;
     }
+
+its_strategy : (t : Tables) (row : ServiceRow) → (j : IsServiceJudged t row) → StandsBy (strategy_of j.made) (bound_of (known_in t row.name 0) (strategy_of j.made)) j.stand
+its_strategy t row j = stands_by row.name (strategy_of j.made) (bound_of (known_in t row.name 0) (strategy_of j.made)) row.standing j.stand j.stands
 
 pub past_judged : (t : Tables) (row : ServiceRow) → (j : IsServiceJudged t row) → IsPastJudged t row j.stand
 past_judged t row j =
     record {
       runs = j.runs;
-      are = record { as_many = j.as_many; each = j.each };
+      are = subst (λ s. AreRunsOf s row.name row.standing.runs t j.runs) (sym (its_strategy t row j).strategy_is) (record { as_many = j.as_many; each = j.each });
       measurements = j.measurements;
       read = j.read;
       tallied = record { counted = j.counted; tallied = j.tallied };
       history = j.history;
       told = record { told = j.told; lines = j.lines };
-      parts = subst (λ n. is_broken (record { stand = j.stand; runs = record { count = n; open_runs = open_runs_in j.stand.bound j.runs } }) ≡ false) j.as_many j.parts;
+      parts = subst (λ n. is_broken (record { stand = j.stand; runs = record { count = n; open_runs = open_runs_in j.runs } }) ≡ false) j.as_many j.parts;
     }
 
 -- it is made by what is read, and this by a strategy that nothing refuses
 
 pub made_there : (t : Tables) (row : ServiceRow) (made : ServiceSpec) → made_from (canonical_in row.spec) ≡ Some made → IsServiceJudged t row → IsStrategyAccepted t made
 made_there t row made is j =
-    subst (λ m. strategy_refusal (get (contents_of t).desk.templates) m ≡ None) (one_value (made_from (canonical_in row.spec)) j.made made j.is is) j.accepted
+    subst (λ m. strategy_refusal (newest_in t) m ≡ None) (one_value (made_from (canonical_in row.spec)) j.made made j.is is) j.accepted
 
--- it is this strategy, which is bound to this
-abbrev IsBoundIn : Tables → ServiceSpec → CheckedStrategy → BoundParts → Type 0
-IsBoundIn t made strategy bound = (strategy ≡ strategy_of made) × (bound ≡ bound_of (get (contents_of t).desk.templates) (strategy_of made))
+made_same : (t : Tables) (row : ServiceRow) (made : ServiceSpec) (strategy : CheckedStrategy) → made_from (canonical_in row.spec) ≡ Some made → strategy ≡ strategy_of made → (j : IsServiceJudged t row) → strategy_of j.made ≡ strategy
+made_same t row made strategy is plan j = ap strategy_of (one_value (made_from (canonical_in row.spec)) j.made made j.is is) ∙ sym plan
 
-stands_there : (t : Tables) (row : ServiceRow) (made : ServiceSpec) (strategy : CheckedStrategy) (bound : BoundParts) → made_from (canonical_in row.spec) ≡ Some made → IsBoundIn t made strategy bound → (j : IsServiceJudged t row)
+-- its present attempt is bound
+pub attempt_there : (t : Tables) (row : ServiceRow) (made : ServiceSpec) (strategy : CheckedStrategy) → made_from (canonical_in row.spec) ≡ Some made → strategy ≡ strategy_of made → (j : IsServiceJudged t row) → IsAttemptBound row.name strategy t j.stand.bound
+attempt_there t row made strategy is plan j =
+    record { is = (its_strategy t row j).bound_is ∙ ap (bound_of (known_in t row.name 0)) (made_same t row made strategy is plan j); rows = j.bindings }
+
+stands_there : (t : Tables) (row : ServiceRow) (made : ServiceSpec) (strategy : CheckedStrategy) (bound : BoundParts) → made_from (canonical_in row.spec) ≡ Some made → strategy ≡ strategy_of made → IsAttemptBound row.name strategy t bound → (j : IsServiceJudged t row)
     → stand_of row.name strategy bound row.standing ≡ Some j.stand
-stands_there t row made strategy bound is plan j =
-    let known = get (contents_of t).desk.templates in
-    ap (λ s. stand_of row.name s bound row.standing) plan.0
-    ∙ ap (λ b. stand_of row.name (strategy_of made) b row.standing) plan.1
-    ∙ ap (λ m. stand_of row.name (strategy_of m) (bound_of known (strategy_of m)) row.standing) (one_value (made_from (canonical_in row.spec)) made j.made is j.is)
+stands_there t row made strategy bound is plan attempt j =
+    let same : strategy_of j.made ≡ strategy = made_same t row made strategy is plan j in
+    ap (λ b. stand_of row.name strategy b row.standing) attempt.is
+    ∙ (λ i. stand_of row.name (sym same i) (bound_of (known_in t row.name 0) (sym same i)) row.standing)
     ∙ j.stands
 
-pub no_stand : (t : Tables) (row : ServiceRow) (made : ServiceSpec) (strategy : CheckedStrategy) (bound : BoundParts) → made_from (canonical_in row.spec) ≡ Some made → IsBoundIn t made strategy bound
+pub no_stand : (t : Tables) (row : ServiceRow) (made : ServiceSpec) (strategy : CheckedStrategy) (bound : BoundParts) → made_from (canonical_in row.spec) ≡ Some made → strategy ≡ strategy_of made → IsAttemptBound row.name strategy t bound
     → stand_of row.name strategy bound row.standing ≡ None → ¬ IsServiceJudged t row
-no_stand t row made strategy bound is plan none j = let some : None ≡ Some j.stand = sym none ∙ stands_there t row made strategy bound is plan j in cc
+no_stand t row made strategy bound is plan attempt none j = let some : None ≡ Some j.stand = sym none ∙ stands_there t row made strategy bound is plan attempt j in cc
 
-pub past_there : (t : Tables) (row : ServiceRow) (made : ServiceSpec) (strategy : CheckedStrategy) (bound : BoundParts) (stand : Stand) → made_from (canonical_in row.spec) ≡ Some made → IsBoundIn t made strategy bound
+pub past_there : (t : Tables) (row : ServiceRow) (made : ServiceSpec) (strategy : CheckedStrategy) (bound : BoundParts) (stand : Stand) → made_from (canonical_in row.spec) ≡ Some made → strategy ≡ strategy_of made → IsAttemptBound row.name strategy t bound
     → stand_of row.name strategy bound row.standing ≡ Some stand → IsServiceJudged t row → IsPastJudged t row stand
-past_there t row made strategy bound stand is plan stands j = subst (IsPastJudged t row) (one_value (stand_of row.name strategy bound row.standing) j.stand stand (stands_there t row made strategy bound is plan j) stands) (past_judged t row j)
+past_there t row made strategy bound stand is plan attempt stands j =
+    subst (IsPastJudged t row) (one_value (stand_of row.name strategy bound row.standing) j.stand stand (stands_there t row made strategy bound is plan attempt j) stands) (past_judged t row j)
+
+-- how much a service has whose rows of binding are counted
+pub totals_there : (t : Tables) (row : ServiceRow) (strategy : CheckedStrategy) (bound : BoundParts) (stand : Stand) (totals : Totals) → IsAttemptBound row.name strategy t bound → stand_of row.name strategy bound row.standing ≡ Some stand → totals ≡ totals_bound t row stand.bound → totals ≡ totals_of t row
+totals_there t row strategy bound stand totals attempt stands is =
+    let by : StandsBy strategy bound stand = stands_by row.name strategy bound row.standing stand stands in
+    let rows : length (distinct (all_revisions stand.bound)) ≡ length (filter (is_binding_of row.name 0) t.bindings) = ap (λ b. length (distinct (all_revisions b))) by.bound_is ∙ sym attempt.rows in
+    is ∙ (λ i. record (totals_of t row) { bindings = rows i + bindings_to t.bindings row.name row.standing.runs })
 
 -- How much it has.
 
@@ -149,12 +201,24 @@ run_by_run f g (r ∷ rs) each =
     let shift : up_to f (suc (length rs)) ≡ f 1 + up_to (λ k. f (suc k)) (length rs) = up_from_first f (length rs) in
     shift ∙ (let e : f 1 + up_to (λ k. f (suc k)) (length rs) ≡ g r + sum_by g rs = omega arith in e) ∙ sym all
 
-tallies_sum : (t : Tables) (bound : BoundParts) (name : List ℕ) (count : ℕ) (runs : List RunRecord) → AreRunsOf bound name count t runs → sum_by (λ (r : RunRecord). length r.tallies) runs ≡ tallies_to t.tallies name count
-tallies_sum t bound name count runs are =
+tallies_sum : (t : Tables) (strategy : CheckedStrategy) (name : List ℕ) (count : ℕ) (runs : List RunRecord) → AreRunsOf strategy name count t runs → sum_by (λ (r : RunRecord). length r.tallies) runs ≡ tallies_to t.tallies name count
+tallies_sum t strategy name count runs are =
     sym (run_by_run (λ k. length (filter (is_tally_of name k) t.tallies)) (λ (r : RunRecord). length r.tallies) runs (λ place r at.
     let e = are.each place r at in ap (λ k. length (filter (is_tally_of name k) t.tallies)) (sym e.0) ∙ e.1.no_more))
     ∙ sym (tallies_up t.tallies name (length runs))
     ∙ ap (tallies_to t.tallies name) are.as_many
+
+bindings_up : (bindings : List BindingRow) (name : List ℕ) (n : ℕ) → bindings_to bindings name n ≡ up_to (λ k. length (filter (is_binding_of name k) bindings)) n
+unfolding up_to
+bindings_up bindings name zero = refl
+bindings_up bindings name (suc n) = ap (λ s. s + length (filter (is_binding_of name (suc n)) bindings)) (bindings_up bindings name n)
+
+bindings_sum : (t : Tables) (strategy : CheckedStrategy) (name : List ℕ) (count : ℕ) (runs : List RunRecord) → AreRunsOf strategy name count t runs → sum_by (λ (r : RunRecord). length (distinct r.analysis.revisions)) runs ≡ bindings_to t.bindings name count
+bindings_sum t strategy name count runs are =
+    sym (run_by_run (λ k. length (filter (is_binding_of name k) t.bindings)) (λ (r : RunRecord). length (distinct r.analysis.revisions)) runs (λ place r at.
+    let e = are.each place r at in ap (λ k. length (filter (is_binding_of name k) t.bindings)) (sym e.0) ∙ e.1.bindings))
+    ∙ sym (bindings_up t.bindings name (length runs))
+    ∙ ap (bindings_to t.bindings name) are.as_many
 
 as_long : {R A : Type 0} (reads : R → Option A) (rows : List R) (found : List A) → map reads rows ≡ map Some found → length found ≡ length rows
 as_long reads [] [] is = refl
@@ -166,10 +230,12 @@ same_length : {A B : Type 0} (f : A → B) (xs : List A) → length (map f xs) �
 same_length f [] = refl
 same_length f (x ∷ xs) = ap suc (same_length f xs)
 
-pub past_totals : (t : Tables) (row : ServiceRow) (stand : Stand) (runs : List RunRecord) (measurements : List Recorded) (history : List Line) → AreRunsOf stand.bound row.name row.standing.runs t runs → AreMeasurementsOf row.name t measurements → IsHistoryOf row.name t history
-    → (totals : Totals) → totals.runs ≡ row.standing.runs → totals.tallies ≡ sum_by (λ (r : RunRecord). length r.tallies) runs → totals.measurements ≡ length measurements → totals.lines ≡ length history → totals ≡ totals_of t row
-past_totals t row stand runs measurements history are read told totals count sum measured lines =
-    let tallies = sum ∙ tallies_sum t stand.bound row.name row.standing.runs runs are in
+pub past_totals : (t : Tables) (row : ServiceRow) (stand : Stand) (runs : List RunRecord) (measurements : List Recorded) (history : List Line) → AreRunsOf stand.strategy row.name row.standing.runs t runs → AreMeasurementsOf row.name t measurements → IsHistoryOf row.name t history
+    → (totals : Totals) → totals.runs ≡ row.standing.runs → totals.bindings ≡ length (distinct (all_revisions stand.bound)) + sum_by (λ (r : RunRecord). length (distinct r.analysis.revisions)) runs → totals.tallies ≡ sum_by (λ (r : RunRecord). length r.tallies) runs
+    → totals.measurements ≡ length measurements → totals.lines ≡ length history → totals ≡ totals_bound t row stand.bound
+past_totals t row stand runs measurements history are read told totals count bound sum measured lines =
+    let bindings = bound ∙ ap (λ n. length (distinct (all_revisions stand.bound)) + n) (bindings_sum t stand.strategy row.name row.standing.runs runs are) in
+    let tallies = sum ∙ tallies_sum t stand.strategy row.name row.standing.runs runs are in
     let taken = measured ∙ as_long measurement_of_row (filter (is_measurement_of row.name) t.measurements) measurements read.each in
     let said = lines ∙ sym (same_length (history_row row.name) history) ∙ ap length (sym told.told) in
-    λ i. record { runs = count i; tallies = tallies i; measurements = taken i; lines = said i }
+    λ i. record { runs = count i; bindings = bindings i; tallies = tallies i; measurements = taken i; lines = said i }

@@ -3,9 +3,9 @@ mod Each
 mod Names
 mod JudgedCallers
 mod JudgedTemplates
-mod Alike
-mod NamedTemplates
+mod KnownAmong
 mod JudgedStrategies
+mod KnownBindings
 mod JudgedServices
 mod AllServices
 mod PlacedLemmas

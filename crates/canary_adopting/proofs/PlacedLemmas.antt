@@ -40,7 +40,7 @@ cut_twice : {X : Type 0} (p q : X → Bool) (x : X) (xs : List X) (b : Bool) →
 cut_twice p q x xs true = refl
 cut_twice p q x xs false = refl
 
-filter_twice : {X : Type 0} (p q : X → Bool) (xs : List X) → filter p (filter q xs) ≡ filter (λ x. q x && p x) xs
+pub filter_twice : {X : Type 0} (p q : X → Bool) (xs : List X) → filter p (filter q xs) ≡ filter (λ x. q x && p x) xs
 filter_twice p q [] = refl
 filter_twice p q (x ∷ xs) = cut_twice p q x xs (q x) ∙ ap (λ (ys : List _). cond (q x && p x) (x ∷ ys) ys) (filter_twice p q xs)
 

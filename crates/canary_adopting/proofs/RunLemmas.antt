@@ -7,7 +7,8 @@ use Rattle.canary_condition.specs.declared.outcome.Phase.{Phase}
 use Rattle.canary_condition.specs.declared.outcome.Phase.TheVariants.{Running, Successful, Inconclusive, Error, Failed}
 use Rattle.canary_condition.specs.PhaseTexts.{phase_of_number}
 use Rattle.canary_metric.specs.Counts.{Counts}
-use Rattle.canary_plan.specs.declared.bound.BoundParts.{BoundParts}
+use Rattle.canary_plan.specs.declared.analysis_parts.AnalysisParts.{AnalysisParts}
+use Rattle.canary_plan.specs.declared.strategy.CheckedStrategy.{CheckedStrategy}
 use Rattle.canary_release.specs.declared.effect.Closing.{Closing}
 use Rattle.canary_once.specs.declared.record.RunRecord.{RunRecord}
 use Rattle.sqlite.specs.State.{State}
@@ -22,7 +23,8 @@ use Rattle.canary_stored.specs.Tables.{IsReadableClosing}
 use Rattle.canary_stored.specs.Finding.{record_closed, record_of_row}
 use Rattle.canary_judging.specs.Services.{row_of_record}
 use Rattle.canary_adopting.specs.OfService.{AreTalliesOf, IsRunOf, AreRunsOf}
-use Rattle.canary_recounting.specs.Recounted.{HasAnalysis}
+use Rattle.canary_recounting.specs.Recounted.{HasOwnVerdict}
+use Rattle.canary_adopting.specs.Bindings.{IsRunBound}
 use Rattle.canary_adopting.proofs.PlacedLemmas.{both, head_passes, same_tallies, some_at}
 use Rattle.canary_adopting.proofs.StateLemmas.{stay, same_then}
 
@@ -92,67 +94,84 @@ closing_back number (Some x) h =
 
 -- One run.
 
-told_of : (row : RunRow) (tallies : List Counts) (r : RunRecord) (o : Option (Option Closing)) → closing_of row.number row.ending ≡ o → option_map (record_closed row tallies) o ≡ Some r
-    → (closed : Option Closing) × (closing_of row.number row.ending ≡ Some closed) × (record_closed row tallies closed ≡ r)
-told_of row tallies r (Some closed) is e = (closed, is, some_same (record_closed row tallies closed) r e)
-told_of row tallies r None is e = absurd (cc e)
+told_of : (row : RunRow) (analysis : AnalysisParts) (tallies : List Counts) (r : RunRecord) (o : Option (Option Closing)) → closing_of row.number row.ending ≡ o → option_map (record_closed row analysis tallies) o ≡ Some r
+    → (closed : Option Closing) × (closing_of row.number row.ending ≡ Some closed) × (record_closed row analysis tallies closed ≡ r)
+told_of row analysis tallies r (Some closed) is e = (closed, is, some_same (record_closed row analysis tallies closed) r e)
+told_of row analysis tallies r None is e = absurd (cc e)
 
-module _ (bound : BoundParts) (name : List ℕ) (number : ℕ) (t : Tables) where
-  -- what is read of the one row and the tallies is the run
-  closed_run : (row : RunRow) (tallies : List Counts) (closed : Option Closing) → filter (is_run name number) t.runs ≡ row ∷ [] → AreTalliesOf name number t tallies → closing_of row.number row.ending ≡ Some closed
-      → HasAnalysis bound (record_closed row tallies closed) → IsRunOf bound name number t (record_closed row tallies closed)
-  closed_run row tallies closed one are read has =
+module _ (strategy : CheckedStrategy) (name : List ℕ) (number : ℕ) (t : Tables) where
+  -- what is read of the one row, its rows of binding and the tallies is the run
+  closed_run : (row : RunRow) (analysis : AnalysisParts) (tallies : List Counts) (closed : Option Closing) → filter (is_run name number) t.runs ≡ row ∷ [] → IsRunBound name number strategy row.step t analysis → AreTalliesOf name number t tallies
+      → closing_of row.number row.ending ≡ Some closed → HasOwnVerdict (record_closed row analysis tallies closed) → IsRunOf strategy name number t (record_closed row analysis tallies closed)
+  closed_run row analysis tallies closed one bound are read has =
       let passes : (bytes_eq name row.service ≡ true) × ((number == row.number) ≡ true) = both (bytes_eq name row.service) (number == row.number) (head_passes (is_run name number) row t.runs [] one) in
       let service : name ≡ row.service = (bytes_eq-Decides name row.service).0 passes.0 in
       let same : number ≡ row.number = eqb-true number row.number passes.1 in
       let ending = closing_read row.number row.ending closed read in
-      let as_record : row ≡ row_of_record name (record_closed row tallies closed) = λ i. record { service = sym service i; number = row.number; step = row.step; started = row.started; ending = sym ending.0 i } in
-      let moved : AreTalliesOf name row.number t tallies = subst (λ n. AreTalliesOf name n t tallies) same are in (
+      let as_record : row ≡ row_of_record name (record_closed row analysis tallies closed) = λ i. record { service = sym service i; number = row.number; step = row.step; started = row.started; ending = sym ending.0 i } in
+      let moved : AreTalliesOf name row.number t tallies = subst (λ n. AreTalliesOf name n t tallies) same are in
+      let bound_there : IsRunBound name row.number strategy row.step t analysis = subst (λ n. IsRunBound name n strategy row.step t analysis) same bound in (
         sym same,
         record {
           one = subst (λ n. filter (is_run name n) t.runs ≡ row ∷ []) same one ∙ ap (λ (x : RunRow). x ∷ []) as_record;
           closed = ending.1;
-          metrics = has.metrics;
-          analysis = has.analysis;
+          analysis = bound_there.is;
+          bindings = bound_there.rows;
           tallies = moved.each;
           no_more = moved.no_more;
-          verdict = has.verdict;
+          verdict = has;
         },
       )
 
-  pub run_told : (rows : List RunRow) (row : RunRow) (tallies : List Counts) (r : RunRecord) → rows ≡ filter (is_run name number) t.runs → rows ≡ row ∷ [] → AreTalliesOf name number t tallies → record_of_row tallies row ≡ Some r → HasAnalysis bound r
-      → IsRunOf bound name number t r
-  run_told rows row tallies r are one counted told has =
-      let found = told_of row tallies r (closing_of row.number row.ending) refl told in
-      subst (IsRunOf bound name number t) found.2 (closed_run row tallies found.0 (sym are ∙ one) counted found.1 (subst (HasAnalysis bound) (sym found.2) has))
+  pub run_told : (rows : List RunRow) (row : RunRow) (analysis : AnalysisParts) (tallies : List Counts) (r : RunRecord) → rows ≡ filter (is_run name number) t.runs → rows ≡ row ∷ [] → IsRunBound name number strategy row.step t analysis → AreTalliesOf name number t tallies
+      → record_of_row analysis tallies row ≡ Some r → HasOwnVerdict r → IsRunOf strategy name number t r
+  run_told rows row analysis tallies r are one bound counted told has =
+      let found = told_of row analysis tallies r (closing_of row.number row.ending) refl told in
+      subst (IsRunOf strategy name number t) found.2 (closed_run row analysis tallies found.0 (sym are ∙ one) bound counted found.1 (subst HasOwnVerdict (sym found.2) has))
 
-  pub has_tallies : (r : RunRecord) → IsRunOf bound name number t r → AreTalliesOf name number t r.tallies
+  pub has_tallies : (r : RunRecord) → IsRunOf strategy name number t r → AreTalliesOf name number t r.tallies
   has_tallies r run = subst (λ n. AreTalliesOf name n t r.tallies) run.0 (record { each = run.1.tallies; no_more = run.1.no_more })
 
-  pub has_analysis : (r : RunRecord) → IsRunOf bound name number t r → HasAnalysis bound r
-  has_analysis r run = record { metrics = run.1.metrics; analysis = run.1.analysis; verdict = run.1.verdict }
+  -- its rows of binding bind it
+  has_bindings : (r : RunRecord) → IsRunOf strategy name number t r → IsRunBound name number strategy r.step t r.analysis
+  has_bindings r run = subst (λ n. IsRunBound name n strategy r.step t r.analysis) run.0 (record { is = run.1.analysis; rows = run.1.bindings })
 
   same_row : (a b : RunRow) → a ∷ [] ≡ b ∷ [] → a ≡ b
   same_row a b e = cc e
 
-  -- and is what is read of it
-  pub run_read : (rows : List RunRow) (row : RunRow) (tallies : List Counts) (r : RunRecord) → rows ≡ filter (is_run name number) t.runs → rows ≡ row ∷ [] → AreTalliesOf name number t tallies → IsRunOf bound name number t r → record_of_row tallies row ≡ Some r
-  run_read rows row tallies r are one counted run =
+  -- the row is that of the run
+  its_row : (rows : List RunRow) (row : RunRow) (r : RunRecord) → rows ≡ filter (is_run name number) t.runs → rows ≡ row ∷ [] → IsRunOf strategy name number t r → row ≡ row_of_record name r
+  its_row rows row r are one run =
       let there : filter (is_run name number) t.runs ≡ row_of_record name r ∷ [] = subst (λ n. filter (is_run name n) t.runs ≡ row_of_record name r ∷ []) run.0 run.1.one in
-      let is : row ≡ row_of_record name r = same_row row (row_of_record name r) (sym one ∙ are ∙ there) in
+      same_row row (row_of_record name r) (sym one ∙ are ∙ there)
+
+  -- so that its step has an analysis, where some run is there
+  pub bound_there : (rows : List RunRow) (row : RunRow) (r : RunRecord) → rows ≡ filter (is_run name number) t.runs → rows ≡ row ∷ [] → IsRunOf strategy name number t r → IsRunBound name number strategy row.step t r.analysis
+  bound_there rows row r are one run = subst (λ (x : RunRow). IsRunBound name number strategy x.step t r.analysis) (sym (its_row rows row r are one run)) (has_bindings r run)
+
+  same_analysis : (step : Option ℕ) (a b : AnalysisParts) → IsRunBound name number strategy step t a → IsRunBound name number strategy step t b → a ≡ b
+  same_analysis step a b first second = some_same a b (sym first.is ∙ second.is)
+
+  -- and is what is read of it
+  pub run_read : (rows : List RunRow) (row : RunRow) (analysis : AnalysisParts) (tallies : List Counts) (r : RunRecord) → rows ≡ filter (is_run name number) t.runs → rows ≡ row ∷ [] → IsRunBound name number strategy row.step t analysis → AreTalliesOf name number t tallies
+      → IsRunOf strategy name number t r → record_of_row analysis tallies row ≡ Some r
+  run_read rows row analysis tallies r are one bound counted run =
+      let is : row ≡ row_of_record name r = its_row rows row r are one run in
       let counts : tallies ≡ r.tallies = same_tallies name number t tallies r.tallies counted (has_tallies r run) in
-      (λ i. record_of_row (counts i) (is i)) ∙ ap (option_map (record_closed (row_of_record name r) r.tallies)) (closing_back r.number r.closed run.1.closed)
+      let analysed : analysis ≡ r.analysis = same_analysis row.step analysis r.analysis bound (bound_there rows row r are one run) in
+      (λ i. record_of_row (analysed i) (counts i) (is i)) ∙ ap (option_map (record_closed (row_of_record name r) r.analysis r.tallies)) (closing_back r.number r.closed run.1.closed)
 
-  -- so that it has an analysis, where some run is there
-  pub also_has : (rows : List RunRow) (row : RunRow) (tallies : List Counts) (made r : RunRecord) → rows ≡ filter (is_run name number) t.runs → rows ≡ row ∷ [] → AreTalliesOf name number t tallies → record_of_row tallies row ≡ Some made → IsRunOf bound name number t r
-      → HasAnalysis bound made
-  also_has rows row tallies made r are one counted told run = subst (HasAnalysis bound) (some_same r made (sym (run_read rows row tallies r are one counted run) ∙ told)) (has_analysis r run)
+  -- so that it has its verdict, where some run is there
+  pub also_has : (rows : List RunRow) (row : RunRow) (analysis : AnalysisParts) (tallies : List Counts) (made r : RunRecord) → rows ≡ filter (is_run name number) t.runs → rows ≡ row ∷ [] → IsRunBound name number strategy row.step t analysis → AreTalliesOf name number t tallies
+      → record_of_row analysis tallies row ≡ Some made → IsRunOf strategy name number t r → HasOwnVerdict made
+  also_has rows row analysis tallies made r are one bound counted told run = subst HasOwnVerdict (some_same r made (sym (run_read rows row analysis tallies r are one bound counted run) ∙ told)) run.1.verdict
 
-  pub same_run : (a b : RunRecord) → IsRunOf bound name number t a → IsRunOf bound name number t b → a ≡ b
+  pub same_run : (a b : RunRecord) → IsRunOf strategy name number t a → IsRunOf strategy name number t b → a ≡ b
   same_run a b first second =
       let there : filter (is_run name number) t.runs ≡ row_of_record name a ∷ [] = subst (λ n. filter (is_run name n) t.runs ≡ row_of_record name a ∷ []) first.0 first.1.one in
-      let one : record_of_row a.tallies (row_of_record name a) ≡ Some a = run_read (row_of_record name a ∷ []) (row_of_record name a) a.tallies a (sym there) refl (has_tallies a first) first in
-      let other : record_of_row a.tallies (row_of_record name a) ≡ Some b = run_read (row_of_record name a ∷ []) (row_of_record name a) a.tallies b (sym there) refl (has_tallies a first) second in
+      let own : RunRow = row_of_record name a in
+      let one : record_of_row a.analysis a.tallies own ≡ Some a = run_read (own ∷ []) own a.analysis a.tallies a (sym there) refl (has_bindings a first) (has_tallies a first) first in
+      let other : record_of_row a.analysis a.tallies own ≡ Some b = run_read (own ∷ []) own a.analysis a.tallies b (sym there) refl (has_bindings a first) (has_tallies a first) second in
       some_same a b (sym one ∙ other)
 
 -- Run after run.
@@ -170,31 +189,31 @@ length_more (y ∷ xs) x = ap suc (length_more xs x)
 plus_one : (n : ℕ) → suc n ≡ n + 1
 plus_one n = omega arith
 
-module _ (bound : BoundParts) (name : List ℕ) (t : Tables) where
-  pub no_runs : (found : List RunRecord) → found ≡ [] → AreRunsOf bound name 0 t found
-  no_runs found is = subst (AreRunsOf bound name 0 t) (sym is) (record { as_many = refl; each = λ place r e. absurd (cc e) })
+module _ (strategy : CheckedStrategy) (name : List ℕ) (t : Tables) where
+  pub no_runs : (found : List RunRecord) → found ≡ [] → AreRunsOf strategy name 0 t found
+  no_runs found is = subst (AreRunsOf strategy name 0 t) (sym is) (record { as_many = refl; each = λ place r e. absurd (cc e) })
 
-  pub one_run_more : (place : ℕ) (found more : List RunRecord) (r : RunRecord) → AreRunsOf bound name place t found → IsRunOf bound name (place + 1) t r → more ≡ found ++ r ∷ [] → AreRunsOf bound name (place + 1) t more
+  pub one_run_more : (place : ℕ) (found more : List RunRecord) (r : RunRecord) → AreRunsOf strategy name place t found → IsRunOf strategy name (place + 1) t r → more ≡ found ++ r ∷ [] → AreRunsOf strategy name (place + 1) t more
   one_run_more place found more r so_far run is =
       let many : length (found ++ r ∷ []) ≡ place + 1 = length_more found r ∙ ap suc so_far.as_many ∙ plus_one place in
-      subst (AreRunsOf bound name (place + 1) t) (sym is) (record {
+      subst (AreRunsOf strategy name (place + 1) t) (sym is) (record {
         as_many = many;
-        each = λ k y e. at_end k found r y e (λ k z. IsRunOf bound name (suc k) t z) so_far.each (subst (λ n. IsRunOf bound name n t r) (sym (plus_one place) ∙ ap suc (sym so_far.as_many)) run);
+        each = λ k y e. at_end k found r y e (λ k z. IsRunOf strategy name (suc k) t z) so_far.each (subst (λ n. IsRunOf strategy name n t r) (sym (plus_one place) ∙ ap suc (sym so_far.as_many)) run);
       })
 
-  pub run_among : (place count : ℕ) (runs : List RunRecord) → place < count → AreRunsOf bound name count t runs → (r : RunRecord) × IsRunOf bound name (place + 1) t r
-  run_among place count runs below are = let there = some_at runs place (subst (λ n. place < n) (sym are.as_many) below) in (there.0, subst (λ n. IsRunOf bound name n t there.0) (plus_one place) (are.each place there.0 there.1))
+  pub run_among : (place count : ℕ) (runs : List RunRecord) → place < count → AreRunsOf strategy name count t runs → (r : RunRecord) × IsRunOf strategy name (place + 1) t r
+  run_among place count runs below are = let there = some_at runs place (subst (λ n. place < n) (sym are.as_many) below) in (there.0, subst (λ n. IsRunOf strategy name n t there.0) (plus_one place) (are.each place there.0 there.1))
 
-pub record RunsSoFar (bound : BoundParts) (name : List ℕ) (place : ℕ) (old now : State) (found : List RunRecord) : Type 0 where
+pub record RunsSoFar (strategy : CheckedStrategy) (name : List ℕ) (place : ℕ) (old now : State) (found : List RunRecord) : Type 0 where
   pub same : IsSame old now
-  pub value : IsUsable now → (t : Tables) → Stores old t → AreRunsOf bound name place t found
+  pub value : IsUsable now → (t : Tables) → Stores old t → AreRunsOf strategy name place t found
 
-pub more_found : (bound : BoundParts) (name : List ℕ) (place : ℕ) (old between new : State) (found more : List RunRecord) (r : RunRecord) → RunsSoFar bound name place old between found → IsSame between new
-    → (IsUsable new → (t : Tables) → Stores between t → IsRunOf bound name (place + 1) t r) → more ≡ found ++ r ∷ [] → RunsSoFar bound name (place + 1) old new more
-more_found bound name place old between new found more r before same told pushed =
+pub more_found : (strategy : CheckedStrategy) (name : List ℕ) (place : ℕ) (old between new : State) (found more : List RunRecord) (r : RunRecord) → RunsSoFar strategy name place old between found → IsSame between new
+    → (IsUsable new → (t : Tables) → Stores between t → IsRunOf strategy name (place + 1) t r) → more ≡ found ++ r ∷ [] → RunsSoFar strategy name (place + 1) old new more
+more_found strategy name place old between new found more r before same told pushed =
     record {
       same = same_then old between new before.same same;
       value = λ usable t stores.
           let midway = (same usable).0 in
-          one_run_more bound name t place found more r (before.value midway t stores) (told usable t (stay old between t before.same midway stores)) pushed;
+          one_run_more strategy name t place found more r (before.value midway t stores) (told usable t (stay old between t before.same midway stores)) pushed;
     }

@@ -2,5 +2,6 @@ pub mod Judges
 pub mod Alone
 pub mod Templates
 pub mod Strategies
+pub mod Bindings
 pub mod OfService
 pub mod OneService

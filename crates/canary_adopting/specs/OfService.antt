@@ -2,7 +2,7 @@
 use Rattle.std.specs.Prelude.{◌≡◌, ◌≢◌, ℕ, suc, List, [], ◌∷◌, length, map, filter, Option, Some, None, slice_get, Result, Ok, Err}
 use Rattle.std.specs.List.{AllByRecursion}
 use Rattle.canary_metric.specs.Counts.{Counts}
-use Rattle.canary_plan.specs.declared.bound.BoundParts.{BoundParts}
+use Rattle.canary_plan.specs.declared.strategy.CheckedStrategy.{CheckedStrategy}
 use Rattle.canary_plan.specs.declared.line.Line.{Line}
 use Rattle.canary_plan.specs.Lines.{words}
 use Rattle.canary_release.specs.declared.effect.Recorded.{Recorded}
@@ -53,16 +53,16 @@ pub record AreTalliesOf (name : List ℕ) (number : ℕ) (t : Tables)
       → filter (is_tally name number place) t.tallies ≡ tally_row name number place c ∷ []
   pub no_more : length (filter (is_tally_of name number) t.tallies) ≡ length tallies
 
--- the run of that number, of a service that is bound so
-abbrev pub IsRunOf : BoundParts → List ℕ → ℕ → Tables → RunRecord → Type 0
-IsRunOf bound name number t r = (r.number ≡ number) × IsRunJudged t bound name r
+-- the run of that number, of a service with this strategy
+abbrev pub IsRunOf : CheckedStrategy → List ℕ → ℕ → Tables → RunRecord → Type 0
+IsRunOf strategy name number t r = (r.number ≡ number) × IsRunJudged t strategy name r
 
 -- the runs 1 to that number
-pub record AreRunsOf (bound : BoundParts) (name : List ℕ) (count : ℕ) (t : Tables)
+pub record AreRunsOf (strategy : CheckedStrategy) (name : List ℕ) (count : ℕ) (t : Tables)
     (runs : List RunRecord) : Type 0 where
   pub as_many : length runs ≡ count
   pub each : (place : ℕ) (r : RunRecord) → slice_get runs place ≡ Some r
-      → IsRunOf bound name (suc place) t r
+      → IsRunOf strategy name (suc place) t r
 
 -- Measurements and lines.
 

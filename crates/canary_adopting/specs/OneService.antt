@@ -1,8 +1,10 @@
 -- What is found of services.
-use Rattle.std.specs.Prelude.{◌≡◌, ℕ, false, List, length, map, filter, Result, Err, IfOk}
+use Rattle.std.specs.Prelude.{◌≡◌, ℕ, ◌+◌, false, List, length, map, filter, Result, Err, IfOk}
 use Rattle.std.specs.List.{AllByRecursion, sum_by}
 use Rattle.sqlite.specs.State.{State}
+use Rattle.canary_plan.specs.declared.bound.BoundParts.{BoundParts}
 use Rattle.canary_plan.specs.declared.line.Line.{Line}
+use Rattle.canary_plan.specs.Plans.{all_revisions, distinct}
 use Rattle.canary_release.specs.declared.effect.Recorded.{Recorded}
 use Rattle.canary_release.specs.declared.stand.Stand.{Stand}
 use Rattle.canary_release.specs.Parts.{is_broken}
@@ -13,7 +15,7 @@ use Rattle.canary_rows.specs.Tables.{Tables, is_measurement_of, is_line_of}
 use Rattle.canary_schema.specs.Stores.{IsUsable, Stores}
 use Rattle.canary_judging.specs.Judged.{AreTemplatesJudged}
 use Rattle.canary_judging.specs.Services.{IsServiceJudged, open_runs_in}
-use Rattle.canary_judging.specs.Totals.{tallies_under}
+use Rattle.canary_judging.specs.Totals.{tallies_under, bindings_to, bindings_under}
 use Rattle.canary_reads.specs.declared.fault.ReadFault.{ReadFault}
 use Rattle.canary_reads.specs.declared.fault.ReadFault.TheVariants.{Broken}
 use Rattle.canary_adopting.specs.declared.totals.Totals.{Totals}
@@ -42,17 +44,16 @@ RefusesJudged P old new result =
 -- what is past of a service that stands so
 pub record IsPastJudged (t : Tables) (row : ServiceRow) (stand : Stand) : Type 0 where
   pub runs : List RunRecord
-  pub are : AreRunsOf stand.bound row.name row.standing.runs t runs
+  pub are : AreRunsOf stand.strategy row.name row.standing.runs t runs
   pub measurements : List Recorded
   pub read : AreMeasurementsOf row.name t measurements
-  pub tallied : AreTallied stand.bound runs measurements
+  pub tallied : AreTallied runs measurements
   pub history : List Line
   pub told : IsHistoryOf row.name t history
   pub parts : is_broken
       (record {
         stand = stand;
-        runs = record
-            { count = row.standing.runs; open_runs = open_runs_in stand.bound runs };
+        runs = record { count = row.standing.runs; open_runs = open_runs_in runs };
       })
       ≡ false
 
@@ -62,11 +63,24 @@ measurements_under t row = length (filter (is_measurement_of row.name) t.measure
 abbrev pub lines_under : Tables → ServiceRow → ℕ
 lines_under t row = length (filter (is_line_of row.name) t.history)
 
+-- how much it has, whose present attempt is bound so
+abbrev pub totals_bound : Tables → ServiceRow → BoundParts → Totals
+totals_bound t row bound =
+    record {
+      runs = row.standing.runs;
+      bindings = length (distinct (all_revisions bound))
+          + bindings_to t.bindings row.name row.standing.runs;
+      tallies = tallies_under t row;
+      measurements = measurements_under t row;
+      lines = lines_under t row;
+    }
+
 -- how much it has
 abbrev pub totals_of : Tables → ServiceRow → Totals
 totals_of t row =
     record {
       runs = row.standing.runs;
+      bindings = bindings_under t row;
       tallies = tallies_under t row;
       measurements = measurements_under t row;
       lines = lines_under t row;
@@ -85,6 +99,7 @@ IsServiceFound name t totals =
 
 pub record AreTotalsOf (t : Tables) (rows : List ServiceRow) (totals : Totals) : Type 0 where
   pub runs : totals.runs ≡ sum_by (λ (row : ServiceRow). row.standing.runs) rows
+  pub bindings : totals.bindings ≡ sum_by (bindings_under t) rows
   pub tallies : totals.tallies ≡ sum_by (tallies_under t) rows
   pub measurements : totals.measurements ≡ sum_by (measurements_under t) rows
   pub lines : totals.lines ≡ sum_by (lines_under t) rows
@@ -99,6 +114,7 @@ pub record AreServicesFound (names : List (List ℕ)) (t : Tables) (totals : Tot
 -- the tables have just so much
 pub record HaveTotals (t : Tables) (totals : Totals) : Type 0 where
   pub runs : totals.runs ≡ length t.runs
+  pub bindings : totals.bindings ≡ length t.bindings
   pub tallies : totals.tallies ≡ length t.tallies
   pub measurements : totals.measurements ≡ length t.measurements
   pub lines : totals.lines ≡ length t.history

@@ -1,25 +1,33 @@
--- Templates, row by row.
-use Rattle.std.specs.Prelude.{◌≡◌, ℕ, List, Some, None}
+-- Templates, revision by revision.
+use Rattle.std.specs.Prelude.{◌≡◌, ℕ, ◌-◌, ◌≤◌, true, List, Some, None}
 use Rattle.canary_plan.specs.declared.template.Template.{Template}
 use Rattle.canary_plan.specs.PlanRefusals.{template_refusal}
-use Rattle.canary_canonical.specs.Readings.{canonical_in}
-use Rattle.canary_rows.specs.declared.rows.TemplateRow.{TemplateRow}
+use Rattle.canary_rows.specs.declared.rows.RevisionRow.{RevisionRow}
 use Rattle.canary_rows.specs.Tables.{Tables}
-use Rattle.canary_stored.specs.Values.{template_from}
-use Rattle.canary_judging.specs.Judged.{IsTemplateJudged}
-use Rattle.canary_adopting.specs.Alone.{IsNamed}
+use Rattle.canary_stored.specs.Values.{revision_of_row}
+use Rattle.canary_reads.specs.declared.lists.RevisionKey.{RevisionKey}
+use Rattle.canary_reads.specs.Keys.{key_of}
+use Rattle.canary_judging.specs.Judged.{has_revision, IsRevisionJudged}
 
--- a text is that of an accepted template, which is this
-pub record IsAcceptedIn (text : List ℕ) (template : Template) : Type 0 where
-  pub is : template_from (canonical_in text) ≡ Some template
+-- a row is read as this template, which nothing refuses
+pub record IsAcceptedAs (row : RevisionRow) (template : Template) : Type 0 where
+  pub is : revision_of_row row ≡ Some template
   pub accepted : template_refusal template.spec ≡ None
 
 -- a row is read as an accepted template of its name
-pub record IsAccepted (row : TemplateRow) : Type 0 where
+pub record IsAccepted (row : RevisionRow) : Type 0 where
   pub read : Template
-  pub is : IsAcceptedIn row.spec read
+  pub is : IsAcceptedAs row read
   pub named : read.spec.name ≡ row.name
 
--- the template of that name is as it is to be
-abbrev pub IsJudgedUnder : Tables → List ℕ → Type 0
-IsJudgedUnder t = IsNamed (λ (row : TemplateRow). row.name) (IsTemplateJudged t)
+-- the number is 1 to 1,000,000, and the revision before it is there, but for the first
+pub record IsNumbered (t : Tables) (key : RevisionKey) : Type 0 where
+  pub some : 1 ≤ key.revision
+  pub most : key.revision ≤ 1000000
+  pub before : 2 ≤ key.revision → has_revision t key.name (key.revision - 1) ≡ true
+
+-- the revision of that key is as it is to be
+pub record IsJudgedUnder (t : Tables) (key : RevisionKey) : Type 0 where
+  pub row : RevisionRow
+  pub keyed : key_of row ≡ key
+  pub has : IsRevisionJudged t row

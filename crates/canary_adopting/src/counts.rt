@@ -1,11 +1,15 @@
-//! The measurements and the tallies of a service's runs, counted anew.
-ghost use Rattle.std.specs.Prelude.{◌≡◌, ◌≢◌, IfOk, OnOk, Err, length};
+//! The measurements, the tallies and the rows of binding of a service's runs, counted anew.
+ghost use Rattle.std.specs.Prelude.{◌≡◌, ◌≢◌, ◌+◌, IfOk, OnOk, Err, length};
 ghost use Rattle.std.specs.List.{sum_by};
+ghost use Rattle.canary_plan.specs.Plans.{all_revisions, distinct};
 ghost use Rattle.canary_once.specs.declared.record.RunRecord.{RunRecord};
 ghost use Rattle.canary_reads.specs.declared.fault.ReadFault.TheVariants as fault;
 ghost use Rattle.canary_recounting.specs.Recounted.{AreTallied};
 
+use crate::totals::sum;
+use canary_base::error::Memory;
 use canary_once::record::RunRecord;
+use canary_plan::analysis_parts::distinct;
 use canary_plan::bound::Bound;
 use canary_reads::fault::ReadFault;
 use canary_recounting::counting::are_counted;
@@ -13,21 +17,19 @@ use canary_release::effect::Recorded;
 use std::alloc::Global;
 
 /// That these measurements come one after another, and to the tallies of the runs, which are
-/// numbered from 1 on, and of a service that is bound so.
+/// numbered from 1 on, each by its own analysis.
 ///
 /// # Errors
 /// `Broken` where it is not so; `Memory`.
 pub(crate) fn counted(
     alloc: Global,
-    bound: &Bound,
     runs: &[RunRecord],
     measurements: &[Recorded],
 ) -> Result<(), ReadFault>
-    ensures found { OnOk result (AreTallied bound.now runs.now measurements.now) }
-    ensures broken { result ≡ Err fault.Broken
-        → ¬ AreTallied bound.now runs.now measurements.now }
+    ensures found { OnOk result (AreTallied runs.now measurements.now) }
+    ensures broken { result ≡ Err fault.Broken → ¬ AreTallied runs.now measurements.now }
 {
-    if are_counted(alloc, bound, runs, measurements)? {
+    if are_counted(alloc, runs, measurements)? {
         Ok(())
     } else {
         Err(ReadFault::Broken)
@@ -52,4 +54,44 @@ pub(crate) fn tally_count(runs: &[RunRecord]) -> Result<u64, ReadFault>
         count = more;
     }
     Ok(count)
+}
+
+/// How many rows of binding a service has that is bound so, and its runs.
+///
+/// # Errors
+/// `Memory`; `Storage` where there are 2^64 or more.
+pub(crate) fn binding_count(
+    alloc: Global,
+    bound: &Bound,
+    runs: &[RunRecord],
+) -> Result<u64, ReadFault>
+    ensures value { IfOk result (λ count. count ≡ length (distinct (all_revisions bound.now))
+        + sum_by (λ (r : RunRecord). length (distinct r.analysis.revisions)) runs.now) }
+    ensures whole { result ≢ Err fault.Broken }
+{
+    let revisions = bound.revisions(alloc)?;
+    let attempt = distinct(alloc, revisions.as_slice())?.as_slice().len() as u64;
+    let of_runs = bindings_of_runs(alloc, runs)?;
+    sum(attempt, of_runs)
+}
+
+#[tactic(auto, using(crate::proofs::CountLemmas::bindings_left))]
+fn bindings_of_runs(alloc: Global, runs: &[RunRecord]) -> Result<u64, ReadFault>
+    ensures value { IfOk result (λ count. count
+        ≡ sum_by (λ (r : RunRecord). length (distinct r.analysis.revisions)) runs.now) }
+    ensures whole { result ≢ Err fault.Broken }
+{
+    let mut count = 0_u64;
+    for run in runs {
+        count = sum(count, bindings_of(alloc, run)?)?;
+    }
+    Ok(count)
+}
+
+// A row for each of the templates of its analysis.
+fn bindings_of(alloc: Global, run: &RunRecord) -> Result<u64, Memory>
+    ensures { IfOk result (λ count. count ≡ length (distinct run.now.analysis.revisions)) }
+{
+    let templates = distinct(alloc, run.analysis.revisions())?;
+    Ok(templates.as_slice().len() as u64)
 }

@@ -14,8 +14,8 @@ use std::alloc::Global;
 
 /// That the tables are those of sound contents: their callers, their templates and their services,
 /// row by row. Nothing is changed. `progress` is told how many rows there are of receipts, runs,
-/// tallies, measurements and histories, then of each receipt as it is judged, and of a service's
-/// rows all at once.
+/// bindings, tallies, measurements and histories, then of each receipt as it is judged, and of a
+/// service's rows all at once.
 ///
 /// # Errors
 /// `Broken` where that is not so, or where a row is none that a program can hold; `Memory` where
@@ -55,10 +55,22 @@ fn count_others<S: Alter>(conn: &mut Connection<S>) -> Result<u64, ReadFault>
     ensures same { IsSame (state S.Store conn.old) (state S.Store conn.new) }
     ensures whole { result ≢ Err ReadFault.Broken }
 {
-    let runs = lists::run_count(conn)?;
+    let runs = count_runs(conn)?;
     let tallies = lists::tally_count(conn)?;
     let lines = lists::history_count(conn)?;
     Ok(runs.saturating_add(tallies).saturating_add(lines))
+}
+
+// The runs, and what they are bound to.
+fn count_runs<S: Alter>(conn: &mut Connection<S>) -> Result<u64, ReadFault>
+    requires autocommit { conn.old.in_transaction ≡ false }
+    ensures mode { conn.new.in_transaction ≡ false }
+    ensures same { IsSame (state S.Store conn.old) (state S.Store conn.new) }
+    ensures whole { result ≢ Err ReadFault.Broken }
+{
+    let runs = lists::run_count(conn)?;
+    let bindings = lists::binding_count(conn)?;
+    Ok(runs.saturating_add(bindings))
 }
 
 fn judge_all<S: Alter, G: Progress>(

@@ -2,18 +2,19 @@
 //!
 //! Callers may rest on this: `judge` is Ok only where the rows are judged, which by canary_judging
 //! are those of sound contents, and `Broken` only where they are not, or a program cannot hold one
-//! of them, and it changes nothing, where the connection is usable then (canary_schema). `Progress`
-//! is told how many rows there are, and how many were judged; of that no contract speaks.
+//! of them, and it changes nothing, where the connection is usable then (canary_schema). `known`
+//! finds the templates to which a run is bound. `Progress` is told how many rows there are, and how
+//! many were judged; of that no contract speaks.
 //!
 //! In use (canary_tables, src/adopt.rt):
 //!
 //!     has_rows(conn, is_whole)?;
-//!     index(conn)?;
 //!     judge(conn, alloc, progress)?;
 //!     Ok(())
 #![tactic(auto)]
 
 mod alone;
+pub mod bindings;
 mod callers;
 mod counts;
 mod fault;

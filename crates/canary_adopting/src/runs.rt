@@ -1,4 +1,4 @@
-//! The runs of a service, judged with their tallies.
+//! The runs of a service, judged with what they are bound to and their tallies.
 ghost use Rattle.std.specs.Prelude.{◌≡◌, ◌≢◌, ◌∷◌, ◌↔◌, [], false, IsTrue, IfOk, IfSome, None};
 ghost use Rattle.std.specs.Prelude.{length, map};
 ghost use Rattle.sqlite.specs.Held.{state};
@@ -6,25 +6,29 @@ ghost use Rattle.canary_rows.specs.declared.rows.TallyRow.{TallyRow};
 ghost use Rattle.canary_stored.specs.Finding.{record_of_row};
 ghost use Rattle.canary_reads.specs.Finds.{IsSame, FindsSuch};
 ghost use Rattle.canary_adopting.specs.Judges.{RefusesUnless};
+ghost use Rattle.canary_adopting.specs.OneService.{RefusesJudged};
 ghost use Rattle.canary_adopting.specs.OfService.{HasSuch, IsTold, ArePlaced, AreTalliesOf};
 ghost use Rattle.canary_adopting.specs.OfService.{IsRunOf, AreRunsOf};
 
+use crate::bindings;
 use crate::fault::read_fault;
 use canary_base::error::Memory;
 use canary_base::lists::Listed;
 use canary_base::names::Name;
 use canary_metric::tally::Tally;
 use canary_once::record::RunRecord;
-use canary_plan::bound::Bound;
+use canary_plan::bound_analysis::BoundAnalysis;
+use canary_plan::strategy::Strategy;
 use canary_reads::fault::ReadFault;
 use canary_reads::runs;
-use canary_recounting::verdicts::has_analysis;
+use canary_recounting::verdicts::has_own_verdict;
 use canary_rows::rows::{RunRow, TallyRow};
 use canary_stored::reading;
 use sqlite::{Alter, Connection};
 use std::alloc::Global;
 
-/// The runs 1 to `count` of the service that is bound so, each judged as by `run`.
+/// The runs 1 to `count` of the service of that strategy, each judged as by `run`, where templates
+/// are judged.
 ///
 /// # Errors
 /// `Broken` where there are no such runs, or the tables hold what no program can; `Memory` where
@@ -33,27 +37,27 @@ pub(crate) fn runs<S: Alter>(
     conn: &mut Connection<S>,
     alloc: Global,
     name: &Name,
-    bound: &Bound,
+    strategy: &Strategy,
     count: u32,
 ) -> Result<Listed<RunRecord>, ReadFault>
     requires autocommit { conn.old.in_transaction ≡ false }
     ensures mode { conn.new.in_transaction ≡ false }
     ensures same { IsSame (state S.Store conn.old) (state S.Store conn.new) }
-    ensures found { FindsSuch (AreRunsOf bound.now name.now count)
+    ensures found { FindsSuch (AreRunsOf strategy.now name.now count)
         (state S.Store conn.old) (state S.Store conn.new) result }
-    ensures broken { RefusesUnless (HasSuch (AreRunsOf bound.now name.now count))
+    ensures broken { RefusesJudged (HasSuch (AreRunsOf strategy.now name.now count))
         (state S.Store conn.old) (state S.Store conn.new) result }
 {
     let mut found = Listed::of(Vec::new(alloc));
     for place in 0..count {
-        found.push(run(conn, alloc, name, bound, place + 1)?)?;
+        found.push(run(conn, alloc, name, strategy, place + 1)?)?;
     }
     Ok(found)
 }
 
-/// The run of that number of the service that is bound so: there is one row of it, its analysis is
-/// there, each of its tallies has one row, it has no others, and its verdict is that of its
-/// tallies.
+/// The run of that number of the service of that strategy, where templates are judged: there is one
+/// row of it, its rows of binding bind its analysis, and it has no others, each of its tallies has
+/// one row, and it has no others, and its verdict is that of its tallies.
 ///
 /// # Errors
 /// `Broken` where there is no such run, or the tables hold what no program can; `Memory` where
@@ -62,24 +66,25 @@ pub(crate) fn run<S: Alter>(
     conn: &mut Connection<S>,
     alloc: Global,
     name: &Name,
-    bound: &Bound,
+    strategy: &Strategy,
     number: u32,
 ) -> Result<RunRecord, ReadFault>
     requires autocommit { conn.old.in_transaction ≡ false }
     ensures mode { conn.new.in_transaction ≡ false }
     ensures same { IsSame (state S.Store conn.old) (state S.Store conn.new) }
-    ensures found { FindsSuch (IsRunOf bound.now name.now number)
+    ensures found { FindsSuch (IsRunOf strategy.now name.now number)
         (state S.Store conn.old) (state S.Store conn.new) result }
-    ensures broken { RefusesUnless (HasSuch (IsRunOf bound.now name.now number))
+    ensures broken { RefusesJudged (HasSuch (IsRunOf strategy.now name.now number))
         (state S.Store conn.old) (state S.Store conn.new) result }
 {
     let rows = runs::run_rows(conn, alloc, name, number)?;
     let Some(row) = only(rows.as_slice()) else {
         return Err(ReadFault::Broken);
     };
+    let analysis = bindings::analysis(conn, alloc, name, number, strategy, row.step)?;
     let tallies = tallies(conn, alloc, name, number)?;
-    let run = record_of(&row, tallies)?;
-    if has_analysis(bound, &run) {
+    let run = record_of(&row, analysis, tallies)?;
+    if has_own_verdict(&run) {
         Ok(run)
     } else {
         Err(ReadFault::Broken)
@@ -138,13 +143,18 @@ fn counts_of(alloc: Global, rows: &[TallyRow]) -> Result<Listed<Tally>, Memory>
     Ok(found)
 }
 
-fn record_of(row: &RunRow, tallies: Listed<Tally>) -> Result<RunRecord, ReadFault>
-    ensures { IsTold (record_of_row tallies row.now) result }
+fn record_of(
+    row: &RunRow,
+    analysis: BoundAnalysis,
+    tallies: Listed<Tally>,
+) -> Result<RunRecord, ReadFault>
+    ensures { IsTold (record_of_row analysis tallies row.now) result }
 {
     match reading::closing(row.number, &row.ending) {
         Ok(closed) => Ok(RunRecord {
             number: row.number,
             step: row.step,
+            analysis,
             started: row.started,
             closed,
             tallies,

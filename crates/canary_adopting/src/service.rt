@@ -3,7 +3,6 @@ ghost use Rattle.std.specs.Prelude.{◌≡◌, ◌≢◌, false, [], ◌∷◌, 
 ghost use Rattle.std.specs.Prelude.{filter};
 ghost use Rattle.sqlite.specs.Held.{state};
 ghost use Rattle.canary_plan.specs.declared.service.ServiceSpec.{ServiceSpec};
-ghost use Rattle.canary_plan.specs.Plans.{analysis_or_none};
 ghost use Rattle.canary_canonical.specs.Readings.{canonical_in};
 ghost use Rattle.canary_release.specs.Parts.{is_broken};
 ghost use Rattle.canary_rows.specs.Tables.{is_service};
@@ -11,19 +10,18 @@ ghost use Rattle.canary_stored.specs.Values.{made_from, stand_of};
 ghost use Rattle.canary_judging.specs.Services.{IsServiceJudged, open_of_record, open_runs_in};
 ghost use Rattle.canary_reads.specs.declared.fault.ReadFault.TheVariants.{Broken};
 ghost use Rattle.canary_reads.specs.Finds.{IsSame, FindsSuch};
-ghost use Rattle.canary_adopting.specs.Judges.{RefusesUnless};
 ghost use Rattle.canary_adopting.specs.OneService.{FindsJudged, RefusesJudged, IsPastJudged};
-ghost use Rattle.canary_adopting.specs.OneService.{totals_of, IsServiceUnder, IsServiceFound};
+ghost use Rattle.canary_adopting.specs.OneService.{totals_of, totals_bound, IsServiceUnder};
+ghost use Rattle.canary_adopting.specs.OneService.{IsServiceFound};
 
 use crate::fault::read_fault;
 use crate::totals::Totals;
-use crate::{alone, counts, histories, runs, strategies};
+use crate::{alone, bindings, counts, histories, runs, strategies};
 use canary_base::error::Memory;
 use canary_base::lists::Listed;
 use canary_base::names::Name;
 use canary_once::record::RunRecord;
 use canary_plan::bound::Bound;
-use canary_plan::bound_analysis::BoundAnalysis;
 use canary_plan::service::ServiceSpec;
 use canary_plan::strategy::Strategy;
 use canary_reads::fault::ReadFault;
@@ -38,7 +36,8 @@ use sqlite::{Alter, Connection};
 use std::alloc::Global;
 
 /// How much the service of that name has, where templates are judged, and it stands once, is made
-/// by an accepted command, and has runs, measurements and lines that come to what it is.
+/// by an accepted command, is bound by its rows of binding, and has runs, measurements and lines
+/// that come to what it is.
 ///
 /// # Errors
 /// `Broken` where that is not so, `Memory` where there is not enough, `Storage` where the database
@@ -80,7 +79,8 @@ fn judge_row<S: Alter>(
         (state S.Store conn.old) (state S.Store conn.new) result }
 {
     let made = made_by(alloc, row)?;
-    let (strategy, bound) = strategies::strategy(conn, alloc, &made)?;
+    let strategy = strategies::strategy(conn, alloc, &made)?;
+    let bound = bindings::attempt(conn, alloc, &row.name, &strategy)?;
     let stand = stand_by(row, &strategy, &bound)?;
     judge_past(conn, alloc, row, stand)
 }
@@ -128,24 +128,21 @@ fn judge_past<S: Alter>(
     ensures mode { conn.new.in_transaction ≡ false }
     ensures same { IsSame (state S.Store conn.old) (state S.Store conn.new) }
     ensures judged { FindsSuch
-        (λ t totals. IsPastJudged t row.now stand × (totals ≡ totals_of t row.now))
+        (λ t totals. IsPastJudged t row.now stand × (totals ≡ totals_bound t row.now stand.bound))
         (state S.Store conn.old) (state S.Store conn.new) result }
-    ensures refused { RefusesUnless (λ t. IsPastJudged t row.now stand)
+    ensures refused { RefusesJudged (λ t. IsPastJudged t row.now stand)
         (state S.Store conn.old) (state S.Store conn.new) result }
 {
     let count = row.standing.runs;
-    let runs = runs::runs(conn, alloc, &row.name, &stand.bound, count)?;
+    let runs = runs::runs(conn, alloc, &row.name, &stand.strategy, count)?;
     let measurements = histories::measurements(conn, alloc, &row.name)?;
-    counts::counted(
-        alloc,
-        &stand.bound,
-        runs.as_slice(),
-        measurements.as_slice(),
-    )?;
+    counts::counted(alloc, runs.as_slice(), measurements.as_slice())?;
     let history = histories::history(conn, alloc, &row.name)?;
+    let bindings = counts::binding_count(alloc, &stand.bound, runs.as_slice())?;
     judge_parts(alloc, stand, count, runs.as_slice())?;
     Ok(Totals {
         runs: u64::from(count),
+        bindings,
         tallies: counts::tally_count(runs.as_slice())?,
         measurements: measurements.as_slice().len() as u64,
         lines: history.as_slice().len() as u64,
@@ -156,14 +153,14 @@ fn judge_past<S: Alter>(
 fn judge_parts(alloc: Global, stand: Stand, count: u32, runs: &[RunRecord]) -> Result<(), ReadFault>
     ensures judged { OnOk result (is_broken (record {
       stand = stand;
-      runs = record { count = count; open_runs = open_runs_in stand.bound runs.now };
+      runs = record { count = count; open_runs = open_runs_in runs.now };
     }) ≡ false) }
     ensures refused { result ≡ Err Broken → is_broken (record {
       stand = stand;
-      runs = record { count = count; open_runs = open_runs_in stand.bound runs.now };
+      runs = record { count = count; open_runs = open_runs_in runs.now };
     }) ≢ false }
 {
-    let open_runs = open_among(alloc, &stand.bound, runs)?;
+    let open_runs = open_among(alloc, runs)?;
     let runs = Runs { count, open_runs };
     if is_broken(&ServiceParts { stand, runs }) {
         return Err(ReadFault::Broken);
@@ -171,36 +168,26 @@ fn judge_parts(alloc: Global, stand: Stand, count: u32, runs: &[RunRecord]) -> R
     Ok(())
 }
 
-fn open_among(alloc: Global, bound: &Bound, runs: &[RunRecord]) -> Result<Listed<OpenRun>, Memory>
-    ensures { IfOk result (λ open_runs. open_runs ≡ open_runs_in bound.now runs.now) }
+fn open_among(alloc: Global, runs: &[RunRecord]) -> Result<Listed<OpenRun>, Memory>
+    ensures { IfOk result (λ open_runs. open_runs ≡ open_runs_in runs.now) }
 {
     let mut found = Listed::of(Vec::new(alloc));
     for run in runs {
         if run.closed.is_none() {
-            found.push(open_run(run, bound, alloc)?)?;
+            found.push(open_run(run, alloc)?)?;
         }
     }
     Ok(found)
 }
 
-fn open_run(run: &RunRecord, bound: &Bound, alloc: Global) -> Result<OpenRun, Memory>
-    ensures { IfOk result (λ open_run. open_run ≡ open_of_record bound.now run.now) }
+fn open_run(run: &RunRecord, alloc: Global) -> Result<OpenRun, Memory>
+    ensures { IfOk result (λ open_run. open_run ≡ open_of_record run.now) }
 {
     Ok(OpenRun {
         number: run.number,
         step: run.step,
-        analysis: analysis_at(alloc, bound, run.step)?,
+        analysis: run.analysis.copy()?,
         started: run.started,
         tallies: run.tallies.copy(alloc)?,
     })
-}
-
-// The analysis at that step, or the background; one of no templates where there is none.
-fn analysis_at(alloc: Global, bound: &Bound, step: Option<u32>) -> Result<BoundAnalysis, Memory>
-    ensures { IfOk result (λ analysis. analysis ≡ analysis_or_none bound.now step) }
-{
-    match bound.analysis(step) {
-        Some(analysis) => analysis.copy(),
-        None => BoundAnalysis::none(alloc),
-    }
 }

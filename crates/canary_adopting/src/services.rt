@@ -78,6 +78,7 @@ fn are_all<S: Alter>(conn: &mut Connection<S>, totals: &Totals) -> Result<(), Re
         (state S.Store conn.old) (state S.Store conn.new) result }
 {
     totals::are_all(totals.runs, lists::run_count(conn)?)?;
+    totals::are_all(totals.bindings, lists::binding_count(conn)?)?;
     totals::are_all(totals.tallies, lists::tally_count(conn)?)?;
     totals::are_all(totals.measurements, lists::measurement_count(conn)?)?;
     totals::are_all(totals.lines, lists::history_count(conn)?)

@@ -1,4 +1,4 @@
-//! The strategy of a service, and what it is bound to by templates that are judged.
+//! The strategy of a service, which templates that are judged accept.
 ghost use Rattle.std.specs.Prelude.{◌≡◌, false, None, IfOk, Err};
 ghost use Rattle.std.specs.FinMap.{get};
 ghost use Rattle.sqlite.specs.Held.{state};
@@ -8,19 +8,17 @@ ghost use Rattle.canary_plan.specs.Commands.{all_names};
 ghost use Rattle.canary_rows.specs.Tables.{Tables};
 ghost use Rattle.canary_rows.specs.Limits.{AreWithin};
 ghost use Rattle.canary_schema.specs.Stores.{IsUsable, Stores};
-ghost use Rattle.canary_stored.specs.Reading.{contents_of};
-ghost use Rattle.canary_once.specs.Contents.{templates_named};
 ghost use Rattle.canary_judging.specs.Judged.{AreTemplatesJudged};
 ghost use Rattle.canary_reads.specs.declared.fault.ReadFault.TheVariants.{Broken};
 ghost use Rattle.canary_reads.specs.Finds.{IsSame};
-ghost use Rattle.canary_adopting.specs.Strategies.{IsStrategyAccepted, IsStrategyOf};
+ghost use Rattle.canary_adopting.specs.Strategies.{newest_in, known_among, IsStrategyAccepted};
+ghost use Rattle.canary_adopting.specs.Strategies.{IsStrategyOf};
 
 use crate::templates;
 use canary_base::error::Memory;
 use canary_base::lists::Listed;
 use canary_base::names::Name;
 use canary_judging::laws;
-use canary_plan::bound::Bound;
 use canary_plan::command::Command;
 use canary_plan::fault::CheckFault;
 use canary_plan::service::ServiceSpec;
@@ -32,8 +30,8 @@ use canary_reads::services;
 use sqlite::{Alter, Connection};
 use std::alloc::Global;
 
-/// The strategy of a service that was asked for so, and what it is bound to by the templates of the
-/// tables, where these are judged.
+/// The strategy of a service that was asked for so, which the newest templates of the tables
+/// accept, where these are judged.
 ///
 /// # Errors
 /// `Broken` where something refuses the strategy, `Memory` where there is not enough, `Storage`
@@ -42,29 +40,27 @@ pub(crate) fn strategy<S: Alter>(
     conn: &mut Connection<S>,
     alloc: Global,
     spec: &ServiceSpec,
-) -> Result<(Strategy, Bound), ReadFault>
+) -> Result<Strategy, ReadFault>
     requires autocommit { conn.old.in_transaction ≡ false }
     ensures mode { conn.new.in_transaction ≡ false }
     ensures same { IsSame (state S.Store conn.old) (state S.Store conn.new) }
     ensures found { IsUsable (state S.Store conn.new) → (t : Tables)
         → Stores (state S.Store conn.old) t → AreTemplatesJudged t
-        → IfOk result (λ found. IsStrategyOf t spec.now found.0 found.1) }
+        → IfOk result (IsStrategyOf t spec.now) }
     ensures broken { IsUsable (state S.Store conn.new) → (t : Tables)
         → Stores (state S.Store conn.old) t → AreTemplatesJudged t → result ≡ Err Broken
         → AreWithin t → ¬ IsStrategyAccepted t spec.now }
 {
     let names = names_of(alloc, spec)?;
     let known = templates_of(conn, alloc, names.as_slice())?;
-    let strategy = checked(alloc, spec, &known)?;
-    let bound = strategy.bind(alloc, &known)?;
-    Ok((strategy, bound))
+    checked(alloc, spec, &known)
 }
 
 // The templates that it names.
 fn names_of(alloc: Global, spec: &ServiceSpec) -> Result<Listed<Name>, Memory>
     ensures { IfOk result (λ names. names ≡ all_names (analyses spec.now)) }
 {
-    Command::Service(spec.copy(alloc)?).names_looked_up(alloc)
+    Command::Service(spec.copy(alloc)?).names_looked_up(alloc, None)
 }
 
 // Its strategy, which these templates accept.
@@ -80,7 +76,7 @@ fn checked(alloc: Global, spec: &ServiceSpec, known: &Templates) -> Result<Strat
     }
 }
 
-// The templates that have one of these names.
+// The newest revisions of the templates that have one of these names.
 fn templates_of<S: Alter>(
     conn: &mut Connection<S>,
     alloc: Global,
@@ -91,7 +87,7 @@ fn templates_of<S: Alter>(
     ensures same { IsSame (state S.Store conn.old) (state S.Store conn.new) }
     ensures found { IsUsable (state S.Store conn.new) → (t : Tables)
         → Stores (state S.Store conn.old) t → AreTemplatesJudged t
-        → IfOk result (λ found. found ≡ templates_named (contents_of t) names.now) }
+        → IfOk result (λ found. get found ≡ known_among (newest_in t) names.now) }
     ensures broken { IsUsable (state S.Store conn.new) → (t : Tables)
         → Stores (state S.Store conn.old) t → AreTemplatesJudged t → result ≡ Err Broken
         → ¬ AreWithin t }
@@ -105,7 +101,7 @@ fn templates_of<S: Alter>(
     Ok(found)
 }
 
-// The template of that name, if there is one.
+// The newest revision of the template of that name, if there is one.
 fn template<S: Alter>(
     conn: &mut Connection<S>,
     alloc: Global,
@@ -116,14 +112,14 @@ fn template<S: Alter>(
     ensures same { IsSame (state S.Store conn.old) (state S.Store conn.new) }
     ensures found { IsUsable (state S.Store conn.new) → (t : Tables)
         → Stores (state S.Store conn.old) t → AreTemplatesJudged t
-        → IfOk result (λ found. found ≡ get (contents_of t).desk.templates name.now) }
+        → IfOk result (λ found. found ≡ newest_in t name.now) }
     ensures broken { IsUsable (state S.Store conn.new) → (t : Tables)
         → Stores (state S.Store conn.old) t → AreTemplatesJudged t → result ≡ Err Broken
         → ¬ AreWithin t }
 {
     laws::templates_found();
-    let Some(spec) = services::template(conn, name)? else {
+    let Some(row) = services::newest(conn, name)? else {
         return Ok(None);
     };
-    Ok(Some(templates::read(alloc, spec.as_str())?))
+    Ok(Some(templates::read(alloc, &row)?))
 }

@@ -1,4 +1,4 @@
-//! Templates.
+//! Templates, revision by revision.
 ghost use Rattle.std.specs.Prelude.{◌≡◌, ◌↔◌, false, IsTrue, IfOk, OnOk, Err};
 ghost use Rattle.std.specs.List.{AllByRecursion};
 ghost use Rattle.sqlite.specs.Held.{state};
@@ -8,7 +8,8 @@ ghost use Rattle.canary_reads.specs.declared.fault.ReadFault.TheVariants.{Broken
 ghost use Rattle.canary_reads.specs.Finds.{IsSame};
 ghost use Rattle.canary_adopting.specs.Alone.{IsAlone};
 ghost use Rattle.canary_adopting.specs.Judges.{FindsThat, RefusesUnless};
-ghost use Rattle.canary_adopting.specs.Templates.{IsAccepted, IsAcceptedIn, IsJudgedUnder};
+ghost use Rattle.canary_adopting.specs.Templates.{IsAccepted, IsAcceptedAs, IsNumbered};
+ghost use Rattle.canary_adopting.specs.Templates.{IsJudgedUnder};
 
 use crate::alone;
 use crate::fault::read_fault;
@@ -16,13 +17,18 @@ use canary_base::lists::Listed;
 use canary_base::names::Name;
 use canary_plan::template::Template;
 use canary_reads::fault::ReadFault;
-use canary_reads::{lists, services};
-use canary_rows::rows::TemplateRow;
+use canary_reads::lists::{self, RevisionKey};
+use canary_reads::services;
+use canary_rows::rows::RevisionRow;
 use canary_stored::reading;
 use sqlite::{Alter, Connection};
 use std::alloc::Global;
 
-/// That each template stands once, and its row is read as an accepted template of its name.
+// The most revisions of a template.
+const MOST_REVISIONS: u32 = 1_000_000;
+
+/// That each revision stands once, that its row is read as an accepted template of its name, and
+/// that the revisions of each name are numbered from 1 on, to 1,000,000 at most, with no gap.
 ///
 /// # Errors
 /// `Broken` where that is not so, `Memory` where there is not enough, `Storage` where the database
@@ -36,25 +42,25 @@ pub(crate) fn judge<S: Alter>(conn: &mut Connection<S>, alloc: Global) -> Result
     ensures refused { RefusesUnless AreTemplatesJudged
         (state S.Store conn.old) (state S.Store conn.new) result }
 {
-    let names = lists::template_names(conn, alloc)?;
-    judge_each(conn, alloc, names.as_slice())
+    let keys = lists::revision_keys(conn, alloc)?;
+    judge_each(conn, alloc, keys.as_slice())
 }
 
 fn judge_each<S: Alter>(
     conn: &mut Connection<S>,
     alloc: Global,
-    names: &[Name],
+    keys: &[RevisionKey],
 ) -> Result<(), ReadFault>
     requires autocommit { conn.old.in_transaction ≡ false }
     ensures mode { conn.new.in_transaction ≡ false }
     ensures same { IsSame (state S.Store conn.old) (state S.Store conn.new) }
-    ensures judged { FindsThat (λ t. AllByRecursion (IsJudgedUnder t) names.now)
+    ensures judged { FindsThat (λ t. AllByRecursion (IsJudgedUnder t) keys.now)
         (state S.Store conn.old) (state S.Store conn.new) result }
-    ensures refused { RefusesUnless (λ t. AllByRecursion (IsJudgedUnder t) names.now)
+    ensures refused { RefusesUnless (λ t. AllByRecursion (IsJudgedUnder t) keys.now)
         (state S.Store conn.old) (state S.Store conn.new) result }
 {
-    for name in names {
-        judge_one(conn, alloc, name)?;
+    for key in keys {
+        judge_one(conn, alloc, key)?;
     }
     Ok(())
 }
@@ -62,29 +68,30 @@ fn judge_each<S: Alter>(
 fn judge_one<S: Alter>(
     conn: &mut Connection<S>,
     alloc: Global,
-    name: &Name,
+    key: &RevisionKey,
 ) -> Result<(), ReadFault>
     requires autocommit { conn.old.in_transaction ≡ false }
     ensures mode { conn.new.in_transaction ≡ false }
     ensures same { IsSame (state S.Store conn.old) (state S.Store conn.new) }
-    ensures judged { FindsThat (λ t. IsJudgedUnder t name.now)
+    ensures judged { FindsThat (λ t. IsJudgedUnder t key.now)
         (state S.Store conn.old) (state S.Store conn.new) result }
-    ensures refused { RefusesUnless (λ t. IsJudgedUnder t name.now)
+    ensures refused { RefusesUnless (λ t. IsJudgedUnder t key.now)
         (state S.Store conn.old) (state S.Store conn.new) result }
 {
-    let rows = services::template_rows(conn, alloc, name)?;
-    read_template(alloc, rows)
+    let rows = services::revision_rows(conn, alloc, &key.name, key.revision)?;
+    read_revision(alloc, rows)?;
+    judge_number(conn, key)
 }
 
 // That there is one row, of an accepted template.
-fn read_template(alloc: Global, rows: Listed<TemplateRow>) -> Result<(), ReadFault>
+fn read_revision(alloc: Global, rows: Listed<RevisionRow>) -> Result<(), ReadFault>
     ensures judged { OnOk result (IsAlone IsAccepted rows) }
     ensures refused { result ≡ Err Broken → ¬ IsAlone IsAccepted rows }
 {
     let Some(row) = alone::only(rows) else {
         return Err(ReadFault::Broken);
     };
-    let template = read(alloc, row.spec.as_str())?;
+    let template = read(alloc, &row)?;
     if is_of(&template, &row.name) {
         Ok(())
     } else {
@@ -98,17 +105,39 @@ fn is_of(template: &Template, name: &Name) -> bool
     template.spec.name == *name
 }
 
-/// The template that is kept by this text.
+// That it is one of the numbers of revisions, and follows another revision, or is the first.
+fn judge_number<S: Alter>(conn: &mut Connection<S>, key: &RevisionKey) -> Result<(), ReadFault>
+    requires autocommit { conn.old.in_transaction ≡ false }
+    ensures mode { conn.new.in_transaction ≡ false }
+    ensures same { IsSame (state S.Store conn.old) (state S.Store conn.new) }
+    ensures judged { FindsThat (λ t. IsNumbered t key.now)
+        (state S.Store conn.old) (state S.Store conn.new) result }
+    ensures refused { RefusesUnless (λ t. IsNumbered t key.now)
+        (state S.Store conn.old) (state S.Store conn.new) result }
+{
+    if key.revision == 0 || key.revision > MOST_REVISIONS {
+        return Err(ReadFault::Broken);
+    }
+    if key.revision == 1 {
+        return Ok(());
+    }
+    match services::revision(conn, &key.name, key.revision - 1)? {
+        Some(_) => Ok(()),
+        None => Err(ReadFault::Broken),
+    }
+}
+
+/// The template of a row.
 ///
 /// # Errors
 /// `Broken` where the text is not that of a command that adds a template, or where something
 /// refuses the template; `Memory`.
-pub(crate) fn read(alloc: Global, text: &str) -> Result<Template, ReadFault>
-    ensures found { IfOk result (IsAcceptedIn text.now) }
+pub(crate) fn read(alloc: Global, row: &RevisionRow) -> Result<Template, ReadFault>
+    ensures found { IfOk result (IsAcceptedAs row.now) }
     ensures broken { result ≡ Err Broken
-        → (template : Template) → ¬ IsAcceptedIn text.now template }
+        → (template : Template) → ¬ IsAcceptedAs row.now template }
 {
-    match reading::template(alloc, text) {
+    match reading::revision(alloc, row) {
         Ok(template) => Ok(template),
         Err(fault) => Err(read_fault(fault)),
     }

@@ -7,10 +7,11 @@ use canary_reads::fault::ReadFault;
 // As many rows as SQLite counts at most.
 const MOST_ROWS: u64 = 9_223_372_036_854_775_807;
 
-/// How many runs, tallies, measurements and lines of histories were found.
+/// How many runs, rows of binding, tallies, measurements and lines of histories were found.
 #[derive(Clone, Copy)]
 pub(crate) struct Totals {
     pub runs: u64,
+    pub bindings: u64,
     pub tallies: u64,
     pub measurements: u64,
     pub lines: u64,
@@ -19,10 +20,12 @@ pub(crate) struct Totals {
 impl Totals {
     /// Nothing was found.
     pub(crate) fn none() -> Totals
-        ensures { result ≡ record { runs = 0; tallies = 0; measurements = 0; lines = 0 } }
+        ensures { result
+            ≡ record { runs = 0; bindings = 0; tallies = 0; measurements = 0; lines = 0 } }
     {
         Totals {
             runs: 0,
+            bindings: 0,
             tallies: 0,
             measurements: 0,
             lines: 0,
@@ -33,6 +36,7 @@ impl Totals {
     pub(crate) fn with(self, more: Totals) -> Result<Totals, ReadFault>
         ensures sum { IfOk result (λ sum. sum ≡ record {
           runs = self.runs + more.runs;
+          bindings = self.bindings + more.bindings;
           tallies = self.tallies + more.tallies;
           measurements = self.measurements + more.measurements;
           lines = self.lines + more.lines;
@@ -41,6 +45,7 @@ impl Totals {
     {
         Ok(Totals {
             runs: sum(self.runs, more.runs)?,
+            bindings: sum(self.bindings, more.bindings)?,
             tallies: sum(self.tallies, more.tallies)?,
             measurements: sum(self.measurements, more.measurements)?,
             lines: sum(self.lines, more.lines)?,
@@ -50,6 +55,7 @@ impl Totals {
     /// How many rows these are.
     pub(crate) fn rows(self) -> u64 {
         self.runs
+            .saturating_add(self.bindings)
             .saturating_add(self.tallies)
             .saturating_add(self.measurements)
             .saturating_add(self.lines)

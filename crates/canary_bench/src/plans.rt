@@ -83,7 +83,7 @@ fn bound(alloc: Global, registered: Command) -> Option<Template> {
 }
 
 fn bind(alloc: Global, spec: &TemplateSpec) -> Option<Template> {
-    Template::bind(alloc, spec).ok()
+    Template::bind(alloc, spec, 1).ok()
 }
 
 /// Registers the service with a strategy of that size.

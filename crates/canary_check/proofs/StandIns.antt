@@ -52,7 +52,7 @@ stand_in_is name metrics dry_run kept e d = λ i.
 
 -- one stand-in more
 pub one_more : (known made : Known) (names : List (List ℕ)) (i : ℕ) (name : List ℕ) → name ≡ get_or names i name → i < length names
-    → made ≡ map.insert known name (template_of (stand_in name)) → with_stand_ins known (drop i names) ≡ with_stand_ins made (drop (i + 1) names)
+    → made ≡ map.insert known name (template_of (stand_in name) 1) → with_stand_ins known (drop i names) ≡ with_stand_ins made (drop (i + 1) names)
 one_more known made names i name is within set =
     let front : drop i names ≡ get_or names i name ∷ drop (suc i) names = drop-cons names i name within in
     rw (front, sym is, add-one, set) refl

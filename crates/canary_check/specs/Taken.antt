@@ -14,8 +14,9 @@ use Rattle.canary_plan.specs.declared.report.Entry.{Entry}
 use Rattle.canary_plan.specs.declared.refusal.Refusal.{Refusal}
 use Rattle.canary_plan.specs.declared.command.Command.{Command}
 use Rattle.canary_plan.specs.declared.command.Command.TheVariants as command
-use Rattle.canary_plan.specs.Plans.{template_of}
-use Rattle.canary_plan.specs.PlanRefusals.{template_refusal, strategy_refusal}
+use Rattle.canary_plan.specs.Plans.{template_of, strategy_of}
+use Rattle.canary_plan.specs.PlanRefusals.{template_refusal, strategy_refusal, bound_refusal}
+use Rattle.canary_plan.specs.Refusals.{or_refusal}
 use Rattle.canary_plan.specs.Commands.{names_looked_up}
 use Rattle.canary_manifest.specs.Members.{has, is_other_text}
 use Rattle.canary_manifest.specs.Readings.{Reading, unsupported, unreadable, readable}
@@ -52,20 +53,23 @@ Known = map.FinMap (slice_cmp nat_cmp) Template
 abbrev pub with_stand_ins : Known → List (List ℕ) → Known
 with_stand_ins known [] = known
 with_stand_ins known (name ∷ names) =
-    with_stand_ins (map.insert known name (template_of (stand_in name))) names
+    with_stand_ins (map.insert known name (template_of (stand_in name) 1)) names
 
--- why a service is refused where the templates of these names are there, with one metric of its own
--- each
+-- why a service is refused, or else why no attempt of it can be bound, where the templates of these
+-- names are there, with one metric of its own each
 abbrev pub refusal_among : List (List ℕ) → ServiceSpec → Option Refusal
-refusal_among names spec = strategy_refusal (map.get (with_stand_ins map.empty names)) spec
+refusal_among names spec =
+    let known = map.get (with_stand_ins map.empty names) in
+    or_refusal (strategy_refusal known spec) (bound_refusal known (strategy_of spec))
 
 -- ---- manifests
 
--- nothing that the command itself holds is refused
+-- nothing that the command itself holds is refused, of a service neither at once nor as an attempt
+-- begins
 abbrev pub is_command_taken : Command → Bool
 is_command_taken (command.Template spec) = is_none (template_refusal spec)
 is_command_taken (command.Service spec) =
-    is_none (refusal_among (names_looked_up (command.Service spec)) spec)
+    is_none (refusal_among (names_looked_up None (command.Service spec)) spec)
 is_command_taken other = false
 
 abbrev pub is_reading_taken : Reading Command → Bool

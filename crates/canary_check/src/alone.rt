@@ -1,10 +1,10 @@
 //! Why the desk refuses what a manifest, or the body of a request, itself holds.
 //!
-//! A strategy is checked as the desk checks it, among templates that stand in for those that it
-//! names: each has one metric, of the template's own name.
-ghost use Rattle.std.specs.Prelude.{◌≡◌, IfOk, is_none};
+//! A strategy is checked and bound as the desk does it, among templates that stand in for those
+//! that it names: each has one metric, of the template's own name.
+ghost use Rattle.std.specs.Prelude.{◌≡◌, IfOk, None, is_none};
 ghost use Rattle.canary_plan.specs.Plans.{template_of};
-ghost use Rattle.canary_plan.specs.PlanRefusals.{template_refusal};
+ghost use Rattle.canary_plan.specs.PlanRefusals.{template_refusal, bound_refusal};
 ghost use Rattle.std.specs.FinMap as map;
 ghost use Rattle.canary_plan.specs.Commands.{names_looked_up};
 ghost use Rattle.canary_check.specs.Taken.{plain_metric, stand_in, with_stand_ins};
@@ -27,8 +27,8 @@ use canary_plan::template_spec::{MetricSpec, TemplateSpec};
 use canary_plan::templates::Templates;
 use std::alloc::Global;
 
-/// Whether nothing that the command itself holds is refused: of a template and of a service; no
-/// other command comes of a manifest.
+/// Whether nothing that the command itself holds is refused: of a template, and of a service, also
+/// as an attempt begins; no other command comes of a manifest.
 pub(crate) fn is_command_taken(alloc: Global, command: &Command) -> Result<bool, Memory>
     ensures { IfOk result (λ taken. taken ≡ is_command_taken command.now) }
 {
@@ -74,9 +74,9 @@ fn names_metric(entries: &[Entry], name: Label) -> bool
 // The same of the command that registers this service.
 fn is_service_taken(alloc: Global, command: &Command, spec: &ServiceSpec) -> Result<bool, Memory>
     ensures { IfOk result (λ taken. taken
-        ≡ is_none (refusal_among (names_looked_up command.now) spec.now)) }
+        ≡ is_none (refusal_among (names_looked_up None command.now) spec.now)) }
 {
-    let names = command.names_looked_up(alloc)?;
+    let names = command.names_looked_up(alloc, None)?;
     let refusal = refusal_among(alloc, names.as_slice(), spec)?;
     Ok(refusal.is_none())
 }
@@ -88,15 +88,15 @@ pub(crate) fn template_refusal(
 ) -> Result<Option<Refusal>, Memory>
     ensures { IfOk result (λ found. found ≡ template_refusal spec.now) }
 {
-    match Template::bind(alloc, spec) {
+    match Template::bind(alloc, spec, 1) {
         Ok(_) => Ok(None),
         Err(BindFault::Refused(refusal)) => Ok(Some(refusal)),
         Err(BindFault::Memory) => Err(Memory),
     }
 }
 
-/// Why a service is refused where the templates of these names are there, with one metric of its
-/// own each; or `Memory`.
+/// Why a service is refused, or else why no attempt of it can be bound, where the templates of
+/// these names are there, with one metric of its own each; or `Memory`.
 pub(crate) fn refusal_among(
     alloc: Global,
     names: &[Name],
@@ -106,6 +106,21 @@ pub(crate) fn refusal_among(
 {
     let known = stand_ins(alloc, names)?;
     match Strategy::check(alloc, spec, &known) {
+        Ok(strategy) => bound_refusal(alloc, &strategy, &known),
+        Err(CheckFault::Refused(refusal)) => Ok(Some(refusal)),
+        Err(CheckFault::Memory) => Err(Memory),
+    }
+}
+
+// Why a strategy is not bound to these templates, or `Memory`.
+fn bound_refusal(
+    alloc: Global,
+    strategy: &Strategy,
+    known: &Templates,
+) -> Result<Option<Refusal>, Memory>
+    ensures { IfOk result (λ found. found ≡ bound_refusal (map.get known.now) strategy.now) }
+{
+    match strategy.bind(alloc, known) {
         Ok(_) => Ok(None),
         Err(CheckFault::Refused(refusal)) => Ok(Some(refusal)),
         Err(CheckFault::Memory) => Err(Memory),
@@ -126,10 +141,10 @@ fn stand_ins(alloc: Global, names: &[Name]) -> Result<Templates, Memory>
 
 // The template that stands in under that name.
 fn stand_in(alloc: Global, name: Name) -> Result<Template, Memory>
-    ensures { IfOk result (λ template. template ≡ template_of (stand_in name)) }
+    ensures { IfOk result (λ template. template ≡ template_of (stand_in name) 1) }
 {
     let spec = stand_in_spec(alloc, name)?;
-    match Template::bind(alloc, &spec) {
+    match Template::bind(alloc, &spec, 1) {
         Ok(template) => Ok(template),
         Err(BindFault::Memory) => Err(Memory),
         Err(BindFault::Refused(_)) => unreachable!(),

@@ -82,11 +82,11 @@ impl Findings {
 /// `kubectl get -o json` prints it; which of the two its `kind` says.
 ///
 /// It is ok exactly where the desk reads the body of the command that registers the manifest, and
-/// refuses nothing that the manifest itself holds: a template as the desk binds it, a Rollout as
-/// the desk checks its strategy where each template that it names is there, with one metric, of the
-/// template's name. What depends on the templates that a desk has, as `unknown-template` and
-/// `endless-metric`, is no finding, and neither is a name that is taken, or a body of more than
-/// 65,536 bytes.
+/// refuses nothing that the manifest itself holds: a template as the desk binds it; a Rollout as
+/// the desk checks its strategy, and binds it as an attempt begins, if each template that it names
+/// is there, with one metric, of the template's name. What depends on the templates that a desk
+/// has, as `unknown-template` and `endless-metric`, is no finding, and neither is a service's name
+/// that is taken, or a body of more than 65,536 bytes.
 ///
 /// # Errors
 /// `Memory` where an allocation was refused.

@@ -1,29 +1,19 @@
 -- Statements one after another, and what each leaves to the next.
-use Rattle.std.proofs.Common.{◌≡◌, ◌⊎◌, inl, inr, ℕ, suc, ◌+◌, ◌<◌, List, [], ◌∷◌, ◌++◌, length, take, get_or, IsTrue, Result, Ok, Err, Some, refl, sym, ap, subst, ◌∙◌, arith}
-use Rattle.std.specs.Prelude.{OnOk}
+use Rattle.std.proofs.Common.{◌≡◌, ℕ, ◌+◌, ◌<◌, List, [], ◌∷◌, ◌++◌, length, take, get_or, IsTrue, Result, Ok, Some, refl, sym, ap, subst, ◌∙◌}
 use Rattle.std.specs.List.{AllByRecursion}
 use Rattle.std.proofs.lemmas.List.{take_more}
-use Rattle.sqlite.specs.State.{State, HasCleanDisk, Survives}
-use Rattle.sqlite.specs.Tree.{Trees}
-use Rattle.sqlite_disk.specs.Disk.{MoreFaults}
+use Rattle.sqlite.specs.State.{State, HasCleanDisk}
 use Rattle.canary_release.specs.declared.effect.Closing.{Closing}
 use Rattle.canary_release.specs.declared.effect.Recorded.{Recorded}
 use Rattle.canary_release.specs.declared.effect.Effect.{Effect}
 use Rattle.canary_rows.specs.declared.rows.MeasurementRow.{MeasurementRow}
 use Rattle.canary_rows.specs.Tables.{Tables}
 use Rattle.canary_rows.specs.Changes.{HasRun, HasTally, with_measurement, with_counted, with_ending}
-use Rattle.canary_schema.specs.Stores.{IsReady, Wrote, WroteIf, StaysLive, StaysCommitted, SurvivesCut}
+use Rattle.canary_schema.specs.Stores.{IsReady, Wrote, WroteIf, StaysCommitted, SurvivesCut}
 use Rattle.canary_stored.specs.Numbers.{bit, phase_column}
 use Rattle.canary_stored.specs.Values.{ending_of, measurement_row}
 use Rattle.canary_stored.specs.Settling.{happened, all_happened, Asks, AllAsk, IsReadableEffect}
-
--- what holds where a call succeeds holds where it did
-pub on_ok : {A E : Type 0} (r : Result A E) (a : A) (P : Type 0) → r ≡ Ok a → OnOk r P → P
-on_ok r a P is h = subst (λ x. OnOk x P) is h
-
--- a clean disk at the end was clean in the midst
-pub clean_before : (mid new : State) → SurvivesCut mid new → HasCleanDisk new → HasCleanDisk mid
-clean_before mid new survives clean = omega (arith, survives.clean, clean)
+use Rattle.canary_commits.proofs.Doing.{on_ok, clean_before, Done, nothing_done, done_as}
 
 -- two statements that succeed
 pub both : {A B E F : Type 0} (f g : Tables → Tables) (old mid new : State) (r : Result A E) (s : Result B F) (a : A) (b : B)
@@ -50,20 +40,11 @@ closed name x outside verdict old new r a o v wrote is clean t ready run =
 
 -- these have happened so far
 pub record SoFar (name : List ℕ) (xs : List Effect) (old new : State) : Type 0 where
-  pub wrote : HasCleanDisk new → (t : Tables) → IsReady old t → AllAsk name xs t → IsReady new (all_happened name xs t)
+  pub done : Done (AllAsk name xs) (all_happened name xs) old new
   pub readable : AllByRecursion IsReadableEffect xs
-  pub live : HasCleanDisk new → IsTrue old.in_transaction → IsTrue new.in_transaction
-  pub kept : StaysCommitted old new
-  pub survives : SurvivesCut old new
 
 pub nothing_yet : (name : List ℕ) (s : State) → SoFar name [] s s
-nothing_yet name s = record {
-  wrote = λ clean t ready asks. ready;
-  readable = tt;
-  live = λ clean live. live;
-  kept = λ clean live. record { was_open = λ o. o; committed = λ o. refl };
-  survives = record { clean = omega arith; shield = λ x. x; counts = omega arith; limit = refl; closes = λ clean o. inl o; crash = λ clean db h. inl h };
-}
+nothing_yet name s = record { done = nothing_done (AllAsk name []) s; readable = tt }
 
 all_more : (name : List ℕ) (xs : List Effect) (x : Effect) (t : Tables) → all_happened name (xs ++ x ∷ []) t ≡ happened name x (all_happened name xs t)
 all_more name [] x t = refl
@@ -81,45 +62,13 @@ read_more : (xs : List Effect) (x : Effect) → AllByRecursion IsReadableEffect 
 read_more [] x all one = (one, tt)
 read_more (y ∷ xs) x all one = (all.0, read_more xs x all.1 one)
 
-survives_both : (a b c : State) → SurvivesCut a b → SurvivesCut b c → SurvivesCut a c
-survives_both a b c h k = record {
-  clean = omega (arith, h.clean, k.clean);
-  shield = λ x. k.shield (h.shield x);
-  counts = omega (arith, h.counts, k.counts);
-  limit = k.limit ∙ h.limit;
-  closes = λ clean o. closes_so clean (h.closes (omega (arith, k.clean, clean)) o);
-  crash = λ clean db left. left_by clean db (k.crash clean db left);
-}
-  where
-    closes_so : HasCleanDisk c → IsTrue b.is_open ⊎ MoreFaults a.faults b.faults → IsTrue c.is_open ⊎ MoreFaults a.faults c.faults
-    closes_so clean (inl o) = later (k.closes clean o)
-      where
-        later : IsTrue c.is_open ⊎ MoreFaults b.faults c.faults → IsTrue c.is_open ⊎ MoreFaults a.faults c.faults
-        later (inl o) = inl o
-        later (inr more) = inr (omega (arith, more, h.counts))
-    closes_so clean (inr more) = inr (omega (arith, more, k.counts))
-
-    left_by : HasCleanDisk c → (db : Trees) → b.may_leave db ⊎ ⊥ → a.may_leave db ⊎ ⊥
-    left_by clean db (inl l) = h.crash (omega (arith, k.clean, clean)) db l
-    left_by clean db (inr l) = absurd l
-
 -- one more
 one_more : (name : List ℕ) (xs : List Effect) (x : Effect) (old mid new : State) → SoFar name xs old mid → (HasCleanDisk new → (t : Tables) → IsReady mid t → Asks name x t → IsReady new (happened name x t)) → IsReadableEffect x
     → (HasCleanDisk new → IsTrue mid.in_transaction → IsTrue new.in_transaction) → StaysCommitted mid new → SurvivesCut mid new → SoFar name (xs ++ x ∷ []) old new
-one_more name xs x old mid new h wrote readable live kept survives =
-    let before : HasCleanDisk new → HasCleanDisk mid = clean_before mid new survives in
-    record {
-      wrote = λ clean t ready asks.
-          let first : IsReady mid (all_happened name xs t) = h.wrote (before clean) t ready (ask_first name xs x t asks) in
-          subst (IsReady new) (sym (all_more name xs x t)) (wrote clean (all_happened name xs t) first (ask_last name xs x t asks));
-      readable = read_more xs x h.readable readable;
-      live = λ clean l. live clean (h.live (before clean) l);
-      kept = λ clean l.
-          let one = h.kept (before clean) l in
-          let two = kept clean (h.live (before clean) l) in
-          record { was_open = λ o. one.was_open (two.was_open o); committed = λ o. two.committed o ∙ one.committed (two.was_open o) };
-      survives = survives_both old mid new h.survives survives;
-    }
+one_more name xs x old mid new h wrote readable live kept survives = record {
+  done = done_as (AllAsk name (xs ++ x ∷ [])) (all_happened name (xs ++ x ∷ [])) (AllAsk name xs) (Asks name x) (all_happened name xs) (happened name x) old mid new (ask_first name xs x) (ask_last name xs x) (λ t. sym (all_more name xs x t)) h.done wrote live kept survives;
+  readable = read_more xs x h.readable readable;
+}
 
 pub effect_more : (name : List ℕ) (effects : List Effect) (i : ℕ) (x : Effect) (old mid new : State) → i < length effects → x ≡ get_or effects i x → SoFar name (take i effects) old mid
     → (HasCleanDisk new → (t : Tables) → IsReady mid t → Asks name x t → IsReady new (happened name x t)) → IsReadableEffect x

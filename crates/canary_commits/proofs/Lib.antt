@@ -1,2 +1,5 @@
+mod Doing
 mod Happening
+mod Binding
+mod FrontWords
 mod Committing

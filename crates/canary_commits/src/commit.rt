@@ -14,6 +14,7 @@ ghost use Rattle.canary_stored.specs.Settling.{request_settled, IsReadableChange
 ghost use Rattle.canary_stored.specs.Settling.{IsReadableSettlement};
 ghost use Rattle.canary_commits.specs.Commits.{PutAsks, ChangeAsks, CommitAsks};
 
+use crate::bindings::put_bindings;
 use crate::effects::happen_all;
 use canary_base::names::Name;
 use canary_canonical::command::CanonicalCommand;
@@ -23,7 +24,7 @@ use canary_release::decide::DeskChange;
 use canary_release::effect::Effect;
 use canary_release::service::ServiceParts;
 use canary_schema::fault::{StoreFault, fault_of};
-use canary_statements::inserts::{insert_caller, insert_kept, insert_service, insert_template};
+use canary_statements::inserts::{insert_caller, insert_kept, insert_revision, insert_service};
 use canary_statements::updates::{update_caller, update_service};
 use canary_stored::writing::standing;
 use sqlite::{Alter, Connection, Error, Transaction};
@@ -82,9 +83,10 @@ fn change_desk<S: Alter>(
     command: &CanonicalCommand,
     change: &DeskChange,
     is_there: bool,
+    is_bound: bool,
 ) -> Result<(), StoreFault>
     ensures same_reference { tx.new.conn.ghost_name ≡ tx.old.conn.ghost_name }
-    ensures wrote { WroteIf (ChangeAsks is_there command.now change.now)
+    ensures wrote { WroteIf (ChangeAsks is_there is_bound command.now change.now)
         (desk_changed command.now change.now)
         (state S.Store tx.old.conn.now) (state S.Store tx.new.conn.now) result }
     ensures readable { OnOk result (IsReadableChange change.now) }
@@ -104,12 +106,13 @@ fn change_desk<S: Alter>(
                 service.parts(),
                 effects.as_slice(),
                 is_there,
+                is_bound,
             )
         }
     }
 }
 
-// A template is added by the command.
+// A revision of a template is added by the command.
 fn add_template<S: Alter>(
     tx: &mut Transaction<'_, S>,
     command: &CanonicalCommand,
@@ -123,11 +126,12 @@ fn add_template<S: Alter>(
     ensures kept { StaysCommitted (state S.Store tx.old.conn.now) (state S.Store tx.new.conn.now) }
     ensures survives { SurvivesCut (state S.Store tx.old.conn.now) (state S.Store tx.new.conn.now) }
 {
-    insert_template(tx, &template.spec.name, command.text()).map_err(fault_of)?;
+    let revision = template.revision();
+    insert_revision(tx, &template.spec.name, revision, command.text()).map_err(fault_of)?;
     Ok(())
 }
 
-// A service becomes these parts, with these effects.
+// A service becomes these parts, bound anew if the command begins an attempt, with these effects.
 fn change_service<S: Alter>(
     tx: &mut Transaction<'_, S>,
     alloc: Global,
@@ -135,9 +139,11 @@ fn change_service<S: Alter>(
     parts: &ServiceParts,
     effects: &[Effect],
     is_there: bool,
+    is_bound: bool,
 ) -> Result<(), StoreFault>
     ensures same_reference { tx.new.conn.ghost_name ≡ tx.old.conn.ghost_name }
-    ensures wrote { WroteIf (ChangeAsks is_there command.now (change.Service parts.now effects.now))
+    ensures wrote { WroteIf
+        (ChangeAsks is_there is_bound command.now (change.Service parts.now effects.now))
         (desk_changed command.now (change.Service parts.now effects.now))
         (state S.Store tx.old.conn.now) (state S.Store tx.new.conn.now) result }
     ensures readable { OnOk result (IsReadableChange (change.Service parts.now effects.now)) }
@@ -147,6 +153,7 @@ fn change_service<S: Alter>(
     ensures survives { SurvivesCut (state S.Store tx.old.conn.now) (state S.Store tx.new.conn.now) }
 {
     put_service(tx, command, parts, is_there).map_err(fault_of)?;
+    put_bindings(tx, alloc, command, parts, is_bound)?;
     happen_all(tx, alloc, &parts.stand.name, effects)?;
     Ok(())
 }
@@ -157,9 +164,11 @@ fn write<S: Alter>(
     alloc: Global,
     settlement: &Settlement,
     is_there: bool,
+    is_bound: bool,
 ) -> Result<(), StoreFault>
     ensures same_reference { tx.new.conn.ghost_name ≡ tx.old.conn.ghost_name }
-    ensures wrote { WroteIf (CommitAsks is_there settlement.now) (request_settled settlement.now)
+    ensures wrote { WroteIf (CommitAsks is_there is_bound settlement.now)
+        (request_settled settlement.now)
         (state S.Store tx.old.conn.now) (state S.Store tx.new.conn.now) result }
     ensures readable { OnOk result (IsReadableSettlement settlement.now) }
     ensures live { StaysLive (state S.Store tx.old.conn.now)
@@ -175,7 +184,8 @@ fn write<S: Alter>(
         settlement.number.get(),
         &settlement.receipt,
     )?;
-    change_desk(tx, alloc, command, &settlement.change, is_there)?;
+    let change = &settlement.change;
+    change_desk(tx, alloc, command, change, is_there, is_bound)?;
     Ok(())
 }
 
@@ -202,7 +212,8 @@ fn keep<S: Alter>(
 }
 
 /// Settles a request in one transaction, with all that it changes, or does nothing. `is_there` says
-/// whether the service that the change names is there.
+/// whether the service that the change names is there, and `is_bound`, if the command begins an
+/// attempt, whether its attempt before is bound.
 ///
 /// # Errors
 /// `Memory` where an allocation was refused, `Storage` where the store failed; nothing changed.
@@ -211,12 +222,13 @@ pub fn commit<S: Alter>(
     alloc: Global,
     settlement: &Settlement,
     is_there: bool,
+    is_bound: bool,
 ) -> Result<(), StoreFault>
     requires autocommit { conn.old.in_transaction ≡ false }
     ensures mode { conn.new.in_transaction ≡ false }
     ensures held { IsUsable (state S.Store conn.new) → IsUsable (state S.Store conn.old) }
     ensures stored { IsUsable (state S.Store conn.new) → (t : Tables)
-        → Stores (state S.Store conn.old) t → CommitAsks is_there settlement.now t
+        → Stores (state S.Store conn.old) t → CommitAsks is_there is_bound settlement.now t
         → OnOk result (Stores (state S.Store conn.new) (request_settled settlement.now t)) }
     ensures readable { OnOk result (IsReadableSettlement settlement.now) }
     ensures failed { IsUsable (state S.Store conn.new)
@@ -224,6 +236,6 @@ pub fn commit<S: Alter>(
 {
     let _settled = conn.is_autocommit();
     let mut tx = conn.transaction();
-    write(&mut tx, alloc, settlement, is_there)?;
+    write(&mut tx, alloc, settlement, is_there, is_bound)?;
     tx.commit().map_err(fault_of)
 }

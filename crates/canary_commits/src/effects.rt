@@ -3,6 +3,7 @@ ghost use Rattle.std.specs.Prelude.{◌≡◌, length, Some, IfOk, OnOk};
 ghost use Rattle.std.specs.List.{AllByRecursion};
 ghost use Rattle.sqlite.specs.Held.{state};
 ghost use Rattle.canary_condition.specs.PhaseTexts.{phase_of_number};
+ghost use Rattle.canary_plan.specs.Plans.{distinct};
 ghost use Rattle.canary_release.specs.declared.effect.Effect.TheVariants.{Told, Opened, Measured};
 ghost use Rattle.canary_rows.specs.Changes.{HasRun, HasTally, with_ending};
 ghost use Rattle.canary_schema.specs.Stores.{Wrote, WroteIf, StaysLive, StaysCommitted};
@@ -12,8 +13,13 @@ ghost use Rattle.canary_stored.specs.Values.{ending_of, measurement_row};
 ghost use Rattle.canary_stored.specs.Tables.{IsReadableLine, IsReadableMeasurement};
 ghost use Rattle.canary_stored.specs.Settling.{happened, all_happened, Asks, AllAsk};
 ghost use Rattle.canary_stored.specs.Settling.{IsReadableEffect};
+ghost use Rattle.canary_commits.specs.Commits.{run_added};
 
+use crate::bindings::bind_all;
+use canary_base::error::Memory;
+use canary_base::lists::Listed;
 use canary_base::names::Name;
+use canary_plan::analysis_parts::{Revision, distinct};
 use canary_plan::line::Line;
 use canary_release::effect::{Closing, Effect, Opening, Recorded};
 use canary_rows::rows::MeasurementRow;
@@ -53,9 +59,36 @@ fn metric_count(opening: &Opening) -> u32
     opening.analysis.metrics().len() as u32
 }
 
-// A run is opened, with a tally of no measurements for each of its metrics.
+// A run is there, with a tally of no measurements for each of its metrics.
+fn add_run<S: Alter>(
+    tx: &mut Transaction<'_, S>,
+    service: &Name,
+    opening: &Opening,
+) -> Result<(), StoreFault>
+    ensures same_reference { tx.new.conn.ghost_name ≡ tx.old.conn.ghost_name }
+    ensures wrote { Wrote (run_added service.now opening.now)
+        (state S.Store tx.old.conn.now) (state S.Store tx.new.conn.now) result }
+    ensures live { StaysLive (state S.Store tx.old.conn.now)
+        (state S.Store tx.new.conn.now) result }
+    ensures kept { StaysCommitted (state S.Store tx.old.conn.now) (state S.Store tx.new.conn.now) }
+    ensures survives { SurvivesCut (state S.Store tx.old.conn.now) (state S.Store tx.new.conn.now) }
+{
+    insert_run(tx, service, opening.run, opening.step, opening.started).map_err(fault_of)?;
+    insert_tallies(tx, service, opening.run, metric_count(opening)).map_err(fault_of)?;
+    Ok(())
+}
+
+// The revisions to which the run is bound, one of each template.
+fn revisions_of(alloc: Global, opening: &Opening) -> Result<Listed<Revision>, Memory>
+    ensures { IfOk result (λ found. found ≡ distinct opening.now.analysis.revisions) }
+{
+    distinct(alloc, opening.analysis.revisions())
+}
+
+// A run is opened, bound to the revisions of its analysis.
 fn open_run<S: Alter>(
     tx: &mut Transaction<'_, S>,
+    alloc: Global,
     service: &Name,
     opening: &Opening,
 ) -> Result<(), StoreFault>
@@ -67,8 +100,9 @@ fn open_run<S: Alter>(
     ensures kept { StaysCommitted (state S.Store tx.old.conn.now) (state S.Store tx.new.conn.now) }
     ensures survives { SurvivesCut (state S.Store tx.old.conn.now) (state S.Store tx.new.conn.now) }
 {
-    insert_run(tx, service, opening.run, opening.step, opening.started).map_err(fault_of)?;
-    insert_tallies(tx, service, opening.run, metric_count(opening)).map_err(fault_of)?;
+    let revisions = revisions_of(alloc, opening)?;
+    add_run(tx, service, opening)?;
+    bind_all(tx, service, opening.run, revisions.as_slice())?;
     Ok(())
 }
 
@@ -163,7 +197,7 @@ fn happen<S: Alter>(
 {
     match effect {
         Effect::Told(line) => tell(tx, alloc, service, line),
-        Effect::Opened(opening) => open_run(tx, service, opening),
+        Effect::Opened(opening) => open_run(tx, alloc, service, opening),
         Effect::Measured(recorded) => measure(tx, alloc, service, recorded),
         Effect::Closed { closing, .. } => close(tx, service, closing),
     }

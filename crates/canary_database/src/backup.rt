@@ -2,7 +2,7 @@
 use crate::open::has_other_bytes;
 use canary_backup::copying::Part;
 use canary_programs::fault::Fault;
-use canary_schema::known::is_known;
+use canary_schema::known::is_desk;
 use sqlite::{Connection, Error, ErrorCode};
 
 /// Copies a desk's file of SQLite, with its log, to `copy` and `copy`-wal, also while a desk serves
@@ -34,7 +34,7 @@ fn name_desk(rt: &HostRuntime, part: &Part) -> Result<(), Fault> {
 // Reads whether the tables of the database in this file are a desk's.
 fn look_for_desk(rt: &HostRuntime, file: &str) -> Result<(), Fault> {
     match Connection::open(rt, file) {
-        Ok(conn) if is_known(conn.schema()) => Ok(()),
+        Ok(conn) if is_desk(conn.schema()) => Ok(()),
         Ok(_) => Err(Fault::OtherSchema),
         Err(error) => Err(unopened(error)),
     }

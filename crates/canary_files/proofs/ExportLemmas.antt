@@ -1,28 +1,23 @@
 -- What is read of a book and written, one thing after another.
 use Rattle.std.proofs.Common.{◌≡◌, ℕ, suc, ◌+◌, ◌≤◌, List, [], ◌∷◌, ◌++◌, ◌-◌, length, take, drop, refl, sym, ap, ◌∙◌, subst, arith}
-use Rattle.std.specs.FinMap.{get}
 use Rattle.std.specs.Prelude.{Option, Some, None, option_map, unwrap_or, Result, Ok, Err, IfErr, IsErr}
 use Rattle.std.specs.Io.KnownBytes.{Appends}
 use Rattle.std.proofs.lemmas.List.{append-nil, append_assoc, take-append-drop, drop-drop, length-append, length-drop}
 use Rattle.std.proofs.lemmas.Result.{IfErr-weaker}
 use Rattle.std.proofs.lemmas.Option.{none-some, same_Some}
 use Rattle.std.proofs.Math.Seq.{drop-append_seam}
-use Rattle.canary_plan.specs.Plans.{metrics_at}
-use Rattle.canary_plan.specs.declared.bound.BoundParts.{BoundParts}
+use Rattle.canary_plan.specs.declared.analysis_parts.AnalysisParts.{AnalysisParts}
 use Rattle.canary_release.specs.declared.effect.Recorded.{Recorded}
-use Rattle.canary_release.specs.Desks.{ModelService}
-use Rattle.canary_release.specs.Shapes.{shape}
 use Rattle.canary_once.specs.Contents.{Contents}
 use Rattle.canary_once.specs.Books.{BookState}
 use Rattle.canary_once.specs.declared.record.RunRecord.{RunRecord}
-use Rattle.canary_once.specs.Records.{past_in, past_of, record_numbered, measurements_of}
+use Rattle.canary_once.specs.Records.{past_of, record_numbered, measurements_of}
 use Rattle.canary_files.specs.declared.export.ExportFault.{ExportFault}
 use Rattle.canary_files.specs.declared.export.ExportFault.TheVariants.{Memory, Storage, Write, TooMany, UnknownService}
-use Rattle.canary_files.specs.declared.export.Source.{Source}
 use Rattle.canary_files.specs.Writes.{Known}
 use Rattle.canary_files.specs.Rows.{header}
 use Rattle.canary_files.specs.Written.{record_text, row_fields, rows_text}
-use Rattle.canary_files.specs.Exporting.{Stays, Puts, IsSource, TellsPage, name_at, name_in, step_in, name_of, name_by, recorded_of, file_in, kept_bound}
+use Rattle.canary_files.specs.Exporting.{Stays, Puts, TellsPage, name_at, name_in, analysis_in, name_of, recorded_of, file_in}
 use Rattle.canary_files.proofs.WriteLemmas.{appends_more, appends_none}
 
 -- Books.
@@ -35,16 +30,14 @@ stays_then a b c p q = record {
   sure = q.sure ∙ p.sure;
 }
 
--- the name of a metric of a run, by the step of its analysis
-name_placed : (bound : BoundParts) (o : Option RunRecord) (step : Option ℕ) (place : ℕ) → option_map (λ (r : RunRecord). r.step) o ≡ Some step
-    → name_in bound o place ≡ name_at (metrics_at bound step) place
-name_placed bound None step place e = absurd (none-some _ e)
-name_placed bound (Some r) step place e = ap (λ s. name_at (metrics_at bound s) place) (same_Some _ _ e)
+-- the name of a metric of a run, by its analysis
+name_placed : (o : Option RunRecord) (a : AnalysisParts) (place : ℕ) → option_map (λ (r : RunRecord). r.analysis) o ≡ Some a → name_in o place ≡ name_at a place
+name_placed None a place e = absurd (none-some _ e)
+name_placed (Some r) a place e = ap (λ (b : AnalysisParts). name_at b place) (same_Some _ _ e)
 
-pub name_is : (bound : BoundParts) (c : Contents) (service : List ℕ) (x : Recorded) (step : Option ℕ) (name : List ℕ) → step_in c service x.run ≡ Some step
-    → Some name ≡ name_at (metrics_at bound step) x.metric → name ≡ name_of bound (past_of c service) x
-name_is bound c service x step name e f =
-    ap (λ o. unwrap_or o []) (f ∙ sym (name_placed bound (record_numbered (past_of c service) x.run) step x.metric e))
+pub name_is : (c : Contents) (service : List ℕ) (x : Recorded) (a : AnalysisParts) (name : List ℕ) → analysis_in c service x.run ≡ Some a → Some name ≡ name_at a x.metric → name ≡ name_of (past_of c service) x
+name_is c service x a name e f =
+    ap (λ o. unwrap_or o []) (f ∙ sym (name_placed (record_numbered (past_of c service) x.run) a x.metric e))
 
 -- Writes.
 
@@ -156,28 +149,28 @@ so_far_short w now new caller service name all rows r (Err e) p q failed =
 
 -- Contents that are the same.
 
-pub short_on : {A F : Type 0} (a b d : BookState) (bound : BoundParts) (caller service : List ℕ) (w now new : Known) (rows : ℕ) (r s : Result A F)
+pub short_on : {A F : Type 0} (a b d : BookState) (caller service : List ℕ) (w now new : Known) (rows : ℕ) (r s : Result A F)
     → Stays a b → Stays b d
-    → (b.is_honest → SoFar w now caller service (name_of bound (past_of a.contents service)) (recorded_of a.contents service) rows)
-    → (d.is_honest → Puts now new (rows_text caller service (name_of bound (past_of b.contents service)) rows (measurements_of b.contents service rows 256)) r)
+    → (b.is_honest → SoFar w now caller service (name_of (past_of a.contents service)) (recorded_of a.contents service) rows)
+    → (d.is_honest → Puts now new (rows_text caller service (name_of (past_of b.contents service)) rows (measurements_of b.contents service rows 256)) r)
     → IsErr s → d.is_honest
-    → Puts w new (rows_text caller service (name_of bound (past_of a.contents service)) 0 (recorded_of a.contents service)) s
-short_on a b d bound caller service w now new rows r s p q so_far puts failed h =
-    let P : Contents → Type 0 = λ c. Puts now new (rows_text caller service (name_of bound (past_of c service)) rows (measurements_of c service rows 256)) r in
-    so_far_short w now new caller service (name_of bound (past_of a.contents service)) (recorded_of a.contents service) rows r s (so_far (q.honest h)) (subst P (p.same (q.honest h)) (puts h)) failed
+    → Puts w new (rows_text caller service (name_of (past_of a.contents service)) 0 (recorded_of a.contents service)) s
+short_on a b d caller service w now new rows r s p q so_far puts failed h =
+    let P : Contents → Type 0 = λ c. Puts now new (rows_text caller service (name_of (past_of c service)) rows (measurements_of c service rows 256)) r in
+    so_far_short w now new caller service (name_of (past_of a.contents service)) (recorded_of a.contents service) rows r s (so_far (q.honest h)) (subst P (p.same (q.honest h)) (puts h)) failed
 
-pub more_on : {F : Type 0} (a b d : BookState) (bound : BoundParts) (caller service : List ℕ) (w now new : Known) (rows next : ℕ)
+pub more_on : {F : Type 0} (a b d : BookState) (caller service : List ℕ) (w now new : Known) (rows next : ℕ)
     → Stays a b → Stays b d
-    → (b.is_honest → SoFar w now caller service (name_of bound (past_of a.contents service)) (recorded_of a.contents service) rows)
-    → (d.is_honest → Puts {A = ℕ} {E = F} now new (rows_text caller service (name_of bound (past_of b.contents service)) rows (measurements_of b.contents service rows 256)) (Ok next))
+    → (b.is_honest → SoFar w now caller service (name_of (past_of a.contents service)) (recorded_of a.contents service) rows)
+    → (d.is_honest → Puts {A = ℕ} {E = F} now new (rows_text caller service (name_of (past_of b.contents service)) rows (measurements_of b.contents service rows 256)) (Ok next))
     → (d.is_honest → next ≡ rows + length (measurements_of b.contents service rows 256))
     → d.is_honest
-    → SoFar w new caller service (name_of bound (past_of a.contents service)) (recorded_of a.contents service) next
-more_on {F = F} a b d bound caller service w now new rows next p q so_far puts counted h =
-    let text : Contents → List ℕ = λ c. rows_text caller service (name_of bound (past_of c service)) rows (measurements_of c service rows 256) in
+    → SoFar w new caller service (name_of (past_of a.contents service)) (recorded_of a.contents service) next
+more_on {F = F} a b d caller service w now new rows next p q so_far puts counted h =
+    let text : Contents → List ℕ = λ c. rows_text caller service (name_of (past_of c service)) rows (measurements_of c service rows 256) in
     let P : Contents → Type 0 = λ c. Appends now new (text c) in
     let Q : Contents → Type 0 = λ c. next ≡ rows + length (measurements_of c service rows 256) in
-    so_far_more w now new caller service (name_of bound (past_of a.contents service)) (recorded_of a.contents service) rows next (so_far (q.honest h))
+    so_far_more w now new caller service (name_of (past_of a.contents service)) (recorded_of a.contents service) rows next (so_far (q.honest h))
     (subst P (p.same (q.honest h)) (puts_all {F = F} now new (text b.contents) next (puts h)))
     (subst Q (p.same (q.honest h)) (counted h))
 
@@ -189,13 +182,13 @@ tells_more n m le Write t = tt
 tells_more n m le TooMany t = omega (arith, le, t)
 tells_more n m le UnknownService t = absurd t
 
-pub why_on : {A : Type 0} (a b d : BookState) (bound : BoundParts) (caller service : List ℕ) (w now : Known) (rows : ℕ) (r s : Result A ExportFault)
+pub why_on : {A : Type 0} (a b d : BookState) (caller service : List ℕ) (w now : Known) (rows : ℕ) (r s : Result A ExportFault)
     → Stays a b → Stays b d
-    → (b.is_honest → SoFar w now caller service (name_of bound (past_of a.contents service)) (recorded_of a.contents service) rows)
+    → (b.is_honest → SoFar w now caller service (name_of (past_of a.contents service)) (recorded_of a.contents service) rows)
     → (d.is_honest → IfErr r (TellsPage (rows + length (measurements_of b.contents service rows 256))))
     → s ≡ r → d.is_honest
     → IfErr s (TellsPage (length (recorded_of a.contents service)))
-why_on {A = A} a b d bound caller service w now rows r s p q so_far why same h =
+why_on {A = A} a b d caller service w now rows r s p q so_far why same h =
     let P : Contents → Type 0 = λ c. IfErr r (TellsPage (rows + length (measurements_of c service rows 256))) in
     let all : List Recorded = recorded_of a.contents service in
     let R : Result A ExportFault → Type 0 = λ x. IfErr x (TellsPage (length all)) in
@@ -214,26 +207,14 @@ puts_front old new x y r (Err e) failed p = record {
   all = tt;
 }
 
--- the rows of a service by what it is bound to
-rows_by : (caller service : List ℕ) (bound : BoundParts) (found : Option ModelService) → option_map kept_bound (option_map shape found) ≡ Some bound
-    → rows_text caller service (name_of bound (past_in found)) 0 (past_in found).measurements ≡ rows_text caller service (name_by found) 0 (past_in found).measurements
-rows_by caller service bound None is = cc is
-rows_by caller service bound (Some m) is =
-    let e : bound ≡ m.stand.bound = cc is in
-    ap (λ k. rows_text caller service (name_of k m.past) 0 m.past.measurements) e
-
 -- the header went out whole, and then some of the rows
-pub file_on : {F : Type 0} (a b d : BookState) (service caller : List ℕ) (s : Source) (w now new : Known) (r : Result ℕ F)
+pub file_on : {F : Type 0} (a b d : BookState) (service caller : List ℕ) (w now new : Known) (r : Result ℕ F)
     → Stays a b → Stays b d
-    → (b.is_honest → IsSource a.contents service caller s)
     → Appends w now (record_text header)
-    → (d.is_honest → Puts now new (rows_text s.caller s.service (name_of s.bound (past_of b.contents s.service)) 0 (recorded_of b.contents s.service)) r)
+    → (d.is_honest → Puts now new (rows_text caller service (name_of (past_of b.contents service)) 0 (recorded_of b.contents service)) r)
     → d.is_honest
     → Puts w new (file_in a.contents service caller) r
-file_on a b d service caller s w now new r p q source head puts h =
-    let is : IsSource a.contents service caller s = source (q.honest h) in
-    let text : List ℕ → List ℕ → Contents → List ℕ = λ sender name c. rows_text sender name (name_of s.bound (past_of c name)) 0 (recorded_of c name) in
-    let same : text s.caller s.service b.contents ≡ text caller service a.contents = λ i. text (is.caller i) (is.service i) (p.same (q.honest h) i) in
-    let P : List ℕ → Type 0 = λ t. Puts now new t r in
-    puts_then w now new (record_text header) (rows_text caller service (name_by (get a.contents.desk.services service)) 0 (recorded_of a.contents service)) r head
-    (subst P (same ∙ rows_by caller service s.bound (get a.contents.desk.services service) is.bound) (puts h))
+file_on a b d service caller w now new r p q head puts h =
+    let P : Contents → Type 0 = λ c. Puts now new (rows_text caller service (name_of (past_of c service)) 0 (recorded_of c service)) r in
+    puts_then w now new (record_text header) (rows_text caller service (name_of (past_of a.contents service)) 0 (recorded_of a.contents service)) r head
+    (subst P (p.same (q.honest h)) (puts h))

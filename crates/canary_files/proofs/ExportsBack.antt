@@ -7,12 +7,11 @@ use Rattle.std.proofs.lemmas.Bool.Decides.{nat_tests}
 use Rattle.std.proofs.lemmas.Option.{none-some, same_Some}
 use Rattle.canary_base.specs.Names.{is_name, is_label}
 use Rattle.canary_plan.specs.Limits.{is_ordinal}
-use Rattle.canary_plan.specs.Plans.{Templates}
 use Rattle.canary_release.specs.declared.effect.Recorded.{Recorded}
-use Rattle.canary_release.specs.Desks.{ModelService}
+use Rattle.canary_release.specs.Desks.{ModelService, RevisionMap}
 use Rattle.canary_release.specs.Order.{AreOrdered, AreLists, IsInOrder, is_of, is_of_some}
 use Rattle.canary_once.specs.Records.{past_in}
-use Rattle.canary_files.specs.Exporting.{name_by}
+use Rattle.canary_files.specs.Exporting.{name_of}
 use Rattle.canary_files.specs.ReadingBack.{IsReportable, HasLimits, IsReadBack, AreExportsReadBack}
 use Rattle.canary_files.proofs.ReadBack.{read_back}
 use Rattle.canary_files.proofs.SureLemmas.{both, found_run, placed_one}
@@ -88,13 +87,13 @@ limits n low high =
     let below : nat_le n 1000000000 ≡ true = grind (arith, nat_tests, high) in
     (λ i. above i && below i)
 
-reportable : (known : Templates) (name : List ℕ) (m : ModelService) → IsInOrder known name m → (k : ℕ) (x : Recorded) → slice_get m.past.measurements k ≡ Some x → HasLimits x → IsReportable x
-reportable known name m o k x e has =
+reportable : (templates : RevisionMap) (name : List ℕ) (m : ModelService) → IsInOrder templates name m → (k : ℕ) (x : Recorded) → slice_get m.past.measurements k ≡ Some x → HasLimits x → IsReportable x
+reportable templates name m o k x e has =
     let all : List Recorded = m.past.measurements in
     let of : is_of_some m.past.runs x ≡ true = all_at (is_of_some m.past.runs) all k x o.measured e in
-    let f = found_run m 1 m.past.runs x o.numbered o.runs of in
+    let f = found_run templates m 1 m.past.runs x o.numbered o.runs of in
     let run : ℕ = f.run.number in
-    let placed = placed_one known name m o x of in
+    let placed = placed_one templates name m o x of in
     let metric : nat_lt x.metric (length f.run.lists) ≡ true = f.metric in
     let here : x.metric < length f.run.lists = grind (arith, nat_tests, metric) in
     let at : 0 + x.metric ≡ x.metric = omega arith in
@@ -113,13 +112,13 @@ reportable known name m o k x e has =
       outcome = has.outcome;
     }
 
-back_by : (known : Templates) (found : Option ModelService) (caller service : List ℕ) (k : ℕ) (x : Recorded) → ((m : ModelService) → found ≡ Some m → IsInOrder known service m)
-    → slice_get (past_in found).measurements k ≡ Some x → k < 1000000000 → HasLimits x → IsTrue (is_name caller) → IsTrue (is_name service) → IsTrue (is_label (name_by found x))
-    → IsReadBack caller service (name_by found x) (suc k) x
-back_by known None caller service k x order e few has caller_named named label = absurd (none-some _ e)
-back_by known (Some m) caller service k x order e few has caller_named named label =
-    let is : IsReportable x = reportable known service m (order m refl) k x e has in
-    record { is = is; reads = read_back caller service (name_by (Some m) x) (suc k) x is caller_named named label (limits (suc k) (omega arith) (omega (arith, few))) }
+back_by : (templates : RevisionMap) (found : Option ModelService) (caller service : List ℕ) (k : ℕ) (x : Recorded) → ((m : ModelService) → found ≡ Some m → IsInOrder templates service m)
+    → slice_get (past_in found).measurements k ≡ Some x → k < 1000000000 → HasLimits x → IsTrue (is_name caller) → IsTrue (is_name service) → IsTrue (is_label (name_of (past_in found) x))
+    → IsReadBack caller service (name_of (past_in found) x) (suc k) x
+back_by templates None caller service k x order e few has caller_named named label = absurd (none-some _ e)
+back_by templates (Some m) caller service k x order e few has caller_named named label =
+    let is : IsReportable x = reportable templates service m (order m refl) k x e has in
+    record { is = is; reads = read_back caller service (name_of m.past x) (suc k) x is caller_named named label (limits (suc k) (omega arith) (omega (arith, few))) }
 
 pub exports_back : AreExportsReadBack
-exports_back c caller service k x lawful = back_by (get c.desk.templates) (get c.desk.services service) caller service k x (lawful.desk.services service)
+exports_back c caller service k x lawful = back_by c.desk.templates (get c.desk.services service) caller service k x (lawful.desk.services service)

@@ -7,13 +7,10 @@ use Rattle.std.proofs.lemmas.Bool.{eqb-true, false≢true}
 use Rattle.std.proofs.lemmas.Bool.Decides.{nat_tests}
 use Rattle.std.proofs.lemmas.Option.{same_Some}
 use Rattle.canary_metric.specs.Metrics.{MetricValue}
-use Rattle.canary_plan.specs.declared.analysis_parts.AnalysisParts.{AnalysisParts}
-use Rattle.canary_plan.specs.declared.bound.BoundParts.{BoundParts}
-use Rattle.canary_plan.specs.Plans.{Templates}
 use Rattle.canary_release.specs.declared.effect.Recorded.{Recorded}
 use Rattle.canary_release.specs.Pasts.{Run}
 use Rattle.canary_release.specs.Parts.{is_broken}
-use Rattle.canary_release.specs.Desks.{ModelService}
+use Rattle.canary_release.specs.Desks.{ModelService, RevisionMap}
 use Rattle.canary_release.specs.Shapes.{shape}
 use Rattle.canary_release.specs.Order.{AreNumbered, IsRun, IsInOrder, is_measured_by, is_of_some}
 use Rattle.canary_once.specs.declared.book.BookFault.{BookFault}
@@ -23,7 +20,7 @@ use Rattle.canary_once.specs.Sound.{AreContents}
 use Rattle.canary_once.specs.Books.{BookState, IsFault}
 use Rattle.canary_once.specs.Records.{past_in, past_of, is_numbered, record_of, measurements_of}
 use Rattle.canary_files.specs.declared.export.ExportFault.{ExportFault}
-use Rattle.canary_files.specs.Exporting.{IsExportFault, fault_of, kept_bound, name_at, IsBoundOf, IsPlaced, ArePlaced}
+use Rattle.canary_files.specs.Exporting.{IsExportFault, fault_of, IsPlaced, ArePlaced}
 
 pub sure_book : (sure : Bool) (f : BookFault) → IsFault sure f → IsExportFault sure (fault_of f)
 sure_book sure Out h = tt
@@ -73,20 +70,20 @@ measured_from n (r ∷ rs) x a e =
     ]
 
 -- the run of a measurement is found by its number
-pub record Found (s : ModelService) (n : ℕ) (runs : List Run) (x : Recorded) : Type 0 where
+pub record Found (templates : RevisionMap) (s : ModelService) (n : ℕ) (runs : List Run) (x : Recorded) : Type 0 where
   pub run : Run
   pub found : find (is_numbered x.run) runs ≡ Some run
   pub same : x.run ≡ run.number
-  pub is : IsRun s run
+  pub is : IsRun templates s run
   pub metric : nat_lt x.metric (length run.lists) ≡ true
   pub last : x.run < n + length runs
 
-pub found_run : (s : ModelService) (n : ℕ) (runs : List Run) (x : Recorded) → AreNumbered n runs → AllByRecursion (IsRun s) runs → list_any (is_measured_by x) runs ≡ true → Found s n runs x
-found_run s n [] x a i e = absurd (false≢true e)
-found_run s n (r ∷ rs) x a i e =
+pub found_run : (templates : RevisionMap) (s : ModelService) (n : ℕ) (runs : List Run) (x : Recorded) → AreNumbered n runs → AllByRecursion (IsRun templates s) runs → list_any (is_measured_by x) runs ≡ true → Found templates s n runs x
+found_run templates s n [] x a i e = absurd (false≢true e)
+found_run templates s n (r ∷ rs) x a i e =
     let next : Bool → Option Run = λ b. cond b (Some r) (find (is_numbered x.run) rs) in
     let first : r.number ≡ n = a.0 in
-    elim (or_true (is_measured_by x r) (list_any (is_measured_by x) rs) e) as (λ _. Found s n (r ∷ rs) x) [
+    elim (or_true (is_measured_by x r) (list_any (is_measured_by x) rs) e) as (λ _. Found templates s n (r ∷ rs) x) [
       | inl t ↦ (
           let p = both (x.run == r.number) (nat_lt x.metric (length r.lists)) t in
           let same : x.run ≡ r.number = eqb-true x.run r.number p.0 in
@@ -94,7 +91,7 @@ found_run s n (r ∷ rs) x a i e =
           record { run = r; found = ap next is; same = same; is = i.0; metric = p.1; last = omega (arith, same, first) }
           )
       | inr t ↦ (
-          let rest = found_run s (suc n) rs x a.1 i.1 t in
+          let rest = found_run templates s (suc n) rs x a.1 i.1 t in
           let later : suc n ≤ x.run = measured_from (suc n) rs x a.1 t in
           let other : (r.number == x.run) ≡ false = grind (arith, nat_tests, later, first) in
           let within : x.run < suc n + length rs = rest.last in
@@ -110,9 +107,9 @@ few_runs m e = few (length m.past.runs) (third _ _ _ _ e)
 
 -- ---- measurements
 
-pub placed_one : (known : Templates) (name : List ℕ) (m : ModelService) → IsInOrder known name m → (x : Recorded) → is_of_some m.past.runs x ≡ true → IsPlaced m.stand.bound m.past x
-placed_one known name m o x e =
-    let f = found_run m 1 m.past.runs x o.numbered o.runs e in
+pub placed_one : (templates : RevisionMap) (name : List ℕ) (m : ModelService) → IsInOrder templates name m → (x : Recorded) → is_of_some m.past.runs x ≡ true → IsPlaced m.past x
+placed_one templates name m o x e =
+    let f = found_run templates m 1 m.past.runs x o.numbered o.runs e in
     let r : Run = f.run in
     let few : length m.past.runs ≤ 1000000 = few_runs m o.parts in
     let high : x.run < 1 + length m.past.runs = f.last in
@@ -123,40 +120,36 @@ placed_one known name m o x e =
     record {
       run = record { low = measured_from 1 m.past.runs x o.numbered e; high = omega (arith, high, few); kept = record_of r; found = ap (option_map record_of) f.found };
       name = found.0.name;
-      named = ap (λ (a : Option AnalysisParts). name_at (option_map (λ (y : AnalysisParts). y.metrics) a) x.metric) f.is.analysis
-          ∙ ap (option_map (λ (y : MetricValue). y.name)) found.1;
+      named = ap (option_map (λ (y : MetricValue). y.name)) found.1;
     }
 
-placed_all : (known : Templates) (name : List ℕ) (m : ModelService) → IsInOrder known name m → (xs : List Recorded) → list_all (is_of_some m.past.runs) xs ≡ true → ArePlaced m.stand.bound m.past xs
-placed_all known name m o [] e = tt
-placed_all known name m o (x ∷ xs) e =
+placed_all : (templates : RevisionMap) (name : List ℕ) (m : ModelService) → IsInOrder templates name m → (xs : List Recorded) → list_all (is_of_some m.past.runs) xs ≡ true → ArePlaced m.past xs
+placed_all templates name m o [] e = tt
+placed_all templates name m o (x ∷ xs) e =
     let p = both (is_of_some m.past.runs x) (list_all (is_of_some m.past.runs) xs) e in
-    (placed_one known name m o x p.0, placed_all known name m o xs p.1)
+    (placed_one templates name m o x p.0, placed_all templates name m o xs p.1)
 
-placed_by : (known : Templates) (name : List ℕ) (found : Option ModelService) → ((m : ModelService) → found ≡ Some m → IsInOrder known name m)
-    → (bound : BoundParts) → option_map kept_bound (option_map shape found) ≡ Some bound → ArePlaced bound (past_in found) (past_in found).measurements
-placed_by known name None order bound is = tt
-placed_by known name (Some m) order bound is =
-    let o = order m refl in
-    let P : BoundParts → Type 0 = λ k. ArePlaced k m.past m.past.measurements in
-    subst P (same_Some _ _ is) (placed_all known name m o m.past.measurements o.measured)
+placed_by : (templates : RevisionMap) (name : List ℕ) (found : Option ModelService) → ((m : ModelService) → found ≡ Some m → IsInOrder templates name m)
+    → ArePlaced (past_in found) (past_in found).measurements
+placed_by templates name None order = tt
+placed_by templates name (Some m) order = let o = order m refl in placed_all templates name m o m.past.measurements o.measured
 
 -- each measurement of a page
-pub page_placed : (c : Contents) (service : List ℕ) (bound : BoundParts) (from most : ℕ) → AreContents c → IsBoundOf c service bound → ArePlaced bound (past_of c service) (measurements_of c service from most)
-page_placed c service bound from most lawful is =
+pub page_placed : (c : Contents) (service : List ℕ) (from most : ℕ) → AreContents c → ArePlaced (past_of c service) (measurements_of c service from most)
+page_placed c service from most lawful =
     let all : List Recorded = (past_of c service).measurements in
-    let P : Recorded → Type 0 = IsPlaced bound (past_of c service) in
-    all_take P most (drop from all) (all_drop P from all (placed_by (get c.desk.templates) service (get c.desk.services service) (lawful.desk.services service) bound is))
+    let P : Recorded → Type 0 = IsPlaced (past_of c service) in
+    all_take P most (drop from all) (all_drop P from all (placed_by c.desk.templates service (get c.desk.services service) (lawful.desk.services service)))
 
 -- a page that a sure book gave is written, or it is not for the store
-pub page_sure : {A : Type 0} (a b d : BookState) (service : List ℕ) (bound : BoundParts) (from most : ℕ) (page : List Recorded) (r : Result A ExportFault)
+pub page_sure : {A : Type 0} (a b d : BookState) (service : List ℕ) (from most : ℕ) (page : List Recorded) (r : Result A ExportFault)
     → (d.is_honest → b.is_honest) → (b.is_honest → AreContents a.contents) → (b.is_honest → b.contents ≡ a.contents) → b.is_sure ≡ a.is_sure
     → (b.is_honest → page ≡ measurements_of a.contents service from most)
-    → (d.is_honest → ArePlaced bound (past_of b.contents service) page → IfErr r (IsExportFault b.is_sure))
-    → d.is_honest → IsBoundOf a.contents service bound → IfErr r (IsExportFault a.is_sure)
-page_sure a b d service bound from most page r honest lawful same sure found told h is =
+    → (d.is_honest → ArePlaced (past_of b.contents service) page → IfErr r (IsExportFault b.is_sure))
+    → d.is_honest → IfErr r (IsExportFault a.is_sure)
+page_sure a b d service from most page r honest lawful same sure found told h =
     let kept = honest h in
-    let P : Contents → Type 0 = λ c. ArePlaced bound (past_of c service) (measurements_of a.contents service from most) in
-    let Q : List Recorded → Type 0 = λ xs. ArePlaced bound (past_of b.contents service) xs in
+    let P : Contents → Type 0 = λ c. ArePlaced (past_of c service) (measurements_of a.contents service from most) in
+    let Q : List Recorded → Type 0 = λ xs. ArePlaced (past_of b.contents service) xs in
     let R : Bool → Type 0 = λ s. IfErr r (IsExportFault s) in
-    subst R sure (told h (subst Q (sym (found kept)) (subst P (sym (same kept)) (page_placed a.contents service bound from most (lawful kept) is))))
+    subst R sure (told h (subst Q (sym (found kept)) (subst P (sym (same kept)) (page_placed a.contents service from most (lawful kept)))))

@@ -4,13 +4,9 @@ use Rattle.std.specs.List.{AllByRecursion}
 use Rattle.std.specs.FinMap.{get}
 use Rattle.std.specs.Io.KnownBytes.{Appends}
 use Rattle.canary_metric.specs.Metrics.{MetricValue}
-use Rattle.canary_plan.specs.declared.bound.BoundParts.{BoundParts}
-use Rattle.canary_plan.specs.Plans.{metrics_at}
+use Rattle.canary_plan.specs.declared.analysis_parts.AnalysisParts.{AnalysisParts}
 use Rattle.canary_release.specs.declared.effect.Recorded.{Recorded}
 use Rattle.canary_release.specs.Pasts.{Past}
-use Rattle.canary_release.specs.Desks.{ModelService}
-use Rattle.canary_release.specs.declared.service.ServiceParts.{ServiceParts}
-use Rattle.canary_release.specs.Shapes.{seen}
 use Rattle.canary_once.specs.declared.book.BookFault.{BookFault}
 use Rattle.canary_once.specs.declared.book.BookFault.TheVariants.{Memory as Out, Storage as Failed}
 use Rattle.canary_once.specs.declared.record.RunRecord.{RunRecord}
@@ -19,35 +15,27 @@ use Rattle.canary_once.specs.Contents.{Contents}
 use Rattle.canary_once.specs.Books.{BookState, StaysInMemory}
 use Rattle.canary_files.specs.declared.export.ExportFault.{ExportFault}
 use Rattle.canary_files.specs.declared.export.ExportFault.TheVariants.{Memory, Storage, Write, TooMany, UnknownService}
-use Rattle.canary_files.specs.declared.export.Source.{Source}
 use Rattle.canary_files.specs.declared.export.Placed.{Placed}
 use Rattle.canary_files.specs.Writes.{Known}
 use Rattle.canary_files.specs.Written.{file_of}
 
 -- Names of metrics.
 
--- the name of the metric at a place of a run
-abbrev pub name_at : Option (List MetricValue) → ℕ → Option (List ℕ)
-name_at metrics place =
-    option_map (λ (m : MetricValue). m.name)
-    (option_and_then (λ (ms : List MetricValue). slice_get ms place) metrics)
+-- the name of the metric at a place of an analysis
+abbrev pub name_at : AnalysisParts → ℕ → Option (List ℕ)
+name_at a place = option_map (λ (m : MetricValue). m.name) (slice_get a.metrics place)
 
-abbrev pub name_in : BoundParts → Option RunRecord → ℕ → Option (List ℕ)
-name_in bound run place =
-    option_and_then (λ (r : RunRecord). name_at (metrics_at bound r.step) place) run
+abbrev pub name_in : Option RunRecord → ℕ → Option (List ℕ)
+name_in run place = option_and_then (λ (r : RunRecord). name_at r.analysis place) run
 
--- the name of the metric of a measurement
-abbrev pub name_of : BoundParts → Past → Recorded → List ℕ
-name_of bound p x = unwrap_or (name_in bound (record_numbered p x.run) x.metric) []
+-- the name of the metric of a measurement, by the analysis of its run
+abbrev pub name_of : Past → Recorded → List ℕ
+name_of p x = unwrap_or (name_in (record_numbered p x.run) x.metric) []
 
-abbrev pub name_by : Option ModelService → Recorded → List ℕ
-name_by None x = []
-name_by (Some m) x = name_of m.stand.bound m.past x
-
--- the step of the analysis of a run
-abbrev pub step_in : Contents → List ℕ → ℕ → Option (Option ℕ)
-step_in c service run =
-    option_map (λ (r : RunRecord). r.step) (record_numbered (past_of c service) run)
+-- the analysis of a run
+abbrev pub analysis_in : Contents → List ℕ → ℕ → Option AnalysisParts
+analysis_in c service run =
+    option_map (λ (r : RunRecord). r.analysis) (record_numbered (past_of c service) run)
 
 -- the measurements of a service, in the order in which they were recorded
 abbrev pub recorded_of : Contents → List ℕ → List Recorded
@@ -56,7 +44,7 @@ recorded_of c service = (past_of c service).measurements
 -- the file of a service's measurements, under that caller
 abbrev pub file_in : Contents → List ℕ → List ℕ → List ℕ
 file_in c service caller =
-    file_of caller service (name_by (get c.desk.services service)) (recorded_of c service)
+    file_of caller service (name_of (past_of c service)) (recorded_of c service)
 
 -- What a call does.
 
@@ -85,7 +73,8 @@ pub record Reads {A : Type 0} (told : Contents → A) (old new : BookState)
 -- what is kept of a run is what the book says of it
 abbrev pub IsLatest : BookState → List ℕ → Option Placed → Type 0
 IsLatest now service None = Unit {0}
-IsLatest now service (Some p) = now.is_honest → step_in now.contents service p.run ≡ Some p.step
+IsLatest now service (Some p) =
+    now.is_honest → analysis_in now.contents service p.run ≡ Some p.analysis
 
 -- why no more was written of so many rows
 abbrev pub TellsPage : ℕ → ExportFault → Type 0
@@ -116,21 +105,7 @@ abbrev pub fault_of : BookFault → ExportFault
 fault_of Out = Memory
 fault_of Failed = Storage
 
--- what a service that is kept is bound to
-abbrev pub kept_bound : ServiceParts → BoundParts
-kept_bound s = s.stand.bound
-
--- this service's, under this caller
-pub record IsSource (c : Contents) (name sender : List ℕ) (s : Source) : Type 0 where
-  pub caller : s.caller ≡ sender
-  pub service : s.service ≡ name
-  pub bound : option_map kept_bound (seen c.desk name) ≡ Some s.bound
-
 -- Where each measurement has its run and its metric.
-
--- what this service is bound to
-abbrev pub IsBoundOf : Contents → List ℕ → BoundParts → Type 0
-IsBoundOf c service bound = option_map kept_bound (seen c.desk service) ≡ Some bound
 
 -- a run of a past is there
 pub record HasRun (p : Past) (number : ℕ) : Type 0 where
@@ -140,10 +115,10 @@ pub record HasRun (p : Past) (number : ℕ) : Type 0 where
   pub found : record_numbered p number ≡ Some kept
 
 -- a measurement is of a run that is there, and of a metric of it
-pub record IsPlaced (bound : BoundParts) (p : Past) (x : Recorded) : Type 0 where
+pub record IsPlaced (p : Past) (x : Recorded) : Type 0 where
   pub run : HasRun p x.run
   pub name : List ℕ
-  pub named : name_at (metrics_at bound run.kept.step) x.metric ≡ Some name
+  pub named : name_at run.kept.analysis x.metric ≡ Some name
 
-abbrev pub ArePlaced : BoundParts → Past → List Recorded → Type 0
-ArePlaced bound p xs = AllByRecursion (IsPlaced bound p) xs
+abbrev pub ArePlaced : Past → List Recorded → Type 0
+ArePlaced p xs = AllByRecursion (IsPlaced p) xs

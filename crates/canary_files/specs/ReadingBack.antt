@@ -1,6 +1,5 @@
 -- Rows that were written are read back.
 use Rattle.std.specs.Prelude.{◌≡◌, ℕ, suc, ◌≤◌, ◌<◌, IsTrue, List, [], ◌∷◌, length, slice_get, Some, Ok}
-use Rattle.std.specs.FinMap.{get}
 use Rattle.std.specs.Str.{is_utf8}
 use Rattle.canary_base.specs.Names.{is_name, is_label}
 use Rattle.canary_condition.specs.Results.{words_of}
@@ -12,11 +11,12 @@ use Rattle.canary_plan.specs.declared.report.Report.{Report}
 use Rattle.canary_plan.specs.Limits.{is_ordinal, are_report_limits}
 use Rattle.canary_release.specs.declared.effect.Recorded.{Recorded}
 use Rattle.canary_once.specs.Contents.{Contents}
+use Rattle.canary_once.specs.Records.{past_of}
 use Rattle.canary_once.specs.Sound.{AreContents}
 use Rattle.canary_files.specs.Rows.{header, row_of}
 use Rattle.canary_files.specs.Written.{row_fields, file_of}
 use Rattle.canary_files.specs.Taking.{Fields, HasRecords}
-use Rattle.canary_files.specs.Exporting.{name_by, recorded_of}
+use Rattle.canary_files.specs.Exporting.{name_of, recorded_of}
 
 -- an outcome as there are: a result whose text is read back, as that of any is, or a failure of 1
 -- to 200 bytes of text
@@ -74,8 +74,8 @@ AreExportsReadBack =
     (c : Contents) (caller service : List ℕ) (place : ℕ) (x : Recorded) → AreContents c
     → slice_get (recorded_of c service) place ≡ Some x → place < 1000000000 → HasLimits x
     → IsTrue (is_name caller) → IsTrue (is_name service)
-    → IsTrue (is_label (name_by (get c.desk.services service) x))
-    → IsReadBack caller service (name_by (get c.desk.services service) x) (suc place) x
+    → IsTrue (is_label (name_of (past_of c service) x))
+    → IsReadBack caller service (name_of (past_of c service) x) (suc place) x
 
 -- the fields of the rows of measurements in order, behind so many others
 abbrev pub rows_fields : List ℕ → List ℕ → (Recorded → List ℕ) → ℕ → List Recorded → List Fields

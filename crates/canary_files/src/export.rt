@@ -2,13 +2,12 @@
 ghost use Rattle.std.specs.Prelude.{◌≡◌, ◌≢◌, ◌≤◌, ◌+◌, ◌++◌, length, Bool, Some, None, Err};
 ghost use Rattle.std.specs.Prelude.{IfOk, IfErr, OnOk};
 ghost use Rattle.std.specs.FinMap.{get};
-ghost use Rattle.canary_plan.specs.Plans.{metrics_at};
 ghost use Rattle.canary_once.specs.Records.{past_of, measurements_of};
 ghost use Rattle.canary_files.specs.Rows.{header};
 ghost use Rattle.canary_files.specs.Written.{record_text, row_fields, rows_text};
 ghost use Rattle.canary_files.specs.Exporting.{name_at, name_of, recorded_of, file_in, IsLatest};
-ghost use Rattle.canary_files.specs.Exporting.{Stays, Puts, Reads, IsSource, Tells, TellsPage};
-ghost use Rattle.canary_files.specs.Exporting.{IsExportFault, IsBoundOf, ArePlaced, IsPlaced};
+ghost use Rattle.canary_files.specs.Exporting.{Stays, Puts, Reads, Tells, TellsPage};
+ghost use Rattle.canary_files.specs.Exporting.{IsExportFault, ArePlaced, IsPlaced};
 ghost use Rattle.canary_files.specs.Exporting.{HasRun};
 
 use crate::records::Records;
@@ -18,7 +17,7 @@ use canary_base::lists::Listed;
 use canary_base::names::{Label, Name};
 use canary_base::numbers::Number;
 use canary_once::book::{Book, BookFault};
-use canary_plan::bound::Bound;
+use canary_plan::bound_analysis::BoundAnalysis;
 use canary_release::effect::Recorded;
 use std::alloc::Global;
 use std::io::Write;
@@ -73,21 +72,19 @@ impl From<BookFault> for ExportFault {
     }
 }
 
-// Whose measurements are written, under which caller. What the service is bound to has the names of
-// the metrics.
-#[derive(Drop)]
+// Whose measurements are written, under which caller.
+#[derive(Clone, Copy)]
 struct Source {
     caller: Name,
     service: Name,
-    bound: Bound,
 }
 
-// A run, by its number, and the step of its analysis, none for that of the background. That of the
-// last row is kept, so that the book is asked once a run and not once a row.
-#[derive(Clone, Copy)]
+// A run, by its number, and its analysis, which has the names of the metrics. That of the last row
+// is kept, so that the book is asked once a run and not once a row.
+#[derive(Drop)]
 struct Placed {
     run: u32,
-    step: Option<u32>,
+    analysis: BoundAnalysis,
 }
 
 /// Writes the file of a service's measurements: the header, and a row for each, in the order in
@@ -122,28 +119,24 @@ pub fn export<W: Write, B: Book>(
     ensures unknown { (B.state book.new).is_honest → result ≡ Err ExportFault.UnknownService
         → out.new ≡ out.old }
 {
-    let source = source_of(book, service, caller)?;
+    find_service(book, &service)?;
     write_header(alloc, out)?;
+    let source = Source { caller, service };
     write_rows(alloc, book, &source, out)
 }
 
-fn source_of<B: Book>(book: &mut B, service: Name, caller: Name) -> Result<Source, ExportFault>
+// That the service is there.
+fn find_service<B: Book>(book: &mut B, service: &Name) -> Result<(), ExportFault>
     ensures stays { Stays (B.state book.old) (B.state book.new) }
-    ensures source { (B.state book.new).is_honest
-        → IfOk result (IsSource (B.state book.old).contents service caller) }
     ensures there { (B.state book.new).is_honest
-        → OnOk result (get (B.state book.old).contents.desk.services service ≢ None) }
+        → OnOk result (get (B.state book.old).contents.desk.services service.now ≢ None) }
     ensures why { (B.state book.new).is_honest
-        → IfErr result (Tells (B.state book.old).contents service) }
+        → IfErr result (Tells (B.state book.old).contents service.now) }
     ensures sure { IfErr result (IsExportFault (B.state book.old).is_sure) }
 {
-    match book.service(&service)? {
+    match book.service(service)? {
         None => Err(ExportFault::UnknownService),
-        Some(found) => Ok(Source {
-            caller,
-            service,
-            bound: found.bound().copy()?,
-        }),
+        Some(_) => Ok(()),
     }
 }
 
@@ -168,8 +161,7 @@ fn write_rows<W: Write, B: Book>(
     ensures writes { (B.state book.new).is_honest
         → Puts (W.contents out.old) (W.contents out.new)
         (rows_text source.now.caller source.now.service
-        (name_of source.now.bound
-        (past_of (B.state book.old).contents source.now.service))
+        (name_of (past_of (B.state book.old).contents source.now.service))
         0 (recorded_of (B.state book.old).contents source.now.service)) result }
     ensures rows { (B.state book.new).is_honest → IfOk result (λ rows.
         (rows ≡ length (recorded_of (B.state book.old).contents source.now.service))
@@ -178,7 +170,6 @@ fn write_rows<W: Write, B: Book>(
         → IfErr result (TellsPage
         (length (recorded_of (B.state book.old).contents source.now.service))) }
     ensures sure { (B.state book.new).is_honest
-        → IsBoundOf (B.state book.old).contents source.now.service source.now.bound
         → IfErr result (IsExportFault (B.state book.old).is_sure) }
 {
     let mut rows = 0;
@@ -209,8 +200,7 @@ fn write_page<W: Write, B: Book>(
     ensures writes { (B.state book.new).is_honest
         → Puts (W.contents out.old) (W.contents out.new)
         (rows_text source.now.caller source.now.service
-        (name_of source.now.bound
-        (past_of (B.state book.old).contents source.now.service))
+        (name_of (past_of (B.state book.old).contents source.now.service))
         from (measurements_of (B.state book.old).contents source.now.service from 256))
         result }
     ensures rows { (B.state book.new).is_honest → IfOk result (λ rows.
@@ -221,7 +211,6 @@ fn write_page<W: Write, B: Book>(
         (from + length
         (measurements_of (B.state book.old).contents source.now.service from 256))) }
     ensures sure { (B.state book.new).is_honest
-        → IsBoundOf (B.state book.old).contents source.now.service source.now.bound
         → IfErr result (IsExportFault (B.state book.old).is_sure) }
 {
     let page = book.measurements(&source.service, from, PAGE)?;
@@ -245,13 +234,12 @@ fn write_measurements<W: Write, B: Book>(
     ensures writes { (B.state book.new).is_honest
         → Puts (W.contents out.old) (W.contents out.new)
         (rows_text source.now.caller source.now.service
-        (name_of source.now.bound
-        (past_of (B.state book.old).contents source.now.service))
+        (name_of (past_of (B.state book.old).contents source.now.service))
         from page.now) result }
     ensures rows { IfOk result (λ rows. (rows ≡ from + length page.now) × (rows ≤ MOST_ROWS)) }
     ensures why { IfErr result (TellsPage (from + length page.now)) }
-    ensures sure { (B.state book.new).is_honest → ArePlaced source.now.bound
-        (past_of (B.state book.old).contents source.now.service) page.now
+    ensures sure { (B.state book.new).is_honest
+        → ArePlaced (past_of (B.state book.old).contents source.now.service) page.now
         → IfErr result (IsExportFault (B.state book.old).is_sure) }
 {
     if page.len() as u64 > MOST_ROWS - from {
@@ -276,11 +264,11 @@ fn rows_text<B: Book>(
     ensures latest { OnOk result
         (IsLatest (B.state book.new) source.now.service latest.new) }
     ensures reads { Reads (λ c. rows_text source.now.caller source.now.service
-        (name_of source.now.bound (past_of c source.now.service)) from page.now)
+        (name_of (past_of c source.now.service)) from page.now)
         (B.state book.old) (B.state book.new) result }
     ensures why { IfErr result (TellsPage 0) }
-    ensures sure { (B.state book.new).is_honest → ArePlaced source.now.bound
-        (past_of (B.state book.old).contents source.now.service) page.now
+    ensures sure { (B.state book.new).is_honest
+        → ArePlaced (past_of (B.state book.old).contents source.now.service) page.now
         → IfErr result (IsExportFault (B.state book.old).is_sure) }
 {
     let mut records = Records::new(alloc);
@@ -305,11 +293,11 @@ fn with_row<B: Book>(
         (IsLatest (B.state book.new) source.now.service latest.new) }
     ensures reads { Reads (λ c. records ++ record_text
         (row_fields source.now.caller number source.now.service recorded.now
-        (name_of source.now.bound (past_of c source.now.service) recorded.now)))
+        (name_of (past_of c source.now.service) recorded.now)))
         (B.state book.old) (B.state book.new) result }
     ensures why { IfErr result (TellsPage 0) }
-    ensures sure { (B.state book.new).is_honest → IsPlaced source.now.bound
-        (past_of (B.state book.old).contents source.now.service) recorded.now
+    ensures sure { (B.state book.new).is_honest
+        → IsPlaced (past_of (B.state book.old).contents source.now.service) recorded.now
         → IfErr result (IsExportFault (B.state book.old).is_sure) }
 {
     let metric = metric_name(book, source, latest, recorded)?;
@@ -328,16 +316,17 @@ fn metric_name<B: Book>(
     ensures latest { OnOk result
         (IsLatest (B.state book.new) source.now.service latest.new) }
     ensures reads { Reads
-        (λ c. name_of source.now.bound (past_of c source.now.service) recorded.now)
+        (λ c. name_of (past_of c source.now.service) recorded.now)
         (B.state book.old) (B.state book.new) result }
     ensures why { IfErr result (TellsPage 0) }
-    ensures sure { (B.state book.new).is_honest → IsPlaced source.now.bound
-        (past_of (B.state book.old).contents source.now.service) recorded.now
+    ensures sure { (B.state book.new).is_honest
+        → IsPlaced (past_of (B.state book.old).contents source.now.service) recorded.now
         → IfErr result (IsExportFault (B.state book.old).is_sure) }
 {
-    let placed = place_of(book, source, *latest, recorded.run)?;
+    let placed = place_of(book, source, latest.take(), recorded.run)?;
+    let name = name_at(&placed.analysis, recorded.metric);
     *latest = Some(placed);
-    match name_at(&source.bound, placed.step, recorded.metric) {
+    match name {
         Some(name) => Ok(name),
         None => Err(ExportFault::Storage),
     }
@@ -370,17 +359,17 @@ fn place_of<B: Book>(
     match book.run(&source.service, number)? {
         Some(record) => Ok(Placed {
             run,
-            step: record.step,
+            analysis: record.analysis,
         }),
         None => Err(ExportFault::Storage),
     }
 }
 
 // The name of the metric at a place of an analysis.
-fn name_at(bound: &Bound, step: Option<u32>, place: u32) -> Option<Label>
-    ensures { result ≡ name_at (metrics_at bound.now step) place }
+fn name_at(analysis: &BoundAnalysis, place: u32) -> Option<Label>
+    ensures { result ≡ name_at analysis.now place }
 {
-    Some(bound.metrics(step)?.get(place as usize)?.name())
+    Some(analysis.metrics().get(place as usize)?.name())
 }
 
 // Writes a text whole.

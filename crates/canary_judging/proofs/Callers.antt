@@ -20,7 +20,7 @@ use Rattle.canary_stored.specs.Tables.{IsReadableCommand}
 use Rattle.canary_stored.specs.Reading.{receipts_to}
 use Rattle.canary_judging.specs.Judged.{IsOneRead}
 use Rattle.canary_judging.proofs.Named.{equal_keys}
-use Rattle.canary_judging.proofs.Templates.{canonical_text, still_canonical}
+use Rattle.canary_judging.proofs.CommandTexts.{canonical_text, still_canonical}
 
 -- A kept row.
 

@@ -1,7 +1,7 @@
 -- Tables are judged exactly where they are those of sound contents.
 use Rattle.canary_rows.specs.Tables.{Tables}
 use Rattle.canary_judging.specs.Soundness.{AreSoundTables}
-use Rattle.canary_judging.specs.Judged.{CallersAreJudged, TemplatesAreJudged}
+use Rattle.canary_judging.specs.Judged.{HoldTemplates, CallersAreJudged, TemplatesAreJudged}
 use Rattle.canary_judging.specs.Counting.{CountingIsExact, RunsAreTallied}
 use Rattle.canary_judging.specs.Services.{IsJudged, HoldParts, PartsMakeThemSound}
 use Rattle.canary_judging.specs.Laws.{ServicesAreJudged, JudgingIsExact}
@@ -9,13 +9,15 @@ use Rattle.canary_judging.proofs.ServicesHold.{services_hold}
 use Rattle.canary_judging.proofs.ServicesJudged.{services_judged}
 
 pub services_are_judged : CountingIsExact → RunsAreTallied → ServicesAreJudged
-services_are_judged exact tallied t = (services_hold exact tallied t, services_judged exact tallied t)
+services_are_judged exact tallied t templates = (services_hold exact tallied t templates, services_judged exact tallied t)
 
 hold : CallersAreJudged → TemplatesAreJudged → ServicesAreJudged → (t : Tables) → IsJudged t → HoldParts t
-hold callers templates services t j = record { callers = (callers t).0 j.callers; templates = (templates t).0 j.templates; services = (services t).0 j.services }
+hold callers templates services t j =
+    let held : HoldTemplates t = (templates t).0 j.templates in
+    record { callers = (callers t).0 j.callers; templates = held; services = (services t held).0 j.services }
 
 judge : CallersAreJudged → TemplatesAreJudged → ServicesAreJudged → (t : Tables) → HoldParts t → IsJudged t
-judge callers templates services t h = record { callers = (callers t).1 h.callers; templates = (templates t).1 h.templates; services = (services t).1 h.services }
+judge callers templates services t h = record { callers = (callers t).1 h.callers; templates = (templates t).1 h.templates; services = (services t h.templates).1 h.services }
 
 pub judging_is_exact : CallersAreJudged → TemplatesAreJudged → ServicesAreJudged → PartsMakeThemSound → JudgingIsExact
 judging_is_exact callers templates services parts t =

@@ -9,7 +9,8 @@ use Rattle.std.specs.List.{AllByRecursion}
 use Rattle.std.specs.FinMap.{FinMap, get, insert, get-insert, get-empty}
 use Rattle.std.proofs.lemmas.Map.Text.{is_eq-slice_cmp}
 use Rattle.std.proofs.lemmas.Slice.Eq.{bytes_eq-Decides}
-use Rattle.canary_stored.specs.Reading.{put_some, map_of}
+use Rattle.canary_once.specs.Contents.{put_some}
+use Rattle.canary_stored.specs.Reading.{map_of}
 use Rattle.canary_stored.specs.Tables.{row_if}
 use Rattle.canary_judging.proofs.Strays.{Apart, AreApart}
 

@@ -12,8 +12,9 @@ together t h =
     let rows : AreRows t (contents_of t) = record {
       callers = h.callers.callers;
       kept = h.callers.kept;
-      templates = h.templates.templates;
+      revisions = h.templates.revisions;
       services = h.services.services;
+      bindings = h.services.bindings;
       runs = h.services.runs;
       tallies = h.services.tallies;
       measurements = h.services.measurements;
@@ -27,9 +28,10 @@ apart : (t : Tables) → AreSoundTables t → HoldParts t
 apart t h =
     let holds : HoldsContents t = h.0 in
     let callers : HoldCallers t = record { callers = holds.rows.callers; kept = holds.rows.kept; readable = holds.readable.receipts; numbers = holds.lawful.numbers; statuses = holds.lawful.statuses } in
-    let templates : HoldTemplates t = record { templates = holds.rows.templates; readable = holds.readable.templates; are = holds.lawful.desk.templates } in
+    let templates : HoldTemplates t = record { revisions = holds.rows.revisions; readable = holds.readable.templates; are = holds.lawful.desk.templates } in
     let services : HoldServices t = record {
       services = holds.rows.services;
+      bindings = holds.rows.bindings;
       runs = holds.rows.runs;
       tallies = holds.rows.tallies;
       measurements = holds.rows.measurements;

@@ -23,7 +23,7 @@ measured_service row = row.service
 abbrev told_service : HistoryRow → List ℕ
 told_service row = row.service
 
-kept_pass : {X : Type 0} (p : X → Bool) (xs : List X) → AllByRecursion (λ x. p x ≡ true) (filter p xs)
+pub kept_pass : {X : Type 0} (p : X → Bool) (xs : List X) → AllByRecursion (λ x. p x ≡ true) (filter p xs)
 kept_pass p xs = weaker (λ x. (p x ≡ true) × (x ≡ x)) (λ x. p x ≡ true) (λ x h. h.0) (filter p xs) (passing p (λ x. x ≡ x) xs (each_in (λ x. x ≡ x) xs (λ x at. refl)))
 
 pub measurements_under : (t : Tables) (row : ServiceRow) (j : IsServiceJudged t row)

@@ -1,8 +1,7 @@
 -- A service that is judged is read as a service of the model.
 use Rattle.std.proofs.Common.{◌≡◌, ℕ, zero, suc, ◌≤◌, List, [], ◌∷◌, ◌++◌, length, take, Bool, true, false, Some, None, refl, sym, ap, ◌∙◌, subst, arith}
-use Rattle.std.specs.Prelude.{Option, map, filter, slice_get, option_map, option_and_then}
+use Rattle.std.specs.Prelude.{Option, map, filter, slice_get, option_map, option_and_then, unwrap_or}
 use Rattle.std.specs.List.{AllByRecursion, filter_map, cons_option}
-use Rattle.std.specs.FinMap.{get}
 use Rattle.std.proofs.Math.Seq.{take-length}
 use Rattle.std.proofs.lemmas.List.{length-map}
 use Rattle.std.proofs.lemmas.Option.{slice_get-map}
@@ -13,7 +12,9 @@ use Rattle.canary_plan.specs.declared.command.Command.{Command}
 use Rattle.canary_plan.specs.declared.command.Command.TheVariants as command
 use Rattle.canary_plan.specs.declared.line.Line.{Line}
 use Rattle.canary_plan.specs.Lines.{line_at}
-use Rattle.canary_plan.specs.Plans.{Templates, strategy_of, bound_of, analysis_or_none}
+use Rattle.canary_plan.specs.Fit.{no_analysis}
+use Rattle.canary_plan.specs.declared.analysis_parts.AnalysisParts.{AnalysisParts}
+use Rattle.canary_plan.specs.Plans.{Templates, strategy_of, bound_of, analysis_at, analysis_or_none}
 use Rattle.canary_canonical.specs.Readings.{canonical_in}
 use Rattle.canary_release.specs.declared.effect.Recorded.{Recorded}
 use Rattle.canary_release.specs.declared.effect.Closing.{Closing}
@@ -30,9 +31,9 @@ use Rattle.canary_stored.specs.Numbers.{bit, truth_of}
 use Rattle.canary_stored.specs.Values.{service_row, made_from, standing_of, stand_from, stand_of, ending_of, closing_from, closing_of, lists_in, run_from, run_of_row, history_row, line_of_row}
 use Rattle.canary_stored.specs.Numbers.{state_number, state_of, hold_number, hold_of}
 use Rattle.canary_stored.specs.Tables.{IsReadableCommand, IsReadableClosing, IsReadableLine}
-use Rattle.canary_stored.specs.Reading.{measurements_in, history_in, runs_to, past_in, service_from, service_made, service_of_row, contents_of}
+use Rattle.canary_stored.specs.Reading.{known_in, measurements_in, history_in, runs_to, past_in, service_from, service_made, service_of_row}
 use Rattle.canary_judging.specs.Services.{row_of_record, IsServiceJudged}
-use Rattle.canary_judging.proofs.Templates.{canonical_text, still_canonical}
+use Rattle.canary_judging.proofs.CommandTexts.{canonical_text, still_canonical}
 use Rattle.canary_judging.proofs.CallersJudged.{HasPlace, has_place}
 use Rattle.canary_judging.proofs.RowTexts.{state_again, hold_again, truth_again}
 
@@ -143,39 +144,47 @@ closing_back number None readable = refl
 closing_back number (Some x) readable = (λ i. closing_from number x.at (truth_back x.outside i) (readable.1 i)) ∙ (λ i. Some (Some (record x { run = sym readable.0 i })))
 
 -- the run of a record, among these measurements
-abbrev pub run_made : BoundParts → List Recorded → RunRecord → Run
-run_made plan measurements r =
-    let analysis = analysis_or_none plan r.step in
-    record { number = r.number; step = r.step; analysis = analysis; started = r.started; closed = r.closed; lists = lists_in measurements r.number 0 (length analysis.metrics) }
+abbrev pub run_made : List Recorded → RunRecord → Run
+run_made measurements r =
+    record { number = r.number; step = r.step; analysis = r.analysis; started = r.started; closed = r.closed; lists = lists_in measurements r.number 0 (length r.analysis.metrics) }
 
-run_again : (name : List ℕ) (plan : BoundParts) (xs : List Recorded) (r : RunRecord) → IsReadableClosing r.number r.closed → run_of_row plan xs (row_of_record name r) ≡ Some (run_made plan xs r)
-run_again name plan xs r readable = λ i. run_from xs (analysis_or_none plan r.step) (row_of_record name r) (closing_back r.number r.closed readable i)
+-- what its own binding makes of a strategy has its analysis
+abbrev pub IsAnalysed : Templates → CheckedStrategy → RunRecord → Type 0
+IsAnalysed known strategy r = analysis_at (bound_of known strategy) r.step ≡ Some r.analysis
+
+run_again : (name : List ℕ) (strategy : CheckedStrategy) (known : Templates) (xs : List Recorded) (r : RunRecord) → IsReadableClosing r.number r.closed → IsAnalysed known strategy r → run_of_row strategy known xs (row_of_record name r) ≡ Some (run_made xs r)
+run_again name strategy known xs r readable analysed =
+    let own : analysis_or_none (bound_of known strategy) r.step ≡ r.analysis = ap (λ (o : Option AnalysisParts). unwrap_or o no_analysis) analysed in
+    λ i. run_from xs (own i) (row_of_record name r) (closing_back r.number r.closed readable i)
 
 take-one : {A : Type 0} (n : ℕ) (xs : List A) (x : A) → slice_get xs n ≡ Some x → take n xs ++ x ∷ [] ≡ take (suc n) xs
 take-one n [] x e = absurd (cc)
 take-one zero (y ∷ ys) x e = let same : y ≡ x = cc e in λ i. sym same i ∷ []
 take-one (suc n) (y ∷ ys) x e = ap (λ (zs : List _). y ∷ zs) (take-one n ys x e)
 
--- each place has the row of its run
-abbrev pub HaveRunRows : List RunRow → List ℕ → List RunRecord → Type 0
-HaveRunRows rows name runs = (place : ℕ) (r : RunRecord) → slice_get runs place ≡ Some r → (filter (is_run name (suc place)) rows ≡ row_of_record name r ∷ []) × IsReadableClosing r.number r.closed
+-- each place has the row of its run, which is bound to its analysis
+abbrev pub HaveRunRows : Tables → CheckedStrategy → List ℕ → List RunRecord → Type 0
+HaveRunRows t strategy name runs =
+    (place : ℕ) (r : RunRecord) → slice_get runs place ≡ Some r → (filter (is_run name (suc place)) t.runs ≡ row_of_record name r ∷ []) × IsReadableClosing r.number r.closed × IsAnalysed (known_in t name (suc place)) strategy r
 
-runs_taken : (plan : BoundParts) (xs : List Recorded) (rows : List RunRow) (name : List ℕ) (runs : List RunRecord) → HaveRunRows rows name runs → (n : ℕ) → n ≤ length runs
-    → runs_to plan xs rows name n ≡ take n (map (run_made plan xs) runs)
-runs_taken plan xs rows name runs have zero few = refl
-runs_taken plan xs rows name runs have (suc n) few =
+runs_taken : (t : Tables) (strategy : CheckedStrategy) (xs : List Recorded) (name : List ℕ) (runs : List RunRecord) → HaveRunRows t strategy name runs → (n : ℕ) → n ≤ length runs
+    → runs_to t strategy xs name n ≡ take n (map (run_made xs) runs)
+runs_taken t strategy xs name runs have zero few = refl
+runs_taken t strategy xs name runs have (suc n) few =
     let h : HasPlace runs n = has_place runs n (omega arith) in
-    let made : Run = run_made plan xs h.value in
-    let is : (filter (is_run name (suc n)) rows ≡ row_of_record name h.value ∷ []) × IsReadableClosing h.value.number h.value.closed = have n h.value h.there in
-    let one : filter_map (run_of_row plan xs) (filter (is_run name (suc n)) rows) ≡ made ∷ [] = ap (filter_map (run_of_row plan xs)) is.0 ∙ ap (λ (o : Option Run). cons_option o []) (run_again name plan xs h.value is.1) in
-    (λ i. runs_taken plan xs rows name runs have n (omega arith) i ++ one i)
-    ∙ take-one n (map (run_made plan xs) runs) made (slice_get-map (run_made plan xs) runs n ∙ ap (option_map (run_made plan xs)) h.there)
+    let made : Run = run_made xs h.value in
+    let is = have n h.value h.there in
+    let reads = run_of_row strategy (known_in t name (suc n)) xs in
+    let one : filter_map (run_of_row strategy (known_in t name (suc n)) xs) (filter (is_run name (suc n)) t.runs) ≡ made ∷ [] =
+    ap (filter_map reads) is.0 ∙ ap (λ (o : Option Run). cons_option o []) (run_again name strategy (known_in t name (suc n)) xs h.value is.1 is.2) in
+    (λ i. runs_taken t strategy xs name runs have n (omega arith) i ++ one i)
+    ∙ take-one n (map (run_made xs) runs) made (slice_get-map (run_made xs) runs n ∙ ap (option_map (run_made xs)) h.there)
 
-pub runs_again : (plan : BoundParts) (xs : List Recorded) (rows : List RunRow) (name : List ℕ) (runs : List RunRecord) → HaveRunRows rows name runs → runs_to plan xs rows name (length runs) ≡ map (run_made plan xs) runs
-runs_again plan xs rows name runs have =
-    runs_taken plan xs rows name runs have (length runs) (omega arith)
-    ∙ ap (λ n. take n (map (run_made plan xs) runs)) (sym (length-map runs (run_made plan xs)))
-    ∙ take-length (map (run_made plan xs) runs)
+pub runs_again : (t : Tables) (strategy : CheckedStrategy) (xs : List Recorded) (name : List ℕ) (runs : List RunRecord) → HaveRunRows t strategy name runs → runs_to t strategy xs name (length runs) ≡ map (run_made xs) runs
+runs_again t strategy xs name runs have =
+    runs_taken t strategy xs name runs have (length runs) (omega arith)
+    ∙ ap (λ n. take n (map (run_made xs) runs)) (sym (length-map runs (run_made xs)))
+    ∙ take-length (map (run_made xs) runs)
 
 -- Lines.
 
@@ -188,39 +197,40 @@ lines_again name (line ∷ lines) all =
 -- The whole.
 
 abbrev pub past_judged : {t : Tables} {row : ServiceRow} → IsServiceJudged t row → Past
-past_judged j = record { runs = map (run_made j.stand.bound j.measurements) j.runs; measurements = j.measurements; history = j.history }
+past_judged j = record { runs = map (run_made j.measurements) j.runs; measurements = j.measurements; history = j.history }
 
 abbrev pub service_judged : {t : Tables} {row : ServiceRow} → IsServiceJudged t row → ModelService
 service_judged j = record { made = j.made; stand = j.stand; past = past_judged j }
 
-abbrev pub known_of : Tables → Templates
-known_of t = get (contents_of t).desk.templates
+-- what it is bound to by its rows
+abbrev pub bound_by : Tables → List ℕ → ServiceSpec → BoundParts
+bound_by t name made = bound_of (known_in t name 0) (strategy_of made)
 
-pub standing_judged : (t : Tables) (row : ServiceRow) (j : IsServiceJudged t row) → IsStanding row.name (strategy_of j.made) (bound_of (known_of t) (strategy_of j.made)) row.standing j.stand
-standing_judged t row j = stand_again row.name (strategy_of j.made) (bound_of (known_of t) (strategy_of j.made)) row.standing j.stand j.stands
+pub standing_judged : (t : Tables) (row : ServiceRow) (j : IsServiceJudged t row) → IsStanding row.name (strategy_of j.made) (bound_by t row.name j.made) row.standing j.stand
+standing_judged t row j = stand_again row.name (strategy_of j.made) (bound_by t row.name j.made) row.standing j.stand j.stands
 
-pub have_run_rows : (t : Tables) (row : ServiceRow) (j : IsServiceJudged t row) → HaveRunRows t.runs row.name j.runs
+pub have_run_rows : (t : Tables) (row : ServiceRow) (j : IsServiceJudged t row) → HaveRunRows t (strategy_of j.made) row.name j.runs
 have_run_rows t row j place r there =
-    let is = j.each place r there in
-    (subst (λ n. filter (is_run row.name n) t.runs ≡ row_of_record row.name r ∷ []) is.0 is.1.one, is.1.closed)
+    let is = j.each place r there in (
+      subst (λ n. filter (is_run row.name n) t.runs ≡ row_of_record row.name r ∷ []) is.0 is.1.one,
+      is.1.closed,
+      subst (λ n. IsAnalysed (known_in t row.name n) (strategy_of j.made) r) is.0 is.1.analysis,
+    )
 
-past_again : (t : Tables) (row : ServiceRow) (j : IsServiceJudged t row) → past_in t row.name j.stand.bound row.standing.runs ≡ past_judged j
+past_again : (t : Tables) (row : ServiceRow) (j : IsServiceJudged t row) → past_in t row.name (strategy_of j.made) row.standing.runs ≡ past_judged j
 past_again t row j =
-    let plan : BoundParts = j.stand.bound in
+    let strategy : CheckedStrategy = strategy_of j.made in
     let measurements : measurements_in t.measurements row.name ≡ j.measurements = j.read.values in
     let history : history_in t.history row.name ≡ j.history = ap (filter_map line_of_row) j.told ∙ lines_again row.name j.history j.lines in
     let many : row.standing.runs ≡ length j.runs = sym j.as_many in
-    let runs : runs_to plan j.measurements t.runs row.name (length j.runs) ≡ map (run_made plan j.measurements) j.runs = runs_again plan j.measurements t.runs row.name j.runs (have_run_rows t row j) in
-    (λ i. record { runs = runs_to plan (measurements i) t.runs row.name (many i); measurements = measurements i; history = history i })
+    let runs : runs_to t strategy j.measurements row.name (length j.runs) ≡ map (run_made j.measurements) j.runs = runs_again t strategy j.measurements row.name j.runs (have_run_rows t row j) in
+    (λ i. record { runs = runs_to t strategy (measurements i) row.name (many i); measurements = measurements i; history = history i })
     ∙ (λ i. record { runs = runs i; measurements = j.measurements; history = j.history })
 
-pub service_read : (t : Tables) (row : ServiceRow) (j : IsServiceJudged t row) → service_of_row (known_of t) t row ≡ Some (service_judged j)
+pub service_read : (t : Tables) (row : ServiceRow) (j : IsServiceJudged t row) → service_of_row t row ≡ Some (service_judged j)
 service_read t row j =
-    let plan : BoundParts = bound_of (known_of t) (strategy_of j.made) in
-    let s : IsStanding row.name (strategy_of j.made) plan row.standing j.stand = standing_judged t row j in
-    ap (option_and_then (service_made (known_of t) t row)) j.is
-    ∙ ap (service_from t row j.made plan) j.stands
-    ∙ (λ i. Some (record { made = j.made; stand = j.stand; past = past_in t row.name (sym s.bound i) row.standing.runs }))
+    ap (option_and_then (service_made t row)) j.is
+    ∙ ap (service_from t row j.made) j.stands
     ∙ (λ i. Some (record { made = j.made; stand = j.stand; past = past_again t row j i }))
 
 pub made_readable : (t : Tables) (row : ServiceRow) (j : IsServiceJudged t row) → IsReadableCommand (command.Service j.made)
@@ -228,7 +238,7 @@ made_readable t row j = still_canonical row.spec (command.Service j.made) (of_ma
 
 pub row_again : (t : Tables) (row : ServiceRow) (j : IsServiceJudged t row) → service_row row.name (service_judged j) ≡ row
 row_again t row j =
-    let s : IsStanding row.name (strategy_of j.made) (bound_of (known_of t) (strategy_of j.made)) row.standing j.stand = standing_judged t row j in
-    let many : length (map (run_made j.stand.bound j.measurements) j.runs) ≡ row.standing.runs = length-map j.runs (run_made j.stand.bound j.measurements) ∙ j.as_many in
+    let s : IsStanding row.name (strategy_of j.made) (bound_by t row.name j.made) row.standing j.stand = standing_judged t row j in
+    let many : length (map (run_made j.measurements) j.runs) ≡ row.standing.runs = length-map j.runs (run_made j.measurements) ∙ j.as_many in
     let text = canonical_text row.spec (command.Service j.made) (of_made (canonical_in row.spec) j.made j.is).command in
     (λ i. record { name = row.name; spec = text i; standing = standing_of j.stand (many i) }) ∙ (λ i. record { name = row.name; spec = row.spec; standing = s.again i })

@@ -24,7 +24,7 @@ use Rattle.canary_judging.proofs.Callers.{none_behind}
 use Rattle.canary_judging.proofs.CallersHold.{below_or}
 use Rattle.canary_judging.proofs.CallersJudged.{HasPlace, has_place}
 use Rattle.canary_judging.proofs.Levels.{HasNumbers, HasNoOthers, no_other_key, no_others}
-use Rattle.canary_judging.proofs.ServicesHoldRows.{run_made, service_judged, known_of, have_run_rows, service_read, row_again}
+use Rattle.canary_judging.proofs.ServicesHoldRows.{run_made, service_judged, have_run_rows, service_read, row_again}
 
 abbrev pub service_name : ServiceRow → List ℕ
 service_name row = row.name
@@ -85,18 +85,18 @@ no_runs_of t judged q none =
 
 -- What is read under a name.
 
-services_at : (t : Tables) (q : List ℕ) → get (contents_of t).desk.services q ≡ first_of (service_of_row (known_of t) t) (filter (is_service q) t.services)
-services_at t q = get-map service_name (service_of_row (known_of t) t) t.services q
+pub services_at : (t : Tables) (q : List ℕ) → get (contents_of t).desk.services q ≡ first_of (service_of_row t) (filter (is_service q) t.services)
+services_at t q = get-map service_name (service_of_row t) t.services q
 
 pub service_gone : (t : Tables) (q : List ℕ) → filter (is_service q) t.services ≡ [] → get (contents_of t).desk.services q ≡ None
-service_gone t q none = services_at t q ∙ ap (first_of (service_of_row (known_of t) t)) none
+service_gone t q none = services_at t q ∙ ap (first_of (service_of_row t)) none
 
 pub past_gone : (t : Tables) (q : List ℕ) → filter (is_service q) t.services ≡ [] → past_of (contents_of t) q ≡ no_past
 past_gone t q none = ap past_in (service_gone t q none)
 
 pub service_there : (t : Tables) (row : ServiceRow) (j : IsServiceJudged t row) → get (contents_of t).desk.services row.name ≡ Some (service_judged j)
 service_there t row j =
-    services_at t row.name ∙ ap (first_of (service_of_row (known_of t) t)) j.one ∙ ap (λ (o : Option ModelService). option_or o None) (service_read t row j)
+    services_at t row.name ∙ ap (first_of (service_of_row t)) j.one ∙ ap (λ (o : Option ModelService). option_or o None) (service_read t row j)
 
 pub past_there : (t : Tables) (row : ServiceRow) (j : IsServiceJudged t row) → past_of (contents_of t) row.name ≡ (service_judged j).past
 past_there t row j = ap past_in (service_there t row j)
@@ -121,13 +121,13 @@ runs_under : (t : Tables) (row : ServiceRow) (s : IsServiceAlone t row) (number 
 runs_under t row s zero = sym (numbered_of t row.name 0) ∙ s.alone 0 (inl (omega arith))
 runs_under t row s (suc place) =
     let j : IsServiceJudged t row = s.judged in
-    let runs : List Run = map (run_made j.stand.bound j.measurements) j.runs in
-    let many : length runs ≡ length j.runs = length-map j.runs (run_made j.stand.bound j.measurements) in
+    let runs : List Run = map (run_made j.measurements) j.runs in
+    let many : length runs ≡ length j.runs = length-map j.runs (run_made j.measurements) in
     let all : length j.runs ≡ row.standing.runs = j.as_many in
     elim (below_or place (length j.runs)) as (λ x. filter (is_run row.name (suc place)) t.runs ≡ row_if (run_row row.name) (slice_get runs place)) [
       | inl below ↦
           let h : HasPlace j.runs place = has_place j.runs place below in
-          let there : slice_get runs place ≡ Some (run_made j.stand.bound j.measurements h.value) = slice_get-map (run_made j.stand.bound j.measurements) j.runs place ∙ ap (option_map (run_made j.stand.bound j.measurements)) h.there in
+          let there : slice_get runs place ≡ Some (run_made j.measurements h.value) = slice_get-map (run_made j.measurements) j.runs place ∙ ap (option_map (run_made j.measurements)) h.there in
           (have_run_rows t row j place h.value h.there).0 ∙ ap (row_if (run_row row.name)) (sym there)
       | inr above ↦
           sym (numbered_of t row.name (suc place)) ∙ s.alone (suc place) (inr (omega arith))

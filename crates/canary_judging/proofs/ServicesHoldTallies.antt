@@ -9,6 +9,7 @@ use Rattle.std.proofs.lemmas.List.Elements.{filter_agree}
 use Rattle.std.proofs.lemmas.Option.{slice_get-map}
 use Rattle.std.proofs.lemmas.Slice.Eq.{bytes_eq-Decides}
 use Rattle.canary_metric.specs.Counts.{Counts}
+use Rattle.canary_plan.specs.Plans.{strategy_of}
 use Rattle.canary_release.specs.Pasts.{Run, Past, counts_of}
 use Rattle.canary_once.specs.declared.record.RunRecord.{RunRecord}
 use Rattle.canary_once.specs.Records.{past_of}
@@ -90,7 +91,7 @@ one_row : {A R : Type 0} (row : A → R) (o : Option A) → length (row_if row o
 one_row row None = omega arith
 one_row row (Some x) = omega arith
 
-runs_once : (t : Tables) → AreServicesJudged t → AllByRecursion (λ k. length (filter (same_run k) t.runs) ≤ 1) t.runs
+pub runs_once : (t : Tables) → AreServicesJudged t → AllByRecursion (λ k. length (filter (same_run k) t.runs) ≤ 1) t.runs
 runs_once t judged =
     each_in (λ k. length (filter (same_run k) t.runs) ≤ 1) t.runs (λ k at.
     subst (λ (rows : List RunRow). length rows ≤ 1) (sym (runs_hold_at t judged k.service k.number)) (one_row (run_row k.service) (run_at k.number (past_of (contents_of t) k.service).runs)))
@@ -149,11 +150,11 @@ if_mapped row f None = refl
 if_mapped row f (Some x) = refl
 
 under_made : CountingIsExact → RunsAreTallied → (t : Tables) (row : ServiceRow) (j : IsServiceJudged t row) (place metric : ℕ) (r : RunRecord) → slice_get j.runs place ≡ Some r
-    → filter (is_tally row.name (suc place) metric) t.tallies ≡ tally_rows_of row.name (suc place) metric (Some (run_made j.stand.bound j.measurements r))
+    → filter (is_tally row.name (suc place) metric) t.tallies ≡ tally_rows_of row.name (suc place) metric (Some (run_made j.measurements r))
 under_made exact tallied t row j place metric r there =
-    let is : IsRunJudged t j.stand.bound row.name r = (j.each place r there).1 in
-    let of : IsRunOf j.stand.bound j.measurements (suc place) r = run_of_judged exact tallied t row j place r there in
-    let made : Run = run_made j.stand.bound j.measurements r in
+    let is : IsRunJudged t (strategy_of j.made) row.name r = (j.each place r there).1 in
+    let of : IsRunOf t (strategy_of j.made) row.name j.measurements (suc place) r = run_of_judged exact tallied t row j place r there in
+    let made : Run = run_made j.measurements r in
     let number : r.number ≡ suc place = of.numbered in
     let own : filter (is_tally row.name (suc place) metric) t.tallies ≡ row_if (tally_row row.name (suc place) metric) (slice_get r.tallies metric) =
     subst (λ n. filter (is_tally row.name n metric) t.tallies ≡ row_if (tally_row row.name n metric) (slice_get r.tallies metric)) number (under_run t row.name r.number r.tallies is.tallies is.no_more metric) in
@@ -172,15 +173,15 @@ no_run_at t judged q number metric runs are none =
     ∙ ap (tally_rows_of q number metric) (sym none)
 
 tallies_under : CountingIsExact → RunsAreTallied → (t : Tables) → AreServicesJudged t → (row : ServiceRow) (j : IsServiceJudged t row) (number metric : ℕ)
-    → filter (is_tally row.name number metric) t.tallies ≡ tally_rows row.name number metric (map (run_made j.stand.bound j.measurements) j.runs)
-tallies_under exact tallied t judged row j zero metric = no_run_at t judged row.name 0 metric (map (run_made j.stand.bound j.measurements) j.runs) (ap (λ (p : Past). p.runs) (past_there t row j)) refl
+    → filter (is_tally row.name number metric) t.tallies ≡ tally_rows row.name number metric (map (run_made j.measurements) j.runs)
+tallies_under exact tallied t judged row j zero metric = no_run_at t judged row.name 0 metric (map (run_made j.measurements) j.runs) (ap (λ (p : Past). p.runs) (past_there t row j)) refl
 tallies_under exact tallied t judged row j (suc place) metric =
-    let runs : List Run = map (run_made j.stand.bound j.measurements) j.runs in
-    let many : length runs ≡ length j.runs = length-map j.runs (run_made j.stand.bound j.measurements) in
+    let runs : List Run = map (run_made j.measurements) j.runs in
+    let many : length runs ≡ length j.runs = length-map j.runs (run_made j.measurements) in
     elim (below_or place (length j.runs)) as (λ x. filter (is_tally row.name (suc place) metric) t.tallies ≡ tally_rows row.name (suc place) metric runs) [
       | inl below ↦
           let h : HasPlace j.runs place = has_place j.runs place below in
-          let there : slice_get runs place ≡ Some (run_made j.stand.bound j.measurements h.value) = slice_get-map (run_made j.stand.bound j.measurements) j.runs place ∙ ap (option_map (run_made j.stand.bound j.measurements)) h.there in
+          let there : slice_get runs place ≡ Some (run_made j.measurements h.value) = slice_get-map (run_made j.measurements) j.runs place ∙ ap (option_map (run_made j.measurements)) h.there in
           under_made exact tallied t row j place metric h.value h.there ∙ ap (tally_rows_of row.name (suc place) metric) (sym there)
       | inr above ↦ no_run_at t judged row.name (suc place) metric runs (ap (λ (p : Past). p.runs) (past_there t row j)) (none_behind runs place (omega arith))
     ]

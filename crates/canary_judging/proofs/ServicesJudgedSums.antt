@@ -1,22 +1,22 @@
 -- The rows of contents are those of its services, and no others.
 use Rattle.std.proofs.Common.{◌≡◌, ◌⊎◌, inl, inr, ℕ, zero, suc, ◌+◌, ◌≤◌, ◌<◌, List, [], length, Bool, true, false, Some, None, refl, sym, ap, ◌∙◌, subst, arith}
-use Rattle.std.specs.Prelude.{Option, ◌==◌, ◌&&◌, filter, map}
+use Rattle.std.specs.Prelude.{Option, ◌==◌, ◌&&◌, filter, find, map}
 use Rattle.std.specs.Str.{bytes_eq}
 use Rattle.std.specs.List.{sum_by}
 use Rattle.std.specs.FinMap.{get}
 use Rattle.std.proofs.lemmas.Bool.Decides.{Decides-eqb}
-use Rattle.canary_plan.specs.Plans.{Templates}
 use Rattle.canary_release.specs.Desks.{ModelService}
 use Rattle.canary_release.specs.Pasts.{Run, Past, no_past}
 use Rattle.canary_once.specs.Records.{past_of, past_in}
 use Rattle.canary_rows.specs.declared.rows.ServiceRow.{ServiceRow}
 use Rattle.canary_rows.specs.declared.rows.RunRow.{RunRow}
+use Rattle.canary_rows.specs.declared.rows.BindingRow.{BindingRow}
 use Rattle.canary_rows.specs.declared.rows.TallyRow.{TallyRow}
 use Rattle.canary_rows.specs.declared.rows.MeasurementRow.{MeasurementRow}
 use Rattle.canary_rows.specs.declared.rows.HistoryRow.{HistoryRow}
-use Rattle.canary_rows.specs.Tables.{Tables, is_service, is_run, is_tally, is_tally_of, is_measurement_of, is_line_of}
-use Rattle.canary_stored.specs.Values.{service_row, run_row, measurement_row, history_row}
-use Rattle.canary_stored.specs.Tables.{row_if, run_at, run_rows, tally_rows_of}
+use Rattle.canary_rows.specs.Tables.{Tables, is_service, is_binding, is_binding_of, is_run, is_tally, is_tally_of, is_measurement_of, is_line_of}
+use Rattle.canary_stored.specs.Values.{service_row, binding_row, run_row, measurement_row, history_row}
+use Rattle.canary_stored.specs.Tables.{row_if, is_of_template, revisions_of_run, binding_rows, run_at, run_rows, tally_rows_of}
 use Rattle.canary_stored.specs.Reading.{contents_of}
 use Rattle.canary_judging.specs.Services.{HoldServices}
 use Rattle.canary_judging.proofs.Numbers.{is_numbered}
@@ -24,10 +24,11 @@ use Rattle.canary_judging.proofs.Named.{own_key, equal_keys, filter_twice, IsIn,
 use Rattle.canary_judging.proofs.NamedRows.{StandOnce, naming, all_named}
 use Rattle.canary_judging.proofs.Callers.{none_behind}
 use Rattle.canary_judging.proofs.CallersJudged.{HasPlace, has_place}
-use Rattle.canary_judging.proofs.Keys.{Tells, HaveOnce, all_keyed}
+use Rattle.canary_judging.proofs.Keys.{HaveOnce, all_keyed}
+use Rattle.canary_judging.proofs.BindingKeys.{RunKey, key_eq, keys_tell, run_key, binding_key, own_keys, keys_in, HaveNumbersOnce, keys_once, sum_of_keys, some_service, some_run}
 use Rattle.canary_judging.proofs.ServicesJudgedLists.{just_numbers, same_sums}
 use Rattle.canary_judging.proofs.ServicesJudgedRuns.{HasRows}
-use Rattle.canary_judging.proofs.ServicesJudgedOne.{templates_in, IsRowOf, is_row_of}
+use Rattle.canary_judging.proofs.ServicesJudgedOne.{IsRowOf, is_row_of}
 
 -- One row or none.
 
@@ -79,28 +80,27 @@ run_named t hold x at none =
     not_there (is_run x.service x.number) x t.runs at (λ i. own_key x.service i && (Decides-eqb x.number x.number).1 refl i)
     (hold.runs x.service x.number ∙ ap (λ (p : Past). run_rows x.service x.number p.runs) (no_past_there t hold x.service none) ∙ no_runs x.service x.number)
 
-runs_under : (t : Tables) (known : Templates) (q : List ℕ) (m : ModelService) → HasRows t known q m → (k : ℕ) → filter (is_numbered run_number k) (filter (λ (r : RunRow). bytes_eq q r.service) t.runs) ≡ run_rows q k m.past.runs
-runs_under t known q m has k = filter_twice (is_numbered run_number k) (λ (r : RunRow). bytes_eq q r.service) t.runs ∙ has.runs k
+runs_under : (t : Tables) (q : List ℕ) (m : ModelService) → HasRows t q m → (k : ℕ) → filter (is_numbered run_number k) (filter (λ (r : RunRow). bytes_eq q r.service) t.runs) ≡ run_rows q k m.past.runs
+runs_under t q m has k = filter_twice (is_numbered run_number k) (λ (r : RunRow). bytes_eq q r.service) t.runs ∙ has.runs k
 
-one_run : (t : Tables) (known : Templates) (q : List ℕ) (m : ModelService) → HasRows t known q m → (k : ℕ) → 1 ≤ k → k < 1 + length m.past.runs
+one_run : (t : Tables) (q : List ℕ) (m : ModelService) → HasRows t q m → (k : ℕ) → 1 ≤ k → k < 1 + length m.past.runs
     → length (filter (is_numbered run_number k) (filter (λ (r : RunRow). bytes_eq q r.service) t.runs)) ≡ 1
-one_run t known q m has zero a b = absurd (omega arith)
-one_run t known q m has (suc place) a b =
+one_run t q m has zero a b = absurd (omega arith)
+one_run t q m has (suc place) a b =
     let h : HasPlace m.past.runs place = has_place m.past.runs place (omega arith) in
-    ap length (runs_under t known q m has (suc place) ∙ ap (row_if (run_row q)) h.there)
+    ap length (runs_under t q m has (suc place) ∙ ap (row_if (run_row q)) h.there)
 
-no_run : (t : Tables) (known : Templates) (q : List ℕ) (m : ModelService) → HasRows t known q m → (k : ℕ) → (k < 1) ⊎ (1 + length m.past.runs ≤ k)
+no_run : (t : Tables) (q : List ℕ) (m : ModelService) → HasRows t q m → (k : ℕ) → (k < 1) ⊎ (1 + length m.past.runs ≤ k)
     → filter (is_numbered run_number k) (filter (λ (r : RunRow). bytes_eq q r.service) t.runs) ≡ []
-no_run t known q m has zero out = runs_under t known q m has zero
-no_run t known q m has (suc place) (inl low) = absurd (omega arith)
-no_run t known q m has (suc place) (inr high) = runs_under t known q m has (suc place) ∙ ap (row_if (run_row q)) (none_behind m.past.runs place (omega arith))
+no_run t q m has zero out = runs_under t q m has zero
+no_run t q m has (suc place) (inl low) = absurd (omega arith)
+no_run t q m has (suc place) (inr high) = runs_under t q m has (suc place) ∙ ap (row_if (run_row q)) (none_behind m.past.runs place (omega arith))
 
 its_runs : (t : Tables) (row : ServiceRow) → IsRowOf t row → row.standing.runs ≡ naming service_name run_service t.runs row
 its_runs t row of =
     let m : ModelService = of.service in
-    let known : Templates = templates_in t in
     sym (ap (λ (r : ServiceRow). r.standing.runs) of.is)
-    ∙ sym (just_numbers run_number (filter (λ (r : RunRow). bytes_eq row.name r.service) t.runs) 1 (length m.past.runs) (one_run t known row.name m of.has) (no_run t known row.name m of.has))
+    ∙ sym (just_numbers run_number (filter (λ (r : RunRow). bytes_eq row.name r.service) t.runs) 1 (length m.past.runs) (one_run t row.name m of.has) (no_run t row.name m of.has))
 
 pub sum_of_runs : (t : Tables) → HoldServices t → sum_by (λ (row : ServiceRow). row.standing.runs) t.services ≡ length t.runs
 sum_of_runs t hold =
@@ -110,29 +110,8 @@ sum_of_runs t hold =
 
 -- Tallies, by service and run.
 
-abbrev pub RunKey : Type 0
-RunKey = List ℕ × ℕ
-
-abbrev pub key_eq : RunKey → RunKey → Bool
-key_eq a b = bytes_eq a.0 b.0 && a.1 == b.1
-
-abbrev pub run_key : RunRow → RunKey
-run_key row = (row.service, row.number)
-
 abbrev pub tally_key : TallyRow → RunKey
 tally_key row = (row.service, row.run)
-
-both_hold : (a b : Bool) → a && b ≡ true → (a ≡ true) × (b ≡ true)
-both_hold true b e = (refl, e)
-both_hold false b e = absurd (cc)
-
-pub keys_tell : Tells key_eq
-keys_tell = record {
-  same = λ a b e.
-      let h : (bytes_eq a.0 b.0 ≡ true) × ((a.1 == b.1) ≡ true) = both_hold (bytes_eq a.0 b.0) (a.1 == b.1) e in
-      λ i. (equal_keys a.0 b.0 h.0 i, (Decides-eqb a.1 b.1).0 h.1 i);
-  own = λ a. λ i. own_key a.0 i && (Decides-eqb a.1 a.1).1 refl i;
-}
 
 runs_once : (t : Tables) → HoldServices t → HaveOnce key_eq run_key t.runs
 runs_once t hold =
@@ -165,3 +144,32 @@ line_named t hold x at none =
 
 pub sum_of_lines : (t : Tables) → HoldServices t → sum_by (λ (row : ServiceRow). length (filter (is_line_of row.name) t.history)) t.services ≡ length t.history
 sum_of_lines t hold = all_named service_name told_service t.services t.history (services_once t hold) (line_named t hold)
+
+-- Rows of binding.
+
+stand_once : (t : Tables) → HoldServices t → HaveNumbersOnce t
+stand_once t hold = record {
+  services = λ q. subst (λ (l : List ServiceRow). length l ≤ 1) (sym (hold.services q)) (one_at_most (service_row q) (get (contents_of t).desk.services q));
+  runs = λ q number. subst (λ (l : List RunRow). length l ≤ 1) (sym (hold.runs q number)) (one_at_most (run_row q) (run_at number (past_of (contents_of t) q).runs));
+  none = λ q. hold.runs q 0;
+}
+
+none_of_past : (q : List ℕ) (template : List ℕ) (number : ℕ) (m : Option ModelService) → (number ≡ 0 → m ≡ None) → run_at number (past_in m).runs ≡ None → binding_rows q number template m ≡ []
+none_of_past q template number None gone none = refl
+none_of_past q template zero (Some m) gone none = let e : Some m ≡ None = gone refl in absurd (cc)
+none_of_past q template (suc place) (Some m) gone none = ap (λ (o : Option Run). row_if (binding_row q (suc place)) (find (is_of_template template) (revisions_of_run o))) none
+
+no_service_there : (t : Tables) → HoldServices t → (q : List ℕ) → filter (is_service q) t.services ≡ [] → get (contents_of t).desk.services q ≡ None
+no_service_there t hold q none = none_there (service_row q) (get (contents_of t).desk.services q) (sym (hold.services q) ∙ none)
+
+binding_named : (t : Tables) → HoldServices t → (x : BindingRow) → IsIn x t.bindings → filter (key_eq (binding_key x)) (keys_in t) ≡ [] → ⊥
+binding_named t hold x at none =
+    let m : Option ModelService = get (contents_of t).desk.services x.service in
+    let run : run_at x.run (past_in m).runs ≡ None = none_there (run_row x.service) (run_at x.run (past_in m).runs) (sym (hold.runs x.service x.run) ∙ some_run t x.service x.run none) in
+    let service : x.run ≡ 0 → m ≡ None = λ first. no_service_there t hold x.service (some_service t x.service (subst (λ n. filter (key_eq (x.service, n)) (keys_in t) ≡ []) first none)) in
+    not_there (is_binding x.service x.run x.template) x t.bindings at (λ i. own_key x.service i && ((Decides-eqb x.run x.run).1 refl i && own_key x.template i))
+    (hold.bindings x.service x.run x.template ∙ none_of_past x.service x.template x.run m service run)
+
+pub sum_of_bindings : (t : Tables) → HoldServices t
+    → sum_by (λ (row : ServiceRow). length (filter (is_binding_of row.name 0) t.bindings)) t.services + sum_by (λ (row : RunRow). length (filter (is_binding_of row.service row.number) t.bindings)) t.runs ≡ length t.bindings
+sum_of_bindings t hold = sym (sum_of_keys t) ∙ all_keyed key_eq keys_tell own_keys binding_key (keys_in t) t.bindings (keys_once t (stand_once t hold)) (binding_named t hold)

@@ -1,20 +1,21 @@
 -- What is judged key by key: what stands under each key that rows name, and how many rows there
 -- are.
-use Rattle.std.specs.Prelude.{◌≡◌, ◌↔◌, ℕ, ◌≤◌, Bool, List, [], ◌∷◌, length, filter, Option, Some, None}
+use Rattle.std.specs.Prelude.{◌≡◌, ◌↔◌, ℕ, ◌-◌, ◌≤◌, Bool, true, List, [], ◌∷◌, length, filter, Option, Some, None, is_some}
 use Rattle.std.specs.List.{AllByRecursion, sum_by}
 use Rattle.std.specs.FinMap.{get}
 use Rattle.canary_plan.specs.declared.template.Template.{Template}
 use Rattle.canary_plan.specs.declared.command.Command.TheVariants as command
 use Rattle.canary_plan.specs.PlanRefusals.{template_refusal}
-use Rattle.canary_release.specs.Order.{IsTemplate}
+use Rattle.canary_release.specs.Desks.{revisions_of}
+use Rattle.canary_release.specs.Order.{IsInRevisions}
 use Rattle.canary_once.specs.declared.book.Receipt.{Receipt}
 use Rattle.canary_once.specs.Contents.{receipts_of, receipt_at, HaveReceipts, KeepsSettled}
 use Rattle.canary_rows.specs.declared.rows.CallerRow.{CallerRow}
-use Rattle.canary_rows.specs.declared.rows.TemplateRow.{TemplateRow}
-use Rattle.canary_rows.specs.Tables.{Tables, is_caller, is_kept, is_template}
-use Rattle.canary_stored.specs.Values.{caller_row, receipt_of_row, template_row, template_of_row}
-use Rattle.canary_stored.specs.Tables.{row_if, kept_rows, IsReadableCommand}
-use Rattle.canary_stored.specs.Reading.{contents_of}
+use Rattle.canary_rows.specs.declared.rows.RevisionRow.{RevisionRow}
+use Rattle.canary_rows.specs.Tables.{Tables, is_caller, is_kept, is_revision}
+use Rattle.canary_stored.specs.Values.{caller_row, receipt_of_row, revision_of_row}
+use Rattle.canary_stored.specs.Tables.{row_if, kept_rows, revision_rows, IsReadableCommand}
+use Rattle.canary_stored.specs.Reading.{first_row, contents_of}
 
 -- just one row passes, and it is read
 pub record IsOneRead {R A : Type 0} (test : R → Bool) (value : R → Option A)
@@ -55,29 +56,37 @@ pub record HoldCallers (t : Tables) : Type 0 where
 abbrev pub CallersAreJudged : Type 0
 CallersAreJudged = (t : Tables) → AreCallersJudged t ↔ HoldCallers t
 
--- Templates.
+-- Templates, revision by revision.
 
--- a template's row: no other has its name, and it is read as an accepted template of that name
-pub record IsTemplateJudged (t : Tables) (row : TemplateRow) : Type 0 where
-  pub one : filter (is_template row.name) t.templates ≡ row ∷ []
+-- there is that revision of the template
+abbrev pub has_revision : Tables → List ℕ → ℕ → Bool
+has_revision t name number = is_some (first_row (filter (is_revision name number) t.revisions))
+
+-- a revision's row: no other has its name and number, which is 1 to 1,000,000; the one before it is
+-- there, but for the first; and it is read as an accepted template of its name
+pub record IsRevisionJudged (t : Tables) (row : RevisionRow) : Type 0 where
+  pub one : filter (is_revision row.name row.revision) t.revisions ≡ row ∷ []
+  pub some : 1 ≤ row.revision
+  pub most : row.revision ≤ 1000000
+  pub before : 2 ≤ row.revision → has_revision t row.name (row.revision - 1) ≡ true
   pub read : Template
-  pub is : template_of_row row ≡ Some read
+  pub is : revision_of_row row ≡ Some read
   pub named : read.spec.name ≡ row.name
   pub accepted : template_refusal read.spec ≡ None
 
 abbrev pub AreTemplatesJudged : Tables → Type 0
-AreTemplatesJudged t = AllByRecursion (IsTemplateJudged t) t.templates
+AreTemplatesJudged t = AllByRecursion (IsRevisionJudged t) t.revisions
 
 -- what of tables that hold contents is of templates alone
 pub record HoldTemplates (t : Tables) : Type 0 where
-  pub templates : (name : List ℕ)
-      → filter (is_template name) t.templates
-      ≡ row_if (template_row name) (get (contents_of t).desk.templates name)
-  pub readable : (name : List ℕ) (found : Template)
-      → get (contents_of t).desk.templates name ≡ Some found
-      → IsReadableCommand (command.Template found.spec)
-  pub are : (name : List ℕ) (found : Template)
-      → get (contents_of t).desk.templates name ≡ Some found → IsTemplate name found
+  pub revisions : (name : List ℕ) (number : ℕ)
+      → filter (is_revision name number) t.revisions
+      ≡ revision_rows name number (revisions_of (contents_of t).desk.templates name)
+  pub readable : (name : List ℕ)
+      → AllByRecursion (λ (x : Template). IsReadableCommand (command.Template x.spec))
+      (revisions_of (contents_of t).desk.templates name)
+  pub are : (name : List ℕ) (found : List Template)
+      → get (contents_of t).desk.templates name ≡ Some found → IsInRevisions name found
 
 abbrev pub TemplatesAreJudged : Type 0
 TemplatesAreJudged = (t : Tables) → AreTemplatesJudged t ↔ HoldTemplates t

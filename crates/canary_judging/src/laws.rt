@@ -3,9 +3,10 @@ ghost use Rattle.canary_judging.specs.Soundness.{ExactlyThose};
 ghost use Rattle.canary_judging.specs.Judged.{CallersAreJudged, TemplatesAreJudged};
 ghost use Rattle.canary_judging.specs.Counting.{CountingIsExact, CountingCounts, RunsAreTallied};
 ghost use Rattle.canary_judging.specs.Services.{PartsMakeThemSound};
-ghost use Rattle.canary_judging.specs.Laws.{JudgedTemplatesAreFound, JudgedTemplatesAreUnique};
+ghost use Rattle.canary_judging.specs.Laws.{JudgedRevisionsCountUp, JudgedNewestAreFound};
+ghost use Rattle.canary_judging.specs.Laws.{AttemptsNameRevisions, RunsNameRevisions};
 ghost use Rattle.canary_judging.specs.Laws.{ServicesAreJudged, JudgingIsExact};
-ghost use Rattle.canary_judging.specs.Totals.{RunsAreSummedByService};
+ghost use Rattle.canary_judging.specs.Totals.{RunsAreSummedByService, BindingsAreSummedByService};
 
 use canary_metric::laws as metric_laws;
 use canary_stored::laws as table_laws;
@@ -24,20 +25,28 @@ pub fn callers_judged()
     ensures { CallersAreJudged }
 {}
 
-/// Templates are judged key by key: their rows are those of accepted templates exactly where each
-/// name has one row, which is read as an accepted template of that name.
+/// Templates are judged revision by revision: their rows are those of the revisions of contents
+/// exactly where each name and number has one row, which is read as an accepted template of that
+/// name, and has a number from 1 to 1,000,000, with the one before it there, but for the first.
 pub fn templates_judged()
     ensures { TemplatesAreJudged }
 {}
 
-/// In tables whose templates are judged, what stands under a name is the row of the template that
-/// there is, and no other, or none.
+/// In tables whose templates are judged, the revisions of each name are 1 to n, with one row each,
+/// and the row with the greatest number is its newest revision.
 pub fn templates_found()
-    ensures found { JudgedTemplatesAreFound }
-    ensures unique { JudgedTemplatesAreUnique }
+    ensures count_up { JudgedRevisionsCountUp }
+    ensures newest { JudgedNewestAreFound }
 {
     templates_judged();
 }
+
+/// Where a run, or the present attempt of a service, has just as many rows of binding as templates
+/// to which these bind it, each of the rows names a revision that is there.
+pub fn bindings()
+    ensures attempts { AttemptsNameRevisions }
+    ensures runs { RunsNameRevisions }
+{}
 
 /// Measurements are counted one after another, from no counts on, exactly where the list of each
 /// metric is in order, is judged by its conditions and has room; and then each metric has the
@@ -55,10 +64,11 @@ pub fn parts()
     ensures { PartsMakeThemSound }
 {}
 
-/// Services are judged key by key: they, their runs with their tallies, their measurements and
-/// their lines are those of sound contents exactly where each name has one row, whose runs have a
-/// row for each number from 1 on, with the tallies that their measurements come to, and no table
-/// has other rows.
+/// Where templates are those of contents, services are judged key by key: they, what they are bound
+/// to, their runs with their tallies, their measurements and their lines are those of sound
+/// contents exactly where each name has one row, whose runs have a row for each number from 1 on,
+/// each bound to an analysis of its own, with the tallies that their measurements come to, and no
+/// table has other rows.
 pub fn services_judged()
     ensures { ServicesAreJudged }
 {
@@ -66,9 +76,11 @@ pub fn services_judged()
 }
 
 /// Where each service is judged, and there are no more runs than theirs, the tallies of all runs
-/// can be added up service by service, and run by run within.
+/// can be added up service by service, and run by run within; and so can the rows of binding, with
+/// those of the services' present attempts.
 pub fn totals()
-    ensures { RunsAreSummedByService }
+    ensures tallies { RunsAreSummedByService }
+    ensures bindings { BindingsAreSummedByService }
 {}
 
 /// Tables are judged, in their callers, their templates and their services, exactly where they are

@@ -1,74 +1,24 @@
--- Tree maps under names that change at one name, and that of callers, each of whom keeps at least one receipt.
-use Rattle.std.proofs.Common.{◌≡◌, ℕ, ◌+◌, ◌-◌, ◌≤◌, ◌<◌, List, [], ◌∷◌, ◌++◌, length, Bool, true, false, Some, None, refl, sym, ap, ◌∙◌, subst, arith, length-append}
-use Rattle.std.specs.Prelude.{Option, Result, Ok, Err, OnOk, OnErr, cond, unwrap_or, IsSome}
+-- The map of callers, each of whom keeps at least one receipt.
+use Rattle.std.proofs.Common.{◌≡◌, ℕ, ◌+◌, ◌-◌, ◌≤◌, ◌<◌, List, [], ◌∷◌, ◌++◌, length, Bool, true, false, Some, None, sym, ap, ◌∙◌, subst, arith, length-append, refl}
+use Rattle.std.specs.Prelude.{Option, Result, Ok, Err, OnOk, OnErr, cond, unwrap_or}
 use Rattle.std.specs.Ordering.{nat_cmp}
-use Rattle.std.specs.Cmp.Lexicographic.{slice_cmp, nat_list_cmp_total}
-use Rattle.std.specs.Cmp.{eq_by_cmp_equiv}
+use Rattle.std.specs.Cmp.Lexicographic.{slice_cmp}
 use Rattle.std.specs.Str.{bytes_eq}
-use Rattle.std.specs.FinMap.{FinMap, get, insert, empty, from_entries, get-empty, get-insert, same_map, IsAntisymmetric, slice_cmp-IsAntisymmetric, nat_cmp-IsAntisymmetric}
-use Rattle.std.specs.BTreeMap.{BTreeMap, is_at, Updates, WritesThrough}
-use Rattle.std.proofs.lemmas.Map.Text.{is_eq-slice_cmp}
+use Rattle.std.specs.FinMap.{get, empty, from_entries, get-empty}
 use Rattle.std.proofs.lemmas.Slice.Eq.{bytes_eq-Decides}
 use Rattle.canary_once.specs.declared.book.Receipt.{Receipt}
-use Rattle.canary_once.specs.Contents.{with_receipt}
-use Rattle.canary_once.specs.Contents.{CallerMap, receipts_in, HaveReceipts}
+use Rattle.canary_once.specs.Contents.{CallerMap, receipts_in, with_receipt, HaveReceipts}
 use Rattle.canary_once.proofs.Named.{at_name, get_name}
-
-abbrev pub NameMap : Type 0 → Type 0
-NameMap X = FinMap (slice_cmp nat_cmp) X
-
-names_are_told_apart : IsAntisymmetric (slice_cmp nat_cmp)
-names_are_told_apart = slice_cmp-IsAntisymmetric nat_cmp-IsAntisymmetric
-
--- two maps that answer alike are the same
-pub answers_alike : {X : Type 0} (m n : NameMap X) → ((q : List ℕ) → get m q ≡ get n q) → m ≡ n
-answers_alike m n h = same_map nat_list_cmp_total names_are_told_apart m n h
-
--- a map that answers as another but for one name
-abbrev pub IsWith : {X : Type 0} → NameMap X → NameMap X → List ℕ → Option X → Type 0
-IsWith m n k w = (q : List ℕ) → get n q ≡ cond (bytes_eq q k) w (get m q)
-
-is_same_name : (k q : List ℕ) → is_at (slice_cmp nat_cmp k) q ≡ bytes_eq q k
-is_same_name k q = (eq_by_cmp_equiv nat_list_cmp_total).symm k q ∙ is_eq-slice_cmp q k
-
-pub entries_with : {X : Type 0} (es fs : List (List ℕ × X)) (k : List ℕ) (w : Option X) → ((q : List ℕ) → at_name fs q ≡ cond (is_at (slice_cmp nat_cmp k) q) w (at_name es q)) → IsWith (from_entries {R = slice_cmp nat_cmp} es) (from_entries fs) k w
-entries_with es fs k w h q = get_name fs q ∙ h q ∙ ap (λ b. cond b w (at_name es q)) (is_same_name k q) ∙ ap (cond (bytes_eq q k) w) (sym (get_name es q))
-
--- a map to which a value was written at a name that was there
-pub written_with : {X : Type 0} (m n : BTreeMap (List ℕ) X) (k : List ℕ) (r new : X) → Some r ≡ at_name m.entries k → WritesThrough (slice_cmp nat_cmp) (slice_cmp nat_cmp k) m new n → IsWith (from_entries {R = slice_cmp nat_cmp} m.entries) (from_entries n.entries) k (Some new)
-written_with m n k r new there written = entries_with m.entries n.entries k (Some new) (written.3 (subst IsSome there refl)).0
-
--- a map that was updated, where it is the other before that
-pub updated_with : {X : Type 0} (m n o : BTreeMap (List ℕ) X) (k : List ℕ) (w : Option X) → m ≡ o → Updates (slice_cmp nat_cmp) m n k w → IsWith (from_entries {R = slice_cmp nat_cmp} o.entries) (from_entries n.entries) k w
-updated_with {X = X} m n o k w is u = subst (λ (p : BTreeMap (List ℕ) X). IsWith (from_entries {R = slice_cmp nat_cmp} p.entries) (from_entries n.entries) k w) is (entries_with m.entries n.entries k w u.0)
-
-pub insert_with : {X : Type 0} (m : NameMap X) (k : List ℕ) (v : X) → IsWith m (insert m k v) k (Some v)
-insert_with m k v q = get-insert nat_list_cmp_total m k v q ∙ ap (λ b. cond b (Some v) (get m q)) (is_eq-slice_cmp q k)
-
-pub with_is_insert : {X : Type 0} (m n : NameMap X) (k : List ℕ) (v : X) → IsWith m n k (Some v) → n ≡ insert m k v
-with_is_insert m n k v h = answers_alike n (insert m k v) (λ q. h q ∙ sym (insert_with m k v q))
-
-pub at_itself : {X : Type 0} (m n : NameMap X) (k : List ℕ) (w : Option X) → IsWith m n k w → get n k ≡ w
-at_itself m n k w h = h k ∙ ap (λ b. cond b w (get m k)) ((bytes_eq-Decides k k).1 refl)
-
-same_there : {X : Type 0} (m : NameMap X) (k q : List ℕ) (w : Option X) (b : Bool) → bytes_eq q k ≡ b → w ≡ get m k → cond b w (get m q) ≡ get m q
-same_there m k q w true e is = is ∙ ap (get m) (sym ((bytes_eq-Decides q k).0 e))
-same_there m k q w false e is = refl
-
--- with the value that it had, a map is as it was
-pub with_same : {X : Type 0} (m n : NameMap X) (k : List ℕ) (w : Option X) → IsWith m n k w → w ≡ get m k → n ≡ m
-with_same m n k w h is = answers_alike n m (λ q. h q ∙ same_there m k q w (bytes_eq q k) refl is)
-
--- Callers.
-
-abbrev pub IsFew : List Receipt → Type 0
-IsFew receipts = (1 ≤ length receipts) × (length receipts ≤ 1000000000)
+use Rattle.canary_once.proofs.NameMaps.{IsWith, answers_alike, insert_with, at_itself}
 
 none_is_some : {A : Type 0} (x : A) → ◌≡◌ {A = Option A} None (Some x) → ⊥
 none_is_some x e = cc e
 
 pub some_same : {A : Type 0} (x y : A) → ◌≡◌ {A = Option A} (Some x) (Some y) → x ≡ y
 some_same x y e = cc e
+
+abbrev pub IsFew : List Receipt → Type 0
+IsFew receipts = (1 ≤ length receipts) × (length receipts ≤ 1000000000)
 
 pub none_have : HaveReceipts empty
 none_have q l e = absurd (none_is_some l (sym (get-empty (slice_cmp nat_cmp) q) ∙ e))
@@ -87,13 +37,6 @@ few_listed v few x e = subst IsFew (some_same v x e) few
 pub none_listed : (x : List Receipt) → ◌≡◌ {A = Option (List Receipt)} None (Some x) → IsFew x
 none_listed x e = absurd (none_is_some x e)
 
--- what is there of a caller
-pub found_there : (es : List (List ℕ × List Receipt)) (m : CallerMap) (k : List ℕ) (r : List Receipt) → from_entries es ≡ m → Some r ≡ at_name es k → r ≡ receipts_in m k
-found_there es m k r is e = sym (ap (λ (n : CallerMap). receipts_in n k) (sym is) ∙ ap (λ (o : Option (List Receipt)). unwrap_or o []) (get_name es k ∙ sym e))
-
-pub found_none : (es : List (List ℕ × List Receipt)) (m : CallerMap) (k : List ℕ) → from_entries es ≡ m → None ≡ at_name es k → [] ≡ receipts_in m k
-found_none es m k is e = sym (ap (λ (n : CallerMap). receipts_in n k) (sym is) ∙ ap (λ (o : Option (List Receipt)). unwrap_or o []) (get_name es k ∙ sym e))
-
 pub found_few : (es : List (List ℕ × List Receipt)) (k : List ℕ) (r : List Receipt) → HaveReceipts (from_entries es) → Some r ≡ at_name es k → IsFew r
 found_few es k r all e = all k r (get_name es k ∙ sym e)
 
@@ -105,25 +48,8 @@ pub pushed_few : {T E : Type 0} (result : Result T E) (r new : List Receipt) (x 
 pushed_few (Ok u) r new x ok err few h = subst IsFew (sym ok) (one_more_few r x h)
 pushed_few (Err e) r new x ok err few h = subst IsFew (sym err) few
 
-pub pushed_there : (es fs : List (List ℕ × List Receipt)) (m : CallerMap) (k : List ℕ) (r new : List Receipt) (x : Receipt) → from_entries es ≡ m → r ≡ receipts_in m k → IsWith (from_entries es) (from_entries fs) k (Some new) → new ≡ r ++ x ∷ [] → from_entries fs ≡ with_receipt m k x
-pushed_there es fs m k r new x is found h more =
-    with_is_insert (from_entries es) (from_entries fs) k new h
-    ∙ ap (λ (n : CallerMap). insert n k new) is
-    ∙ ap (insert m k) (more ∙ ap (λ (l : List Receipt). l ++ x ∷ []) found)
-
-pub pushed_result : {T E : Type 0} (result : Result T E) (es fs : List (List ℕ × List Receipt)) (m : CallerMap) (k : List ℕ) (r new : List Receipt) (x : Receipt) → from_entries es ≡ m → Some r ≡ at_name es k → IsWith (from_entries es) (from_entries fs) k (Some new) → OnOk result (new ≡ r ++ x ∷ []) → OnOk result (from_entries fs ≡ with_receipt m k x)
-pushed_result (Ok u) es fs m k r new x is there h more = pushed_there es fs m k r new x is (found_there es m k r is there) h more
-pushed_result (Err e) es fs m k r new x is there h more = tt
-
-pub refused_result : {T E : Type 0} (result : Result T E) (es fs : List (List ℕ × List Receipt)) (m : CallerMap) (k : List ℕ) (r new : List Receipt) → from_entries es ≡ m → Some r ≡ at_name es k → IsWith (from_entries es) (from_entries fs) k (Some new) → OnErr result (new ≡ r) → OnErr result (from_entries fs ≡ m)
-refused_result (Ok u) es fs m k r new is there h same = tt
-refused_result (Err e) es fs m k r new is there h same = with_same (from_entries es) (from_entries fs) k (Some new) h (ap Some same ∙ there ∙ sym (get_name es k)) ∙ is
-
 pub one_few : (r : List Receipt) (x : Receipt) → r ≡ x ∷ [] → IsFew r
 one_few r x is = subst IsFew (sym is) (omega arith, omega arith)
-
-pub first_there : (es fs : List (List ℕ × List Receipt)) (m : CallerMap) (k : List ℕ) (first : List Receipt) (x : Receipt) → from_entries es ≡ m → None ≡ at_name es k → IsWith (from_entries es) (from_entries fs) k (Some first) → first ≡ x ∷ [] → from_entries fs ≡ with_receipt m k x
-first_there es fs m k first x is none h one = pushed_there es fs m k [] first x is (found_none es m k is none) h one
 
 -- one receipt taken back
 

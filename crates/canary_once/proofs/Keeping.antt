@@ -10,7 +10,7 @@ use Rattle.canary_release.specs.declared.decide.DeskChange.{DeskChange}
 use Rattle.canary_release.specs.declared.decide.DeskChange.TheVariants as change
 use Rattle.canary_release.specs.Desks.{ModelService, Desk, ruling_on, after, apply}
 use Rattle.canary_release.specs.Shapes.{shape, said, changed, seen, kept_by, KeepsWhatIsSeen}
-use Rattle.canary_release.specs.Effects.{Changes, IsChange, CommandsChange}
+use Rattle.canary_release.specs.Effects.{IsChange, CommandsChange}
 use Rattle.canary_release.specs.Laws.{RefusalsLeaveTheDesk}
 use Rattle.canary_release.specs.Order.{AreInOrder, StayInOrder}
 use Rattle.canary_release.specs.Sound.{AreSound, StaySound}
@@ -19,8 +19,9 @@ use Rattle.canary_once.specs.declared.book.Settlement.{Settlement}
 use Rattle.canary_once.specs.Contents.{Contents, receipts_of, with_receipt, with_settlement, IsSettledStatus, KeepsSettled, IsSettling}
 use Rattle.canary_once.specs.Sound.{AreContents, AreSoundContents}
 use Rattle.canary_once.specs.Contents.{CallerMap, receipts_in}
-use Rattle.canary_once.specs.InMemory.{name_in, IsKept}
-use Rattle.canary_once.proofs.CallerMaps.{insert_with, at_itself, keep_receipts, few_listed, one_more_few, some_same}
+use Rattle.canary_once.specs.InMemory.{IsKeptAs, name_in, IsKept}
+use Rattle.canary_once.proofs.NameMaps.{insert_with, at_itself}
+use Rattle.canary_once.proofs.CallerMaps.{keep_receipts, few_listed, one_more_few, some_same}
 
 -- a command is accepted or refused
 status_of_step : RefusalsLeaveTheDesk → (desk : Desk) (moment : ℕ) (command : Command) → IsSettledStatus (apply desk moment command).reply.status
@@ -67,35 +68,35 @@ keeps_soundness law c s settling are sound =
 
 -- The change.
 
-pub is_change : CommandsChange → (c : Contents) (s : Settlement) → IsSettling c s → AreContents c → IsChange c.desk (subject_of s.receipt.command) s.change
+pub is_change : CommandsChange → (c : Contents) (s : Settlement) → IsSettling c s → AreContents c → IsChange c.desk s.receipt.command s.change
 is_change law c s settling are =
-    subst (IsChange c.desk (subject_of s.receipt.command)) (sym settling.step.1.change) (law c.desk settling.step.0 s.receipt.command are.desk)
+    subst (IsChange c.desk s.receipt.command) (sym settling.step.1.change) (law c.desk settling.step.0 s.receipt.command are.desk)
 
-kept_there : KeepsWhatIsSeen → (desk : Desk) (now : ℕ) (command : Command) (d : DeskChange) → d ≡ said (ruling_on desk now command).change → changed desk command d ≡ (apply desk now command).desk → IsKept desk (subject_of command) d
-kept_there law desk now command change.Nothing is then = tt
-kept_there law desk now command (change.Template t) is then = tt
-kept_there law desk now command (change.Service s effects) is then =
+kept_there : KeepsWhatIsSeen → (desk : Desk) (now : ℕ) (command : Command) (d : DeskChange) → IsChange desk command d → d ≡ said (ruling_on desk now command).change → changed desk command d ≡ (apply desk now command).desk → IsKept desk (subject_of command) d
+kept_there law desk now command change.Nothing made is then = tt
+kept_there law desk now command (change.Template t) made is then = tt
+kept_there law desk now command (change.Service s effects) made is then =
     let name = subject_of command in
     let m : ModelService = after (get desk.services name) s.stand effects in
     let there : get (insert desk.services name m) name ≡ Some m = at_itself desk.services (insert desk.services name m) name (Some m) (insert_with desk.services name m) in
-    some_same s (shape m)
-    (sym (law desk now command s (ap kept_by (sym is)))
-    ∙ ap (λ (k : Desk). seen k name) (sym then)
-    ∙ ap (option_map shape) there)
+    record {
+      strategy = made.strategy;
+      allowed = (desk.templates, made.allowed);
+      service =
+          some_same s (shape m)
+          (sym (law desk now command s (ap kept_by (sym is)))
+          ∙ ap (λ (k : Desk). seen k name) (sym then)
+          ∙ ap (option_map shape) there);
+    }
 
-pub is_kept : KeepsWhatIsSeen → (c : Contents) (s : Settlement) → IsSettling c s → IsKept c.desk (subject_of s.receipt.command) s.change
-is_kept law c s settling = kept_there law c.desk settling.step.0 s.receipt.command s.change settling.step.1.change settling.step.1.desk_after
+pub is_kept : CommandsChange → KeepsWhatIsSeen → (c : Contents) (s : Settlement) → IsSettling c s → AreContents c → IsKept c.desk (subject_of s.receipt.command) s.change
+is_kept changes law c s settling are = kept_there law c.desk settling.step.0 s.receipt.command s.change (is_change changes c s settling are) settling.step.1.change settling.step.1.desk_after
 
 -- a change has the name of what it brings
-pub named_itself : (desk : Desk) (name : List ℕ) (d : DeskChange) → IsChange desk name d → IsChange desk (name_in d) d
-named_itself desk name change.Nothing is = tt
-named_itself desk name (change.Template t) is = refl
-named_itself desk name (change.Service s effects) is = subst (λ (n : List ℕ). Changes (get desk.services n) n s effects) (sym is.named) is
-
-pub kept_itself : (desk : Desk) (name : List ℕ) (d : DeskChange) → IsChange desk name d → IsKept desk name d → IsKept desk (name_in d) d
-kept_itself desk name change.Nothing is kept = tt
-kept_itself desk name (change.Template t) is kept = tt
-kept_itself desk name (change.Service s effects) is kept = subst (λ (n : List ℕ). s ≡ shape (after (get desk.services n) s.stand effects)) (sym is.named) kept
+pub kept_itself : (desk : Desk) (command : Command) (d : DeskChange) → IsChange desk command d → IsKept desk (subject_of command) d → IsKept desk (name_in d) d
+kept_itself desk command change.Nothing is kept = tt
+kept_itself desk command (change.Template t) is kept = tt
+kept_itself desk command (change.Service s effects) is kept = subst (λ (n : List ℕ). IsKeptAs (get desk.services n) s effects) (sym is.named) kept
 
 -- The book in memory.
 

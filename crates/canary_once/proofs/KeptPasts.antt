@@ -4,7 +4,7 @@ use Rattle.std.proofs.lemmas.List.{map-append}
 use Rattle.std.specs.Prelude.{◌==◌, ◌&&◌, cond, if◌then◌else◌, Option, Some, None, slice_get, slice_set, slice_index_or, map, filter, replicate, is_none}
 use Rattle.std.specs.List.{AllByRecursion, find}
 use Rattle.canary_metric.specs.Counts.{Counts}
-use Rattle.canary_plan.specs.declared.bound.BoundParts.{BoundParts}
+use Rattle.canary_plan.specs.declared.strategy.CheckedStrategy.{CheckedStrategy}
 use Rattle.canary_release.specs.declared.effect.Opening.{Opening}
 use Rattle.canary_release.specs.declared.effect.Recorded.{Recorded}
 use Rattle.canary_release.specs.declared.effect.Closing.{Closing}
@@ -14,6 +14,7 @@ use Rattle.canary_release.specs.declared.runs.OpenRun.{OpenRun}
 use Rattle.canary_release.specs.declared.runs.Runs.{Runs}
 use Rattle.canary_release.specs.Pasts.{Run, Past, change_at, opened_run, with_recorded, measured_in, closed_in, grows, grows_by, is_open, counts_of, tallied, watched}
 use Rattle.canary_release.specs.Courses.{has_number}
+use Rattle.canary_release.specs.Desks.{RevisionMap}
 use Rattle.canary_release.specs.Laws.{WatchesAlike}
 use Rattle.canary_release.specs.Order.{AreNumbered, is_of}
 use Rattle.canary_release.specs.Effects.{Allowed, AreAllowed}
@@ -352,17 +353,17 @@ one_closed k x tallies w h e last =
       };
     }
 
-one_more : (b : BoundParts) (k : Kept) (x : Effect) → AreKept k → Allowed b (watched (past_kept k)) x → IsKept (keeps k x) (grows (past_kept k) x)
-one_more b k (Told line) h may = record { past = refl; kept = record { numbered = h.numbered; within = h.within; last = h.last } }
-one_more b k (Opened x) h may = one_opened k x h may.number
-one_more b k (Measured x) h may = one_measured k x may.run h may.found
-one_more b k (Closed x tallies) h may = one_closed k x tallies may.run h may.found may.last
+one_more : (templates : RevisionMap) (st : CheckedStrategy) (k : Kept) (x : Effect) → AreKept k → Allowed templates st (watched (past_kept k)) x → IsKept (keeps k x) (grows (past_kept k) x)
+one_more templates st k (Told line) h may = record { past = refl; kept = record { numbered = h.numbered; within = h.within; last = h.last } }
+one_more templates st k (Opened x) h may = one_opened k x h may.number
+one_more templates st k (Measured x) h may = one_measured k x may.run h may.found
+one_more templates st k (Closed x tallies) h may = one_closed k x tallies may.run h may.found may.last
 
 -- All that happens, one after another.
-pub all_kept : WatchesAlike → (b : BoundParts) (k : Kept) (xs : List Effect) → AreKept k → AreAllowed b (watched (past_kept k)) xs → IsKept (keeps_all k xs) (grows_by (past_kept k) xs)
-all_kept alike b k [] h may = record { past = refl; kept = h }
-all_kept alike b k (x ∷ xs) h may =
-    let one : IsKept (keeps k x) (grows (past_kept k) x) = one_more b k x h may.0 in
-    let thus : AreAllowed b (watched (past_kept (keeps k x))) xs = subst (λ (w : Runs). AreAllowed b w xs) (sym (ap watched one.past ∙ alike (past_kept k) (x ∷ []))) may.1 in
-    let rest : IsKept (keeps_all (keeps k x) xs) (grows_by (past_kept (keeps k x)) xs) = all_kept alike b (keeps k x) xs one.kept thus in
+pub all_kept : WatchesAlike → (templates : RevisionMap) (st : CheckedStrategy) (k : Kept) (xs : List Effect) → AreKept k → AreAllowed templates st (watched (past_kept k)) xs → IsKept (keeps_all k xs) (grows_by (past_kept k) xs)
+all_kept alike templates st k [] h may = record { past = refl; kept = h }
+all_kept alike templates st k (x ∷ xs) h may =
+    let one : IsKept (keeps k x) (grows (past_kept k) x) = one_more templates st k x h may.0 in
+    let thus : AreAllowed templates st (watched (past_kept (keeps k x))) xs = subst (λ (w : Runs). AreAllowed templates st w xs) (sym (ap watched one.past ∙ alike (past_kept k) (x ∷ []))) may.1 in
+    let rest : IsKept (keeps_all (keeps k x) xs) (grows_by (past_kept (keeps k x)) xs) = all_kept alike templates st (keeps k x) xs one.kept thus in
     record { past = rest.past ∙ ap (λ (p : Past). grows_by p xs) one.past; kept = rest.kept }

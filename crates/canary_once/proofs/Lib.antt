@@ -1,5 +1,7 @@
 pub mod Events
 pub mod Runs
+pub mod NameMaps
+pub mod LastItems
 pub mod CallerMaps
 pub mod Keeping
 pub mod TemplateLemmas

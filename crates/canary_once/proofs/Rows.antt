@@ -8,7 +8,7 @@ use Rattle.canary_plan.specs.declared.command.Command.{Command}
 use Rattle.canary_plan.specs.declared.command.Command.TheVariants.{Start, Promote}
 use Rattle.canary_release.specs.declared.reply.Reply.{Reply}
 use Rattle.canary_release.specs.declared.reply.ReplyStatus.TheVariants.{Conflict, NotFound}
-use Rattle.canary_release.proofs.Stories.{b, ok, no, web, v2, v3, m, add, two_pauses, metric, template}
+use Rattle.canary_release.proofs.Stories.{b, ok, no, web, v2, v3, m, add, two_pauses, metric, every, template}
 use Rattle.canary_once.specs.declared.book.Receipt.{Receipt}
 use Rattle.canary_once.specs.declared.event.Query.TheVariants.{Service, History, Run}
 use Rattle.canary_once.specs.declared.event.Event.{Event}
@@ -98,7 +98,7 @@ two_callers_replies : answers_of no_contents two_callers ≡
 unfolding digits
 two_callers_replies = replies_from_nothing two_callers _ refl
 
--- A template is there for the requests behind it, and a refusal from before it stands.
+-- A template is there for the requests behind it, and a refusal from before it stands. A second Template of its name is the next revision, and one that is repeated gets the revision that it made.
 
 abbrev with_analysis : Command
 with_analysis = add web (Analysis (codes "t" ∷ []) ∷ [])
@@ -109,16 +109,49 @@ templates_in_turn =
     ∷ ops 2 (b + 1) (template (codes "t") (metric m ∷ []) [] refl)
     ∷ ops 1 (b + 2) with_analysis
     ∷ ops 3 (b + 3) with_analysis
+    ∷ ops 4 (b + 4) (template (codes "t") (metric (codes "n") ∷ []) [] refl)
+    ∷ ops 2 (b + 5) (template (codes "t") (metric m ∷ []) [] refl)
     ∷ []
 
 templates_in_turn_replies : answers_of no_contents templates_in_turn ≡
     no (codes "{\"code\":\"unknown-template\"}")
-    ∷ ok (codes "{\"code\":\"ok\",\"template\":\"t\"}")
+    ∷ ok (codes "{\"code\":\"ok\",\"revision\":1,\"template\":\"t\"}")
     ∷ no (codes "{\"code\":\"unknown-template\"}")
     ∷ ok (codes "{\"code\":\"ok\",\"service\":\"web\",\"status\":\"Healthy\",\"step\":1,\"weight\":100}")
+    ∷ ok (codes "{\"code\":\"ok\",\"revision\":2,\"template\":\"t\"}")
+    ∷ ok (codes "{\"code\":\"ok\",\"revision\":1,\"template\":\"t\"}")
     ∷ []
 unfolding digits
 templates_in_turn_replies = replies_from_nothing templates_in_turn _ refl
+
+-- A service is accepted whose analysis has a metric's name twice, or a metric without end: a Start is refused, until newer revisions can be bound.
+
+abbrev bound_at_the_start : List Event
+bound_at_the_start =
+    ops 1 b (template (codes "t") (metric m ∷ []) [] refl)
+    ∷ ops 2 b (template (codes "u") (metric m ∷ []) [] refl)
+    ∷ ops 3 b (add web (Analysis (codes "t" ∷ codes "u" ∷ []) ∷ []))
+    ∷ ops 4 (b + 1) (Start web v2)
+    ∷ ops 5 (b + 2) (template (codes "u") (every (metric (codes "n")) 60 ∷ []) [] refl)
+    ∷ ops 6 (b + 3) (Start web v2)
+    ∷ ops 7 (b + 4) (template (codes "u") (metric (codes "n") ∷ []) [] refl)
+    ∷ ops 4 (b + 5) (Start web v2)
+    ∷ ops 8 (b + 6) (Start web v2)
+    ∷ []
+
+bound_at_the_start_replies : answers_of no_contents bound_at_the_start ≡
+    ok (codes "{\"code\":\"ok\",\"revision\":1,\"template\":\"t\"}")
+    ∷ ok (codes "{\"code\":\"ok\",\"revision\":1,\"template\":\"u\"}")
+    ∷ ok (codes "{\"code\":\"ok\",\"service\":\"web\",\"status\":\"Healthy\",\"step\":1,\"weight\":100}")
+    ∷ no (codes "{\"code\":\"duplicate-metric\"}")
+    ∷ ok (codes "{\"code\":\"ok\",\"revision\":2,\"template\":\"u\"}")
+    ∷ no (codes "{\"code\":\"endless-metric\"}")
+    ∷ ok (codes "{\"code\":\"ok\",\"revision\":3,\"template\":\"u\"}")
+    ∷ no (codes "{\"code\":\"duplicate-metric\"}")
+    ∷ ok (codes "{\"code\":\"ok\",\"service\":\"web\",\"status\":\"Progressing\",\"step\":0,\"weight\":0}")
+    ∷ []
+unfolding digits
+bound_at_the_start_replies = replies_from_nothing bound_at_the_start _ refl
 
 -- Queries show the service as it stands at their moments, or at its last moment where that is later, and change nothing.
 
@@ -158,7 +191,7 @@ looked_at_runs =
     ∷ []
 
 looked_at_runs_replies : answers_of no_contents looked_at_runs ≡
-    ok (codes "{\"code\":\"ok\",\"template\":\"t\"}")
+    ok (codes "{\"code\":\"ok\",\"revision\":1,\"template\":\"t\"}")
     ∷ ok (codes "{\"code\":\"ok\",\"service\":\"web\",\"status\":\"Healthy\",\"step\":1,\"weight\":100}")
     ∷ ok (codes "{\"code\":\"ok\",\"service\":\"web\",\"status\":\"Progressing\",\"step\":0,\"weight\":0}")
     ∷ ok (codes "{\"code\":\"ok\",\"hold\":\"none\",\"moment\":1767225602,\"open\":[1],\"runs\":1,\"service\":\"web\",\"stable\":\"v1\",\"status\":\"Progressing\",\"step\":0,\"version\":\"v2\",\"weight\":0}")

@@ -5,11 +5,11 @@ use Rattle.std.specs.Fmt.{digits}
 use Rattle.canary_base.specs.Moments.{moment_text}
 use Rattle.canary_plan.specs.declared.step.Step.TheVariants.{SetWeight, Pause, Analysis}
 use Rattle.canary_plan.specs.declared.command.Command.{Command}
-use Rattle.canary_plan.specs.declared.command.Command.TheVariants.{Start}
+use Rattle.canary_plan.specs.declared.command.Command.TheVariants.{Start, Retry}
 use Rattle.canary_release.specs.declared.reply.Reply.{Reply}
 use Rattle.canary_release.specs.declared.reply.ReplyStatus.TheVariants.{NotFound}
 use Rattle.canary_release.specs.Desks.{ModelService}
-use Rattle.canary_release.proofs.Stories.{service_after, b, ok, web, v2, m, add, service, background, metric, every, above_ten, template, report, result, step_setup}
+use Rattle.canary_release.proofs.Stories.{service_after, b, ok, web, v2, m, add, service, background, metric, every, above_ten, zero_is_good, template, report, result, step_setup}
 use Rattle.canary_release.proofs.Worlds.{service_then}
 use Rattle.canary_once.specs.declared.event.Query.{Query}
 use Rattle.canary_once.specs.declared.event.Query.TheVariants.{Service, History, Run}
@@ -95,6 +95,26 @@ closed_run = service_then (shows (b + 9) (Run web 1)) reported web _ refl
 
 no_second_run : shown_after reported (b + 9) (Run web 2) ≡ missing (codes "{\"code\":\"unknown-run\"}")
 no_second_run = service_then (shows (b + 9) (Run web 2)) reported web _ refl
+
+-- Two attempts, bound to two revisions of a template: each run shows the metrics of its own.
+
+abbrev two_attempts : List (ℕ × Command)
+two_attempts =
+    (b, template (codes "t") (zero_is_good m ∷ []) [] refl)
+    ∷ (b, add web (SetWeight 10 ∷ Analysis (codes "t" ∷ []) ∷ SetWeight 60 ∷ Pause None ∷ []))
+    ∷ (b, Start web v2)
+    ∷ (b, template (codes "t") (metric (codes "n") ∷ []) [] refl)
+    ∷ (b + 5, report (result m 1 b 1 refl))
+    ∷ (b + 6, Retry web)
+    ∷ []
+
+earlier_run : shown_after two_attempts (b + 9) (Run web 1) ≡ ok (codes "{\"closed\":1767225605,\"code\":\"ok\",\"metrics\":[{\"consecutive\":0,\"counted\":1,\"dryRun\":false,\"due\":null,\"errors\":0,\"failed\":1,\"inconclusive\":0,\"measurements\":1,\"name\":\"m\",\"passes\":0,\"phase\":\"Failed\"}],\"run\":1,\"service\":\"web\",\"started\":1767225600,\"step\":1,\"verdict\":\"Failed\"}")
+unfolding digits
+earlier_run = service_then (shows (b + 9) (Run web 1)) two_attempts web _ refl
+
+later_run : shown_after two_attempts (b + 9) (Run web 2) ≡ ok (codes "{\"closed\":null,\"code\":\"ok\",\"metrics\":[{\"consecutive\":0,\"counted\":0,\"dryRun\":false,\"due\":1767225606,\"errors\":0,\"failed\":0,\"inconclusive\":0,\"measurements\":0,\"name\":\"n\",\"passes\":0,\"phase\":\"Pending\"}],\"run\":2,\"service\":\"web\",\"started\":1767225606,\"step\":1,\"verdict\":\"Running\"}")
+unfolding digits
+later_run = service_then (shows (b + 9) (Run web 2)) two_attempts web _ refl
 
 -- A background run that is ended as time passes to the query's moment, with nothing settled in between.
 

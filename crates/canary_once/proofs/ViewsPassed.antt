@@ -12,7 +12,7 @@ use Rattle.canary_release.specs.declared.service.ServiceParts.{ServiceParts}
 use Rattle.canary_release.specs.declared.service.Passed.{Passed}
 use Rattle.canary_release.specs.Courses.{Course, course_from}
 use Rattle.canary_release.specs.Passing.{pass, judged_at, followed, with_last, PassesInSteps}
-use Rattle.canary_release.specs.Desks.{ModelService, Desk, Ruling, course_of, after, ruling, rules, act_passed, ruling_on, desk_after}
+use Rattle.canary_release.specs.Desks.{ModelService, Desk, Ruling, newest, course_of, after, ruling, rules, act_passed, ruling_on, desk_after}
 use Rattle.canary_release.specs.Shapes.{kept_course, kept_after, shape, said, kept_by, seen, IsPassing, KeepsWhatIsSeen}
 use Rattle.canary_release.specs.Effects.{TimeMeasuresNothing}
 use Rattle.canary_release.specs.Laws.{WatchesAlike, passed_to}
@@ -47,7 +47,7 @@ kept_passed : KeepsWhatIsSeen → PassesInSteps → (desk : Desk) (name : List �
 kept_passed keeps steps desk name m t is =
     let c : Course = course_of m in
     let end' : Course = pass (pass c t) (judged_at c.stand t) in
-    let ruled : ruling_on desk t (Tick name) ≡ rules (act_passed (Tick name) c t) = ap (λ (o : Option ModelService). ruling (get desk.templates) (option_map course_of o) t (Tick name)) is in
+    let ruled : ruling_on desk t (Tick name) ≡ rules (act_passed (newest desk.templates) (Tick name) c t) = ap (λ (o : Option ModelService). ruling (newest desk.templates) (option_map course_of o) t (Tick name)) is in
     let brings : kept_by (said (ruling_on desk t (Tick name)).change) ≡ Some (kept_after end') = ap (λ (r : Ruling). kept_by (said r.change)) ruled in
     let told = keeps desk t (Tick name) (kept_after end') brings in
     let found_there : seen (desk_after desk (Tick name) (ruling_on desk t (Tick name)).change) name ≡ Some (shape (after (Some m) end'.stand end'.effects)) =

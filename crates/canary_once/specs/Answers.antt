@@ -1,10 +1,7 @@
 -- Once and in order: the answers to a list of events, and the contents after them, by the small
 -- machine on the settled requests alone, each once.
 use Rattle.std.specs.Prelude.{ℕ, ◌+◌, ◌==◌, nat_lt, Bool, if◌then◌else◌, List, [], ◌∷◌, ◌++◌, length, map, filter, Option, Some, None, codes, decimal}
-use Rattle.std.specs.Ordering.{nat_cmp}
-use Rattle.std.specs.Cmp.Lexicographic.{slice_cmp}
 use Rattle.std.specs.Str.{bytes_eq}
-use Rattle.std.specs.FinMap.{FinMap}
 use Rattle.canary_plan.specs.declared.command.Command.{Command}
 use Rattle.canary_plan.specs.Commands.{same_command}
 use Rattle.canary_release.specs.declared.reply.Reply.{Reply}

@@ -4,9 +4,8 @@ use Rattle.std.specs.Ordering.{nat_cmp}
 use Rattle.std.specs.Cmp.Lexicographic.{slice_cmp}
 use Rattle.std.specs.FinMap.{FinMap, code}
 use Rattle.std.specs.Coded.{Coded, code_by, coded×, coded_ℕ, coded_list}
-use Rattle.canary_plan.specs.declared.template.Template.{Template}
 use Rattle.canary_plan.specs.contracts.template.Template as template
-use Rattle.canary_release.specs.Desks.{ModelService, Desk}
+use Rattle.canary_release.specs.Desks.{ModelService, RevisionMap, Desk}
 use Rattle.canary_once.specs.declared.book.Receipt.{Receipt}
 use Rattle.canary_once.specs.contracts.book.Receipt as receipt
 use Rattle.canary_once.specs.Contents.{Contents}
@@ -19,8 +18,8 @@ map_code x = code (coded_list coded_ℕ) x
 
 abbrev pub desk_code : Coded Desk
 desk_code =
-    code_by (FinMap (slice_cmp nat_cmp) Template × FinMap (slice_cmp nat_cmp) ModelService)
-    (coded× (map_code template.the_row.coded) (map_code service_code))
+    code_by (RevisionMap × FinMap (slice_cmp nat_cmp) ModelService)
+    (coded× (map_code (coded_list template.the_row.coded)) (map_code service_code))
     (λ d. (d.templates, d.services))
     (λ p. record { templates = p.0; services = p.1 })
     (λ _. refl)

@@ -1,15 +1,14 @@
 -- What a book contains: for each caller the receipts of its settled requests, from number 1 on, and
 -- the desk.
-use Rattle.std.specs.Prelude.{◌≡◌, ◌⊎◌, ℕ, ◌+◌, ◌-◌, ◌≤◌, List, [], ◌∷◌, ◌++◌, length, Option, Some, unwrap_or, slice_get}
+use Rattle.std.specs.Prelude.{◌≡◌, ◌⊎◌, ℕ, ◌+◌, ◌-◌, ◌≤◌, List, [], ◌∷◌, ◌++◌, length, Option, Some, None, unwrap_or, slice_get}
 use Rattle.std.specs.Ordering.{nat_cmp}
 use Rattle.std.specs.Cmp.Lexicographic.{slice_cmp}
-use Rattle.std.specs.List.{list_any}
-use Rattle.std.specs.Str.{bytes_eq}
-use Rattle.std.specs.FinMap.{FinMap, get, insert, retain_keys, empty}
+use Rattle.std.specs.FinMap.{FinMap, get, insert, empty}
 use Rattle.canary_plan.specs.declared.template.Template.{Template}
+use Rattle.canary_plan.specs.Plans.{Templates}
 use Rattle.canary_release.specs.declared.reply.ReplyStatus.{ReplyStatus}
 use Rattle.canary_release.specs.declared.reply.ReplyStatus.TheVariants.{Accepted, Refused}
-use Rattle.canary_release.specs.Desks.{Desk, no_desk}
+use Rattle.canary_release.specs.Desks.{newest, Desk, no_desk}
 use Rattle.canary_release.specs.Shapes.{changed, IsStep}
 use Rattle.canary_once.specs.declared.book.Receipt.{Receipt}
 use Rattle.canary_once.specs.declared.book.Settlement.{Settlement}
@@ -40,9 +39,20 @@ count_of c caller = length (receipts_of c caller)
 abbrev pub receipt_at : Contents → List ℕ → ℕ → Option Receipt
 receipt_at c caller number = slice_get (receipts_of c caller) (number - 1)
 
--- the templates that have one of these names
+-- a map with a value under one name more, where there is a value
+abbrev pub put_some : {A : Type 0} → FinMap (slice_cmp nat_cmp) A → List ℕ → Option A
+    → FinMap (slice_cmp nat_cmp) A
+put_some m name None = m
+put_some m name (Some x) = insert m name x
+
+-- those of these templates that have one of these names
+abbrev pub known_named : Templates → List (List ℕ) → FinMap (slice_cmp nat_cmp) Template
+known_named known [] = empty
+known_named known (name ∷ names) = put_some (known_named known names) name (known name)
+
+-- the newest revisions of the templates that have one of these names
 abbrev pub templates_named : Contents → List (List ℕ) → FinMap (slice_cmp nat_cmp) Template
-templates_named c names = retain_keys c.desk.templates (λ name. list_any (bytes_eq name) names)
+templates_named c names = known_named (newest c.desk.templates) names
 
 -- the command was accepted or refused
 abbrev pub IsSettledStatus : ReplyStatus → Type 0

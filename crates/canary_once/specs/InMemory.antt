@@ -1,10 +1,28 @@
 -- What a change of the desk in memory has to be.
-use Rattle.std.specs.Prelude.{◌≡◌, ℕ, List, []}
+use Rattle.std.specs.Prelude.{◌≡◌, ℕ, List, [], Option}
 use Rattle.std.specs.FinMap.{get}
+use Rattle.canary_plan.specs.declared.strategy.CheckedStrategy.{CheckedStrategy}
 use Rattle.canary_release.specs.declared.decide.DeskChange.{DeskChange}
 use Rattle.canary_release.specs.declared.decide.DeskChange.TheVariants as change
-use Rattle.canary_release.specs.Desks.{Desk, after}
+use Rattle.canary_release.specs.declared.effect.Effect.{Effect}
+use Rattle.canary_release.specs.declared.runs.Runs.{Runs}
+use Rattle.canary_release.specs.declared.service.ServiceParts.{ServiceParts}
+use Rattle.canary_release.specs.Pasts.{watched}
+use Rattle.canary_release.specs.Desks.{ModelService, RevisionMap, Desk, before, after}
 use Rattle.canary_release.specs.Shapes.{shape}
+use Rattle.canary_release.specs.Effects.{AreAllowed}
+
+-- effects may happen to a service of this strategy, of which this is watched, over some templates
+abbrev pub MayHappen : CheckedStrategy → Runs → List Effect → Type 0
+MayHappen st w xs = (templates : RevisionMap) × AreAllowed templates st w xs
+
+-- a service as it was found, or a new one, becomes this one: its strategy stays, what happens may
+-- happen, and what the change brings is what is kept of it afterwards
+pub record IsKeptAs (found : Option ModelService) (s : ServiceParts)
+    (effects : List Effect) : Type 0 where
+  pub strategy : s.stand.strategy ≡ (before found s.stand).stand.strategy
+  pub allowed : MayHappen s.stand.strategy (watched (before found s.stand).past) effects
+  pub service : s ≡ shape (after found s.stand effects)
 
 -- the name of what a change brings
 abbrev pub name_in : DeskChange → List ℕ
@@ -12,9 +30,8 @@ name_in change.Nothing = []
 name_in (change.Template t) = t.spec.name
 name_in (change.Service s effects) = s.stand.name
 
--- the service that a change brings is what is kept of that service afterwards
+-- the service that a change brings, if it brings one, can be kept under that name
 abbrev pub IsKept : Desk → List ℕ → DeskChange → Type 0
 IsKept desk name change.Nothing = Unit {0}
 IsKept desk name (change.Template t) = Unit {0}
-IsKept desk name (change.Service s effects) =
-    s ≡ shape (after (get desk.services name) s.stand effects)
+IsKept desk name (change.Service s effects) = IsKeptAs (get desk.services name) s effects

@@ -123,6 +123,7 @@ record_with r tallies =
     record {
       number = r.opening.run;
       step = r.opening.step;
+      analysis = r.opening.analysis;
       started = r.opening.started;
       closed = closing_of r.closed;
       tallies = tallies;

@@ -1,30 +1,24 @@
 -- What a book tells of a service's runs, its history and its measurements.
-use Rattle.std.specs.Prelude.{ℕ, ◌==◌, Bool, List, [], map, find, take, drop, Option, Some, None, option_map, unwrap_or}
+use Rattle.std.specs.Prelude.{ℕ, ◌==◌, Bool, List, map, find, take, drop, Option, Some, None, option_map}
 use Rattle.std.specs.FinMap.{get}
-use Rattle.canary_metric.specs.Metrics.{MetricValue}
-use Rattle.canary_plan.specs.declared.bound.BoundParts.{BoundParts}
 use Rattle.canary_plan.specs.declared.line.Line.{Line}
-use Rattle.canary_plan.specs.Plans.{metrics_at}
 use Rattle.canary_release.specs.declared.effect.Recorded.{Recorded}
 use Rattle.canary_release.specs.Pasts.{Run, Past, no_past, counts_of}
 use Rattle.canary_release.specs.Desks.{ModelService}
 use Rattle.canary_once.specs.declared.record.RunRecord.{RunRecord}
 use Rattle.canary_once.specs.Contents.{Contents}
 
--- a run, each metric with the counts of its whole list
+-- a run, with its analysis, and each metric of it with the counts of its whole list
 abbrev pub record_of : Run → RunRecord
 record_of r =
     record {
       number = r.number;
       step = r.step;
+      analysis = r.analysis;
       started = r.started;
       closed = r.closed;
       tallies = map counts_of r.lists;
     }
-
--- the metrics of a run of the analysis that is bound at that step, or of the background
-abbrev pub run_metrics : BoundParts → Option ℕ → List MetricValue
-run_metrics bound step = unwrap_or (metrics_at bound step) []
 
 abbrev pub is_numbered : ℕ → Run → Bool
 is_numbered number r = r.number == number

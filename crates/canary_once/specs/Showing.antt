@@ -41,6 +41,7 @@ opened_record x =
     record {
       number = x.run;
       step = x.step;
+      analysis = x.analysis;
       started = x.started;
       closed = None;
       tallies = replicate (length x.analysis.metrics) (counts []);

@@ -24,7 +24,7 @@ use Rattle.canary_release.specs.Laws.{passed_to}
 use Rattle.canary_once.specs.declared.event.Query.{Query}
 use Rattle.canary_once.specs.declared.event.Query.TheVariants.{Service, History, Run}
 use Rattle.canary_once.specs.declared.record.RunRecord.{RunRecord}
-use Rattle.canary_once.specs.Records.{run_metrics, record_numbered}
+use Rattle.canary_once.specs.Records.{record_numbered}
 
 abbrev pub null_or : Option ℕ → List ℕ
 null_or None = codes "null"
@@ -171,7 +171,7 @@ not_found code = record { status = NotFound; body = code_alone code }
 
 abbrev pub run_reply : Stand → Option RunRecord → Reply
 run_reply s None = not_found (codes "unknown-run")
-run_reply s (Some r) = found (run_view s.name (run_metrics s.bound r.step) r)
+run_reply s (Some r) = found (run_view s.name r.analysis.metrics r)
 
 -- the reply to a query, on the service as it is at the query's moment
 abbrev pub view_passed : ModelService → Query → Reply

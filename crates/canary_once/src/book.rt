@@ -107,7 +107,7 @@ pub trait Book {
         ensures { Finds (λ c. receipt_at c caller.now number)
             (state self.old) (state self.new) result };
 
-    /// The templates that have one of these names.
+    /// The newest revisions of the templates that have one of these names.
     ///
     /// # Errors
     /// `Memory` where an allocation was refused, `Storage` where the store failed; nothing changed.

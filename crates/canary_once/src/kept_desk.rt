@@ -1,25 +1,24 @@
 //! The desk as it is kept in memory.
 ghost use Rattle.std.specs.Prelude.{◌≡◌, OnOk, OnErr};
 ghost use Rattle.canary_plan.specs.declared.command.Command.{Command};
-ghost use Rattle.canary_plan.specs.Commands.{subject_of};
 ghost use Rattle.canary_release.specs.Desks.{no_desk};
 ghost use Rattle.canary_release.specs.Shapes.{changed};
 ghost use Rattle.canary_release.specs.Effects.{IsChange};
 ghost use Rattle.canary_once.specs.InMemory.{name_in, IsKept};
 
+use crate::revisions::Revisions;
 use crate::services::Services;
 use canary_base::error::Memory;
 use canary_base::names::Name;
 use canary_plan::template::Template;
-use canary_plan::templates::Templates;
 use canary_release::decide::DeskChange;
 use std::alloc::Global;
 use std::marker::Model;
 
-/// Templates and services, each by name, which contracts see as a desk.
+/// The revisions of templates and the services, by name, which contracts see as a desk.
 #[derive(Drop)]
 pub(crate) struct KeptDesk {
-    templates: Templates,
+    templates: Revisions,
     services: Services,
 }
 
@@ -40,13 +39,13 @@ impl KeptDesk {
         ensures { result ≡ no_desk }
     {
         KeptDesk {
-            templates: Templates::new(alloc),
+            templates: Revisions::new(alloc),
             services: Services::new(alloc),
         }
     }
 
-    /// Its templates.
-    pub(crate) fn templates(&self) -> &Templates
+    /// The revisions of its templates.
+    pub(crate) fn templates(&self) -> &Revisions
         ensures { result.now ≡ self.now.templates }
     {
         &self.templates
@@ -61,10 +60,8 @@ impl KeptDesk {
 
     /// Makes a change, under the name of what it brings, or `Memory`; the desk is then as before.
     pub(crate) fn change(&mut self, alloc: Global, change: DeskChange) -> Result<(), Memory>
-        requires named { IsChange self.old (name_in change) change }
-        requires kept { IsKept self.old (name_in change) change }
-        ensures ok { OnOk result ((command : Command)
-            → IsChange self.old (subject_of command) change
+        requires { IsKept self.old (name_in change) change }
+        ensures ok { OnOk result ((command : Command) → IsChange self.old command change
             → self.new ≡ changed self.old command change) }
         ensures err { OnErr result (self.new ≡ self.old) }
     {
@@ -72,7 +69,7 @@ impl KeptDesk {
             DeskChange::Nothing => Ok(()),
             DeskChange::Template(template) => {
                 let name = name_of(&template);
-                self.templates.insert(name, template)
+                self.templates.push(alloc, name, template)
             }
             DeskChange::Service { service, effects } => {
                 let name = service.name();

@@ -41,6 +41,7 @@ impl KeptRun {
             Some(tallies) => Ok(Some(RunRecord {
                 number: self.opening.run,
                 step: self.opening.step,
+                analysis: self.opening.analysis.copy()?,
                 started: self.opening.started,
                 closed: self.closing(),
                 tallies: tallies.copy(alloc)?,

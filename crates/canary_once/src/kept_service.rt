@@ -1,10 +1,9 @@
 //! A service, as a book in memory keeps it.
 ghost use Rattle.std.specs.Prelude.{◌≡◌, IfOk, None, Some, OnOk, OnErr};
-ghost use Rattle.canary_release.specs.Pasts.{no_past, watched};
 ghost use Rattle.canary_release.specs.Desks.{after};
-ghost use Rattle.canary_release.specs.Effects.{AreAllowed};
 ghost use Rattle.canary_release.specs.Shapes.{shape};
 ghost use Rattle.canary_once.specs.Records.{record_numbered};
+ghost use Rattle.canary_once.specs.InMemory.{IsKeptAs};
 
 use crate::kept_past::KeptPast;
 use crate::record::RunRecord;
@@ -51,8 +50,7 @@ impl KeptService {
         service: Service,
         effects: Listed<Effect>,
     ) -> Result<KeptService, Memory>
-        requires allowed { AreAllowed service.stand.bound (watched no_past) effects }
-        requires service { service ≡ shape (after None service.stand effects) }
+        requires { IsKeptAs None service effects }
         ensures { IfOk result (λ kept. kept ≡ after None service.stand effects) }
     {
         laws::watching();
@@ -70,9 +68,7 @@ impl KeptService {
     /// The service becomes this one by what happened, or `Memory`; it is then as before. All memory
     /// is taken first, and what happened is moved.
     pub(crate) fn change(&mut self, service: Service, effects: Listed<Effect>) -> Result<(), Memory>
-        requires strategy { service.stand.strategy ≡ self.old.stand.strategy }
-        requires allowed { AreAllowed service.stand.bound (watched self.old.past) effects }
-        requires service { service ≡ shape (after (Some self.old) service.stand effects) }
+        requires { IsKeptAs (Some self.old) service effects }
         ensures ok { OnOk result (self.new ≡ after (Some self.old) service.stand effects) }
         ensures err { OnErr result (self.new ≡ self.old) }
     {

@@ -24,6 +24,7 @@ pub mod laws;
 pub mod memory;
 pub mod post;
 pub mod record;
+mod revisions;
 pub mod run;
 mod services;
 pub mod view;

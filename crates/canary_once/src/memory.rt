@@ -1,14 +1,12 @@
 //! A book in memory: the plain program that other books are compared with.
 ghost use Rattle.std.specs.Prelude.{◌≡◌, ◌+◌, ◌≤◌, length, take, drop, IfOk, OnOk, OnErr};
-ghost use Rattle.std.specs.FinMap.{retain_keys};
-ghost use Rattle.std.specs.List.{list_any};
-ghost use Rattle.std.specs.Str.{bytes_eq};
 ghost use Rattle.canary_plan.specs.Commands.{subject_of};
+ghost use Rattle.canary_release.specs.Desks.{newest};
 ghost use Rattle.canary_release.specs.Shapes.{changed};
 ghost use Rattle.canary_release.specs.Effects.{IsChange};
 ghost use Rattle.canary_once.specs.Contents.{with_receipt};
 ghost use Rattle.canary_once.specs.Books.{IsEmptyAndSure};
-ghost use Rattle.canary_once.specs.Contents.{receipts_in, HaveReceipts};
+ghost use Rattle.canary_once.specs.Contents.{receipts_in, known_named, HaveReceipts};
 ghost use Rattle.canary_once.specs.InMemory.{IsKept};
 
 use crate::book::{Book, BookFault, Receipt, Settlement};
@@ -16,6 +14,7 @@ use crate::callers::Callers;
 use crate::kept_desk::KeptDesk;
 use crate::laws;
 use crate::record::RunRecord;
+use crate::revisions::Revisions;
 use canary_base::error::Memory;
 use canary_base::lists::Listed;
 use canary_base::names::Name;
@@ -135,7 +134,7 @@ fn settle(
 ) -> Result<(), Memory>
     requires receipts { HaveReceipts callers.old }
     requires number { settlement.number ≡ length (receipts_in callers.old settlement.caller) + 1 }
-    requires change { IsChange desk.old (subject_of settlement.receipt.command) settlement.change }
+    requires change { IsChange desk.old settlement.receipt.command settlement.change }
     requires kept { IsKept desk.old (subject_of settlement.receipt.command) settlement.change }
     ensures receipt { OnOk result (callers.new
         ≡ with_receipt callers.old settlement.caller settlement.receipt) }
@@ -154,14 +153,13 @@ fn settle(
     Ok(())
 }
 
-// Those of the templates that have one of these names.
-fn templates_named(alloc: Global, known: &Templates, names: &[Name]) -> Result<Templates, Memory>
-    ensures { IfOk result (λ found. found
-        ≡ retain_keys known.now (λ name. list_any (bytes_eq name) names.now)) }
+// The newest revisions of the templates that have one of these names.
+fn templates_named(alloc: Global, known: &Revisions, names: &[Name]) -> Result<Templates, Memory>
+    ensures { IfOk result (λ found. found ≡ known_named (newest known.now) names.now) }
 {
     let mut found = Templates::new(alloc);
     for name in names {
-        if let Some(template) = known.get(*name) {
+        if let Some(template) = known.newest(name) {
             found.insert(*name, template.copy(alloc)?)?;
         }
     }

@@ -1,5 +1,8 @@
 //! One request.
-ghost use Rattle.std.specs.Prelude.{◌≡◌, ◌+◌, IfOk};
+ghost use Rattle.std.specs.Prelude.{◌≡◌, ◌+◌, IfOk, option_map};
+ghost use Rattle.std.specs.Option.{option_copied};
+ghost use Rattle.canary_plan.specs.Commands.{names_looked_up};
+ghost use Rattle.canary_release.specs.Shapes.{strategy_kept};
 ghost use Rattle.canary_once.specs.Contents.{count_of};
 ghost use Rattle.canary_once.specs.Answers.{reused_reply, ahead_reply, repeat_reply};
 ghost use Rattle.canary_once.specs.Single.{request_of, reply_to, after_one, new_reply, settle};
@@ -9,7 +12,7 @@ use crate::book::{Book, BookFault, Receipt, Settlement};
 use crate::event::{Answer, Event};
 use crate::laws;
 use canary_base::error::Memory;
-use canary_base::lists::Text;
+use canary_base::lists::{Listed, Text};
 use canary_base::moments::Moment;
 use canary_base::names::Name;
 use canary_base::numbers::Number;
@@ -17,6 +20,7 @@ use canary_canonical::command::CanonicalCommand;
 use canary_plan::command::Command;
 use canary_release::decide::{Decision, decide};
 use canary_release::reply::{Reply, ReplyStatus};
+use canary_release::service::Service;
 use std::alloc::Global;
 
 /// Answers one request: a new one is settled, a repeat gets the reply of its receipt, and one ahead
@@ -94,9 +98,10 @@ fn settle_new<B: Book>(
     Ok(reply)
 }
 
-// Decides a command by the service that it names and the templates that it looks up. The book is
-// asked before anything is allocated: its answer says what holds of its contents, also where memory
-// is refused behind it.
+// Decides a command by the service that it names and the newest revisions of the templates that it
+// looks up: which these are may depend on the service. The book is asked for the service before
+// anything is allocated: its answer says what holds of its contents, also where memory is refused
+// behind it.
 fn decide_on<B: Book>(
     alloc: Global,
     book: &mut B,
@@ -106,9 +111,24 @@ fn decide_on<B: Book>(
     ensures { DecidesOn moment command.now (B.state book.old) (B.state book.new) result }
 {
     let service = book.service(&command.subject())?;
-    let names = command.names_looked_up(alloc)?;
+    let names = names_looked_up(alloc, command, service.as_ref())?;
     let templates = book.templates(names.as_slice())?;
     Ok(decide(alloc, &templates, service.as_ref(), moment, command)?)
+}
+
+// The templates that a command on this service looks up.
+fn names_looked_up(
+    alloc: Global,
+    command: &Command,
+    service: Option<&Service>,
+) -> Result<Listed<Name>, Memory>
+    ensures { IfOk result (λ names. names
+        ≡ names_looked_up (option_map strategy_kept (option_copied service.entry)) command.now) }
+{
+    match service {
+        Some(service) => command.names_looked_up(alloc, Some(service.strategy())),
+        None => command.names_looked_up(alloc, None),
+    }
 }
 
 // The reply of the receipt, if it is of the same command: their canonical texts are compared.

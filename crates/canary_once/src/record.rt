@@ -5,16 +5,18 @@ use canary_base::error::Memory;
 use canary_base::lists::Listed;
 use canary_base::moments::Moment;
 use canary_metric::tally::Tally;
+use canary_plan::bound_analysis::BoundAnalysis;
 use canary_release::effect::Closing;
 use std::alloc::Global;
 
-/// A run of a service: its number, from 1 on; its analysis, that at a step or of the background
-/// (none); when it was started, how it was closed, if it was; and one tally for each of its
-/// metrics, in order.
+/// A run of a service: its number, from 1 on; the step of its analysis, or none for the background;
+/// this analysis, bound as it was when the run was opened; when it was started; how it was closed,
+/// if it was; and one tally for each of its metrics, in order.
 #[derive(Drop)]
 pub struct RunRecord {
     pub number: u32,
     pub step: Option<u32>,
+    pub analysis: BoundAnalysis,
     pub started: Moment,
     pub closed: Option<Closing>,
     pub tallies: Listed<Tally>,
@@ -28,6 +30,7 @@ impl RunRecord {
         Ok(RunRecord {
             number: self.number,
             step: self.step,
+            analysis: self.analysis.copy()?,
             started: self.started,
             closed: self.closed,
             tallies: self.tallies.copy(alloc)?,

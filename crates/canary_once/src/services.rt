@@ -2,9 +2,9 @@
 ghost use Rattle.std.specs.Prelude.{◌≡◌, option_copied, option_map, IfOk, OnOk, OnErr};
 ghost use Rattle.std.specs.FinMap as map;
 ghost use Rattle.canary_release.specs.Desks.{after};
-ghost use Rattle.canary_release.specs.Effects.{Changes};
 ghost use Rattle.canary_release.specs.Shapes.{shape};
 ghost use Rattle.canary_once.specs.Records.{past_in, record_numbered};
+ghost use Rattle.canary_once.specs.InMemory.{IsKeptAs};
 
 use crate::kept_service::KeptService;
 use crate::record::RunRecord;
@@ -105,8 +105,7 @@ impl Services {
         service: Service,
         effects: Listed<Effect>,
     ) -> Result<(), Memory>
-        requires changes { Changes (map.get self.old name) name service effects }
-        requires service { service ≡ shape (after (map.get self.old name) service.stand effects) }
+        requires { IsKeptAs (map.get self.old name) service effects }
         ensures ok { OnOk result (self.new
             ≡ map.insert self.old name (after (map.get self.old name) service.stand effects)) }
         ensures err { OnErr result (self.new ≡ self.old) }

@@ -112,6 +112,7 @@ fn opened_record(alloc: Global, opening: &Opening) -> Result<RunRecord, Memory>
     Ok(RunRecord {
         number: opening.run,
         step: opening.step,
+        analysis: opening.analysis.copy()?,
         started: opening.started,
         closed: None,
         tallies: new_tallies(alloc, opening.analysis.metrics().len() as u32)?,
@@ -136,6 +137,7 @@ fn closed_record(closing: &Closing, run: RunRecord) -> RunRecord
     let RunRecord {
         number,
         step,
+        analysis,
         started,
         closed: _,
         tallies,
@@ -143,6 +145,7 @@ fn closed_record(closing: &Closing, run: RunRecord) -> RunRecord
     RunRecord {
         number,
         step,
+        analysis,
         started,
         closed: Some(*closing),
         tallies,

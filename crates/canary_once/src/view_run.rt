@@ -2,7 +2,6 @@
 ghost use Rattle.std.specs.Prelude.{◌≡◌, IfOk, map, string_bytes};
 ghost use Rattle.std.specs.List.{zip};
 ghost use Rattle.canary_release.specs.Replies.{bracketed};
-ghost use Rattle.canary_once.specs.Records.{run_metrics};
 ghost use Rattle.canary_once.specs.Views.{null_or, bool_text, due_text, metric_front};
 ghost use Rattle.canary_once.specs.Views.{metric_middle, metric_back, metric_view, closed_at};
 ghost use Rattle.canary_once.specs.Views.{verdict_in, run_front, run_middle, run_back, run_view};
@@ -20,22 +19,21 @@ use std::alloc::Global;
 /// The text that shows a run of a service.
 pub(crate) fn run_text(alloc: Global, service: &Service, run: &RunRecord) -> Result<String, Memory>
     ensures { IfOk result (λ text. string_bytes text
-        ≡ run_view service.now.stand.name
-        (run_metrics service.now.stand.bound run.now.step) run.now) }
+        ≡ run_view service.now.stand.name run.now.analysis.metrics run.now) }
 {
-    let front = run_front(alloc, service, run)?;
+    let front = run_front(alloc, run)?;
     let middle = run_middle(alloc, service, run)?;
     let back = run_back(alloc, run)?;
     joined(front, middle.as_str(), back.as_str())
 }
 
 // When it was closed, and its metrics.
-fn run_front(alloc: Global, service: &Service, run: &RunRecord) -> Result<String, Memory>
+fn run_front(alloc: Global, run: &RunRecord) -> Result<String, Memory>
     ensures { IfOk result (λ text. string_bytes text
-        ≡ run_front (run_metrics service.now.stand.bound run.now.step) run.now) }
+        ≡ run_front run.now.analysis.metrics run.now) }
 {
     let closed = null_or(alloc, closed_at(run))?;
-    let metrics = run_metrics_text(alloc, service, run)?;
+    let metrics = metrics_text(alloc, run, run.analysis.metrics())?;
     Ok(format!(in alloc; "{{\"closed\":{closed},\"code\":\"ok\",\"metrics\":{metrics}")?)
 }
 
@@ -96,18 +94,7 @@ fn null_or(alloc: Global, number: Option<u64>) -> Result<String, Memory>
     }
 }
 
-// The metrics of a run of the service, in square brackets.
-fn run_metrics_text(alloc: Global, service: &Service, run: &RunRecord) -> Result<String, Memory>
-    ensures { IfOk result (λ text. string_bytes text
-        ≡ bracketed (map (metric_view run.now)
-        (zip (run_metrics service.now.stand.bound run.now.step) run.now.tallies))) }
-{
-    match service.bound().metrics(run.step) {
-        Some(metrics) => metrics_text(alloc, run, metrics),
-        None => Ok(String::from_str(alloc, "[]")?),
-    }
-}
-
+// The metrics of a run, in square brackets.
 fn metrics_text(alloc: Global, run: &RunRecord, metrics: &[Metric]) -> Result<String, Memory>
     ensures { IfOk result (λ text. string_bytes text
         ≡ bracketed (map (metric_view run.now) (zip metrics.now run.now.tallies))) }

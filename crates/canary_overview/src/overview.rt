@@ -7,14 +7,23 @@ use canary_condition::outcome::Phase;
 use canary_metric::metric::Metric;
 use canary_metric::tally::Tally;
 use canary_metric::verdict::is_completed;
+use canary_plan::analysis_parts::Revision;
 use canary_release::runs::OpenRun;
 use canary_release::service::Service;
 use std::alloc::Global;
 
 const SERVICE_TITLES: [&str; 6] = ["NAME", "STATUS", "STEP", "WEIGHT", "VERSION", "STABLE"];
 
-const RUN_TITLES: [&str; 8] = [
-    "RUN", "SERVICE", "ANALYSIS", "METRIC", "PHASE", "COUNTED", "PASSES", "DUE",
+const RUN_TITLES: [&str; 9] = [
+    "RUN",
+    "SERVICE",
+    "ANALYSIS",
+    "TEMPLATES",
+    "METRIC",
+    "PHASE",
+    "COUNTED",
+    "PASSES",
+    "DUE",
 ];
 
 // How many cells the bar of a weight has.
@@ -112,11 +121,9 @@ fn add_run(
     run: &OpenRun,
     runs: &mut Table,
 ) -> Result<(), Memory> {
-    let Some(metrics) = service.bound().metrics(run.step) else {
-        return Ok(());
-    };
-    for (metric, tally) in metrics.iter().zip(run.tallies.as_slice()) {
-        runs.push(metric_row(alloc, service.name(), run, metric, tally)?)?;
+    let name = service.name();
+    for (metric, tally) in run.analysis.metrics().iter().zip(run.tallies.as_slice()) {
+        runs.push(metric_row(alloc, name, run, metric, tally)?)?;
     }
     Ok(())
 }
@@ -133,6 +140,7 @@ fn metric_row(
     row.push(format!(in alloc; "{number}")?)?;
     row.push(String::from_str(alloc, service.as_str())?)?;
     row.push(analysis(alloc, run.step)?)?;
+    row.push(templates_text(alloc, run.analysis.revisions())?)?;
     row.push(String::from_str(alloc, metric.name().as_str())?)?;
     row.push(String::from_str(alloc, phase.text())?)?;
     row.push(format!(in alloc; "{counted}")?)?;
@@ -146,6 +154,24 @@ fn analysis(alloc: Global, step: Option<u32>) -> Result<String, Memory> {
         Some(step) => Ok(format!(in alloc; "step {step}")?),
         None => Ok(String::from_str(alloc, "background")?),
     }
+}
+
+// The templates of an analysis, each with the number of its revision: `errors@2,latency@1`.
+fn templates_text(alloc: Global, revisions: &[Revision]) -> Result<String, Memory> {
+    let mut text = String::new(alloc);
+    for revision in revisions {
+        add_revision(alloc, &mut text, *revision)?;
+    }
+    Ok(text)
+}
+
+fn add_revision(alloc: Global, text: &mut String, revision: Revision) -> Result<(), Memory> {
+    if !text.is_empty() {
+        text.push_str(",")?;
+    }
+    let (template, number) = (revision.template, revision.number);
+    text.push_str(format!(in alloc; "{template}@{number}")?.as_str())?;
+    Ok(())
 }
 
 // How many successes in a row a metric has, of those that complete it; `-` if it has no

@@ -1,6 +1,6 @@
 -- An analysis of a bound strategy has 1 to 32 metrics; and templates that are none.
 use Rattle.std.proofs.Common.{◌≡◌, ℕ, zero, suc, ◌≤◌, Bool, true, false, List, [], ◌∷◌, length, refl, sym, subst, arith, ap, ◌∙◌}
-use Rattle.std.specs.Prelude.{◌&&◌, nat_le, Option, Some, None, IfSome, slice_get, option_map}
+use Rattle.std.specs.Prelude.{◌&&◌, not, nat_le, Option, Some, None, IfSome, slice_get, option_map}
 use Rattle.std.specs.List.{list_all}
 use Rattle.std.proofs.lemmas.Bool.Decides.{nat_tests}
 use Rattle.std.specs.Ordering.{nat_cmp}
@@ -11,8 +11,8 @@ use Rattle.canary_plan.specs.declared.analysis_parts.AnalysisParts.{AnalysisPart
 use Rattle.canary_plan.specs.declared.bound.BoundParts.{BoundParts}
 use Rattle.canary_plan.specs.declared.template.Template.{Template}
 use Rattle.canary_plan.specs.declared.strategy.CheckedStrategy.{CheckedStrategy}
-use Rattle.canary_plan.specs.Fit.{are_metrics_of_run, have_counts}
-use Rattle.canary_plan.specs.Plans.{Templates, no_templates, analysis_if, analysis_at, is_fit_if, are_fit, bound_of, unbound}
+use Rattle.canary_plan.specs.Fit.{are_metrics_of_run, have_counts, has_few, is_fit}
+use Rattle.canary_plan.specs.Plans.{Templates, no_templates, binds, has_unknown, metrics_named, analysis_if, analysis_at, is_fit_if, are_fit, bound_of, unbound}
 
 first : (a b : Bool) → (a && b) ≡ true → a ≡ true
 first true b h = refl
@@ -21,6 +21,9 @@ first false b h = cc h
 second : (a b : Bool) → (a && b) ≡ true → b ≡ true
 second true b h = h
 second false b h = cc h
+
+both : (a b : Bool) → a ≡ true → b ≡ true → (a && b) ≡ true
+both a b ha hb = ap (λ x. x && b) ha ∙ hb
 
 at_least : (n : ℕ) → nat_le 1 n ≡ true → 1 ≤ n
 at_least n h = grind (arith, nat_tests, h)
@@ -48,6 +51,20 @@ fit_at b None h = second (list_all is_fit_if b.steps) (is_fit_if b.background) h
 of_fit : (o : Option AnalysisParts) → is_fit_if o ≡ true → IfSome (option_map (λ (a : AnalysisParts). a.metrics) o) IsOfRun
 of_fit None h = tt
 of_fit (Some a) h = of_run a.metrics (first (are_metrics_of_run a.metrics) (have_counts a.metrics) h)
+
+-- at most 32 metrics
+pub few : (a : AnalysisParts) → has_few a ≡ true → length a.metrics ≤ 32
+few a h = at_most (length a.metrics) (first (nat_le (length a.metrics) 32) (have_counts a.metrics) h)
+
+-- templates that bind an analysis give it metrics of a run
+pub bound_metrics : (known : Templates) (names : List (List ℕ)) → binds known names ≡ true → are_metrics_of_run (metrics_named known names) ≡ true
+bound_metrics known names h = second (not (has_unknown known names)) (are_metrics_of_run (metrics_named known names)) h
+
+pub few_of : (a : AnalysisParts) → are_metrics_of_run a.metrics ≡ true → have_counts a.metrics ≡ true → has_few a ≡ true
+few_of a h counts = both (nat_le (length a.metrics) 32) (have_counts a.metrics) (second (nat_le 1 (length a.metrics)) _ h) counts
+
+pub fit_of : (a : AnalysisParts) → are_metrics_of_run a.metrics ≡ true → have_counts a.metrics ≡ true → is_fit a ≡ true
+fit_of a h counts = both (are_metrics_of_run a.metrics) (have_counts a.metrics) h counts
 
 -- an empty map has no templates
 none_known : (m : FinMap (slice_cmp nat_cmp) Template) → m ≡ empty → get m ≡ no_templates

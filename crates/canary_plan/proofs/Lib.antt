@@ -12,3 +12,6 @@ pub mod Analyses
 pub mod Accepting
 pub mod Seen
 pub mod Rows
+pub mod BoundAlike
+pub mod Distinct
+pub mod BoundRevisions

@@ -126,14 +126,24 @@ other_failure = refl
 
 -- Which templates are looked up.
 
-own_name : names_looked_up (template (metric (codes "result < 1") 0 refl) []) ≡ codes "latency" ∷ []
+own_name : names_looked_up None (template (metric (codes "result < 1") 0 refl) []) ≡ codes "latency" ∷ []
 own_name = refl
 
--- those of the steps in order, then those of the background, with repetitions
-names_of_service :
-    names_looked_up (service (Analysis (codes "b" ∷ codes "a" ∷ []) ∷ SetWeight 20 ∷ Analysis (codes "a" ∷ []) ∷ []) (background 1))
+-- a name as often as it stands there, the background's last
+all_names_in_order :
+    names_looked_up None (service (Analysis (codes "b" ∷ codes "a" ∷ []) ∷ SetWeight 20 ∷ Analysis (codes "a" ∷ []) ∷ []) (background 1))
     ≡ codes "b" ∷ codes "a" ∷ codes "a" ∷ codes "errors" ∷ []
-names_of_service = refl
+all_names_in_order = refl
 
-no_names : names_looked_up (command.Start web v2) ≡ []
-no_names = refl
+-- an attempt looks up those of the service's strategy
+of_a_start : names_looked_up (Some (record { steps = SetWeight 20 ∷ Analysis (codes "a" ∷ []) ∷ []; background = background 1 })) (command.Start web v2) ≡ codes "a" ∷ codes "errors" ∷ []
+of_a_start = refl
+
+of_a_retry : names_looked_up (Some (record { steps = Analysis (codes "a" ∷ []) ∷ []; background = None })) (command.Retry web) ≡ codes "a" ∷ []
+of_a_retry = refl
+
+of_no_service : names_looked_up None (command.Start web v2) ≡ []
+of_no_service = refl
+
+of_a_promotion : names_looked_up (Some (record { steps = Analysis (codes "a" ∷ []) ∷ []; background = None })) (command.Promote web) ≡ []
+of_a_promotion = refl

@@ -47,7 +47,7 @@ any_of_both p q r [] h = refl
 any_of_both p q r (name ∷ names) h =
     ap (λ b. b || list_any r names) (h name) ∙ ap (λ b. (p name || q name) || b) (any_of_both p q r names h) ∙ turned (p name) (q name) (list_any p names) (list_any q names)
 
-chosen : (a b : Bool) → cond a true b ≡ (a || b)
+pub chosen : (a b : Bool) → cond a true b ≡ (a || b)
 chosen true b = refl
 chosen false b = refl
 
@@ -67,7 +67,7 @@ seen_before seen name names again = ap (λ b. (b || list_any (is_seen seen) name
 next : (i : ℕ) → suc i ≡ i + 1
 next i = omega arith
 
--- what is left, from the next name on
-pub left : (names : List (List ℕ)) (i : ℕ) (name : List ℕ) → name ≡ get_or names i name → i < length names → name ∷ drop (i + 1) names ≡ drop i names
-left names i name is within =
-    sym (drop-cons names i name within ∙ ap (λ (x : List ℕ). x ∷ drop (suc i) names) (sym is) ∙ ap (λ n. name ∷ drop n names) (next i))
+-- what is left, from the next one on
+pub left : {X : Type 0} (xs : List X) (i : ℕ) (x : X) → x ≡ get_or xs i x → i < length xs → x ∷ drop (i + 1) xs ≡ drop i xs
+left {X} xs i x is within =
+    sym (drop-cons xs i x within ∙ ap (λ (y : X). y ∷ drop (suc i) xs) (sym is) ∙ ap (λ n. x ∷ drop n xs) (next i))

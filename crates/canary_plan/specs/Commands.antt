@@ -19,7 +19,8 @@ use Rattle.canary_plan.specs.declared.command.Command.{Command}
 use Rattle.canary_plan.specs.declared.command.Command.TheVariants as command
 use Rattle.canary_plan.specs.declared.command.CommandKind.{CommandKind}
 use Rattle.canary_plan.specs.declared.command.CommandKind.TheVariants as kind
-use Rattle.canary_plan.specs.PlanRefusals.{analyses}
+use Rattle.canary_plan.specs.declared.strategy.CheckedStrategy.{CheckedStrategy}
+use Rattle.canary_plan.specs.PlanRefusals.{analyses_in, analyses}
 
 abbrev pub kind_of : Command → CommandKind
 kind_of (command.Template spec) = kind.Template
@@ -68,11 +69,19 @@ report_in other = None
 abbrev pub all_names : List (List (List ℕ)) → List (List ℕ)
 all_names lists = flat_map (λ (names : List (List ℕ)). names) lists
 
--- the templates that a command looks up: its own, or those of its analyses
-abbrev pub names_looked_up : Command → List (List ℕ)
-names_looked_up (command.Template spec) = spec.name ∷ []
-names_looked_up (command.Service spec) = all_names (analyses spec)
-names_looked_up other = []
+-- the templates of the analyses of the strategy that a service has, if it is there
+abbrev pub names_in : Option CheckedStrategy → List (List ℕ)
+names_in None = []
+names_in (Some s) = all_names (analyses_in s.steps s.background)
+
+-- the templates that a command looks up, where the service that it names has this strategy: its
+-- own, those of its analyses, or those to which an attempt is bound
+abbrev pub names_looked_up : Option CheckedStrategy → Command → List (List ℕ)
+names_looked_up found (command.Template spec) = spec.name ∷ []
+names_looked_up found (command.Service spec) = all_names (analyses spec)
+names_looked_up found (command.Start service version) = names_in found
+names_looked_up found (command.Retry service) = names_in found
+names_looked_up found other = []
 
 -- When two are the same.
 

@@ -1,4 +1,4 @@
--- When an analysis is fit for runs.
+-- When an analysis that is bound is fit for runs.
 use Rattle.std.specs.Prelude.{ℕ, nat_le, ◌&&◌, Bool, true, List, [], length, Option, Some, None}
 use Rattle.std.specs.List.{list_all}
 use Rattle.canary_metric.specs.Metrics.{MetricValue}
@@ -32,4 +32,4 @@ is_fit a = are_metrics_of_run a.metrics && have_counts a.metrics
 
 -- of no templates
 abbrev pub no_analysis : AnalysisParts
-no_analysis = record { metrics = [] }
+no_analysis = record { revisions = []; metrics = [] }

@@ -1,4 +1,4 @@
--- Why a template or a service is refused, in order.
+-- Why a template or a service is refused, and why a strategy is not bound, in order.
 use Rattle.std.specs.Prelude.{ℕ, ◌||◌, ◌&&◌, nat_lt, not, Bool, false, List, [], ◌∷◌, ◌++◌, length, map, Option, Some, None, is_none}
 use Rattle.std.specs.List.{list_any, list_all, filter_map}
 use Rattle.std.specs.Str.{bytes_eq}
@@ -12,6 +12,7 @@ use Rattle.canary_plan.specs.declared.template_spec.TemplateSpec.{TemplateSpec}
 use Rattle.canary_plan.specs.declared.refusal.Refusal.{Refusal}
 use Rattle.canary_plan.specs.declared.refusal.Refusal.TheVariants.{BadCondition, IntervalNeeded, DuplicateMetric, BadDryRun, UnknownTemplate, EndlessMetric, BadStrategy}
 use Rattle.canary_plan.specs.Conditions.{condition_of}
+use Rattle.canary_plan.specs.declared.strategy.CheckedStrategy.{CheckedStrategy}
 use Rattle.canary_plan.specs.Plans.{Templates, all_metrics, metrics_named, has_unknown, binds, is_within_limits, is_background_within_limits}
 use Rattle.canary_plan.specs.Refusals.{first_that_holds}
 
@@ -65,11 +66,29 @@ names_of_background (Some b) = b.templates ∷ []
 abbrev pub step_analyses : ServiceSpec → List (List (List ℕ))
 step_analyses s = filter_map names_of_step s.steps
 
+-- the templates' names of each analysis, of these steps and this background
+abbrev pub analyses_in : List Step → Option Background → List (List (List ℕ))
+analyses_in steps background = filter_map names_of_step steps ++ names_of_background background
+
 -- the templates' names of each analysis
 abbrev pub analyses : ServiceSpec → List (List (List ℕ))
-analyses s = step_analyses s ++ names_of_background s.background
+analyses s = analyses_in s.steps s.background
 
--- two metrics of one name among the known templates of an analysis
+abbrev pub is_bad_strategy : ServiceSpec → Bool
+is_bad_strategy s =
+    nat_lt 64 (length s.steps)
+    || not (list_all is_within_limits s.steps && is_background_within_limits s.background)
+
+-- why a service's strategy is refused
+abbrev pub strategy_refusal : Templates → ServiceSpec → Option Refusal
+strategy_refusal known s =
+    first_that_holds (
+    (list_any (has_unknown known) (analyses s), UnknownTemplate)
+    ∷ (is_bad_strategy s, BadStrategy)
+    ∷ []
+    )
+
+-- two metrics of one name among the templates of an analysis
 abbrev pub repeats_metric : Templates → List (List ℕ) → Bool
 repeats_metric known names =
     has_duplicate (map (λ (m : MetricValue). m.name) (metrics_named known names))
@@ -87,21 +106,12 @@ is_endless known names =
 abbrev pub is_unfit : Templates → List (List ℕ) → Bool
 is_unfit known names = not (binds known names)
 
--- more than 64 steps, a weight above 100, an analysis of no template or more than 8, or one that is
--- unfit
-abbrev pub is_bad_strategy : Templates → ServiceSpec → Bool
-is_bad_strategy known s =
-    nat_lt 64 (length s.steps)
-    || (not (list_all is_within_limits s.steps && is_background_within_limits s.background)
-    || list_any (is_unfit known) (analyses s))
-
--- why a service's strategy is refused
-abbrev pub strategy_refusal : Templates → ServiceSpec → Option Refusal
-strategy_refusal known s =
+-- why a strategy is not bound to the templates that are known
+abbrev pub bound_refusal : Templates → CheckedStrategy → Option Refusal
+bound_refusal known s =
     first_that_holds (
-    (list_any (repeats_metric known) (analyses s), DuplicateMetric)
-    ∷ (list_any (has_unknown known) (analyses s), UnknownTemplate)
-    ∷ (list_any (is_endless known) (step_analyses s), EndlessMetric)
-    ∷ (is_bad_strategy known s, BadStrategy)
+    (list_any (repeats_metric known) (analyses_in s.steps s.background), DuplicateMetric)
+    ∷ (list_any (is_endless known) (filter_map names_of_step s.steps), EndlessMetric)
+    ∷ (list_any (is_unfit known) (analyses_in s.steps s.background), BadStrategy)
     ∷ []
     )

@@ -1,7 +1,7 @@
--- What a template and a strategy are once their conditions are read and their templates are known,
--- and what a strategy is bound to.
-use Rattle.std.specs.Prelude.{ℕ, nat_le, ◌||◌, ◌&&◌, not, Bool, true, if◌then◌else◌, List, [], length, map, flat_map, slice_get, Option, Some, None, is_none, option_map, unwrap_or, codes}
-use Rattle.std.specs.List.{list_any, list_all}
+-- What a template is once its conditions are read, a strategy that names templates, and what these
+-- bind it to.
+use Rattle.std.specs.Prelude.{◌≡◌, ℕ, nat_le, ◌||◌, ◌&&◌, not, Bool, true, if◌then◌else◌, List, [], ◌∷◌, ◌++◌, length, map, filter, flat_map, slice_get, Option, Some, None, is_none, option_map, unwrap_or, codes}
+use Rattle.std.specs.List.{AllByRecursion, list_any, list_all}
 use Rattle.std.specs.Str.{bytes_eq}
 use Rattle.canary_condition.specs.Trees.{Tree}
 use Rattle.canary_metric.specs.Metrics.{MetricValue}
@@ -14,6 +14,7 @@ use Rattle.canary_plan.specs.declared.service.ServiceSpec.{ServiceSpec}
 use Rattle.canary_plan.specs.declared.analysis_parts.AnalysisParts.{AnalysisParts}
 use Rattle.canary_plan.specs.declared.bound.BoundParts.{BoundParts}
 use Rattle.canary_plan.specs.declared.strategy.CheckedStrategy.{CheckedStrategy}
+use Rattle.canary_plan.specs.declared.analysis_parts.Revision.{Revision}
 use Rattle.canary_plan.specs.declared.template_spec.MetricSpec.{MetricSpec}
 use Rattle.canary_plan.specs.declared.template_spec.TemplateSpec.{TemplateSpec}
 use Rattle.canary_plan.specs.declared.template.Template.{Template}
@@ -23,6 +24,10 @@ use Rattle.canary_plan.specs.Fit.{are_metrics_of_run, is_fit, no_analysis}
 -- the templates that are known, by name
 abbrev pub Templates : Type 0
 Templates = List ℕ → Option Template
+
+-- two sets of templates agree on these names
+abbrev pub Agree : Templates → Templates → List (List ℕ) → Type 0
+Agree known other names = AllByRecursion (λ name. known name ≡ other name) names
 
 abbrev pub condition_if : Option (List ℕ) → Option Tree
 condition_if None = None
@@ -56,8 +61,13 @@ settings_of dry_run m =
 abbrev pub bound_metric : List (List ℕ) → MetricSpec → MetricValue
 bound_metric dry_run m = metric_of (settings_of dry_run m)
 
-abbrev pub template_of : TemplateSpec → Template
-template_of spec = record { spec = spec; metrics = map (bound_metric spec.dry_run) spec.metrics }
+abbrev pub template_of : TemplateSpec → ℕ → Template
+template_of spec revision =
+    record {
+      spec = spec;
+      revision = revision;
+      metrics = map (bound_metric spec.dry_run) spec.metrics;
+    }
 
 abbrev pub metrics_in : Option Template → List MetricValue
 metrics_in None = []
@@ -66,6 +76,14 @@ metrics_in (Some t) = t.metrics
 -- the metrics of these templates together, in order
 abbrev pub metrics_named : Templates → List (List ℕ) → List MetricValue
 metrics_named known names = flat_map (λ name. metrics_in (known name)) names
+
+abbrev pub revisions_in : List ℕ → Option Template → List Revision
+revisions_in name None = []
+revisions_in name (Some t) = record { template = name; number = t.revision } ∷ []
+
+-- the revisions of these templates, in order
+abbrev pub revisions_named : Templates → List (List ℕ) → List Revision
+revisions_named known names = flat_map (λ name. revisions_in name (known name)) names
 
 -- the strategy that a service asks for
 abbrev pub strategy_of : ServiceSpec → CheckedStrategy
@@ -105,7 +123,10 @@ binds known names = not (has_unknown known names) && are_metrics_of_run (metrics
 -- an analysis bound to these templates, or none where they don't bind it
 abbrev pub analysis_of : Templates → List (List ℕ) → Option AnalysisParts
 analysis_of known names =
-    if binds known names then Some (record { metrics = metrics_named known names }) else None
+    if binds known names
+    then Some (record
+    { revisions = revisions_named known names; metrics = metrics_named known names })
+    else None
 
 abbrev pub bound_step : Templates → Step → Option AnalysisParts
 bound_step known (Analysis names) = analysis_of known names
@@ -147,6 +168,25 @@ analysis_or_none b step = unwrap_or (analysis_at b step) no_analysis
 -- the metrics of the analysis at that step, or of the background
 abbrev pub metrics_at : BoundParts → Option ℕ → Option (List MetricValue)
 metrics_at b step = option_map (λ (a : AnalysisParts). a.metrics) (analysis_at b step)
+
+-- What a binding names.
+
+abbrev pub revisions_if : Option AnalysisParts → List Revision
+revisions_if None = []
+revisions_if (Some a) = a.revisions
+
+-- the revisions of all analyses that are bound, in order; one for each time that its template is
+-- named
+abbrev pub all_revisions : BoundParts → List Revision
+all_revisions b = flat_map revisions_if b.steps ++ revisions_if b.background
+
+abbrev pub is_of_other : Revision → Revision → Bool
+is_of_other r x = not (bytes_eq r.template x.template)
+
+-- of each template the first of these revisions
+abbrev pub distinct : List Revision → List Revision
+distinct [] = []
+distinct (r ∷ rs) = r ∷ filter (is_of_other r) (distinct rs)
 
 abbrev pub is_fit_if : Option AnalysisParts → Bool
 is_fit_if None = true

@@ -1,12 +1,11 @@
 -- Refusals: their codes, and the first of several that holds.
 use Rattle.std.specs.Prelude.{ℕ, Bool, if◌then◌else◌, List, [], ◌∷◌, Option, Some, None, codes}
 use Rattle.canary_plan.specs.declared.refusal.Refusal.{Refusal}
-use Rattle.canary_plan.specs.declared.refusal.Refusal.TheVariants.{UnknownService, ServiceExists, TemplateExists, BadCondition, IntervalNeeded, DuplicateMetric, BadDryRun, UnknownTemplate, EndlessMetric, BadStrategy, InProgress, AlreadyStable, NotInProgress, NotPaused, NotAborted, RunsSpent, UnknownRun, RunClosed, UnknownMetric, RepeatedMetric, MetricClosed, AlreadyRecorded, OutOfTurn, Spent, Future, TooEarly}
+use Rattle.canary_plan.specs.declared.refusal.Refusal.TheVariants.{UnknownService, ServiceExists, BadCondition, IntervalNeeded, DuplicateMetric, BadDryRun, UnknownTemplate, EndlessMetric, BadStrategy, InProgress, AlreadyStable, NotInProgress, NotPaused, NotAborted, RunsSpent, UnknownRun, RunClosed, UnknownMetric, RepeatedMetric, MetricClosed, AlreadyRecorded, OutOfTurn, Spent, Future, TooEarly, RevisionsSpent}
 
 abbrev pub code_of : Refusal → List ℕ
 code_of UnknownService = codes "unknown-service"
 code_of ServiceExists = codes "service-exists"
-code_of TemplateExists = codes "template-exists"
 code_of BadCondition = codes "bad-condition"
 code_of IntervalNeeded = codes "interval-needed"
 code_of DuplicateMetric = codes "duplicate-metric"
@@ -30,6 +29,7 @@ code_of (OutOfTurn at expected) = codes "out-of-turn"
 code_of (Spent at) = codes "spent"
 code_of (Future at) = codes "future"
 code_of (TooEarly at due) = codes "too-early"
+code_of RevisionsSpent = codes "revisions-spent"
 
 -- the first refusal of a table whose test holds
 abbrev pub first_that_holds : List (Bool × Refusal) → Option Refusal

@@ -1,17 +1,16 @@
 //! What analyses ask for, among the templates that are known.
-ghost use Rattle.std.specs.Prelude.{◌≡◌, [], ◌∷◌, ◌++◌, is_none, map, IfOk};
+ghost use Rattle.std.specs.Prelude.{◌≡◌, [], ◌∷◌, ◌++◌, is_none, map, IfOk, option_copied};
 ghost use Rattle.std.specs.List.{list_any, filter_map};
 ghost use Rattle.std.specs.FinMap.{get};
 ghost use Rattle.canary_metric.specs.Metrics.{MetricValue};
 ghost use Rattle.canary_plan.specs.Plans.{metrics_in, metrics_named, has_unknown, binds};
 ghost use Rattle.canary_plan.specs.Plans.{are_templates_of_run};
 ghost use Rattle.canary_plan.specs.Fit.{are_metrics_of_run};
-ghost use Rattle.canary_plan.specs.PlanRefusals.{names_of_step, step_analyses, analyses};
-ghost use Rattle.canary_plan.specs.PlanRefusals.{repeats_metric};
-ghost use Rattle.canary_plan.specs.PlanRefusals.{is_endless, is_without_end};
+ghost use Rattle.canary_plan.specs.PlanRefusals.{names_of_step, analyses_in};
+ghost use Rattle.canary_plan.specs.PlanRefusals.{repeats_metric, is_endless, is_without_end};
 
 use crate::labels::has_duplicate;
-use crate::service::{Background, ServiceSpec};
+use crate::service::Background;
 use crate::step::Step;
 use crate::templates::Templates;
 use canary_base::error::Memory;
@@ -61,11 +60,16 @@ fn with_step(
 }
 
 /// The templates' names of each analysis: of each step's, then of the background.
-pub(crate) fn analyses(alloc: Global, spec: &ServiceSpec) -> Result<Listed<Listed<Name>>, Memory>
-    ensures { IfOk result (λ found. found ≡ analyses spec.now) }
+pub(crate) fn analyses(
+    alloc: Global,
+    steps: &[Step],
+    background: Option<&Background>,
+) -> Result<Listed<Listed<Name>>, Memory>
+    ensures { IfOk result
+        (λ found. found ≡ analyses_in steps.now (option_copied background.entry)) }
 {
-    let found = step_analyses(alloc, spec.steps.as_slice())?;
-    match &spec.background {
+    let found = step_analyses(alloc, steps)?;
+    match background {
         None => Ok(found),
         Some(background) => with_background(alloc, found, background),
     }

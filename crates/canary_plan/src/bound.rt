@@ -1,14 +1,16 @@
-//! What strategies are bound to: their analyses with their metrics.
-ghost use Rattle.std.specs.Prelude.{◌≡◌, ◌≤◌, map, length, IsTrue, Some};
-ghost use Rattle.std.specs.Prelude.{IfOk, IfSome, option_copied};
+//! Strategies that are bound to revisions of templates.
+ghost use Rattle.std.specs.Prelude.{◌≡◌, ◌≤◌, [], ◌∷◌, ◌++◌, map, flat_map, length, IsTrue};
+ghost use Rattle.std.specs.Prelude.{Some, None};
+ghost use Rattle.std.specs.Prelude.{IfOk, IfSome, MatchOption, option_copied};
 ghost use Rattle.std.specs.List.{list_all};
 ghost use Rattle.std.specs.FinMap.{get};
-ghost use Rattle.canary_plan.specs.Plans.{analysis_of, bound_step, bound_background};
-ghost use Rattle.canary_plan.specs.Plans.{analysis_at, metrics_at, is_fit_if, are_fit};
+ghost use Rattle.canary_plan.specs.Plans.{revisions_in, revisions_named, analysis_of, bound_step};
+ghost use Rattle.canary_plan.specs.Plans.{bound_background, analysis_at, metrics_at, is_fit_if};
+ghost use Rattle.canary_plan.specs.Plans.{are_fit, analysis_or_none, revisions_if, all_revisions};
 ghost use Rattle.canary_plan.specs.Fit.{have_counts};
 
 use crate::analysis;
-use crate::analysis_parts::AnalysisParts;
+use crate::analysis_parts::{AnalysisParts, Revision};
 use crate::bound_analysis::BoundAnalysis;
 use crate::service::Background;
 use crate::step::Step;
@@ -26,14 +28,6 @@ use std::rc::Rc;
 pub struct BoundParts {
     pub steps: Listed<Option<BoundAnalysis>>,
     pub background: Option<BoundAnalysis>,
-}
-
-impl BoundParts {
-    fn step_analysis(&self, step: u32) -> Option<&BoundAnalysis>
-        ensures { option_copied result ≡ analysis_at self.now (Some step) }
-    {
-        self.steps.as_slice().get(step as usize)?.as_ref()
-    }
 }
 
 /// What a strategy is bound to: its analyses, each with 1 to 32 metrics. Its copies share it, so
@@ -95,6 +89,31 @@ impl Bound {
         }
     }
 
+    /// A copy of the analysis at that step, from 0, or of the background, which takes no memory;
+    /// one of no templates where there is no such analysis, or it is not bound. `Memory` where it
+    /// has as many copies as can be counted, or no memory is left for the one of no templates.
+    pub fn analysis_or_none(
+        &self,
+        alloc: Global,
+        step: Option<u32>,
+    ) -> Result<BoundAnalysis, Memory>
+        ensures { IfOk result (λ analysis. analysis ≡ analysis_or_none self.now step) }
+    {
+        match self.analysis(step) {
+            Some(analysis) => analysis.copy(),
+            None => BoundAnalysis::none(alloc),
+        }
+    }
+
+    /// The revisions of all analyses that are bound, the background's last: one for each time that
+    /// its template is named; or `Memory`.
+    pub fn revisions(&self, alloc: Global) -> Result<Listed<Revision>, Memory>
+        ensures { IfOk result (λ found. found ≡ all_revisions self.now) }
+    {
+        let found = revisions_of_steps(alloc, self.steps())?;
+        with_analysis(found, &self.parts.background)
+    }
+
     /// The metrics of the analysis at that step, from 0, or of the background; none where there is
     /// no such analysis, or it is not bound. 1 to 32.
     pub fn metrics(&self, step: Option<u32>) -> Option<&[Metric]>
@@ -107,6 +126,53 @@ impl Bound {
             None => None,
         }
     }
+}
+
+impl BoundParts {
+    fn step_analysis(&self, step: u32) -> Option<&BoundAnalysis>
+        ensures { option_copied result ≡ analysis_at self.now (Some step) }
+    {
+        self.steps.as_slice().get(step as usize)?.as_ref()
+    }
+}
+
+// The revisions of these analyses, in order.
+fn revisions_of_steps(
+    alloc: Global,
+    steps: &[Option<BoundAnalysis>],
+) -> Result<Listed<Revision>, Memory>
+    ensures { IfOk result (λ found. found ≡ flat_map revisions_if steps.now) }
+{
+    let mut found = Listed::of(Vec::new(alloc));
+    for analysis in steps {
+        found = with_analysis(found, analysis)?;
+    }
+    Ok(found)
+}
+
+// These revisions with those of an analysis behind them, where it is bound.
+fn with_analysis(
+    found: Listed<Revision>,
+    analysis: &Option<BoundAnalysis>,
+) -> Result<Listed<Revision>, Memory>
+    ensures { IfOk result (λ all. all ≡ found ++ revisions_if analysis.now) }
+{
+    match analysis {
+        None => Ok(found),
+        Some(analysis) => with_revisions(found, analysis.revisions()),
+    }
+}
+
+fn with_revisions(
+    mut found: Listed<Revision>,
+    more: &[Revision],
+) -> Result<Listed<Revision>, Memory>
+    ensures { IfOk result (λ all. all ≡ found ++ more.now) }
+{
+    for revision in more {
+        found.push(*revision)?;
+    }
+    Ok(found)
 }
 
 /// The analyses of these steps and this background, bound to the templates that are known.
@@ -186,14 +252,47 @@ fn analysis_of(
         return Ok(None);
     }
     let parts = AnalysisParts {
+        revisions: revisions_named(alloc, known, names)?,
         metrics: analysis::metrics_named(alloc, known, names)?,
     };
     counts_stand(parts.metrics.as_slice());
     Ok(Some(BoundAnalysis::of(alloc, parts)?))
 }
 
-// A metric's count and its `passAfter`, if it has them, are at least 1: what each metric promises,
-// said of them all.
+// The revisions of these templates, in order.
+fn revisions_named(
+    alloc: Global,
+    known: &Templates,
+    names: &[Name],
+) -> Result<Listed<Revision>, Memory>
+    ensures { IfOk result
+        (λ revisions. revisions ≡ revisions_named (get known.now) names.now) }
+{
+    let mut revisions = Listed::of(Vec::new(alloc));
+    for name in names {
+        if let Some(revision) = revision_of(known, *name) {
+            revisions.push(revision)?;
+        }
+    }
+    Ok(revisions)
+}
+
+fn revision_of(known: &Templates, name: Name) -> Option<Revision>
+    ensures { MatchOption result
+        (revisions_in name (get known.now name) ≡ [])
+        (λ revision. revisions_in name (get known.now name) ≡ revision ∷ []) }
+{
+    match known.get(name) {
+        Some(template) => Some(Revision {
+            template: name,
+            number: template.revision,
+        }),
+        None => None,
+    }
+}
+
+// What each metric promises, for all of these: its count and its `passAfter`, if it has them, are
+// at least 1.
 fn counts_stand(metrics: &[Metric])
     ensures { IsTrue (have_counts metrics.now) }
 {

@@ -1,8 +1,8 @@
-//! Analyses with their metrics.
+//! Analyses that are bound to revisions of templates.
 ghost use Rattle.std.specs.Prelude.{◌≡◌, ◌≤◌, length, IfOk, IsTrue};
 ghost use Rattle.canary_plan.specs.Fit.{has_few, no_analysis};
 
-use crate::analysis_parts::AnalysisParts;
+use crate::analysis_parts::{AnalysisParts, Revision};
 use canary_base::error::Memory;
 use canary_base::lists::Listed;
 use canary_metric::metric::Metric;
@@ -10,8 +10,8 @@ use std::alloc::Global;
 use std::marker::Model;
 use std::rc::Rc;
 
-/// An analysis with its metrics, of which there are at most 32. Its copies share them, so that a
-/// copy takes no memory.
+/// An analysis that is bound, with at most 32 metrics. Its copies share it, so that a copy takes no
+/// memory.
 #[derive(Drop)]
 pub struct BoundAnalysis {
     parts: Rc<AnalysisParts>,
@@ -47,6 +47,7 @@ impl BoundAnalysis {
         ensures { IfOk result (λ analysis. analysis ≡ no_analysis) }
     {
         let parts = AnalysisParts {
+            revisions: Listed::of(Vec::new(alloc)),
             metrics: Listed::of(Vec::new(alloc)),
         };
         BoundAnalysis::of(alloc, parts)
@@ -60,7 +61,14 @@ impl BoundAnalysis {
         Ok(BoundAnalysis { parts })
     }
 
-    /// Its metrics, in order; at most 32.
+    /// The revisions of its templates, in order.
+    pub fn revisions(&self) -> &[Revision]
+        ensures value { result.now ≡ self.now.revisions }
+    {
+        self.parts.revisions.as_slice()
+    }
+
+    /// The metrics of its templates together, in order; at most 32.
     pub fn metrics(&self) -> &[Metric]
         ensures value { result.now ≡ self.now.metrics }
         ensures few { IsTrue (has_few self.now) }

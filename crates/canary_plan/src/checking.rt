@@ -1,19 +1,18 @@
-//! Why a service's strategy is refused, and the strategy that it asks for.
-ghost use Rattle.std.specs.Prelude.{◌≡◌, IfOk};
+//! Why a service's strategy is refused, why it is not bound, and the strategy that it asks for.
+ghost use Rattle.std.specs.Prelude.{◌≡◌, IfOk, filter_map};
 ghost use Rattle.std.specs.List.{list_any, list_all};
 ghost use Rattle.std.specs.FinMap.{get};
 ghost use Rattle.canary_plan.specs.Plans.{has_unknown, strategy_of, is_within_limits};
 ghost use Rattle.canary_plan.specs.Plans.{is_background_within_limits};
-ghost use Rattle.canary_plan.specs.PlanRefusals.{step_analyses, analyses, strategy_refusal};
-ghost use Rattle.canary_plan.specs.PlanRefusals.{repeats_metric};
-ghost use Rattle.canary_plan.specs.PlanRefusals.{is_endless, is_unfit};
-ghost use Rattle.canary_plan.specs.PlanRefusals.{is_bad_strategy};
+ghost use Rattle.canary_plan.specs.PlanRefusals.{names_of_step, analyses_in, analyses};
+ghost use Rattle.canary_plan.specs.PlanRefusals.{strategy_refusal, bound_refusal, is_bad_strategy};
+ghost use Rattle.canary_plan.specs.PlanRefusals.{repeats_metric, is_endless, is_unfit};
 
 use crate::analysis;
 use crate::refusal::Refusal;
 use crate::service::{Background, ServiceSpec, copy_background};
 use crate::step::{Step, copy_steps};
-use crate::strategy::{CheckedStrategy, GREATEST_WEIGHT, MOST_STEPS};
+use crate::strategy::{CheckedStrategy, GREATEST_WEIGHT, MOST_STEPS, Strategy};
 use crate::templates::Templates;
 use canary_base::error::Memory;
 use canary_base::lists::Listed;
@@ -28,33 +27,62 @@ pub(crate) fn refusal(
 ) -> Result<Option<Refusal>, Memory>
     ensures { IfOk result (λ found. found ≡ strategy_refusal (get known.now) spec.now) }
 {
-    let in_steps = analysis::step_analyses(alloc, spec.steps.as_slice())?;
-    let in_all = analysis::analyses(alloc, spec)?;
-    refusal_among(alloc, spec, known, in_steps.as_slice(), in_all.as_slice())
+    let in_all = analysis::analyses(alloc, spec.steps.as_slice(), spec.background.as_ref())?;
+    Ok(refusal_among(spec, known, in_all.as_slice()))
 }
 
-// Why the strategy is refused that has these analyses in its steps, and these in all.
-fn refusal_among(
+// Why the strategy is refused that has these analyses.
+fn refusal_among(spec: &ServiceSpec, known: &Templates, in_all: &[Listed<Name>]) -> Option<Refusal>
+    requires { in_all.now ≡ analyses spec.now }
+    ensures { result ≡ strategy_refusal (get known.now) spec.now }
+{
+    if some_has_unknown(known, in_all) {
+        return Some(Refusal::UnknownTemplate);
+    }
+    if is_bad_strategy(spec) {
+        return Some(Refusal::BadStrategy);
+    }
+    None
+}
+
+/// Why the strategy is not bound, if it is not.
+pub(crate) fn bound_refusal(
     alloc: Global,
-    spec: &ServiceSpec,
+    strategy: &Strategy,
+    known: &Templates,
+) -> Result<Option<Refusal>, Memory>
+    ensures { IfOk result (λ found. found ≡ bound_refusal (get known.now) strategy.now) }
+{
+    let in_steps = analysis::step_analyses(alloc, strategy.steps())?;
+    let in_all = analysis::analyses(alloc, strategy.steps(), strategy.background())?;
+    bound_refusal_among(
+        alloc,
+        strategy,
+        known,
+        in_steps.as_slice(),
+        in_all.as_slice(),
+    )
+}
+
+// Why the strategy is not bound that has these analyses in its steps, and these in all.
+fn bound_refusal_among(
+    alloc: Global,
+    strategy: &Strategy,
     known: &Templates,
     in_steps: &[Listed<Name>],
     in_all: &[Listed<Name>],
 ) -> Result<Option<Refusal>, Memory>
-    requires of_steps { in_steps.now ≡ step_analyses spec.now }
-    requires of_all { in_all.now ≡ analyses spec.now }
-    ensures { IfOk result (λ found. found ≡ strategy_refusal (get known.now) spec.now) }
+    requires of_steps { in_steps.now ≡ filter_map names_of_step strategy.now.steps }
+    requires of_all { in_all.now ≡ analyses_in strategy.now.steps strategy.now.background }
+    ensures { IfOk result (λ found. found ≡ bound_refusal (get known.now) strategy.now) }
 {
     if some_repeats_metric(alloc, known, in_all)? {
         return Ok(Some(Refusal::DuplicateMetric));
     }
-    if some_has_unknown(known, in_all) {
-        return Ok(Some(Refusal::UnknownTemplate));
-    }
     if some_is_endless(known, in_steps) {
         return Ok(Some(Refusal::EndlessMetric));
     }
-    if is_bad_strategy(spec, known, in_all) {
+    if some_is_unfit(known, in_all) {
         return Ok(Some(Refusal::BadStrategy));
     }
     Ok(None)
@@ -103,19 +131,16 @@ fn is_unfit(known: &Templates, names: &Listed<Name>) -> bool
     !analysis::binds(known, names.as_slice())
 }
 
-// Whether there are more than 64 steps, a weight above 100, or an analysis that may not stand.
-fn is_bad_strategy(spec: &ServiceSpec, known: &Templates, in_all: &[Listed<Name>]) -> bool
-    requires { in_all.now ≡ analyses spec.now }
-    ensures { result ≡ is_bad_strategy (get known.now) spec.now }
+// Whether there are more than 64 steps, a weight above 100, or an analysis with no template or more
+// than 8.
+fn is_bad_strategy(spec: &ServiceSpec) -> bool
+    ensures { result ≡ is_bad_strategy spec.now }
 {
     let steps = spec.steps.as_slice();
     if steps.len() > MOST_STEPS {
         return true;
     }
-    if !are_within_limits(steps) || !is_background_within_limits(&spec.background) {
-        return true;
-    }
-    some_is_unfit(known, in_all)
+    !are_within_limits(steps) || !is_background_within_limits(&spec.background)
 }
 
 fn are_within_limits(steps: &[Step]) -> bool

@@ -17,11 +17,11 @@ use std::alloc::Global;
 /// What release engineers and metric agents ask of the desk.
 #[derive(Drop)]
 pub enum Command {
-    /// Registers a template.
+    /// Registers a template, or the next revision of one that is there.
     Template(TemplateSpec),
     /// Registers a service with its strategy and its stable version.
     Service(ServiceSpec),
-    /// Begins a release of that version.
+    /// Begins a release of that version, bound to the newest revisions of its templates.
     Start { service: Name, version: Label },
     /// Ends a hold, or the pause at which a release stands.
     Promote { service: Name },
@@ -29,7 +29,7 @@ pub enum Command {
     PromoteFull { service: Name },
     /// Aborts a release.
     Abort { service: Name },
-    /// Begins a release anew with the version that was aborted.
+    /// Begins a release anew with the version that was aborted, bound in the same way.
     Retry { service: Name },
     /// Lets time pass.
     Tick { service: Name },

@@ -1,4 +1,4 @@
-//! Why a template was not bound, or a strategy not checked.
+//! Why a template was not bound, or a strategy not checked or not bound.
 ghost use Rattle.std.specs.Prelude.{◌≡◌};
 
 use crate::refusal::Refusal;
@@ -36,7 +36,7 @@ impl fmt::Display for BindFault {
 
 impl Error for BindFault {}
 
-/// Why a strategy was not checked.
+/// Why a strategy was not checked, or not bound.
 #[derive(Clone, Copy, Debug, PartialEq, Eq)]
 pub enum CheckFault {
     /// It is refused.

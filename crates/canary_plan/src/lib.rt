@@ -2,15 +2,15 @@
 //! strategy, the commands, the lines of a history, and why a command is refused.
 //!
 //! Callers may rest on this: `Template::bind` gives the conditions that a template's texts spell,
-//! and `Strategy::check` the strategy that a service asks for, each exactly where nothing refuses
-//! it; else the first refusal that holds is answered (`Memory` aside). Each `Strategy` was checked,
-//! and `Strategy::bind` gives the metrics of its analyses by the templates that are known. Two
-//! commands are told to be the same exactly where they are equal. The words of a line are read as
-//! its event, and as no other.
+//! `Strategy::check` a strategy that names templates, and `Strategy::bind` the revisions of these,
+//! and their metrics, for each of its analyses, each exactly where nothing refuses it; else the
+//! first refusal that holds is answered (`Memory` aside). Each `Strategy` was checked.
+//! `Command::is_same` says that two commands are the same exactly where they are equal. The words
+//! of a line are read as its event, and as no other.
 //!
 //! In use (canary_check, src/alone.rt):
 //!
-//!     match Template::bind(alloc, spec) {
+//!     match Template::bind(alloc, spec, 1) {
 //!         Ok(_) => Ok(None),
 //!         Err(BindFault::Refused(refusal)) => Ok(Some(refusal)),
 //!         Err(BindFault::Memory) => Err(Memory),

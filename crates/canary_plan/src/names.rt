@@ -1,34 +1,60 @@
 //! The templates that a command looks up.
-ghost use Rattle.std.specs.Prelude.{◌≡◌, ◌++◌, IfOk, filter_map};
-ghost use Rattle.canary_plan.specs.PlanRefusals.{analyses, names_of_step, names_of_background};
-ghost use Rattle.canary_plan.specs.Commands.{all_names, names_looked_up};
+ghost use Rattle.std.specs.Prelude.{◌≡◌, ◌++◌, IfOk, filter_map, option_copied};
+ghost use Rattle.canary_plan.specs.PlanRefusals.{analyses_in, names_of_step, names_of_background};
+ghost use Rattle.canary_plan.specs.Commands.{all_names, names_in, names_looked_up};
 
 use crate::command::Command;
-use crate::service::{Background, ServiceSpec};
+use crate::service::Background;
 use crate::step::Step;
+use crate::strategy::Strategy;
 use canary_base::error::Memory;
 use canary_base::lists::Listed;
 use canary_base::names::Name;
 use std::alloc::Global;
 
 impl Command {
-    /// The templates that it looks up: its own, or those of its analyses; or `Memory`.
-    pub fn names_looked_up(&self, alloc: Global) -> Result<Listed<Name>, Memory>
-        ensures { IfOk result (λ names. names ≡ names_looked_up self.now) }
+    /// The templates that it looks up, where the service that it names has this strategy: its own,
+    /// those of its analyses, or those to which an attempt is bound; or `Memory`.
+    pub fn names_looked_up(
+        &self,
+        alloc: Global,
+        strategy: Option<&Strategy>,
+    ) -> Result<Listed<Name>, Memory>
+        ensures { IfOk result
+            (λ names. names ≡ names_looked_up (option_copied strategy.entry) self.now) }
     {
         match self {
             Command::Template(spec) => Ok(Listed::of(vec![in alloc; spec.name]?)),
-            Command::Service(spec) => names_of_analyses(alloc, spec),
+            Command::Service(spec) => {
+                names_of_analyses(alloc, spec.steps.as_slice(), spec.background.as_ref())
+            }
+            Command::Start { .. } => names_of(alloc, strategy),
+            Command::Retry { .. } => names_of(alloc, strategy),
             _ => Ok(Listed::of(Vec::new(alloc))),
         }
     }
 }
 
-fn names_of_analyses(alloc: Global, spec: &ServiceSpec) -> Result<Listed<Name>, Memory>
-    ensures { IfOk result (λ names. names ≡ all_names (analyses spec.now)) }
+// The templates of a strategy's analyses, if there is one.
+fn names_of(alloc: Global, strategy: Option<&Strategy>) -> Result<Listed<Name>, Memory>
+    ensures { IfOk result (λ names. names ≡ names_in (option_copied strategy.entry)) }
 {
-    let names = names_of_steps(alloc, spec.steps.as_slice())?;
-    let names = with_background(names, &spec.background)?;
+    match strategy {
+        None => Ok(Listed::of(Vec::new(alloc))),
+        Some(strategy) => names_of_analyses(alloc, strategy.steps(), strategy.background()),
+    }
+}
+
+fn names_of_analyses(
+    alloc: Global,
+    steps: &[Step],
+    background: Option<&Background>,
+) -> Result<Listed<Name>, Memory>
+    ensures { IfOk result (λ names. names
+        ≡ all_names (analyses_in steps.now (option_copied background.entry))) }
+{
+    let names = names_of_steps(alloc, steps)?;
+    let names = with_background(names, background)?;
     Ok(Listed::of(names))
 }
 
@@ -48,10 +74,10 @@ fn names_of_steps(alloc: Global, steps: &[Step]) -> Result<Vec<Name>, Memory>
 // The names with those of the background analysis behind them.
 fn with_background(
     mut names: Vec<Name>,
-    background: &Option<Background>,
+    background: Option<&Background>,
 ) -> Result<Vec<Name>, Memory>
-    ensures { IfOk result (λ all.
-        all.items ≡ names.items ++ all_names (names_of_background background.now)) }
+    ensures { IfOk result (λ all. all.items
+        ≡ names.items ++ all_names (names_of_background (option_copied background.entry))) }
 {
     if let Some(background) = background {
         names.extend_from_slice(background.templates.as_slice())?;

@@ -14,8 +14,6 @@ pub enum Refusal {
     UnknownService,
     /// The service's name is taken.
     ServiceExists,
-    /// The template's name is taken.
-    TemplateExists,
     /// A condition of the template has no reading.
     BadCondition,
     /// A metric of the template has a count above 1 and no interval.
@@ -63,6 +61,8 @@ pub enum Refusal {
     Future { at: u32 },
     /// The measurement was taken before it is due, at `due`, in seconds from 1970.
     TooEarly { at: u32, due: u64 },
+    /// The newest revision of the template has the greatest number, 1,000,000.
+    RevisionsSpent,
 }
 
 impl Refusal {
@@ -73,7 +73,6 @@ impl Refusal {
         match self {
             Refusal::UnknownService => "unknown-service",
             Refusal::ServiceExists => "service-exists",
-            Refusal::TemplateExists => "template-exists",
             Refusal::BadCondition => "bad-condition",
             Refusal::IntervalNeeded => "interval-needed",
             Refusal::DuplicateMetric => "duplicate-metric",
@@ -97,6 +96,7 @@ impl Refusal {
             Refusal::Spent { .. } => "spent",
             Refusal::Future { .. } => "future",
             Refusal::TooEarly { .. } => "too-early",
+            Refusal::RevisionsSpent => "revisions-spent",
         }
     }
 }

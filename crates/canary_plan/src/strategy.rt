@@ -2,7 +2,7 @@
 ghost use Rattle.std.specs.Prelude.{◌≡◌, IsTrue, IfOk, option_copied};
 ghost use Rattle.std.specs.FinMap.{get};
 ghost use Rattle.canary_plan.specs.Plans.{is_accepted, unbound, bound_of};
-ghost use Rattle.canary_plan.specs.Checking.{IsChecked};
+ghost use Rattle.canary_plan.specs.Checking.{IsChecked, IsBoundTo};
 
 use crate::bound::{self, Bound};
 use crate::checking;
@@ -55,12 +55,9 @@ impl Strategy {
     /// The strategy that a service asks for, whose analyses name templates that are known.
     ///
     /// # Errors
-    /// `Refused` with the first of these that holds: `DuplicateMetric` where two metrics of one
-    /// analysis have one name, among the templates that are known; `UnknownTemplate` where a
-    /// template of an analysis is not; `EndlessMetric` where a step's analysis has a metric with
-    /// neither an effective count nor a number of successes in a row; `BadStrategy` where there are
-    /// more than 64 steps, a weight above 100, or an analysis with no template, more than 8 or more
-    /// than 32 metrics. `Memory` in place of any.
+    /// `Refused` with the first of these that holds: `UnknownTemplate` where a template of an
+    /// analysis is not known; `BadStrategy` where there are more than 64 steps, a weight above 100,
+    /// or an analysis with no template or more than 8. `Memory` in place of any.
     pub fn check(
         alloc: Global,
         spec: &ServiceSpec,
@@ -84,20 +81,38 @@ impl Strategy {
         Ok(Strategy { checked })
     }
 
-    /// What it is bound to by the templates that are known: its analyses with their metrics, where
-    /// these templates have 1 to 32 of them; or `Memory`.
-    pub fn bind(&self, alloc: Global, known: &Templates) -> Result<Bound, Memory>
-        ensures { IfOk result (λ bound. bound ≡ bound_of (get known.now) self.now) }
+    /// What it is bound to by the templates that are known: its analyses with the revisions of
+    /// their templates, and their metrics.
+    ///
+    /// # Errors
+    /// `Refused` with the first of these that holds: `DuplicateMetric` where two metrics of one
+    /// analysis have one name, among the templates that are known; `EndlessMetric` where a step's
+    /// analysis has a metric with neither an effective count nor a number of successes in a row;
+    /// `BadStrategy` where a template of an analysis is not known, or an analysis has no metric or
+    /// more than 32. `Memory` in place of any.
+    pub fn bind(&self, alloc: Global, known: &Templates) -> Result<Bound, CheckFault>
+        ensures { IsBoundTo (get known.now) self.now result }
     {
-        let parts = bound::bound_parts(alloc, self.steps(), self.background(), known)?;
-        Bound::of(alloc, parts)
+        if let Some(refusal) = checking::bound_refusal(alloc, self, known)? {
+            return Err(CheckFault::Refused(refusal));
+        }
+        Ok(self.bound_to(alloc, known)?)
     }
 
     /// It with no analysis bound, or `Memory`.
     pub fn unbound(&self, alloc: Global) -> Result<Bound, Memory>
         ensures { IfOk result (λ bound. bound ≡ unbound self.now) }
     {
-        self.bind(alloc, &Templates::new(alloc))
+        self.bound_to(alloc, &Templates::new(alloc))
+    }
+
+    /// What these templates bind it to, whether or not binding would refuse it: each analysis whose
+    /// templates are all there, with 1 to 32 metrics together, and no other; or `Memory`.
+    pub fn bound_to(&self, alloc: Global, known: &Templates) -> Result<Bound, Memory>
+        ensures { IfOk result (λ bound. bound ≡ bound_of (get known.now) self.now) }
+    {
+        let parts = bound::bound_parts(alloc, self.steps(), self.background(), known)?;
+        Bound::of(alloc, parts)
     }
 
     /// A copy of it, which takes no memory; `Memory` where it has as many copies as can be counted.

@@ -46,26 +46,40 @@ pub struct BadCondition {
 #[derive(Drop)]
 pub struct Template {
     pub spec: TemplateSpec,
+    /// The number of its revision, from 1.
+    pub revision: u32,
     pub metrics: Listed<Metric>,
 }
 
 impl Template {
-    /// The template that is asked for, its conditions read and each metric marked that is dry-run.
+    /// That revision of the template that is asked for, its conditions read and each metric marked
+    /// that is dry-run.
     ///
     /// # Errors
     /// `Refused` with the first of these that holds: `BadCondition` where a condition has no
     /// reading; `IntervalNeeded` where a metric has a count above 1 and no interval;
     /// `DuplicateMetric` where two metrics have one name; `BadDryRun` where a name that is to be
     /// dry-run is neither a metric's nor `.*`. `Memory` in place of any.
-    pub fn bind(alloc: Global, spec: &TemplateSpec) -> Result<Template, BindFault>
-        ensures { IsBound spec.now result }
+    pub fn bind(alloc: Global, spec: &TemplateSpec, revision: u32) -> Result<Template, BindFault>
+        ensures { IsBound spec.now revision result }
     {
         let metrics = bound_metrics(alloc, spec.metrics.as_slice(), spec.dry_run.as_slice())?;
         if let Some(refusal) = other_refusal(alloc, spec)? {
             return Err(BindFault::Refused(refusal));
         }
         let spec = spec.copy(alloc)?;
-        Ok(Template { spec, metrics })
+        Ok(Template {
+            spec,
+            revision,
+            metrics,
+        })
+    }
+
+    /// The number of its revision, from 1.
+    pub fn revision(&self) -> u32
+        ensures value { result ≡ self.now.revision }
+    {
+        self.revision
     }
 
     /// A copy of it, or `Memory`.
@@ -74,7 +88,11 @@ impl Template {
     {
         let spec = self.spec.copy(alloc)?;
         let metrics = copy_metrics(alloc, self.metrics.as_slice())?;
-        Ok(Template { spec, metrics })
+        Ok(Template {
+            spec,
+            revision: self.revision,
+            metrics,
+        })
     }
 }
 

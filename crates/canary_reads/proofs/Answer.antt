@@ -38,9 +38,12 @@ no_limit = lit (Int (negsuc 0))
 abbrev pub from_start : Term
 from_start = lit (Int (pos 0))
 
--- in the order of one column
+-- in the order of one column, up or down
+abbrev pub sorted_by : Bool → ℕ → List (Term × Key)
+sorted_by down at = (col 1 at, record { collation = Binary; descending = down }) ∷ []
+
 abbrev pub by_column : ℕ → List (Term × Key)
-by_column at = (col 1 at, record { collation = Binary; descending = false }) ∷ []
+by_column = sorted_by false
 
 abbrev pub passes : List Term → Row → Row → Bool
 passes tests params row = list_all (holds (params ∷ row ∷ [])) tests

@@ -19,7 +19,8 @@ use Rattle.sqlite_sql.specs.declared.aggregate.AggregateOp.TheVariants.{CountRow
 use Rattle.sqlite_sql.specs.Aggregate.{count}
 use Rattle.sqlite_sql.specs.Group.{Aggregate, Grouping, IsSummary, value_over}
 use Rattle.sqlite_sql.specs.Term.{Env}
-use Rattle.canary_schema.specs.Schema.{desk_schema}
+use Rattle.canary_schema.specs.Layout.{Layout}
+use Rattle.canary_schema.specs.Schema.{schema_at}
 use Rattle.canary_schema.specs.Cells.{whole, cells_of}
 use Rattle.canary_reads.proofs.Answer.{no_limit, from_start, stored}
 
@@ -43,12 +44,16 @@ count_of tree = record {
   offset = from_start;
 }
 
--- what a text asks for: the count of a tree's rows
-pub record Counts (text : List ℕ) (tree : ℕ) : Type 0 where
+-- what a text asks for in a layout: the count of a tree's rows
+pub record CountsAt (at : Layout) (text : List ℕ) (tree : ℕ) : Type 0 where
   pub names : List (List ℕ)
-  pub is : command_of (understood desk_schema text) ≡ Select (record { lets = []; body = count_of tree }) names
-  pub plain : IsPlain (understood desk_schema text)
-  pub unlisted : reads_listing desk_schema text ≡ false
+  pub is : command_of (understood (schema_at at) text) ≡ Select (record { lets = []; body = count_of tree }) names
+  pub plain : IsPlain (understood (schema_at at) text)
+  pub unlisted : reads_listing (schema_at at) text ≡ false
+
+-- so in each layout
+abbrev pub Counts : List ℕ → (Layout → ℕ) → Type 0
+Counts text tree = (at : Layout) → CountsAt at text (tree at)
 
 one_each : {A B : Type 0} (f : A → B) (xs : List A) → length (flat_map (λ x. f x ∷ []) xs) ≡ length xs
 one_each f [] = refl
@@ -90,16 +95,17 @@ count_answer lost tree db params rows a =
     a.shown ∙ ap (λ (os : List Output). page (count_of tree) params (map (λ (o : Output). o.1) os)) ordered ∙ ap (λ n. (count n ∷ []) ∷ []) long
 
 -- the rows that a text shows of a tree with these cells
-pub counts_found : {X : Type 0} (text : List ℕ) (tree : ℕ) → Counts text tree → (cells : X → Row) (xs : List X) (old new : State) (params : Row) (rows : List Row) → old.now.schema ≡ desk_schema → cells_of (old.now.trees tree) ≡ map cells xs
+pub counts_found : {X : Type 0} (text : List ℕ) (tree : Layout → ℕ) → Counts text tree → (cells : X → Row) (xs : List X) (old new : State) (params : Row) (rows : List Row) (at : Layout) → old.now.schema ≡ schema_at at → cells_of (old.now.trees (tree at)) ≡ map cells xs
     → Shown text params old new rows → rows ≡ (count (length xs) ∷ []) ∷ []
-counts_found text tree asks cells xs old new params rows schema stores h =
-    let long : length (old.now.trees tree) ≡ length xs = sym (mapped_length (drop 1) (old.now.trees tree)) ∙ ap length stores ∙ mapped_length cells xs in
-    count_answer Null tree old.now.trees params rows ((reads_as text params old new desk_schema schema _ asks.is asks.plain asks.unlisted rows h).answer Null) ∙ ap (λ n. (count n ∷ []) ∷ []) long
+counts_found text tree counts cells xs old new params rows at schema stores h =
+    let asks = counts at in
+    let long : length (old.now.trees (tree at)) ≡ length xs = sym (mapped_length (drop 1) (old.now.trees (tree at))) ∙ ap length stores ∙ mapped_length cells xs in
+    count_answer Null (tree at) old.now.trees params rows ((reads_as text params old new (schema_at at) schema _ asks.is asks.plain asks.unlisted rows h).answer Null) ∙ ap (λ n. (count n ∷ []) ∷ []) long
 
 -- the first of the rows tells how many
-pub count_found : {X : Type 0} (text : List ℕ) (tree : ℕ) → Counts text tree → (cells : X → Row) (xs : List X) (old new : State) (params : Row) (rows : List Row) (n : ℕ) → old.now.schema ≡ desk_schema → cells_of (old.now.trees tree) ≡ map cells xs
+pub count_found : {X : Type 0} (text : List ℕ) (tree : Layout → ℕ) → Counts text tree → (cells : X → Row) (xs : List X) (old new : State) (params : Row) (rows : List Row) (n : ℕ) (at : Layout) → old.now.schema ≡ schema_at at → cells_of (old.now.trees (tree at)) ≡ map cells xs
     → Shown text params old new rows → column (slice_index_or rows 0 []) 0 ≡ whole n → n ≡ min (length xs) 9223372036854775807
-count_found text tree asks cells xs old new params rows n schema stores h told =
-    let is = counts_found text tree asks cells xs old new params rows schema stores h in
+count_found text tree counts cells xs old new params rows n at schema stores h told =
+    let is = counts_found text tree counts cells xs old new params rows at schema stores h in
     let same : whole n ≡ count (length xs) = sym told ∙ ap (λ (rs : List Row). column (slice_index_or rs 0 []) 0) is in
     cc

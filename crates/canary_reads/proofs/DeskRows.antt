@@ -1,5 +1,5 @@
 -- The tables of a desk, whose rows are those of tables where no number is negative.
-use Rattle.std.proofs.Common.{◌≡◌, ◌&&◌, ◌++◌, ℕ, suc, List, [], ◌∷◌, length, drop, false, true, inl, inr, codes, refl, sym, ap, subst, ◌∙◌, arith}
+use Rattle.std.proofs.Common.{◌≡◌, ◌&&◌, ◌++◌, ℕ, suc, List, [], ◌∷◌, length, drop, false, true, codes, refl, sym, ap, subst, ◌∙◌, arith}
 use Rattle.std.specs.List.{AllByRecursion}
 use Rattle.sqlite.specs.declared.types.Value.TheVariants.{Null}
 use Rattle.sqlite.specs.Order.{Row}
@@ -9,7 +9,7 @@ use Rattle.sqlite.specs.Effect.{Database, IsDatabase}
 use Rattle.sqlite.specs.State.{State, Shown}
 use Rattle.sqlite_schema.specs.Rules.{are_typed, has_computed, are_present}
 use Rattle.sqlite_schema.specs.declared.schema.Constraint.TheVariants.{Datatype, NotNull}
-use Rattle.sqlite_keyed.proofs.ListLemmas.{all_of, all_both, all_weaker}
+use Rattle.sqlite_keyed.proofs.ListLemmas.{all_both, all_weaker}
 use Rattle.canary_rows.specs.declared.rows.CallerRow.{CallerRow}
 use Rattle.canary_rows.specs.declared.rows.KeptRow.{KeptRow}
 use Rattle.canary_rows.specs.declared.rows.ServiceRow.{ServiceRow}
@@ -17,22 +17,22 @@ use Rattle.canary_rows.specs.declared.rows.RunRow.{RunRow}
 use Rattle.canary_rows.specs.declared.rows.TallyRow.{TallyRow}
 use Rattle.canary_rows.specs.declared.rows.MeasurementRow.{MeasurementRow}
 use Rattle.canary_rows.specs.declared.rows.HistoryRow.{HistoryRow}
-use Rattle.canary_rows.specs.declared.rows.TemplateRow.{TemplateRow}
-use Rattle.canary_schema.specs.Cells.{caller_cells, kept_cells, template_cells, service_cells, run_cells, tally_cells, measurement_cells, history_cells}
-use Rattle.canary_schema.specs.Formed.{IsDeskSchema, IsFormed, HasWholeTallies}
-use Rattle.canary_schema.specs.Schema.{maybe}
-use Rattle.canary_schema.specs.Known.{early_tables, late_tables}
+use Rattle.canary_rows.specs.declared.rows.RevisionRow.{RevisionRow}
+use Rattle.canary_rows.specs.declared.rows.BindingRow.{BindingRow}
+use Rattle.canary_schema.specs.Layout.{Layout, numbers_at as numbers_of, service_at, run_at, measurement_at, history_at, revision_at, binding_at, tally_at}
+use Rattle.canary_schema.specs.Cells.{tally_tree, caller_cells, kept_cells, service_cells, run_cells, measurement_cells, history_cells, revision_cells, binding_cells, tally_cells}
+use Rattle.canary_schema.specs.Formed.{AreWhole, HasWholeTallies}
+use Rattle.canary_schema.specs.Schema.{place, schema_at, early_tables, late_tables}
 use Rattle.canary_reads.specs.Told.{HasCells}
 use Rattle.canary_reads.proofs.Answer.{passes}
 use Rattle.canary_reads.proofs.Holdings.{Holding, text, number, number_or_none, Told, told_cells, numbers_at, has_negative, or_below_is}
-use Rattle.canary_reads.proofs.Seeking.{SeeksBoth, below, or_below, none_passes, one_passes}
-use Rattle.canary_reads.proofs.SeekTexts.{callers_below_text, callers_below, kept_below_text, kept_below, services_below_text, services_below, runs_below_text, runs_below, tallies_below_text, tallies_below, measurements_below_text, measurements_below, history_below_text, history_below}
+use Rattle.canary_reads.proofs.Seeking.{SeeksAt, below, or_below, none_passes, one_passes}
+use Rattle.canary_reads.proofs.SeekTexts.{callers_below_text, callers_below, kept_below_text, kept_below, services_below_text, services_below, runs_below_text, runs_below, revisions_below_text, revisions_below, bindings_below_text, bindings_below, tallies_below_text, tallies_below, measurements_below_text, measurements_below, history_below_text, history_below}
 use Rattle.canary_reads.proofs.TableRows.{AreRaw, plain_row, plain_long, counted_row, are_told, are_fine}
 use Rattle.canary_reads.proofs.Tests.{and_true, and_first}
 
-tables_are : (schema : Schema) → IsDeskSchema schema → schema.tables ≡ early_tables ++ late_tables
-tables_are schema (inl is) = ap (λ (s : Schema). s.tables) is
-tables_are schema (inr is) = ap (λ (s : Schema). s.tables) is
+tables_are : (schema : Schema) (at : Layout) → schema ≡ schema_at at → schema.tables ≡ early_tables (numbers_of at) ++ late_tables (numbers_of at)
+tables_are schema at is = ap (λ (s : Schema). s.tables) is
 
 abbrev pub IsTyped : Table → Row → Type 0
 IsTyped t row = (are_typed t.key 0 t.columns (drop 1 row) && has_computed t row) ≡ true
@@ -40,26 +40,26 @@ IsTyped t row = (are_typed t.key 0 t.columns (drop 1 row) && has_computed t row)
 abbrev pub IsPresent : Table → Row → Type 0
 IsPresent t row = are_present t.key 0 t.columns row ≡ true
 
-pub typed_rows : (db : Database) → IsDatabase db → IsDeskSchema db.schema → AllByRecursion (λ (t : Table). AllByRecursion (IsTyped t) (db.trees t.tree)) (early_tables ++ late_tables)
-typed_rows db sound schema = subst (λ ts. AllByRecursion (λ (t : Table). AllByRecursion (IsTyped t) (db.trees t.tree)) ts) (tables_are db.schema schema) (sound.obeys.rules Datatype)
+pub typed_rows : (db : Database) → IsDatabase db → (at : Layout) → db.schema ≡ schema_at at → AllByRecursion (λ (t : Table). AllByRecursion (IsTyped t) (db.trees t.tree)) (early_tables (numbers_of at) ++ late_tables (numbers_of at))
+typed_rows db sound at schema = subst (λ ts. AllByRecursion (λ (t : Table). AllByRecursion (IsTyped t) (db.trees t.tree)) ts) (tables_are db.schema at schema) (sound.obeys.rules Datatype)
 
-pub present_rows : (db : Database) → IsDatabase db → IsDeskSchema db.schema → AllByRecursion (λ (t : Table). AllByRecursion (IsPresent t) (db.trees t.tree)) (early_tables ++ late_tables)
-present_rows db sound schema = subst (λ ts. AllByRecursion (λ (t : Table). AllByRecursion (IsPresent t) (db.trees t.tree)) ts) (tables_are db.schema schema) (sound.obeys.rules NotNull)
+pub present_rows : (db : Database) → IsDatabase db → (at : Layout) → db.schema ≡ schema_at at → AllByRecursion (λ (t : Table). AllByRecursion (IsPresent t) (db.trees t.tree)) (early_tables (numbers_of at) ++ late_tables (numbers_of at))
+present_rows db sound at schema = subst (λ ts. AllByRecursion (λ (t : Table). AllByRecursion (IsPresent t) (db.trees t.tree)) ts) (tables_are db.schema at schema) (sound.obeys.rules NotNull)
 
 -- a table of a text that looks for negative numbers
 module _ {X : Type 0} (cells : X → Row) (front : Row) (ks : List Holding) (make : Told ks → X) (made : (v : Told ks) → cells (make v) ≡ front ++ told_cells ks v) (tell : X → Told ks) (told : (x : X) → cells x ≡ front ++ told_cells ks (tell x))
-    (text_of : List ℕ) (tree at : ℕ) (others : List ℕ) (places : numbers_at (suc (length front)) ks ≡ at ∷ others) (asks : SeeksBoth text_of tree (or_below (below at) others)) (old new : State) (formed : IsFormed old.now) where
+    (text_of : List ℕ) (tree at : ℕ) (others : List ℕ) (places : numbers_at (suc (length front)) ks ≡ at ∷ others) (layout : Layout) (asks : SeeksAt layout text_of tree (or_below (below at) others)) (old new : State) (schema : old.now.schema ≡ schema_at layout) where
   passing : (row : Row) → passes (or_below (below at) others ∷ []) [] row ≡ has_negative row (numbers_at (suc (length front)) ks)
   passing row = and_true _ ∙ or_below_is [] row (below at) others ∙ ap (has_negative row) (sym places)
 
   assured : AllByRecursion (AreRaw front ks) (old.now.trees tree) → Shown text_of [] old new [] → HasCells cells (old.now.trees tree)
   assured raw shown =
       are_told cells front ks make made tell told (old.now.trees tree) raw
-      (all_weaker _ (λ row. has_negative row (numbers_at (suc (length front)) ks) ≡ false) (λ row e. sym (passing row) ∙ e) (old.now.trees tree) (none_passes text_of tree (or_below (below at) others) old new formed.schema asks shown))
+      (all_weaker _ (λ row. has_negative row (numbers_at (suc (length front)) ks) ≡ false) (λ row e. sym (passing row) ∙ e) (old.now.trees tree) (none_passes text_of tree (or_below (below at) others) old new layout schema asks shown))
 
   denied : (row : Row) (rows : List Row) → Shown text_of [] old new (row ∷ rows) → HasCells cells (old.now.trees tree) → ⊥
   denied row rows shown has =
-      one_passes text_of tree (or_below (below at) others) old new row rows formed.schema asks shown
+      one_passes text_of tree (or_below (below at) others) old new row rows layout schema asks shown
       (all_weaker _ (λ row. passes (or_below (below at) others ∷ []) [] row ≡ false) (λ row e. passing row ∙ e) (old.now.trees tree) (are_fine cells front ks make made tell told (old.now.trees tree) has))
 
 abbrev callers_columns : List Holding
@@ -71,15 +71,15 @@ callers_make v = record { name = v.0; settled = v.1.0 }
 abbrev callers_tell : CallerRow → Told callers_columns
 callers_tell x = (x.name, (x.settled, tt))
 
-callers_raw : (db : Database) → IsDatabase db → IsDeskSchema db.schema → AllByRecursion (AreRaw [] callers_columns) (db.trees 1)
-callers_raw db sound schema =
-    all_both _ _ (AreRaw [] callers_columns) (λ row typed present. plain_row callers_columns row (and_first _ _ typed) present (plain_long callers_columns row (and_first _ _ typed) present tt)) (db.trees 1) (typed_rows db sound schema).1.0 (present_rows db sound schema).1.0
+callers_raw : (db : Database) → IsDatabase db → (at : Layout) → db.schema ≡ schema_at at → AllByRecursion (AreRaw [] callers_columns) (db.trees 1)
+callers_raw db sound at schema =
+    all_both _ _ (AreRaw [] callers_columns) (λ row typed present. plain_row callers_columns row (and_first _ _ typed) present (plain_long callers_columns row (and_first _ _ typed) present tt)) (db.trees 1) (typed_rows db sound at schema).1.0 (present_rows db sound at schema).1.0
 
-pub callers_assured : (old new : State) → IsDatabase old.now → IsFormed old.now → Shown callers_below_text [] old new [] → HasCells caller_cells (old.now.trees 1)
-callers_assured old new sound formed shown = assured caller_cells [] callers_columns callers_make (λ v. refl) callers_tell (λ x. refl) callers_below_text 1 2 ([]) refl callers_below old new formed (callers_raw old.now sound formed.schema) shown
+pub callers_assured : (old new : State) → IsDatabase old.now → (at : Layout) → old.now.schema ≡ schema_at at → Shown callers_below_text [] old new [] → HasCells caller_cells (old.now.trees 1)
+callers_assured old new sound at schema shown = assured caller_cells [] callers_columns callers_make (λ v. refl) callers_tell (λ x. refl) callers_below_text 1 2 ([]) refl at (callers_below at) old new schema (callers_raw old.now sound at schema) shown
 
-pub callers_denied : (old new : State) → IsFormed old.now → (row : Row) (rows : List Row) → Shown callers_below_text [] old new (row ∷ rows) → HasCells caller_cells (old.now.trees 1) → ⊥
-callers_denied old new formed row rows shown has = denied caller_cells [] callers_columns callers_make (λ v. refl) callers_tell (λ x. refl) callers_below_text 1 2 ([]) refl callers_below old new formed row rows shown has
+pub callers_denied : (old new : State) (at : Layout) → old.now.schema ≡ schema_at at → (row : Row) (rows : List Row) → Shown callers_below_text [] old new (row ∷ rows) → HasCells caller_cells (old.now.trees 1) → ⊥
+callers_denied old new at schema row rows shown has = denied caller_cells [] callers_columns callers_make (λ v. refl) callers_tell (λ x. refl) callers_below_text 1 2 ([]) refl at (callers_below at) old new schema row rows shown has
 
 abbrev kept_columns : List Holding
 kept_columns = text (codes "caller") ∷ number (codes "number") ∷ text (codes "command") ∷ number (codes "status") ∷ text (codes "body") ∷ []
@@ -90,15 +90,15 @@ kept_make v = record { caller = v.0; number = v.1.0; command = v.1.1.0; status =
 abbrev kept_tell : KeptRow → Told kept_columns
 kept_tell x = (x.caller, (x.number, (x.command, (x.status, (x.body, tt)))))
 
-kept_raw : (db : Database) → IsDatabase db → IsDeskSchema db.schema → AllByRecursion (AreRaw [] kept_columns) (db.trees 3)
-kept_raw db sound schema =
-    all_both _ _ (AreRaw [] kept_columns) (λ row typed present. plain_row kept_columns row (and_first _ _ typed) present (plain_long kept_columns row (and_first _ _ typed) present tt)) (db.trees 3) (typed_rows db sound schema).1.1.0 (present_rows db sound schema).1.1.0
+kept_raw : (db : Database) → IsDatabase db → (at : Layout) → db.schema ≡ schema_at at → AllByRecursion (AreRaw [] kept_columns) (db.trees 3)
+kept_raw db sound at schema =
+    all_both _ _ (AreRaw [] kept_columns) (λ row typed present. plain_row kept_columns row (and_first _ _ typed) present (plain_long kept_columns row (and_first _ _ typed) present tt)) (db.trees 3) (typed_rows db sound at schema).1.1.0 (present_rows db sound at schema).1.1.0
 
-pub kept_assured : (old new : State) → IsDatabase old.now → IsFormed old.now → Shown kept_below_text [] old new [] → HasCells kept_cells (old.now.trees 3)
-kept_assured old new sound formed shown = assured kept_cells [] kept_columns kept_make (λ v. refl) kept_tell (λ x. refl) kept_below_text 3 2 (4 ∷ []) refl kept_below old new formed (kept_raw old.now sound formed.schema) shown
+pub kept_assured : (old new : State) → IsDatabase old.now → (at : Layout) → old.now.schema ≡ schema_at at → Shown kept_below_text [] old new [] → HasCells kept_cells (old.now.trees 3)
+kept_assured old new sound at schema shown = assured kept_cells [] kept_columns kept_make (λ v. refl) kept_tell (λ x. refl) kept_below_text 3 2 (4 ∷ []) refl at (kept_below at) old new schema (kept_raw old.now sound at schema) shown
 
-pub kept_denied : (old new : State) → IsFormed old.now → (row : Row) (rows : List Row) → Shown kept_below_text [] old new (row ∷ rows) → HasCells kept_cells (old.now.trees 3) → ⊥
-kept_denied old new formed row rows shown has = denied kept_cells [] kept_columns kept_make (λ v. refl) kept_tell (λ x. refl) kept_below_text 3 2 (4 ∷ []) refl kept_below old new formed row rows shown has
+pub kept_denied : (old new : State) (at : Layout) → old.now.schema ≡ schema_at at → (row : Row) (rows : List Row) → Shown kept_below_text [] old new (row ∷ rows) → HasCells kept_cells (old.now.trees 3) → ⊥
+kept_denied old new at schema row rows shown has = denied kept_cells [] kept_columns kept_make (λ v. refl) kept_tell (λ x. refl) kept_below_text 3 2 (4 ∷ []) refl at (kept_below at) old new schema row rows shown has
 
 abbrev services_columns : List Holding
 services_columns = text (codes "name") ∷ text (codes "spec") ∷ text (codes "stable") ∷ text (codes "version") ∷ number (codes "state") ∷ number (codes "step") ∷ number (codes "entered") ∷ number (codes "hold") ∷ number (codes "background") ∷ number (codes "runs") ∷ number (codes "last") ∷ []
@@ -109,15 +109,15 @@ services_make v = record { name = v.0; spec = v.1.0; standing = record { stable 
 abbrev services_tell : ServiceRow → Told services_columns
 services_tell x = (x.name, (x.spec, (x.standing.stable, (x.standing.version, (x.standing.state, (x.standing.step, (x.standing.entered, (x.standing.hold, (x.standing.background, (x.standing.runs, (x.standing.last, tt)))))))))))
 
-services_raw : (db : Database) → IsDatabase db → IsDeskSchema db.schema → AllByRecursion (AreRaw [] services_columns) (db.trees 7)
-services_raw db sound schema =
-    all_both _ _ (AreRaw [] services_columns) (λ row typed present. plain_row services_columns row (and_first _ _ typed) present (plain_long services_columns row (and_first _ _ typed) present tt)) (db.trees 7) (typed_rows db sound schema).1.1.1.1.0 (present_rows db sound schema).1.1.1.1.0
+services_raw : (db : Database) → IsDatabase db → (at : Layout) → db.schema ≡ schema_at at → AllByRecursion (AreRaw [] services_columns) (db.trees (service_at at))
+services_raw db sound at schema =
+    all_both _ _ (AreRaw [] services_columns) (λ row typed present. plain_row services_columns row (and_first _ _ typed) present (plain_long services_columns row (and_first _ _ typed) present tt)) (db.trees (service_at at)) (typed_rows db sound at schema).1.1.1.0 (present_rows db sound at schema).1.1.1.0
 
-pub services_assured : (old new : State) → IsDatabase old.now → IsFormed old.now → Shown services_below_text [] old new [] → HasCells service_cells (old.now.trees 7)
-services_assured old new sound formed shown = assured service_cells [] services_columns services_make (λ v. refl) services_tell (λ x. refl) services_below_text 7 5 (6 ∷ 7 ∷ 8 ∷ 9 ∷ 10 ∷ 11 ∷ []) refl services_below old new formed (services_raw old.now sound formed.schema) shown
+pub services_assured : (old new : State) → IsDatabase old.now → (at : Layout) → old.now.schema ≡ schema_at at → Shown services_below_text [] old new [] → HasCells service_cells (old.now.trees (service_at at))
+services_assured old new sound at schema shown = assured service_cells [] services_columns services_make (λ v. refl) services_tell (λ x. refl) services_below_text (service_at at) 5 (6 ∷ 7 ∷ 8 ∷ 9 ∷ 10 ∷ 11 ∷ []) refl at (services_below at) old new schema (services_raw old.now sound at schema) shown
 
-pub services_denied : (old new : State) → IsFormed old.now → (row : Row) (rows : List Row) → Shown services_below_text [] old new (row ∷ rows) → HasCells service_cells (old.now.trees 7) → ⊥
-services_denied old new formed row rows shown has = denied service_cells [] services_columns services_make (λ v. refl) services_tell (λ x. refl) services_below_text 7 5 (6 ∷ 7 ∷ 8 ∷ 9 ∷ 10 ∷ 11 ∷ []) refl services_below old new formed row rows shown has
+pub services_denied : (old new : State) (at : Layout) → old.now.schema ≡ schema_at at → (row : Row) (rows : List Row) → Shown services_below_text [] old new (row ∷ rows) → HasCells service_cells (old.now.trees (service_at at)) → ⊥
+services_denied old new at schema row rows shown has = denied service_cells [] services_columns services_make (λ v. refl) services_tell (λ x. refl) services_below_text (service_at at) 5 (6 ∷ 7 ∷ 8 ∷ 9 ∷ 10 ∷ 11 ∷ []) refl at (services_below at) old new schema row rows shown has
 
 abbrev runs_columns : List Holding
 runs_columns = text (codes "service") ∷ number (codes "number") ∷ number_or_none (codes "step") ∷ number (codes "started") ∷ number_or_none (codes "closed") ∷ number (codes "outside") ∷ number (codes "verdict") ∷ []
@@ -128,39 +128,15 @@ runs_make v = record { service = v.0; number = v.1.0; step = v.1.1.0; started = 
 abbrev runs_tell : RunRow → Told runs_columns
 runs_tell x = (x.service, (x.number, (x.step, (x.started, (x.ending.closed, (x.ending.outside, (x.ending.verdict, tt)))))))
 
-runs_raw : (db : Database) → IsDatabase db → IsDeskSchema db.schema → AllByRecursion (AreRaw [] runs_columns) (db.trees 9)
-runs_raw db sound schema =
-    all_both _ _ (AreRaw [] runs_columns) (λ row typed present. plain_row runs_columns row (and_first _ _ typed) present (plain_long runs_columns row (and_first _ _ typed) present tt)) (db.trees 9) (typed_rows db sound schema).1.1.1.1.1.0 (present_rows db sound schema).1.1.1.1.1.0
+runs_raw : (db : Database) → IsDatabase db → (at : Layout) → db.schema ≡ schema_at at → AllByRecursion (AreRaw [] runs_columns) (db.trees (run_at at))
+runs_raw db sound at schema =
+    all_both _ _ (AreRaw [] runs_columns) (λ row typed present. plain_row runs_columns row (and_first _ _ typed) present (plain_long runs_columns row (and_first _ _ typed) present tt)) (db.trees (run_at at)) (typed_rows db sound at schema).1.1.1.1.0 (present_rows db sound at schema).1.1.1.1.0
 
-pub runs_assured : (old new : State) → IsDatabase old.now → IsFormed old.now → Shown runs_below_text [] old new [] → HasCells run_cells (old.now.trees 9)
-runs_assured old new sound formed shown = assured run_cells [] runs_columns runs_make (λ v. refl) runs_tell (λ x. refl) runs_below_text 9 2 (3 ∷ 4 ∷ 5 ∷ 6 ∷ 7 ∷ []) refl runs_below old new formed (runs_raw old.now sound formed.schema) shown
+pub runs_assured : (old new : State) → IsDatabase old.now → (at : Layout) → old.now.schema ≡ schema_at at → Shown runs_below_text [] old new [] → HasCells run_cells (old.now.trees (run_at at))
+runs_assured old new sound at schema shown = assured run_cells [] runs_columns runs_make (λ v. refl) runs_tell (λ x. refl) runs_below_text (run_at at) 2 (3 ∷ 4 ∷ 5 ∷ 6 ∷ 7 ∷ []) refl at (runs_below at) old new schema (runs_raw old.now sound at schema) shown
 
-pub runs_denied : (old new : State) → IsFormed old.now → (row : Row) (rows : List Row) → Shown runs_below_text [] old new (row ∷ rows) → HasCells run_cells (old.now.trees 9) → ⊥
-runs_denied old new formed row rows shown has = denied run_cells [] runs_columns runs_make (λ v. refl) runs_tell (λ x. refl) runs_below_text 9 2 (3 ∷ 4 ∷ 5 ∷ 6 ∷ 7 ∷ []) refl runs_below old new formed row rows shown has
-
-abbrev tallies_columns : List Holding
-tallies_columns = text (codes "service") ∷ number (codes "run") ∷ number (codes "metric") ∷ number (codes "counted") ∷ number (codes "failed") ∷ number (codes "inconclusive") ∷ number (codes "errors") ∷ number (codes "consecutive") ∷ number (codes "passes") ∷ number_or_none (codes "last") ∷ []
-
-abbrev tallies_make : Told tallies_columns → TallyRow
-tallies_make v = record { service = v.0; run = v.1.0; metric = v.1.1.0; counts = record { counted = v.1.1.1.0; failed = v.1.1.1.1.0; inconclusive = v.1.1.1.1.1.0; errors = v.1.1.1.1.1.1.0; consecutive = v.1.1.1.1.1.1.1.0; passes = v.1.1.1.1.1.1.1.1.0; last = v.1.1.1.1.1.1.1.1.1.0 } }
-
-abbrev tallies_tell : TallyRow → Told tallies_columns
-tallies_tell x = (x.service, (x.run, (x.metric, (x.counts.counted, (x.counts.failed, (x.counts.inconclusive, (x.counts.errors, (x.counts.consecutive, (x.counts.passes, (x.counts.last, tt))))))))))
-
-tallies_raw : (db : Database) → IsDatabase db → IsDeskSchema db.schema → HasWholeTallies db.trees → AllByRecursion (AreRaw [] tallies_columns) (db.trees 11)
-tallies_raw db sound schema whole =
-    all_both _ _ (AreRaw [] tallies_columns) (λ row long more. more long) (db.trees 11) whole
-    (all_both _ _ (λ row. length row ≡ 11 → AreRaw [] tallies_columns row) (λ row typed present long. plain_row tallies_columns row (and_first _ _ typed) present (eleven row long)) (db.trees 11) (typed_rows db sound schema).1.1.1.1.1.1.0 (present_rows db sound schema).1.1.1.1.1.1.0)
-  where
-    eleven : (row : Row) → length row ≡ 11 → length (drop 1 row) ≡ 10
-    eleven [] e = absurd (omega (arith, e))
-    eleven (v ∷ vs) e = omega (arith, e)
-
-pub tallies_assured : (old new : State) → IsDatabase old.now → IsFormed old.now → HasWholeTallies old.now.trees → Shown tallies_below_text [] old new [] → HasCells tally_cells (old.now.trees 11)
-tallies_assured old new sound formed whole shown = assured tally_cells [] tallies_columns tallies_make (λ v. refl) tallies_tell (λ x. refl) tallies_below_text 11 2 (3 ∷ 4 ∷ 5 ∷ 6 ∷ 7 ∷ 8 ∷ 9 ∷ 10 ∷ []) refl tallies_below old new formed (tallies_raw old.now sound formed.schema whole) shown
-
-pub tallies_denied : (old new : State) → IsFormed old.now → (row : Row) (rows : List Row) → Shown tallies_below_text [] old new (row ∷ rows) → HasCells tally_cells (old.now.trees 11) → ⊥
-tallies_denied old new formed row rows shown has = denied tally_cells [] tallies_columns tallies_make (λ v. refl) tallies_tell (λ x. refl) tallies_below_text 11 2 (3 ∷ 4 ∷ 5 ∷ 6 ∷ 7 ∷ 8 ∷ 9 ∷ 10 ∷ []) refl tallies_below old new formed row rows shown has
+pub runs_denied : (old new : State) (at : Layout) → old.now.schema ≡ schema_at at → (row : Row) (rows : List Row) → Shown runs_below_text [] old new (row ∷ rows) → HasCells run_cells (old.now.trees (run_at at)) → ⊥
+runs_denied old new at schema row rows shown has = denied run_cells [] runs_columns runs_make (λ v. refl) runs_tell (λ x. refl) runs_below_text (run_at at) 2 (3 ∷ 4 ∷ 5 ∷ 6 ∷ 7 ∷ []) refl at (runs_below at) old new schema row rows shown has
 
 abbrev measurements_columns : List Holding
 measurements_columns = text (codes "service") ∷ number (codes "run") ∷ number (codes "metric") ∷ number (codes "ordinal") ∷ number (codes "taken") ∷ number (codes "phase") ∷ text (codes "outcome") ∷ []
@@ -171,15 +147,15 @@ measurements_make v = record { service = v.0; run = v.1.0; metric = v.1.1.0; ord
 abbrev measurements_tell : MeasurementRow → Told measurements_columns
 measurements_tell x = (x.service, (x.run, (x.metric, (x.ordinal, (x.taken, (x.phase, (x.outcome, tt)))))))
 
-measurements_raw : (db : Database) → IsDatabase db → IsDeskSchema db.schema → AllByRecursion (AreRaw (Null ∷ []) measurements_columns) (db.trees 13)
-measurements_raw db sound schema =
-    all_both _ _ (AreRaw (Null ∷ []) measurements_columns) (λ row typed present. counted_row (maybe (codes "place")) measurements_columns (omega arith) tt row (and_first _ _ typed) present) (db.trees 13) (typed_rows db sound schema).1.1.1.1.1.1.1.0 (present_rows db sound schema).1.1.1.1.1.1.1.0
+measurements_raw : (db : Database) → IsDatabase db → (at : Layout) → db.schema ≡ schema_at at → AllByRecursion (AreRaw (Null ∷ []) measurements_columns) (db.trees (measurement_at at))
+measurements_raw db sound at schema =
+    all_both _ _ (AreRaw (Null ∷ []) measurements_columns) (λ row typed present. counted_row (place (numbers_of at).is_placed) measurements_columns (omega arith) tt row (and_first _ _ typed) present) (db.trees (measurement_at at)) (typed_rows db sound at schema).1.1.1.1.1.0 (present_rows db sound at schema).1.1.1.1.1.0
 
-pub measurements_assured : (old new : State) → IsDatabase old.now → IsFormed old.now → Shown measurements_below_text [] old new [] → HasCells measurement_cells (old.now.trees 13)
-measurements_assured old new sound formed shown = assured measurement_cells (Null ∷ []) measurements_columns measurements_make (λ v. refl) measurements_tell (λ x. refl) measurements_below_text 13 3 (4 ∷ 5 ∷ 6 ∷ 7 ∷ []) refl measurements_below old new formed (measurements_raw old.now sound formed.schema) shown
+pub measurements_assured : (old new : State) → IsDatabase old.now → (at : Layout) → old.now.schema ≡ schema_at at → Shown measurements_below_text [] old new [] → HasCells measurement_cells (old.now.trees (measurement_at at))
+measurements_assured old new sound at schema shown = assured measurement_cells (Null ∷ []) measurements_columns measurements_make (λ v. refl) measurements_tell (λ x. refl) measurements_below_text (measurement_at at) 3 (4 ∷ 5 ∷ 6 ∷ 7 ∷ []) refl at (measurements_below at) old new schema (measurements_raw old.now sound at schema) shown
 
-pub measurements_denied : (old new : State) → IsFormed old.now → (row : Row) (rows : List Row) → Shown measurements_below_text [] old new (row ∷ rows) → HasCells measurement_cells (old.now.trees 13) → ⊥
-measurements_denied old new formed row rows shown has = denied measurement_cells (Null ∷ []) measurements_columns measurements_make (λ v. refl) measurements_tell (λ x. refl) measurements_below_text 13 3 (4 ∷ 5 ∷ 6 ∷ 7 ∷ []) refl measurements_below old new formed row rows shown has
+pub measurements_denied : (old new : State) (at : Layout) → old.now.schema ≡ schema_at at → (row : Row) (rows : List Row) → Shown measurements_below_text [] old new (row ∷ rows) → HasCells measurement_cells (old.now.trees (measurement_at at)) → ⊥
+measurements_denied old new at schema row rows shown has = denied measurement_cells (Null ∷ []) measurements_columns measurements_make (λ v. refl) measurements_tell (λ x. refl) measurements_below_text (measurement_at at) 3 (4 ∷ 5 ∷ 6 ∷ 7 ∷ []) refl at (measurements_below at) old new schema row rows shown has
 
 abbrev history_columns : List Holding
 history_columns = text (codes "service") ∷ number (codes "moment") ∷ text (codes "line") ∷ []
@@ -190,29 +166,78 @@ history_make v = record { service = v.0; moment = v.1.0; line = v.1.1.0 }
 abbrev history_tell : HistoryRow → Told history_columns
 history_tell x = (x.service, (x.moment, (x.line, tt)))
 
-history_raw : (db : Database) → IsDatabase db → IsDeskSchema db.schema → AllByRecursion (AreRaw (Null ∷ []) history_columns) (db.trees 16)
-history_raw db sound schema =
-    all_both _ _ (AreRaw (Null ∷ []) history_columns) (λ row typed present. counted_row (maybe (codes "place")) history_columns (omega arith) tt row (and_first _ _ typed) present) (db.trees 16) (typed_rows db sound schema).1.1.1.1.1.1.1.1.1.0 (present_rows db sound schema).1.1.1.1.1.1.1.1.1.0
+history_raw : (db : Database) → IsDatabase db → (at : Layout) → db.schema ≡ schema_at at → AllByRecursion (AreRaw (Null ∷ []) history_columns) (db.trees (history_at at))
+history_raw db sound at schema =
+    all_both _ _ (AreRaw (Null ∷ []) history_columns) (λ row typed present. counted_row (place (numbers_of at).is_placed) history_columns (omega arith) tt row (and_first _ _ typed) present) (db.trees (history_at at)) (typed_rows db sound at schema).1.1.1.1.1.1.1.0 (present_rows db sound at schema).1.1.1.1.1.1.1.0
 
-pub history_assured : (old new : State) → IsDatabase old.now → IsFormed old.now → Shown history_below_text [] old new [] → HasCells history_cells (old.now.trees 16)
-history_assured old new sound formed shown = assured history_cells (Null ∷ []) history_columns history_make (λ v. refl) history_tell (λ x. refl) history_below_text 16 3 ([]) refl history_below old new formed (history_raw old.now sound formed.schema) shown
+pub history_assured : (old new : State) → IsDatabase old.now → (at : Layout) → old.now.schema ≡ schema_at at → Shown history_below_text [] old new [] → HasCells history_cells (old.now.trees (history_at at))
+history_assured old new sound at schema shown = assured history_cells (Null ∷ []) history_columns history_make (λ v. refl) history_tell (λ x. refl) history_below_text (history_at at) 3 ([]) refl at (history_below at) old new schema (history_raw old.now sound at schema) shown
 
-pub history_denied : (old new : State) → IsFormed old.now → (row : Row) (rows : List Row) → Shown history_below_text [] old new (row ∷ rows) → HasCells history_cells (old.now.trees 16) → ⊥
-history_denied old new formed row rows shown has = denied history_cells (Null ∷ []) history_columns history_make (λ v. refl) history_tell (λ x. refl) history_below_text 16 3 ([]) refl history_below old new formed row rows shown has
+pub history_denied : (old new : State) (at : Layout) → old.now.schema ≡ schema_at at → (row : Row) (rows : List Row) → Shown history_below_text [] old new (row ∷ rows) → HasCells history_cells (old.now.trees (history_at at)) → ⊥
+history_denied old new at schema row rows shown has = denied history_cells (Null ∷ []) history_columns history_make (λ v. refl) history_tell (λ x. refl) history_below_text (history_at at) 3 ([]) refl at (history_below at) old new schema row rows shown has
 
-abbrev templates_columns : List Holding
-templates_columns = text (codes "name") ∷ text (codes "spec") ∷ []
+abbrev revisions_columns : List Holding
+revisions_columns = text (codes "name") ∷ number (codes "revision") ∷ text (codes "spec") ∷ []
 
-abbrev templates_make : Told templates_columns → TemplateRow
-templates_make v = record { name = v.0; spec = v.1.0 }
+abbrev revisions_make : Told revisions_columns → RevisionRow
+revisions_make v = record { name = v.0; revision = v.1.0; spec = v.1.1.0 }
 
-abbrev templates_tell : TemplateRow → Told templates_columns
-templates_tell x = (x.name, (x.spec, tt))
+abbrev revisions_tell : RevisionRow → Told revisions_columns
+revisions_tell x = (x.name, (x.revision, (x.spec, tt)))
 
-templates_raw : (db : Database) → IsDatabase db → IsDeskSchema db.schema → AllByRecursion (AreRaw [] templates_columns) (db.trees 5)
-templates_raw db sound schema =
-    all_both _ _ (AreRaw [] templates_columns) (λ row typed present. plain_row templates_columns row (and_first _ _ typed) present (plain_long templates_columns row (and_first _ _ typed) present tt)) (db.trees 5) (typed_rows db sound schema).1.1.1.0 (present_rows db sound schema).1.1.1.0
+revisions_raw : (db : Database) → IsDatabase db → (at : Layout) → db.schema ≡ schema_at at → AllByRecursion (AreRaw [] revisions_columns) (db.trees (revision_at at))
+revisions_raw db sound at schema =
+    all_both _ _ (AreRaw [] revisions_columns) (λ row typed present. plain_row revisions_columns row (and_first _ _ typed) present (plain_long revisions_columns row (and_first _ _ typed) present tt)) (db.trees (revision_at at)) (typed_rows db sound at schema).1.1.1.1.1.1.1.1.0 (present_rows db sound at schema).1.1.1.1.1.1.1.1.0
 
--- nothing is negative in a template
-pub templates_assured : (db : Database) → IsDatabase db → IsDeskSchema db.schema → HasCells template_cells (db.trees 5)
-templates_assured db sound schema = are_told template_cells [] templates_columns templates_make (λ v. refl) templates_tell (λ x. refl) (db.trees 5) (templates_raw db sound schema) (all_of _ (λ row. refl) (db.trees 5))
+pub revisions_assured : (old new : State) → IsDatabase old.now → (at : Layout) → old.now.schema ≡ schema_at at → Shown revisions_below_text [] old new [] → HasCells revision_cells (old.now.trees (revision_at at))
+revisions_assured old new sound at schema shown = assured revision_cells [] revisions_columns revisions_make (λ v. refl) revisions_tell (λ x. refl) revisions_below_text (revision_at at) 2 ([]) refl at (revisions_below at) old new schema (revisions_raw old.now sound at schema) shown
+
+pub revisions_denied : (old new : State) (at : Layout) → old.now.schema ≡ schema_at at → (row : Row) (rows : List Row) → Shown revisions_below_text [] old new (row ∷ rows) → HasCells revision_cells (old.now.trees (revision_at at)) → ⊥
+revisions_denied old new at schema row rows shown has = denied revision_cells [] revisions_columns revisions_make (λ v. refl) revisions_tell (λ x. refl) revisions_below_text (revision_at at) 2 ([]) refl at (revisions_below at) old new schema row rows shown has
+
+abbrev bindings_columns : List Holding
+bindings_columns = text (codes "service") ∷ number (codes "run") ∷ text (codes "template") ∷ number (codes "revision") ∷ []
+
+abbrev bindings_make : Told bindings_columns → BindingRow
+bindings_make v = record { service = v.0; run = v.1.0; template = v.1.1.0; revision = v.1.1.1.0 }
+
+abbrev bindings_tell : BindingRow → Told bindings_columns
+bindings_tell x = (x.service, (x.run, (x.template, (x.revision, tt))))
+
+bindings_raw : (db : Database) → IsDatabase db → (at : Layout) → db.schema ≡ schema_at at → AllByRecursion (AreRaw [] bindings_columns) (db.trees (binding_at at))
+bindings_raw db sound at schema =
+    all_both _ _ (AreRaw [] bindings_columns) (λ row typed present. plain_row bindings_columns row (and_first _ _ typed) present (plain_long bindings_columns row (and_first _ _ typed) present tt)) (db.trees (binding_at at)) (typed_rows db sound at schema).1.1.1.1.1.1.1.1.1.0 (present_rows db sound at schema).1.1.1.1.1.1.1.1.1.0
+
+pub bindings_assured : (old new : State) → IsDatabase old.now → (at : Layout) → old.now.schema ≡ schema_at at → Shown bindings_below_text [] old new [] → HasCells binding_cells (old.now.trees (binding_at at))
+bindings_assured old new sound at schema shown = assured binding_cells [] bindings_columns bindings_make (λ v. refl) bindings_tell (λ x. refl) bindings_below_text (binding_at at) 2 (4 ∷ []) refl at (bindings_below at) old new schema (bindings_raw old.now sound at schema) shown
+
+pub bindings_denied : (old new : State) (at : Layout) → old.now.schema ≡ schema_at at → (row : Row) (rows : List Row) → Shown bindings_below_text [] old new (row ∷ rows) → HasCells binding_cells (old.now.trees (binding_at at)) → ⊥
+bindings_denied old new at schema row rows shown has = denied binding_cells [] bindings_columns bindings_make (λ v. refl) bindings_tell (λ x. refl) bindings_below_text (binding_at at) 2 (4 ∷ []) refl at (bindings_below at) old new schema row rows shown has
+
+abbrev tallies_columns : List Holding
+tallies_columns = text (codes "service") ∷ number (codes "run") ∷ number (codes "metric") ∷ number (codes "counted") ∷ number (codes "failed") ∷ number (codes "inconclusive") ∷ number (codes "errors") ∷ number (codes "consecutive") ∷ number (codes "passes") ∷ number_or_none (codes "last") ∷ []
+
+abbrev tallies_make : Told tallies_columns → TallyRow
+tallies_make v = record { service = v.0; run = v.1.0; metric = v.1.1.0; counts = record { counted = v.1.1.1.0; failed = v.1.1.1.1.0; inconclusive = v.1.1.1.1.1.0; errors = v.1.1.1.1.1.1.0; consecutive = v.1.1.1.1.1.1.1.0; passes = v.1.1.1.1.1.1.1.1.0; last = v.1.1.1.1.1.1.1.1.1.0 } }
+
+abbrev tallies_tell : TallyRow → Told tallies_columns
+tallies_tell x = (x.service, (x.run, (x.metric, (x.counts.counted, (x.counts.failed, (x.counts.inconclusive, (x.counts.errors, (x.counts.consecutive, (x.counts.passes, (x.counts.last, tt))))))))))
+
+tallies_raw : (db : Database) → IsDatabase db → (at : Layout) → db.schema ≡ schema_at at → AreWhole (tally_at at) db.trees → AllByRecursion (AreRaw [] tallies_columns) (db.trees (tally_at at))
+tallies_raw db sound at schema whole =
+    all_both _ _ (AreRaw [] tallies_columns) (λ row long more. more long) (db.trees (tally_at at)) whole
+    (all_both _ _ (λ row. length row ≡ 11 → AreRaw [] tallies_columns row) (λ row typed present long. plain_row tallies_columns row (and_first _ _ typed) present (eleven row long)) (db.trees (tally_at at)) (typed_rows db sound at schema).1.1.1.1.1.1.1.1.1.1.0 (present_rows db sound at schema).1.1.1.1.1.1.1.1.1.1.0)
+  where
+    eleven : (row : Row) → length row ≡ 11 → length (drop 1 row) ≡ 10
+    eleven [] e = absurd (omega (arith, e))
+    eleven (v ∷ vs) e = omega (arith, e)
+
+-- the tree of the eleventh table is that of tally
+whole_tallies : (db : Database) (at : Layout) → db.schema ≡ schema_at at → HasWholeTallies db → AreWhole (tally_at at) db.trees
+whole_tallies db at schema whole = subst (λ (s : Schema). AreWhole (tally_tree s) db.trees) schema whole
+
+pub tallies_assured : (old new : State) → IsDatabase old.now → (at : Layout) → old.now.schema ≡ schema_at at → HasWholeTallies old.now → Shown tallies_below_text [] old new [] → HasCells tally_cells (old.now.trees (tally_at at))
+tallies_assured old new sound at schema whole shown = assured tally_cells [] tallies_columns tallies_make (λ v. refl) tallies_tell (λ x. refl) tallies_below_text (tally_at at) 2 (3 ∷ 4 ∷ 5 ∷ 6 ∷ 7 ∷ 8 ∷ 9 ∷ 10 ∷ []) refl at (tallies_below at) old new schema (tallies_raw old.now sound at schema (whole_tallies old.now at schema whole)) shown
+
+pub tallies_denied : (old new : State) (at : Layout) → old.now.schema ≡ schema_at at → (row : Row) (rows : List Row) → Shown tallies_below_text [] old new (row ∷ rows) → HasCells tally_cells (old.now.trees (tally_at at)) → ⊥
+tallies_denied old new at schema row rows shown has = denied tally_cells [] tallies_columns tallies_make (λ v. refl) tallies_tell (λ x. refl) tallies_below_text (tally_at at) 2 (3 ∷ 4 ∷ 5 ∷ 6 ∷ 7 ∷ 8 ∷ 9 ∷ 10 ∷ []) refl at (tallies_below at) old new schema row rows shown has

@@ -23,8 +23,8 @@ tells_caller name = record {
 -- what is shown are the rows of the caller
 pub caller_rows : (old new : State) (t : Tables) (name : List ℕ) (params : Row) (rows : List Row) → Stores old t → params ≡ Words name ∷ [] → Shown settled_text params old new rows → TellsCells caller_cells (λ row. Words name ∷ row) (filter (is_caller name) t.callers) rows
 caller_rows old new t name params rows has given h =
-    all_found settled_text 1 settled_tests settled_shown settled_asks caller_cells (is_caller name) caller_cells (λ row. Words name ∷ row) (Words name ∷ []) (tells_caller name) t.callers rows
-    (record { old = old; new = new; schema = has.schema; numbered = has.numbered.1.0; stored = has.callers; shows_rows = subst (λ p. Shown settled_text p old new rows) given h })
+    all_found settled_text (λ _. 1) settled_tests settled_shown settled_asks caller_cells (is_caller name) caller_cells (λ row. Words name ∷ row) (Words name ∷ []) (tells_caller name) t.callers rows
+    (record { old = old; new = new; layout = has.layout; schema = has.holds.schema; numbered = has.holds.numbered.1.0; stored = has.holds.callers; shows_rows = subst (λ p. Shown settled_text p old new rows) given h })
 
 tells_kept : (caller : List ℕ) (number : ℕ) → Tells kept_cells (is_kept caller number) kept_cells (λ row. Words caller ∷ row) (passes kept_tests (Words caller ∷ whole number ∷ [])) (shows kept_shown (Words caller ∷ whole number ∷ []))
 tells_kept caller number = record {
@@ -37,5 +37,5 @@ tells_kept caller number = record {
 pub kept_rows : (old new : State) (t : Tables) (caller : List ℕ) (number : ℕ) (params : Row) (rows : List Row) → Stores old t → params ≡ Words caller ∷ whole number ∷ [] → Shown kept_text params old new rows
     → TellsCells kept_cells (λ row. Words caller ∷ row) (filter (is_kept caller number) t.kept) rows
 kept_rows old new t caller number params rows has given h =
-    all_found kept_text 3 kept_tests kept_shown kept_asks kept_cells (is_kept caller number) kept_cells (λ row. Words caller ∷ row) (Words caller ∷ whole number ∷ []) (tells_kept caller number) t.kept rows
-    (record { old = old; new = new; schema = has.schema; numbered = has.numbered.1.1.0; stored = has.kept; shows_rows = subst (λ p. Shown kept_text p old new rows) given h })
+    all_found kept_text (λ _. 3) kept_tests kept_shown kept_asks kept_cells (is_kept caller number) kept_cells (λ row. Words caller ∷ row) (Words caller ∷ whole number ∷ []) (tells_kept caller number) t.kept rows
+    (record { old = old; new = new; layout = has.layout; schema = has.holds.schema; numbered = has.holds.numbered.1.1.0; stored = has.holds.kept; shows_rows = subst (λ p. Shown kept_text p old new rows) given h })

@@ -5,6 +5,7 @@ use Rattle.sqlite.specs.Order.{Row}
 use Rattle.sqlite.specs.Term.{col}
 use Rattle.sqlite.specs.State.{State, Shown}
 use Rattle.canary_rows.specs.Tables.{Tables, is_measurement_of, is_line_of}
+use Rattle.canary_schema.specs.Layout.{measurement_at, history_at}
 use Rattle.canary_schema.specs.Cells.{whole, history_cells, measurement_cells}
 use Rattle.canary_schema.specs.Stores.{Stores}
 use Rattle.canary_reads.specs.Finds.{TellsCells}
@@ -25,8 +26,8 @@ tells_line service = record {
 pub line_rows : (old new : State) (t : Tables) (service : List ℕ) (params : Row) (rows : List Row) → Stores old t → params ≡ Words service ∷ [] → Shown history_text params old new rows
     → TellsCells history_cells (λ row. Null ∷ Words service ∷ row) (filter (is_line_of service) t.history) rows
 line_rows old new t service params rows has given h =
-    all_found history_text 16 history_tests history_shown history_asks history_cells (is_line_of service) history_cells (λ row. Null ∷ Words service ∷ row) (Words service ∷ []) (tells_line service) t.history rows
-    (record { old = old; new = new; schema = has.schema; numbered = has.numbered.1.1.1.1.1.1.1.1.0; stored = has.history; shows_rows = subst (λ p. Shown history_text p old new rows) given h })
+    all_found history_text history_at history_tests history_shown history_asks history_cells (is_line_of service) history_cells (λ row. Null ∷ Words service ∷ row) (Words service ∷ []) (tells_line service) t.history rows
+    (record { old = old; new = new; layout = has.layout; schema = has.holds.schema; numbered = has.holds.numbered.1.1.1.1.1.1.0; stored = has.holds.history; shows_rows = subst (λ p. Shown history_text p old new rows) given h })
 
 tells_measurement : (service : List ℕ) (rest : Row)
     → Tells measurement_cells (is_measurement_of service) measurement_cells (λ row. Null ∷ Words service ∷ row) (passes measurements_tests (Words service ∷ rest)) (shows measurements_shown (Words service ∷ rest))
@@ -49,9 +50,9 @@ pub page_rows : (old new : State) (t : Tables) (service : List ℕ) (from most :
     → TellsCells measurement_cells (λ row. Null ∷ Words service ∷ row) (take most (drop from (filter (is_measurement_of service) t.measurements))) rows
 page_rows old new t service from most params rows has given h =
     let asked = Words service ∷ whole from ∷ whole most ∷ [] in
-    let p = page_found measurements_text 13 measurements_tests measurements_shown (col 0 2) (col 0 1) measurements_asks measurement_cells (is_measurement_of service) measurement_cells (λ row. Null ∷ Words service ∷ row) asked
+    let p = page_found measurements_text measurement_at measurements_tests measurements_shown (col 0 2) (col 0 1) measurements_asks measurement_cells (is_measurement_of service) measurement_cells (λ row. Null ∷ Words service ∷ row) asked
     (tells_measurement service (whole from ∷ whole most ∷ [])) t.measurements rows
-    (record { old = old; new = new; schema = has.schema; numbered = has.numbered.1.1.1.1.1.1.1.0; stored = has.measurements; shows_rows = subst (λ p. Shown measurements_text p old new rows) given h }) in
+    (record { old = old; new = new; layout = has.layout; schema = has.holds.schema; numbered = has.holds.numbered.1.1.1.1.1.0; stored = has.holds.measurements; shows_rows = subst (λ p. Shown measurements_text p old new rows) given h }) in
     ap (map (λ row. Null ∷ Words service ∷ row)) p.1 ∙ paged (λ row. Null ∷ Words service ∷ row) most from p.0 ∙ ap (λ rows. take most (drop from rows)) p.2
     ∙ sym (paged measurement_cells most from (filter (is_measurement_of service) t.measurements))
 
@@ -59,5 +60,5 @@ page_rows old new t service from most params rows has given h =
 pub measurement_rows : (old new : State) (t : Tables) (service : List ℕ) (params : Row) (rows : List Row) → Stores old t → params ≡ Words service ∷ [] → Shown all_measurements_text params old new rows
     → TellsCells measurement_cells (λ row. Null ∷ Words service ∷ row) (filter (is_measurement_of service) t.measurements) rows
 measurement_rows old new t service params rows has given h =
-    all_found all_measurements_text 13 measurements_tests measurements_shown all_measurements_asks measurement_cells (is_measurement_of service) measurement_cells (λ row. Null ∷ Words service ∷ row) (Words service ∷ []) (tells_measurement service []) t.measurements rows
-    (record { old = old; new = new; schema = has.schema; numbered = has.numbered.1.1.1.1.1.1.1.0; stored = has.measurements; shows_rows = subst (λ p. Shown all_measurements_text p old new rows) given h })
+    all_found all_measurements_text measurement_at measurements_tests measurements_shown all_measurements_asks measurement_cells (is_measurement_of service) measurement_cells (λ row. Null ∷ Words service ∷ row) (Words service ∷ []) (tells_measurement service []) t.measurements rows
+    (record { old = old; new = new; layout = has.layout; schema = has.holds.schema; numbered = has.holds.numbered.1.1.1.1.1.0; stored = has.holds.measurements; shows_rows = subst (λ p. Shown all_measurements_text p old new rows) given h })

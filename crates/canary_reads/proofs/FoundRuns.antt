@@ -1,5 +1,5 @@
 -- What the queries on `run` and on `tally` find.
-use Rattle.std.proofs.Common.{◌≡◌, ◌∷◌, ◌&&◌, [], ℕ, List, map, filter, take, true, Some, refl, sym, ap, ap₂, subst, ◌∙◌}
+use Rattle.std.proofs.Common.{◌≡◌, ◌∷◌, ◌&&◌, [], ℕ, List, map, filter, take, true, false, Some, refl, sym, ap, ap₂, subst, ◌∙◌}
 use Rattle.std.specs.List.{AllByRecursion}
 use Rattle.sqlite.specs.declared.types.Value.TheVariants.{Text as Words}
 use Rattle.sqlite.specs.Order.{Row, column}
@@ -8,6 +8,7 @@ use Rattle.sqlite_keyed.proofs.ListLemmas.{ascending_weaker}
 use Rattle.canary_rows.specs.declared.rows.RunRow.{RunRow}
 use Rattle.canary_rows.specs.declared.rows.TallyRow.{TallyRow}
 use Rattle.canary_rows.specs.Tables.{Tables, is_run, is_open_run_of}
+use Rattle.canary_schema.specs.Layout.{run_at, tally_at}
 use Rattle.canary_schema.specs.Cells.{whole, whole_or_null, run_cells, run_in, run_with, tally_cells, tally_in, tally_with}
 use Rattle.canary_schema.specs.Stores.{Stores}
 use Rattle.canary_reads.specs.Finds.{TellsCells}
@@ -44,8 +45,8 @@ tells_run service number = record {
 pub run_rows : (old new : State) (t : Tables) (service : List ℕ) (number : ℕ) (params : Row) (rows : List Row) → Stores old t → params ≡ Words service ∷ whole number ∷ [] → Shown run_text params old new rows
     → TellsCells run_cells (λ row. Words service ∷ row) (filter (is_run service number) t.runs) rows
 run_rows old new t service number params rows has given h =
-    all_found run_text 9 run_tests run_shown run_asks run_cells (is_run service number) run_cells (λ row. Words service ∷ row) (Words service ∷ whole number ∷ []) (tells_run service number) t.runs rows
-    (record { old = old; new = new; schema = has.schema; numbered = has.numbered.1.1.1.1.1.0; stored = has.runs; shows_rows = subst (λ p. Shown run_text p old new rows) given h })
+    all_found run_text run_at run_tests run_shown run_asks run_cells (is_run service number) run_cells (λ row. Words service ∷ row) (Words service ∷ whole number ∷ []) (tells_run service number) t.runs rows
+    (record { old = old; new = new; layout = has.layout; schema = has.holds.schema; numbered = has.holds.numbered.1.1.1.1.0; stored = has.holds.runs; shows_rows = subst (λ p. Shown run_text p old new rows) given h })
 
 tells_open : (service : List ℕ) → Tells run_cells (is_open_run_of service) run_cells (λ row. Words service ∷ row) (passes open_runs_tests (Words service ∷ [])) (shows open_runs_shown (Words service ∷ []))
 tells_open service = record {
@@ -62,9 +63,9 @@ run_keyed service x (v ∷ row) e = cc
 pub open_rows : (old new : State) (t : Tables) (service : List ℕ) (params : Row) (rows : List Row) → Stores old t → params ≡ Words service ∷ [] → Shown open_runs_text params old new rows
     → (all : List RunRow) × Sorts number_of (filter (is_open_run_of service) t.runs) all × TellsCells run_cells (λ row. Words service ∷ row) all rows
 open_rows old new t service params rows has given h =
-    sorted_rows run_cells (λ row. Words service ∷ row) number_of 0 (run_keyed service) run_in run_back open_runs_text 9 open_runs_tests open_runs_shown 2 open_runs_asks (is_open_run_of service)
+    sorted_rows run_cells (λ row. Words service ∷ row) number_of 0 (run_keyed service) run_in run_back open_runs_text run_at open_runs_tests open_runs_shown 2 open_runs_asks (is_open_run_of service)
     (Words service ∷ []) (tells_open service) (λ row. refl) t.runs rows
-    (record { old = old; new = new; schema = has.schema; numbered = has.numbered.1.1.1.1.1.0; stored = has.runs; shows_rows = subst (λ p. Shown open_runs_text p old new rows) given h })
+    (record { old = old; new = new; layout = has.layout; schema = has.holds.schema; numbered = has.holds.numbered.1.1.1.1.0; stored = has.holds.runs; shows_rows = subst (λ p. Shown open_runs_text p old new rows) given h })
 
 tells_of : (service : List ℕ) → Tells run_cells (is_run_of service) run_cells (λ row. Words service ∷ row) (passes front_runs_tests (Words service ∷ [])) (shows open_runs_shown (Words service ∷ []))
 tells_of service = record {
@@ -84,9 +85,9 @@ run_marked service x (a ∷ b ∷ c ∷ d ∷ row) e = cc
 pub front_rows : (old new : State) (t : Tables) (service : List ℕ) (params : Row) (rows : List Row) → Stores old t → params ≡ Words service ∷ [] → Shown front_runs_text params old new rows
     → (all : List RunRow) × IsFront 3 (filter (is_run_of service) t.runs) all × TellsCells run_cells (λ row. Words service ∷ row) all rows
 front_rows old new t service params rows has given h =
-    let l = listed_found run_cells (λ row. Words service ∷ row) (λ x. whole_or_null x.ending.closed) 3 (run_marked service) run_in run_back front_runs_text 9 front_runs_tests open_runs_shown 5 three front_runs_asks (is_run_of service)
+    let l = listed_found run_cells (λ row. Words service ∷ row) (λ x. whole_or_null x.ending.closed) 3 (run_marked service) run_in run_back front_runs_text run_at front_runs_tests open_runs_shown false 5 three front_runs_asks (is_run_of service)
     (Words service ∷ []) (tells_of service) (λ row. refl) t.runs rows
-    (record { old = old; new = new; schema = has.schema; numbered = has.numbered.1.1.1.1.1.0; stored = has.runs; shows_rows = subst (λ p. Shown front_runs_text p old new rows) given h }) in
+    (record { old = old; new = new; layout = has.layout; schema = has.holds.schema; numbered = has.holds.numbered.1.1.1.1.0; stored = has.holds.runs; shows_rows = subst (λ p. Shown front_runs_text p old new rows) given h }) in
     let cut : rows ≡ take 3 l.0 = l.1 in (
       take 3 l.2.ordered,
       record {
@@ -119,6 +120,6 @@ tally_keyed service x (v ∷ w ∷ row) e = cc
 pub tally_rows : (old new : State) (t : Tables) (service : List ℕ) (run : ℕ) (params : Row) (rows : List Row) → Stores old t → params ≡ Words service ∷ whole run ∷ [] → Shown tallies_text params old new rows
     → (all : List TallyRow) × Sorts metric_of (filter (is_tally_of service run) t.tallies) all × TellsCells tally_cells (λ row. Words service ∷ row) all rows
 tally_rows old new t service run params rows has given h =
-    sorted_rows tally_cells (λ row. Words service ∷ row) metric_of 1 (tally_keyed service) tally_in tally_back tallies_text 11 tallies_tests tallies_shown 3 tallies_asks (is_tally_of service run)
+    sorted_rows tally_cells (λ row. Words service ∷ row) metric_of 1 (tally_keyed service) tally_in tally_back tallies_text tally_at tallies_tests tallies_shown 3 tallies_asks (is_tally_of service run)
     (Words service ∷ whole run ∷ []) (tells_tally service run) (λ row. refl) t.tallies rows
-    (record { old = old; new = new; schema = has.schema; numbered = has.numbered.1.1.1.1.1.1.0; stored = has.tallies; shows_rows = subst (λ p. Shown tallies_text p old new rows) given h })
+    (record { old = old; new = new; layout = has.layout; schema = has.holds.schema; numbered = has.holds.numbered.1.1.1.1.1.1.1.1.1.0; stored = has.holds.tallies; shows_rows = subst (λ p. Shown tallies_text p old new rows) given h })

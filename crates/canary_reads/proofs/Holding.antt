@@ -5,8 +5,11 @@ use Rattle.std.proofs.lemmas.Bool.Decides.{nat_tests}
 use Rattle.sqlite.specs.declared.types.Value.TheVariants.{Int, Text as Words}
 use Rattle.canary_base.specs.Names.{is_name}
 use Rattle.canary_rows.specs.declared.rows.CallerRow.{CallerRow}
-use Rattle.canary_rows.specs.Limits.{IsCallerWithin}
-use Rattle.canary_reads.specs.Readable.{name_in, number_in, caller_with}
+use Rattle.canary_rows.specs.declared.rows.RevisionRow.{RevisionRow}
+use Rattle.canary_rows.specs.Limits.{IsCallerWithin, IsRevisionWithin}
+use Rattle.canary_reads.specs.declared.lists.RevisionKey.{RevisionKey}
+use Rattle.canary_reads.specs.Keys.{key_of}
+use Rattle.canary_reads.specs.Readable.{name_in, number_in, caller_with, key_with}
 
 -- where one is none, they are not all there
 pub one_missing : {A B : Type 0} (f : A → Option B) (rows : List A) (i : ℕ) (d : A) (all : List B) → i < length rows → f (get_or rows i d) ≡ None → map f rows ≡ map Some all → ⊥
@@ -68,3 +71,14 @@ caller_sound x y e = caller_if (is_name x.name) (nat_lt x.settled (2 ^ 32)) x.na
 
 pub caller_full : (x : CallerRow) → IsCallerWithin x → caller_with (name_in (Words x.name)) (number_in (Int (pos x.settled))) ≡ Some x
 caller_full x h = ap₂ caller_with (name_full x.name h.name) (number_full x.settled h.settled)
+
+key_if : (a b : Bool) (name : List ℕ) (revision : ℕ) (y : RevisionKey) → key_with (if a then Some name else None) (if b then Some revision else None) ≡ Some y → y ≡ (record { name = name; revision = revision })
+key_if true true name revision y e = cc
+key_if true false name revision y e = absurd (cc)
+key_if false b name revision y e = absurd (cc)
+
+pub key_sound : (x : RevisionRow) (y : RevisionKey) → key_with (name_in (Words x.name)) (number_in (Int (pos x.revision))) ≡ Some y → y ≡ key_of x
+key_sound x y e = key_if (is_name x.name) (nat_lt x.revision (2 ^ 32)) x.name x.revision y e
+
+pub key_full : (x : RevisionRow) → IsRevisionWithin x → key_with (name_in (Words x.name)) (number_in (Int (pos x.revision))) ≡ Some (key_of x)
+key_full x h = ap₂ key_with (name_full x.name h.name) (number_full x.revision h.revision)

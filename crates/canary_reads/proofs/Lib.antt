@@ -8,6 +8,7 @@ pub mod Asking
 pub mod Ordering
 pub mod Texts
 pub mod Fronts
+pub mod Newest
 pub mod FoundCallers
 pub mod FoundServices
 pub mod FoundRuns

@@ -19,11 +19,13 @@ use Rattle.sqlite.specs.Tree.{IsAscending}
 use Rattle.sqlite_sql.proofs.QueryLemmas.{output_cmp_total}
 use Rattle.sqlite_exec.proofs.PartitionLemmas.{ascending_from_sorted}
 use Rattle.sqlite_keyed.proofs.ListLemmas.{map-map, flat_map-map, flat_map_same_on, flat_map-one, IsPermutation-flat_map, ascending-map, ascending_from_map, ascending_weaker, all_map}
+use Rattle.sqlite_value.specs.Keys.{directed}
 use Rattle.sqlite_value.proofs.OrderLemmas.{value_cmp-Int}
+use Rattle.canary_schema.specs.Layout.{Layout}
 use Rattle.canary_schema.specs.Cells.{whole as number}
 use Rattle.canary_reads.specs.Finds.{TellsCells}
 use Rattle.canary_reads.specs.Sorts.{Sorts}
-use Rattle.canary_reads.proofs.Answer.{query_of, no_limit, from_start, by_column, passes, shows, put_out}
+use Rattle.canary_reads.proofs.Answer.{query_of, no_limit, from_start, sorted_by, by_column, passes, shows, put_out}
 use Rattle.canary_reads.proofs.Asking.{Asks, Reads, ordered_found}
 use Rattle.canary_reads.proofs.TypedRows.{Tells, typed}
 
@@ -35,7 +37,7 @@ then_equal Greater h = h
 at_most : (m n : ℕ) → is_gt (int_cmp (pos m) (pos n)) ≡ false → m ≤ n
 at_most m n h = grind (arith, ints, nat_tests)
 
-not_above : (m n : ℕ) → is_gt (value_cmp (number m) (number n)) ≡ false → m ≤ n
+pub not_above : (m n : ℕ) → is_gt (value_cmp (number m) (number n)) ≡ false → m ≤ n
 not_above m n h = at_most m n (rw (value_cmp-Int (pos m) (pos n)) at h)
 
 -- where each key is at most those behind it, none falls
@@ -63,14 +65,15 @@ module _ {X : Type 0} (cells : X → Row) (known : Row → Option X) (back : (x 
   pub same_in_order : (xs ys : List X) → IsPermutation (map cells xs) (map cells ys) → IsPermutation xs ys
   same_in_order xs ys h = subst₂ IsPermutation (all_known xs) (all_known ys) (IsPermutation-flat_map (λ row. listed (known row)) _ _ h)
 
-abbrev pub NotAbove : Value → Value → Type 0
-NotAbove u v = is_gt (value_cmp u v) ≡ false
+-- the first comes no later than the other, up or down
+abbrev pub NotBehind : Bool → Value → Value → Type 0
+NotBehind down u v = is_gt (directed down value_cmp u v) ≡ false
 
 -- what a query shows of these rows, in the order of a value of theirs
-pub record IsListed {X : Type 0} (cells : X → Row) (whole : Row → Row) (mark : X → Value) (all : List X) (listed : List Row) : Type 0 where
+pub record IsListed {X : Type 0} (cells : X → Row) (whole : Row → Row) (mark : X → Value) (down : Bool) (all : List X) (listed : List Row) : Type 0 where
   pub ordered : List X
   pub same : IsPermutation all ordered
-  pub rising : IsAscending (λ x y. NotAbove (mark x) (mark y)) ordered
+  pub rising : IsAscending (λ x y. NotBehind down (mark x) (mark y)) ordered
   pub are : map cells ordered ≡ map whole listed
 
 each : {P : Row → Type 0} (rows : List Row) → ((row : Row) → P row) → AllByRecursion P rows
@@ -107,40 +110,40 @@ module _ {X : Type 0} (cells : X → Row) (whole : Row → Row) (mark : X → Va
       let later : map cells xs ≡ map whole (map (λ (p : Output). p.1) os) = cc in
       ap₂ (λ first others. first ∷ others) (h.0 ∙ keyed x o.1 here) (values os xs later h.1)
 
-  rise : (os : List Output) (xs : List X) → map cells xs ≡ map whole (map (λ (o : Output). o.1) os) → AllByRecursion (λ (o : Output). lead o ≡ column o.1 place) os → IsAscending (λ (o p : Output). NotAbove (lead o) (lead p)) os
-      → IsAscending (λ x y. NotAbove (mark x) (mark y)) xs
-  rise os xs e h up = ascending_from_map NotAbove mark xs (subst (IsAscending NotAbove) (values os xs e h) (ascending-map NotAbove lead os up))
+  rise : (down : Bool) (os : List Output) (xs : List X) → map cells xs ≡ map whole (map (λ (o : Output). o.1) os) → AllByRecursion (λ (o : Output). lead o ≡ column o.1 place) os → IsAscending (λ (o p : Output). NotBehind down (lead o) (lead p)) os
+      → IsAscending (λ x y. NotBehind down (mark x) (mark y)) xs
+  rise down os xs e h up = ascending_from_map (NotBehind down) mark xs (subst (IsAscending (NotBehind down)) (values os xs e h) (ascending-map (NotBehind down) lead os up))
 
-  module _ (known : Row → Option X) (back : (x : X) → known (cells x) ≡ Some x) (text : List ℕ) (tree : ℕ) (tests shown : List Term) (at : ℕ) (limit : Term) (asks : Asks text tree tests shown (by_column at) limit from_start) (test : X → Bool)
+  module _ (known : Row → Option X) (back : (x : X) → known (cells x) ≡ Some x) (text : List ℕ) (tree : Layout → ℕ) (tests shown : List Term) (down : Bool) (at : ℕ) (limit : Term) (asks : Asks text tree tests shown (sorted_by down at) limit from_start) (test : X → Bool)
       (params : Row) (tells : Tells cells test cells whole (passes tests params) (shows shown params)) (leads : (row : Row) → column row at ≡ column (shows shown params row) place) where
-    pub listed_found : (xs : List X) (rows : List Row) → Reads text tree cells xs params rows
-        → (listed : List Row) × (rows ≡ page (query_of tree tests shown (by_column at) limit from_start) params listed) × IsListed cells whole mark (filter test xs) listed
+    pub listed_found : (xs : List X) (rows : List Row) → (h : Reads text tree cells xs params rows)
+        → (listed : List Row) × (rows ≡ page (query_of (tree h.layout) tests shown (sorted_by down at) limit from_start) params listed) × IsListed cells whole mark down (filter test xs) listed
     listed_found xs rows h =
-        let o = ordered_found text tree tests shown (by_column at) limit asks cells params xs rows h in
-        let out = put_out Null tree tests shown (by_column at) limit from_start h.old.now.trees params rows in
-        let found = filter (passes tests params) (h.old.now.trees tree) in
-        let q = query_of tree tests shown (by_column at) limit from_start in
+        let o = ordered_found text tree tests shown (sorted_by down at) limit asks cells params xs rows h in
+        let out = put_out Null (tree h.layout) tests shown (sorted_by down at) limit from_start h.old.now.trees params rows in
+        let found = filter (passes tests params) (h.old.now.trees (tree h.layout)) in
+        let q = query_of (tree h.layout) tests shown (sorted_by down at) limit from_start in
         let listed = map (λ (p : Output). p.1) o.ordered in
         let left : map whole (map (λ (p : Output). p.1) (map out found)) ≡ map cells (filter test xs) =
-        ap (map whole) (map-map (λ (p : Output). p.1) out found) ∙ typed cells test cells whole (passes tests params) (shows shown params) tells (h.old.now.trees tree) xs h.stored in
+        ap (map whole) (map-map (λ (p : Output). p.1) out found) ∙ typed cells test cells whole (passes tests params) (shows shown params) tells (h.old.now.trees (tree h.layout)) xs h.stored in
         let moved : IsPermutation (map cells (filter test xs)) (map whole listed) = subst (λ rows. IsPermutation rows (map whole listed)) left (IsPermutation-map whole _ _ (IsPermutation-map (λ (p : Output). p.1) _ _ o.same)) in
         let ys = moved_cells cells (filter test xs) (map whole listed) moved in
         let led = recursion_from_All (λ (p : Output). lead p ≡ column p.1 place) o.ordered
         (All-permutation (λ (p : Output). lead p ≡ column p.1 place) _ o.ordered o.same (All-from_recursion _ (map out found) (all_map (λ (p : Output). lead p ≡ column p.1 place) out found (each found leads)))) in
-        let up = ascending_weaker _ (λ (a b : Output). NotAbove (lead a) (lead b)) (λ a b k. then_equal _ k) o.ordered (ascending_from_sorted (output_cmp q) (output_cmp_total q) o.ordered o.sorted) in
-        (listed, o.shown_are, record { ordered = ys.0; same = same_in_order cells known back (filter test xs) ys.0 (subst (IsPermutation (map cells (filter test xs))) (sym ys.1) moved); rising = rise o.ordered ys.0 ys.1 led up; are = ys.1 })
+        let up = ascending_weaker _ (λ (a b : Output). NotBehind down (lead a) (lead b)) (λ a b k. then_equal _ k) o.ordered (ascending_from_sorted (output_cmp q) (output_cmp_total q) o.ordered o.sorted) in
+        (listed, o.shown_are, record { ordered = ys.0; same = same_in_order cells known back (filter test xs) ys.0 (subst (IsPermutation (map cells (filter test xs))) (sym ys.1) moved); rising = rise down o.ordered ys.0 ys.1 led up; are = ys.1 })
 
 -- all of them, by a number of theirs
 module _ {X : Type 0} (cells : X → Row) (whole : Row → Row) (key : X → ℕ) (place : ℕ) (keyed : (x : X) (row : Row) → cells x ≡ whole row → column row place ≡ number (key x)) (known : Row → Option X) (back : (x : X) → known (cells x) ≡ Some x)
-    (text : List ℕ) (tree : ℕ) (tests shown : List Term) (at : ℕ) (asks : Asks text tree tests shown (by_column at) no_limit from_start) (test : X → Bool) (params : Row)
+    (text : List ℕ) (tree : Layout → ℕ) (tests shown : List Term) (at : ℕ) (asks : Asks text tree tests shown (by_column at) no_limit from_start) (test : X → Bool) (params : Row)
     (tells : Tells cells test cells whole (passes tests params) (shows shown params)) (leads : (row : Row) → column row at ≡ column (shows shown params row) place) where
   pub sorted_rows : (xs : List X) (rows : List Row) → Reads text tree cells xs params rows → (all : List X) × Sorts key (filter test xs) all × TellsCells cells whole all rows
   sorted_rows xs rows h =
-      let l = listed_found cells whole (λ x. number (key x)) place keyed known back text tree tests shown at no_limit asks test params tells leads xs rows h in (
+      let l = listed_found cells whole (λ x. number (key x)) place keyed known back text tree tests shown false at no_limit asks test params tells leads xs rows h in (
         l.2.ordered,
         record {
           same = l.2.same;
-          ascend = never_falls key l.2.ordered (ascending_weaker (λ x y. NotAbove (number (key x)) (number (key y))) (λ x y. key x ≤ key y) (λ x y b. not_above (key x) (key y) b) l.2.ordered l.2.rising);
+          ascend = never_falls key l.2.ordered (ascending_weaker (λ x y. NotBehind false (number (key x)) (number (key y))) (λ x y. key x ≤ key y) (λ x y b. not_above (key x) (key y) b) l.2.ordered l.2.rising);
         },
         ap (map whole) l.1 ∙ sym l.2.are,
       )

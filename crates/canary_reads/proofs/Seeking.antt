@@ -1,12 +1,11 @@
 -- Texts that show a row where one passes a test.
-use Rattle.std.proofs.Common.{◌≡◌, ◌==◌, ℕ, suc, pos, List, [], ◌∷◌, length, map, filter, take, if◌then◌else◌, Bool, true, false, inl, inr, refl, sym, ap, ◌∙◌, arith}
+use Rattle.std.proofs.Common.{◌≡◌, ◌==◌, ℕ, suc, pos, List, [], ◌∷◌, length, map, filter, take, if◌then◌else◌, Bool, true, false, refl, sym, ap, ◌∙◌, arith}
 use Rattle.std.specs.List.{AllByRecursion}
 use Rattle.std.proofs.lemmas.List.Sorted.{length_permutation}
 use Rattle.sqlite_keyed.proofs.ListLemmas.{filter_none}
 use Rattle.sqlite.specs.declared.types.Value.TheVariants.{Null, Int}
 use Rattle.sqlite.specs.Order.{Row}
 use Rattle.sqlite.specs.Term.{Term, lit, col, op2}
-use Rattle.sqlite.specs.Schema.{Schema}
 use Rattle.sqlite.specs.Listing.{understood, reads_listing}
 use Rattle.sqlite.specs.Query.{Output}
 use Rattle.sqlite.specs.State.{State, Shown}
@@ -15,8 +14,8 @@ use Rattle.sqlite.proofs.Callers.{IsPlain, command_of, reads_as}
 use Rattle.sqlite_sql.specs.declared.ops.BinaryOp.TheVariants.{Compare, Or}
 use Rattle.sqlite_sql.specs.declared.ops.CompareOp.TheVariants.{Lt}
 use Rattle.sqlite_value.specs.declared.keys.Collation.TheVariants.{Binary}
-use Rattle.canary_schema.specs.Schema.{desk_schema, with_history}
-use Rattle.canary_schema.specs.Formed.{IsDeskSchema}
+use Rattle.canary_schema.specs.Layout.{Layout}
+use Rattle.canary_schema.specs.Schema.{schema_at}
 use Rattle.canary_reads.proofs.Answer.{query_of, from_start, passes, put_out, IsOrdered, is_ordered}
 
 -- the column at this place is less than 0
@@ -31,17 +30,16 @@ or_below test (at ∷ places) = or_below (op2 Or test (below at)) places
 abbrev pub only_one : Term
 only_one = lit (Int (pos 1))
 
--- under the schema a text asks for 1 where a row of the tree passes the test
-pub record Seeks (text : List ℕ) (tree : ℕ) (test : Term) (schema : Schema) : Type 0 where
+-- in a layout a text asks for 1 where a row of the tree passes the test
+pub record SeeksAt (at : Layout) (text : List ℕ) (tree : ℕ) (test : Term) : Type 0 where
   pub names : List (List ℕ)
-  pub is : command_of (understood schema text) ≡ Select (record { lets = []; body = query_of tree (test ∷ []) (only_one ∷ []) [] only_one from_start }) names
-  pub plain : IsPlain (understood schema text)
-  pub unlisted : reads_listing schema text ≡ false
+  pub is : command_of (understood (schema_at at) text) ≡ Select (record { lets = []; body = query_of tree (test ∷ []) (only_one ∷ []) [] only_one from_start }) names
+  pub plain : IsPlain (understood (schema_at at) text)
+  pub unlisted : reads_listing (schema_at at) text ≡ false
 
--- so with the three indexes and without them
-pub record SeeksBoth (text : List ℕ) (tree : ℕ) (test : Term) : Type 0 where
-  pub whole : Seeks text tree test desk_schema
-  pub bare : Seeks text tree test with_history
+-- so in each layout
+abbrev pub Seeks : List ℕ → (Layout → ℕ) → Term → Type 0
+Seeks text tree test = (at : Layout) → SeeksAt at text (tree at) test
 
 empty_by : {A B : Type 0} (f : A → B) (xs : List A) → [] ≡ take 1 (map f xs) → length xs ≡ 0
 empty_by f [] h = refl
@@ -68,29 +66,25 @@ module _ (text : List ℕ) (tree : ℕ) (test : Term) (old new : State) (rows : 
   abbrev IsSought : Type 0
   IsSought = IsOrdered Null tree (test ∷ []) (only_one ∷ []) [] only_one from_start old.now.trees [] rows
 
-  sought_under : (schema : Schema) → old.now.schema ≡ schema → Seeks text tree test schema → Shown text [] old new rows → IsSought
-  sought_under schema is asks h =
-      is_ordered Null tree (test ∷ []) (only_one ∷ []) [] only_one from_start old.now.trees [] rows ((reads_as text [] old new schema is _ asks.is asks.plain asks.unlisted rows h).answer Null)
-
-  sought : IsDeskSchema old.now.schema → SeeksBoth text tree test → Shown text [] old new rows → IsSought
-  sought (inl is) asks h = sought_under desk_schema is asks.whole h
-  sought (inr is) asks h = sought_under with_history is asks.bare h
+  sought : (at : Layout) → old.now.schema ≡ schema_at at → SeeksAt at text tree test → Shown text [] old new rows → IsSought
+  sought at is asks h =
+      is_ordered Null tree (test ∷ []) (only_one ∷ []) [] only_one from_start old.now.trees [] rows ((reads_as text [] old new (schema_at at) is _ asks.is asks.plain asks.unlisted rows h).answer Null)
 
   as_many : (s : IsSought) → length (filter (passes (test ∷ []) []) (old.now.trees tree)) ≡ length s.ordered
   as_many s = sym (mapped_length (put_out Null tree (test ∷ []) (only_one ∷ []) [] only_one from_start old.now.trees [] rows) (filter (passes (test ∷ []) []) (old.now.trees tree))) ∙ sym (length_permutation _ s.ordered s.same)
 
 -- where no row is shown, none passes
-pub none_passes : (text : List ℕ) (tree : ℕ) (test : Term) (old new : State) → IsDeskSchema old.now.schema → SeeksBoth text tree test → Shown text [] old new [] → AllByRecursion (λ row. passes (test ∷ []) [] row ≡ false) (old.now.trees tree)
-none_passes text tree test old new schema asks h =
-    let s = sought text tree test old new [] schema asks h in
+pub none_passes : (text : List ℕ) (tree : ℕ) (test : Term) (old new : State) (at : Layout) → old.now.schema ≡ schema_at at → SeeksAt at text tree test → Shown text [] old new [] → AllByRecursion (λ row. passes (test ∷ []) [] row ≡ false) (old.now.trees tree)
+none_passes text tree test old new at schema asks h =
+    let s = sought text tree test old new [] at schema asks h in
     let cut : [] ≡ take 1 (map (λ (o : Output). o.1) s.ordered) = s.shown_are in
     none_kept (passes (test ∷ []) []) (old.now.trees tree) (as_many text tree test old new [] s ∙ empty_by (λ (o : Output). o.1) s.ordered cut)
 
 -- where a row is shown, one passes
-pub one_passes : (text : List ℕ) (tree : ℕ) (test : Term) (old new : State) (row : Row) (rows : List Row) → IsDeskSchema old.now.schema → SeeksBoth text tree test → Shown text [] old new (row ∷ rows)
+pub one_passes : (text : List ℕ) (tree : ℕ) (test : Term) (old new : State) (row : Row) (rows : List Row) (at : Layout) → old.now.schema ≡ schema_at at → SeeksAt at text tree test → Shown text [] old new (row ∷ rows)
     → AllByRecursion (λ row. passes (test ∷ []) [] row ≡ false) (old.now.trees tree) → ⊥
-one_passes text tree test old new row rows schema asks h none =
-    let s = sought text tree test old new (row ∷ rows) schema asks h in
+one_passes text tree test old new row rows at schema asks h none =
+    let s = sought text tree test old new (row ∷ rows) at schema asks h in
     let cut : row ∷ rows ≡ take 1 (map (λ (o : Output). o.1) s.ordered) = s.shown_are in
     full_by (λ (o : Output). o.1) row rows s.ordered cut (sym (as_many text tree test old new (row ∷ rows) s) ∙ ap length (filter_none (passes (test ∷ []) []) (old.now.trees tree) none))
 

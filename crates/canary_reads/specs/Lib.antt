@@ -1,6 +1,7 @@
 pub mod Queries
 pub mod Finds
 pub mod Parts
+pub mod Keys
 pub mod Sorts
 pub mod Readable
 pub mod Breaks

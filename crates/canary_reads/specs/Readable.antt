@@ -5,6 +5,7 @@ use Rattle.sqlite_value.specs.declared.value.Value.TheVariants.{Int, Text as Wor
 use Rattle.sqlite_value.specs.Order.{Row, column}
 use Rattle.canary_base.specs.Names.{is_name}
 use Rattle.canary_rows.specs.declared.rows.CallerRow.{CallerRow}
+use Rattle.canary_reads.specs.declared.lists.RevisionKey.{RevisionKey}
 
 abbrev pub name_in : Value → Option (List ℕ)
 name_in (Words name) = if is_name name then Some name else None
@@ -27,3 +28,12 @@ abbrev pub caller_of : Row → Option CallerRow
 caller_of row =
     if length row == 2 then caller_with (name_in (column row 0)) (number_in (column row 1))
     else None
+
+abbrev pub key_with : Option (List ℕ) → Option ℕ → Option RevisionKey
+key_with None revision = None
+key_with (Some name) None = None
+key_with (Some name) (Some revision) = Some (record { name = name; revision = revision })
+
+abbrev pub revision_key_of : Row → Option RevisionKey
+revision_key_of row =
+    if length row == 2 then key_with (name_in (column row 0)) (number_in (column row 1)) else None

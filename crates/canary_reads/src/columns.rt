@@ -4,14 +4,14 @@ ghost use Rattle.std.specs.Prelude.{◌≡◌, ◌≢◌, ◌<◌, ℕ, List, Op
 ghost use Rattle.std.specs.Prelude.{length, IsTrue, IsUtf8};
 ghost use Rattle.sqlite.specs.Order.{column};
 ghost use Rattle.sqlite.specs.declared.types.Value.TheVariants.{Text as Words};
-ghost use Rattle.canary_base.specs.Names.{is_label};
+ghost use Rattle.canary_base.specs.Names.{is_label, is_name};
 ghost use Rattle.canary_rows.specs.Limits.{FitsNumber, FitsMoment};
 ghost use Rattle.canary_schema.specs.Cells.{whole, whole_or_null};
 
 use crate::fault::ReadFault;
 use canary_base::lists::Text;
 use canary_base::moments::Moment;
-use canary_base::names::Label;
+use canary_base::names::{Label, Name};
 use sqlite::types::ValueRef;
 use sqlite::{Error, ErrorCode, Row};
 
@@ -99,4 +99,16 @@ pub(crate) fn label_at(row: &Row, at: usize) -> Result<Label, ReadFault>
         return Err(ReadFault::Broken);
     };
     Label::read(bytes).ok_or(ReadFault::Broken)
+}
+
+pub(crate) fn name_at(row: &Row, at: usize) -> Result<Name, ReadFault>
+    requires { at < length row.now }
+    ensures found { IfOk result (λ name. column row.now at ≡ Words name) }
+    ensures broken { result ≡ Err ReadFault.Broken
+        → (name : List ℕ) → column row.now at ≡ Words name → ¬ IsTrue (is_name name) }
+{
+    let ValueRef::Text(bytes) = row.get_ref(at).map_err(fault_of)? else {
+        return Err(ReadFault::Broken);
+    };
+    Name::read(bytes).ok_or(ReadFault::Broken)
 }

@@ -4,6 +4,7 @@ ghost use Rattle.sqlite.specs.Order.{Row as Cells, column};
 ghost use Rattle.canary_reads.specs.Readable.{name_in, number_in};
 
 use crate::fault::ReadFault;
+use crate::lists::RevisionKey;
 use canary_base::lists::Listed;
 use canary_base::names::Name;
 use canary_rows::rows::CallerRow;
@@ -46,6 +47,21 @@ impl Held for CallerRow {
         let name = name_at(row, 0)?;
         let settled = number_at(row, 1)?;
         Some(CallerRow { name, settled })
+    }
+}
+
+impl Held for RevisionKey {
+    ghost use Rattle.canary_reads.specs.Readable.{revision_key_of};
+
+    ghost held = { revision_key_of };
+
+    fn read(row: &Row) -> Option<RevisionKey> {
+        if row.column_count() != 2 {
+            return None;
+        }
+        let name = name_at(row, 0)?;
+        let revision = number_at(row, 1)?;
+        Some(RevisionKey { name, revision })
     }
 }
 

@@ -1,14 +1,15 @@
-//! What a desk asks of a file that it adopts: all callers, the names of all templates and services,
-//! and how many rows the other tables have.
+//! What a desk asks of a file that it adopts: all callers, the keys of all revisions, the names of
+//! all services, and how many rows the other tables have.
 ghost use Rattle.std.specs.Prelude.{◌≡◌, ◌≢◌, false, List, [], IfOk, IfSome, Err};
 ghost use Rattle.std.specs.Prelude.{length, map, min, slice_index_or};
 ghost use Rattle.std.specs.List.{AllByRecursion};
 ghost use Rattle.sqlite.specs.Held.{state};
 ghost use Rattle.sqlite.specs.Order.{Row as Cells, column};
 ghost use Rattle.sqlite.specs.State.{Shown};
-ghost use Rattle.canary_rows.specs.Limits.{IsCallerWithin, IsTemplateWithin, IsServiceWithin};
+ghost use Rattle.canary_rows.specs.Limits.{IsCallerWithin, IsRevisionWithin, IsServiceWithin};
 ghost use Rattle.canary_schema.specs.Cells.{whole};
 ghost use Rattle.canary_schema.specs.Stores.{IsUsable};
+ghost use Rattle.canary_reads.specs.Keys.{key_of};
 ghost use Rattle.canary_reads.specs.Queries.{IsQuery};
 ghost use Rattle.canary_reads.specs.Finds.{IsSame, FindsRows};
 ghost use Rattle.canary_reads.specs.Breaks.{BreaksUnless};
@@ -21,6 +22,13 @@ use canary_rows::rows::CallerRow;
 use sqlite::types::ValueRef;
 use sqlite::{Alter, Connection, Row};
 use std::alloc::Global;
+
+/// What a revision of a template is found by: the template's name, and the revision's number.
+#[derive(Clone, Copy)]
+pub struct RevisionKey {
+    pub name: Name,
+    pub revision: u32,
+}
 
 /// All callers, in the order in which they were added. `Memory` where there is not enough,
 /// `Storage` where the database fails, `Broken` where a caller is none that a program can hold.
@@ -40,22 +48,26 @@ pub fn callers<S: Alter>(
     held::all(alloc, rows.as_slice())
 }
 
-/// The names of all templates, in the order in which they were added. `Memory` where there is not
-/// enough, `Storage` where the database fails, `Broken` where a template is none that a program can
+/// The keys of all revisions, in the order in which they were added. `Memory` where there is not
+/// enough, `Storage` where the database fails, `Broken` where a revision is none that a program can
 /// hold.
-pub fn template_names<S: Alter>(
+pub fn revision_keys<S: Alter>(
     conn: &mut Connection<S>,
     alloc: Global,
-) -> Result<Listed<Name>, ReadFault>
+) -> Result<Listed<RevisionKey>, ReadFault>
     requires autocommit { conn.old.in_transaction ≡ false }
     ensures mode { conn.new.in_transaction ≡ false }
     ensures same { IsSame (state S.Store conn.old) (state S.Store conn.new) }
-    ensures found { FindsRows (λ t. map (λ row. row.name) t.templates)
+    ensures found { FindsRows (λ t. map key_of t.revisions)
         (state S.Store conn.old) (state S.Store conn.new) result }
-    ensures broken { BreaksUnless (λ t. AllByRecursion IsTemplateWithin t.templates)
+    ensures broken { BreaksUnless (λ t. AllByRecursion IsRevisionWithin t.revisions)
         (state S.Store conn.old) (state S.Store conn.new) result }
 {
-    let rows = query::rows_of(conn, "SELECT name FROM template ORDER BY rowid", &[])?;
+    let rows = query::rows_of(
+        conn,
+        "SELECT name, revision FROM revision ORDER BY rowid",
+        &[],
+    )?;
     held::all(alloc, rows.as_slice())
 }
 
@@ -102,6 +114,19 @@ pub fn run_count<S: Alter>(conn: &mut Connection<S>) -> Result<u64, ReadFault>
     ensures whole { result ≢ Err ReadFault.Broken }
 {
     count_of(conn, "SELECT count(*) FROM run")
+}
+
+/// How many rows bind runs and attempts to revisions, of which SQLite counts 2^63 - 1 at most.
+/// `Memory` where there is not enough, `Storage` where the database fails.
+pub fn binding_count<S: Alter>(conn: &mut Connection<S>) -> Result<u64, ReadFault>
+    requires autocommit { conn.old.in_transaction ≡ false }
+    ensures mode { conn.new.in_transaction ≡ false }
+    ensures same { IsSame (state S.Store conn.old) (state S.Store conn.new) }
+    ensures found { FindsRows (λ t. min (length t.bindings) 9223372036854775807)
+        (state S.Store conn.old) (state S.Store conn.new) result }
+    ensures whole { result ≢ Err ReadFault.Broken }
+{
+    count_of(conn, "SELECT count(*) FROM binding")
 }
 
 /// How many tallies there are, of which SQLite counts 2^63 - 1 at most. `Memory` where there is

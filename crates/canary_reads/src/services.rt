@@ -1,73 +1,105 @@
-//! Templates and services.
-ghost use Rattle.std.specs.Prelude.{◌≡◌, ◌≢◌, ◌∷◌, false, filter, option_map, Err};
+//! Revisions of templates, services, and to which revisions these are bound.
+ghost use Rattle.std.specs.Prelude.{◌≡◌, ◌≢◌, ◌∷◌, false, filter, Err};
 ghost use Rattle.std.specs.List.{list_any, AllByRecursion};
 ghost use Rattle.sqlite.specs.Held.{state};
 ghost use Rattle.sqlite.specs.declared.types.Value.TheVariants.{Text as Words};
-ghost use Rattle.canary_rows.specs.Tables.{is_template, is_service};
-ghost use Rattle.canary_rows.specs.Limits.{IsTemplateWithin, IsServiceWithin};
-ghost use Rattle.canary_schema.specs.Cells.{template_cells, service_cells};
+ghost use Rattle.canary_rows.specs.Tables.{is_revision, is_revision_of, is_service, is_binding_of};
+ghost use Rattle.canary_rows.specs.Limits.{IsRevisionWithin, IsServiceWithin, IsBindingWithin};
+ghost use Rattle.canary_rows.specs.Newest.{IsNewest};
+ghost use Rattle.canary_schema.specs.Cells.{revision_cells, service_cells};
 ghost use Rattle.canary_reads.specs.Finds.{IsSame, FindsRows, FindsSuch, TellsCells, first};
 ghost use Rattle.canary_reads.specs.Breaks.{BreaksUnless};
 
 use crate::fault::ReadFault;
 use crate::{query, shown};
-use canary_base::lists::{Listed, Text};
+use canary_base::lists::Listed;
 use canary_base::names::Name;
-use canary_rows::rows::{ServiceRow, TemplateRow};
+use canary_rows::rows::{BindingRow, RevisionRow, ServiceRow};
 use canary_schema::fault::StoreFault;
 use sqlite::{Alter, Connection, Row, params};
 use std::alloc::Global;
 
-/// The text of the template, if there is one of that name. `Memory` where there is not enough,
-/// `Storage` where the database fails, `Broken` where the template's row is none that a program can
-/// hold.
-pub fn template<S: Alter>(conn: &mut Connection<S>, name: &Name) -> Result<Option<Text>, ReadFault>
+/// The newest revision of the template of that name, which is the one with the greatest number, if
+/// there is one. `Memory` where there is not enough, `Storage` where the database fails, `Broken`
+/// where the revision's row is none that a program can hold.
+pub fn newest<S: Alter>(
+    conn: &mut Connection<S>,
+    name: &Name,
+) -> Result<Option<RevisionRow>, ReadFault>
     requires autocommit { conn.old.in_transaction ≡ false }
     ensures mode { conn.new.in_transaction ≡ false }
     ensures same { IsSame (state S.Store conn.old) (state S.Store conn.new) }
-    ensures found { FindsRows
-        (λ t. option_map (λ row. row.spec) (first (filter (is_template name.now) t.templates)))
+    ensures found { FindsSuch (λ t. IsNewest (filter (is_revision_of name.now) t.revisions))
         (state S.Store conn.old) (state S.Store conn.new) result }
-    ensures broken { BreaksUnless (λ t. AllByRecursion IsTemplateWithin t.templates)
+    ensures broken { BreaksUnless (λ t. AllByRecursion IsRevisionWithin t.revisions)
         (state S.Store conn.old) (state S.Store conn.new) result }
 {
-    let rows = template_shown(conn, name)?;
-    let found = shown::first::<TemplateRow>(name, rows.as_slice())?;
-    Ok(found.map(|row| row.spec))
+    let rows = query::rows_of(
+        conn,
+        "SELECT revision, spec FROM revision WHERE name = ?1 ORDER BY revision DESC LIMIT 1",
+        params![name.as_str()],
+    )?;
+    shown::first(name, rows.as_slice())
 }
 
-/// The rows of the template, of which a desk writes one at most. `Memory` where there is not
-/// enough, `Storage` where the database fails, `Broken` where one is none that a program can hold.
-pub fn template_rows<S: Alter>(
+/// The revision of the template of that name under that number, if there is one. `Memory` where
+/// there is not enough, `Storage` where the database fails, `Broken` where the revision's row is
+/// none that a program can hold.
+pub fn revision<S: Alter>(
+    conn: &mut Connection<S>,
+    name: &Name,
+    number: u32,
+) -> Result<Option<RevisionRow>, ReadFault>
+    requires autocommit { conn.old.in_transaction ≡ false }
+    ensures mode { conn.new.in_transaction ≡ false }
+    ensures same { IsSame (state S.Store conn.old) (state S.Store conn.new) }
+    ensures found { FindsRows (λ t. first (filter (is_revision name.now number) t.revisions))
+        (state S.Store conn.old) (state S.Store conn.new) result }
+    ensures broken { BreaksUnless (λ t. AllByRecursion IsRevisionWithin t.revisions)
+        (state S.Store conn.old) (state S.Store conn.new) result }
+{
+    let rows = revision_shown(conn, name, number)?;
+    shown::first(name, rows.as_slice())
+}
+
+/// The rows of that revision of the template, of which a desk writes one at most. `Memory` where
+/// there is not enough, `Storage` where the database fails, `Broken` where one is none that a
+/// program can hold.
+pub fn revision_rows<S: Alter>(
     conn: &mut Connection<S>,
     alloc: Global,
     name: &Name,
-) -> Result<Listed<TemplateRow>, ReadFault>
+    number: u32,
+) -> Result<Listed<RevisionRow>, ReadFault>
     requires autocommit { conn.old.in_transaction ≡ false }
     ensures mode { conn.new.in_transaction ≡ false }
     ensures same { IsSame (state S.Store conn.old) (state S.Store conn.new) }
-    ensures found { FindsRows (λ t. filter (is_template name.now) t.templates)
+    ensures found { FindsRows (λ t. filter (is_revision name.now number) t.revisions)
         (state S.Store conn.old) (state S.Store conn.new) result }
-    ensures broken { BreaksUnless (λ t. AllByRecursion IsTemplateWithin t.templates)
+    ensures broken { BreaksUnless (λ t. AllByRecursion IsRevisionWithin t.revisions)
         (state S.Store conn.old) (state S.Store conn.new) result }
 {
-    let rows = template_shown(conn, name)?;
+    let rows = revision_shown(conn, name, number)?;
     shown::all(alloc, name, rows.as_slice())
 }
 
-// What is shown of the template's rows, behind its name.
-fn template_shown<S: Alter>(conn: &mut Connection<S>, name: &Name) -> Result<Vec<Row>, StoreFault>
+// What is shown of the revision's rows, behind the template's name.
+fn revision_shown<S: Alter>(
+    conn: &mut Connection<S>,
+    name: &Name,
+    number: u32,
+) -> Result<Vec<Row>, StoreFault>
     requires autocommit { conn.old.in_transaction ≡ false }
     ensures mode { conn.new.in_transaction ≡ false }
     ensures same { IsSame (state S.Store conn.old) (state S.Store conn.new) }
-    ensures found { FindsSuch (λ t rows. TellsCells template_cells (λ row. Words name.now ∷ row)
-        (filter (is_template name.now) t.templates) rows.items)
+    ensures found { FindsSuch (λ t rows. TellsCells revision_cells (λ row. Words name.now ∷ row)
+        (filter (is_revision name.now number) t.revisions) rows.items)
         (state S.Store conn.old) (state S.Store conn.new) result }
 {
     query::rows_of(
         conn,
-        "SELECT spec FROM template WHERE name = ?1 ORDER BY rowid",
-        params![name.as_str()],
+        "SELECT revision, spec FROM revision WHERE name = ?1 AND revision = ?2 ORDER BY rowid",
+        params![name.as_str(), number],
     )
 }
 
@@ -139,6 +171,50 @@ pub fn has_service<S: Alter>(conn: &mut Connection<S>, name: &Name) -> Result<bo
         conn,
         "SELECT name FROM service WHERE name = ?1 ORDER BY rowid",
         params![name.as_str()],
+    )?;
+    Ok(!rows.is_empty())
+}
+
+/// The revisions of templates to which that run of the service is bound, in the order in which they
+/// were added; those of its present attempt under run 0. `Memory` where there is not enough,
+/// `Storage` where the database fails, `Broken` where a row is none that a program can hold.
+pub fn bindings<S: Alter>(
+    conn: &mut Connection<S>,
+    alloc: Global,
+    service: &Name,
+    run: u32,
+) -> Result<Listed<BindingRow>, ReadFault>
+    requires autocommit { conn.old.in_transaction ≡ false }
+    ensures mode { conn.new.in_transaction ≡ false }
+    ensures same { IsSame (state S.Store conn.old) (state S.Store conn.new) }
+    ensures found { FindsRows (λ t. filter (is_binding_of service.now run) t.bindings)
+        (state S.Store conn.old) (state S.Store conn.new) result }
+    ensures broken { BreaksUnless (λ t. AllByRecursion IsBindingWithin t.bindings)
+        (state S.Store conn.old) (state S.Store conn.new) result }
+{
+    let rows = query::rows_of(
+        conn,
+        "SELECT run, template, revision FROM binding \
+         WHERE service = ?1 AND run = ?2 ORDER BY rowid",
+        params![service.as_str(), run],
+    )?;
+    shown::all(alloc, service, rows.as_slice())
+}
+
+/// Whether the service's present attempt is bound to a revision of any template. `Memory` where
+/// there is not enough, `Storage` where the database fails; never `Broken`.
+pub fn has_bindings<S: Alter>(conn: &mut Connection<S>, service: &Name) -> Result<bool, ReadFault>
+    requires autocommit { conn.old.in_transaction ≡ false }
+    ensures mode { conn.new.in_transaction ≡ false }
+    ensures same { IsSame (state S.Store conn.old) (state S.Store conn.new) }
+    ensures found { FindsRows (λ t. list_any (is_binding_of service.now 0) t.bindings)
+        (state S.Store conn.old) (state S.Store conn.new) result }
+    ensures whole { result ≢ Err ReadFault.Broken }
+{
+    let rows = query::rows_of(
+        conn,
+        "SELECT template FROM binding WHERE service = ?1 AND run = 0 ORDER BY rowid",
+        params![service.as_str()],
     )?;
     Ok(!rows.is_empty())
 }

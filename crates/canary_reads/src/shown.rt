@@ -17,8 +17,8 @@ use canary_base::names::Name;
 use canary_metric::laws;
 use canary_metric::tally::Tally;
 use canary_rows::rows::{
-    CallerRow, Ending, HistoryRow, KeptRow, MeasurementRow, RunRow, ServiceRow, Standing, TallyRow,
-    TemplateRow,
+    BindingRow, CallerRow, Ending, HistoryRow, KeptRow, MeasurementRow, RevisionRow, RunRow,
+    ServiceRow, Standing, TallyRow,
 };
 use sqlite::Row;
 use std::alloc::Global;
@@ -87,23 +87,24 @@ impl Shown for KeptRow {
     }
 }
 
-impl Shown for TemplateRow {
+impl Shown for RevisionRow {
     ghost use Rattle.std.specs.Prelude.{◌∷◌};
     ghost use Rattle.sqlite.specs.declared.types.Value.TheVariants.{Text as Words};
-    ghost use Rattle.canary_rows.specs.Limits.{IsTemplateWithin};
-    ghost use Rattle.canary_schema.specs.Cells.{template_cells};
+    ghost use Rattle.canary_rows.specs.Limits.{IsRevisionWithin};
+    ghost use Rattle.canary_schema.specs.Cells.{revision_cells};
 
-    ghost cells = { template_cells };
+    ghost cells = { revision_cells };
 
     ghost whole = { λ name row. Words name ∷ row };
 
-    ghost Within = { IsTemplateWithin };
+    ghost Within = { IsRevisionWithin };
 
-    fn read(name: &Name, row: &Row) -> Result<TemplateRow, ReadFault> {
-        columns::has_width(row, 1)?;
-        Ok(TemplateRow {
+    fn read(name: &Name, row: &Row) -> Result<RevisionRow, ReadFault> {
+        columns::has_width(row, 2)?;
+        Ok(RevisionRow {
             name: *name,
-            spec: columns::text_at(row, 0)?,
+            revision: columns::number_at(row, 0)?,
+            spec: columns::text_at(row, 1)?,
         })
     }
 }
@@ -149,6 +150,29 @@ fn standing(row: &Row) -> Result<Standing, ReadFault>
         runs: columns::number_at(row, 8)?,
         last: columns::moment_at(row, 9)?,
     })
+}
+
+impl Shown for BindingRow {
+    ghost use Rattle.std.specs.Prelude.{◌∷◌};
+    ghost use Rattle.sqlite.specs.declared.types.Value.TheVariants.{Text as Words};
+    ghost use Rattle.canary_rows.specs.Limits.{IsBindingWithin};
+    ghost use Rattle.canary_schema.specs.Cells.{binding_cells};
+
+    ghost cells = { binding_cells };
+
+    ghost whole = { λ name row. Words name ∷ row };
+
+    ghost Within = { IsBindingWithin };
+
+    fn read(name: &Name, row: &Row) -> Result<BindingRow, ReadFault> {
+        columns::has_width(row, 3)?;
+        Ok(BindingRow {
+            service: *name,
+            run: columns::number_at(row, 0)?,
+            template: columns::name_at(row, 1)?,
+            revision: columns::number_at(row, 2)?,
+        })
+    }
 }
 
 impl Shown for RunRow {

@@ -4,11 +4,9 @@ use Rattle.std.specs.Prelude.{Option, Some, None, option_map, slice_get, slice_s
 use Rattle.std.proofs.lemmas.Option.{slice_get-map}
 use Rattle.canary_metric.specs.Metrics.{MetricValue}
 use Rattle.canary_metric.specs.Counts.{Counts}
-use Rattle.canary_plan.specs.declared.bound.BoundParts.{BoundParts}
 use Rattle.canary_release.specs.declared.effect.Recorded.{Recorded}
 use Rattle.canary_release.specs.Pasts.{change_at}
 use Rattle.canary_once.specs.declared.record.RunRecord.{RunRecord}
-use Rattle.canary_once.specs.Records.{run_metrics}
 use Rattle.canary_judging.specs.Counting.{at_run, at_metric, of_metric, change_run, none_counted, counted_all, AreCounted}
 use Rattle.canary_judging.specs.Services.{metrics_of_runs}
 
@@ -39,12 +37,11 @@ run_at : {A B : Type 0} (f : A → B) (xs : List A) (run : ℕ) → at_run run (
 run_at f xs zero = refl
 run_at f xs (suc place) = slice_get-map f xs place
 
-pub unplanned : (bound : BoundParts) (runs : List RunRecord) (run metric : ℕ) → None ≡ at_run run runs → None ≡ of_metric run metric (metrics_of_runs bound runs)
-unplanned bound runs run metric is =
-    let metrics : RunRecord → List MetricValue = λ r. run_metrics bound r.step in
-    ap (λ (o : Option RunRecord). at_metric metric (option_map metrics o)) is ∙ sym (ap (at_metric metric) (run_at metrics runs run))
+abbrev metrics_of : RunRecord → List MetricValue
+metrics_of r = r.analysis.metrics
 
-pub planned : (bound : BoundParts) (runs : List RunRecord) (run metric : ℕ) (r : RunRecord) → Some r ≡ at_run run runs → slice_get (run_metrics bound r.step) metric ≡ of_metric run metric (metrics_of_runs bound runs)
-planned bound runs run metric r is =
-    let metrics : RunRecord → List MetricValue = λ r. run_metrics bound r.step in
-    ap (λ (o : Option RunRecord). at_metric metric (option_map metrics o)) is ∙ sym (ap (at_metric metric) (run_at metrics runs run))
+pub unplanned : (runs : List RunRecord) (run metric : ℕ) → None ≡ at_run run runs → None ≡ of_metric run metric (metrics_of_runs runs)
+unplanned runs run metric is = ap (λ (o : Option RunRecord). at_metric metric (option_map metrics_of o)) is ∙ sym (ap (at_metric metric) (run_at metrics_of runs run))
+
+pub planned : (runs : List RunRecord) (run metric : ℕ) (r : RunRecord) → Some r ≡ at_run run runs → slice_get r.analysis.metrics metric ≡ of_metric run metric (metrics_of_runs runs)
+planned runs run metric r is = ap (λ (o : Option RunRecord). at_metric metric (option_map metrics_of o)) is ∙ sym (ap (at_metric metric) (run_at metrics_of runs run))

@@ -3,7 +3,6 @@ ghost use Rattle.std.specs.Prelude.{◌≡◌, ◌↔◌, ◌+◌, ◌≤◌, Is
 ghost use Rattle.std.specs.Option.{option_copied};
 ghost use Rattle.canary_metric.specs.Counts.{size};
 ghost use Rattle.canary_release.specs.Sound.{IsJudgedBy};
-ghost use Rattle.canary_once.specs.Records.{run_metrics};
 ghost use Rattle.canary_judging.specs.Counting.{at_run, of_metric, none_counted, IsNext};
 ghost use Rattle.canary_judging.specs.Services.{metrics_of_runs};
 ghost use Rattle.canary_recounting.specs.Recounted.{AreTallied};
@@ -14,29 +13,26 @@ use canary_condition::measurement::measure;
 use canary_metric::metric::Metric;
 use canary_metric::tally::Tally;
 use canary_once::record::RunRecord;
-use canary_plan::bound::Bound;
 use canary_release::effect::Recorded;
 use canary_release::runs::new_tallies;
 use std::alloc::Global;
 
 /// Whether these measurements come one after another, each the next of a metric of its run and of
 /// the phase that the metric's conditions give its outcome, and the tallies of the runs are their
-/// counts. The runs are numbered from 1 on, and of a service that is bound so.
+/// counts. The runs are numbered from 1 on, and the metrics of each are those of its own analysis.
 ///
 /// # Errors
 /// `Memory` where an allocation was refused.
 pub fn are_counted(
     alloc: Global,
-    bound: &Bound,
     runs: &[RunRecord],
     measurements: &[Recorded],
 ) -> Result<bool, Memory>
-    ensures { IfOk result (λ are. IsTrue are
-        ↔ AreTallied bound.now runs.now measurements.now) }
+    ensures { IfOk result (λ are. IsTrue are ↔ AreTallied runs.now measurements.now) }
 {
-    let mut counts = none_counted(alloc, bound, runs)?;
+    let mut counts = none_counted(alloc, runs)?;
     for measurement in measurements {
-        if !is_next(bound, runs, &counts, measurement) {
+        if !is_next(runs, &counts, measurement) {
             return Ok(false);
         }
         counts.count(measurement);
@@ -45,33 +41,28 @@ pub fn are_counted(
 }
 
 // No measurements of any metric of the runs.
-fn none_counted(alloc: Global, bound: &Bound, runs: &[RunRecord]) -> Result<Counts, Memory>
-    ensures { IfOk result (λ counts. counts
-        ≡ none_counted (metrics_of_runs bound.now runs.now)) }
+fn none_counted(alloc: Global, runs: &[RunRecord]) -> Result<Counts, Memory>
+    ensures { IfOk result (λ counts. counts ≡ none_counted (metrics_of_runs runs.now)) }
 {
     let mut counts = Counts::new(alloc);
     for run in runs {
-        let tallies = new_tallies(alloc, metric_count(bound, run.step))?;
+        let tallies = new_tallies(alloc, metric_count(run))?;
         counts.push(RunCounts::of(tallies))?;
     }
     Ok(counts)
 }
 
-fn metric_count(bound: &Bound, step: Option<u32>) -> u32
-    ensures { result ≡ length (run_metrics bound.now step) }
+fn metric_count(run: &RunRecord) -> u32
+    ensures { result ≡ length run.now.analysis.metrics }
 {
-    match bound.metrics(step) {
-        Some(metrics) => metrics.len() as u32,
-        None => 0,
-    }
+    run.analysis.metrics().len() as u32
 }
 
 // Whether the measurement may come next.
-fn is_next(bound: &Bound, runs: &[RunRecord], counts: &Counts, next: &Recorded) -> bool
-    ensures { IsTrue result
-        ↔ IsNext (metrics_of_runs bound.now runs.now) counts.now next.now }
+fn is_next(runs: &[RunRecord], counts: &Counts, next: &Recorded) -> bool
+    ensures { IsTrue result ↔ IsNext (metrics_of_runs runs.now) counts.now next.now }
 {
-    let Some(metric) = metric_of(bound, runs, next) else {
+    let Some(metric) = metric_of(runs, next) else {
         return false;
     };
     let Some(tally) = counts.tally(next) else {
@@ -82,12 +73,12 @@ fn is_next(bound: &Bound, runs: &[RunRecord], counts: &Counts, next: &Recorded) 
 
 // The metric of the measurement, if it is one of its run.
 #[tactic(auto, using(crate::proofs::CountLemmas::unplanned, crate::proofs::CountLemmas::planned))]
-fn metric_of<'a>(bound: &'a Bound, runs: &[RunRecord], measurement: &Recorded) -> Option<&'a Metric>
+fn metric_of<'a>(runs: &'a [RunRecord], measurement: &Recorded) -> Option<&'a Metric>
     ensures { option_copied result ≡ of_metric measurement.now.run measurement.now.metric
-        (metrics_of_runs bound.now runs.now) }
+        (metrics_of_runs runs.now) }
 {
     match run_of(runs, measurement.run) {
-        Some(run) => metric_in(bound, run.step, measurement.metric),
+        Some(run) => metric_in(run, measurement.metric),
         None => None,
     }
 }
@@ -99,13 +90,10 @@ fn run_of(runs: &[RunRecord], number: u32) -> Option<&RunRecord>
     runs.get(place as usize)
 }
 
-fn metric_in(bound: &Bound, step: Option<u32>, place: u32) -> Option<&Metric>
-    ensures { option_copied result ≡ slice_get (run_metrics bound.now step) place }
+fn metric_in(run: &RunRecord, place: u32) -> Option<&Metric>
+    ensures { option_copied result ≡ slice_get run.now.analysis.metrics place }
 {
-    match bound.metrics(step) {
-        Some(metrics) => metrics.get(place as usize),
-        None => None,
-    }
+    run.analysis.metrics().get(place as usize)
 }
 
 // Whether it has the next ordinal, for which there is room, and is judged by the metric's

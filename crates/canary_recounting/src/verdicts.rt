@@ -1,25 +1,21 @@
 //! The verdicts of runs, from their tallies.
 ghost use Rattle.std.specs.Prelude.{◌↔◌, IsTrue};
 ghost use Rattle.canary_judging.specs.Services.{HasVerdictBy};
-ghost use Rattle.canary_recounting.specs.Recounted.{HasAnalysis};
+ghost use Rattle.canary_recounting.specs.Recounted.{HasOwnVerdict};
 
 use canary_condition::outcome::Phase;
 use canary_metric::metric::Metric;
 use canary_metric::tally::Tally;
 use canary_metric::verdict::{is_completed, verdict};
 use canary_once::record::RunRecord;
-use canary_plan::bound::Bound;
 use canary_release::effect::Closing;
 
-/// Whether the run has an analysis that is bound, and is closed, or open, as the verdict of its
-/// tallies tells.
-pub fn has_analysis(bound: &Bound, run: &RunRecord) -> bool
-    ensures { IsTrue result ↔ HasAnalysis bound.now run.now }
+/// Whether the run is closed, or open, as the verdict of its tallies tells, by the metrics of its
+/// own analysis.
+pub fn has_own_verdict(run: &RunRecord) -> bool
+    ensures { IsTrue result ↔ HasOwnVerdict run.now }
 {
-    match bound.metrics(run.step) {
-        Some(metrics) => has_verdict(metrics, run.tallies.as_slice(), run.closed),
-        None => false,
-    }
+    has_verdict(run.analysis.metrics(), run.tallies.as_slice(), run.closed)
 }
 
 // Whether a run with these metrics and tallies is closed, or open, as their verdict tells.

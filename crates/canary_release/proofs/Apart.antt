@@ -1,7 +1,7 @@
 -- Commands on one service, and those on others.
-use Rattle.std.proofs.Common.{◌≡◌, ℕ, List, [], ◌∷◌, Bool, true, false, refl, ap, sym, ◌∙◌, subst}
-use Rattle.std.specs.Prelude.{cond, filter, Option, Some, None, Result, Ok, Err, option_map, ◌||◌}
-use Rattle.std.specs.List.{zip}
+use Rattle.std.proofs.Common.{◌≡◌, ℕ, ◌+◌, List, [], ◌∷◌, ◌++◌, Bool, true, false, refl, ap, sym, ◌∙◌, subst}
+use Rattle.std.specs.Prelude.{cond, filter, Option, Some, None, Result, Ok, Err, option_map, unwrap_or, ◌||◌}
+use Rattle.std.specs.List.{zip, last_or}
 use Rattle.std.specs.Ordering.{nat_cmp, eq_by_cmp}
 use Rattle.std.specs.Cmp.Lexicographic.{slice_cmp, nat_list_cmp_total}
 use Rattle.std.specs.Str.{bytes_eq}
@@ -13,13 +13,12 @@ use Rattle.canary_plan.specs.declared.command.Command.TheVariants.{Template, Ser
 use Rattle.canary_plan.specs.declared.template_spec.TemplateSpec.{TemplateSpec}
 use Rattle.canary_plan.specs.declared.template.Template.{Template as Known}
 use Rattle.canary_plan.specs.declared.refusal.Refusal.{Refusal}
-use Rattle.canary_plan.specs.Plans.{Templates}
-use Rattle.canary_plan.specs.PlanRefusals.{template_refusal}
+use Rattle.canary_plan.specs.Plans.{Templates, template_of}
 use Rattle.canary_plan.specs.Commands.{subject_of}
 use Rattle.canary_release.specs.declared.reply.Reply.{Reply}
 use Rattle.canary_release.specs.Courses.{Course}
 use Rattle.canary_release.specs.Commands.{Acted}
-use Rattle.canary_release.specs.Desks.{ModelService, Desk, Change, Ruling, rules, after, desk_after, course_of, act_new, act_passed, adds_unless, rule_template, rule_service, ruling, ruling_on, apply, machine}
+use Rattle.canary_release.specs.Desks.{ModelService, Desk, Change, Ruling, rules, after, desk_after, course_of, act_new, act_passed, adds_unless, newest_number, revision_refusal, revisions_of, newest, with_revision, rule_template, rule_service, ruling, ruling_on, apply, machine}
 use Rattle.canary_release.specs.Desks.Change.{Nothing, Adds, Becomes}
 use Rattle.canary_release.specs.Laws.{is_on, concerns, concerning, is_reply_on, replies_on, AgreeOn, AreIndependent}
 
@@ -37,13 +36,12 @@ ChangesNoTemplate Nothing = Unit {0}
 ChangesNoTemplate (Adds t) = ⊥
 ChangesNoTemplate (Becomes c) = Unit {0}
 
-adds_no_service : (refusal : Option Refusal) (spec : TemplateSpec) → ChangesNoService (adds_unless refusal spec).change
-adds_no_service None spec = tt
-adds_no_service (Some refusal) spec = tt
+adds_no_service : (refusal : Option Refusal) (t : Known) → ChangesNoService (adds_unless refusal t).change
+adds_no_service None t = tt
+adds_no_service (Some refusal) t = tt
 
 pub template_changes : (found : Option Known) (spec : TemplateSpec) → ChangesNoService (rule_template found spec).change
-template_changes None spec = adds_no_service (template_refusal spec) spec
-template_changes (Some t) spec = tt
+template_changes found spec = adds_no_service (revision_refusal (newest_number found) spec) (template_of spec (newest_number found + 1))
 
 rules_change : (r : Result Acted Refusal) → ChangesNoTemplate (rules r).change
 rules_change (Ok a) = tt
@@ -51,10 +49,10 @@ rules_change (Err refusal) = tt
 
 pub service_changes : (known : Templates) (found : Option Course) (now : ℕ) (command : Command) → ChangesNoTemplate (rule_service known found now command).change
 service_changes known None now command = rules_change (act_new known command now)
-service_changes known (Some c) now command = rules_change (act_passed command c now)
+service_changes known (Some c) now command = rules_change (act_passed known command c now)
 
-pub changes_on : (desk : Desk) (now : ℕ) (command : Command) → ChangesNoTemplate (rule_service (get desk.templates) (option_map course_of (get desk.services (subject_of command))) now command).change
-changes_on desk now command = service_changes (get desk.templates) (option_map course_of (get desk.services (subject_of command))) now command
+pub changes_on : (desk : Desk) (now : ℕ) (command : Command) → ChangesNoTemplate (rule_service (newest desk.templates) (option_map course_of (get desk.services (subject_of command))) now command).change
+changes_on desk now command = service_changes (newest desk.templates) (option_map course_of (get desk.services (subject_of command))) now command
 
 -- What is found after a change.
 
@@ -62,15 +60,26 @@ changes_on desk now command = service_changes (get desk.templates) (option_map c
 pub put_at : (desk : Desk) (command : Command) (m : ModelService) (name : List ℕ) → get (insert desk.services (subject_of command) m) name ≡ cond (bytes_eq name (subject_of command)) (Some m) (get desk.services name)
 put_at desk command m name = get-insert nat_list_cmp_total desk.services (subject_of command) m name ∙ ap (λ b. cond b (Some m) (get desk.services name)) (is_eq-slice_cmp name (subject_of command))
 
-pub template_at : (desk : Desk) (command : Command) (t : Known) (name : List ℕ) → get (insert desk.templates (subject_of command) t) name ≡ cond (eq_by_cmp (slice_cmp nat_cmp) name (subject_of command)) (Some t) (get desk.templates name)
-template_at desk command t name = get-insert nat_list_cmp_total desk.templates (subject_of command) t name
+pub template_at : (desk : Desk) (command : Command) (t : Known) (name : List ℕ) → get (with_revision desk.templates (subject_of command) t) name ≡ cond (eq_by_cmp (slice_cmp nat_cmp) name (subject_of command)) (Some (revisions_of desk.templates (subject_of command) ++ t ∷ [])) (get desk.templates name)
+template_at desk command t name = get-insert nat_list_cmp_total desk.templates (subject_of command) (revisions_of desk.templates (subject_of command) ++ t ∷ []) name
+
+-- desks that agree on the templates agree on them with one revision more
+pub templates_alike : (desk other : Desk) (command : Command) (t : Known) → ((n : List ℕ) → get desk.templates n ≡ get other.templates n) → (n : List ℕ) → get (with_revision desk.templates (subject_of command) t) n ≡ get (with_revision other.templates (subject_of command) t) n
+templates_alike desk other command t h n =
+    template_at desk command t n
+    ∙ (λ i. cond (eq_by_cmp (slice_cmp nat_cmp) n (subject_of command)) (Some (unwrap_or (h (subject_of command) i) [] ++ t ∷ [])) (h n i))
+    ∙ sym (template_at other command t n)
+
+-- and on the newest of each
+pub newest_alike : (desk other : Desk) → ((n : List ℕ) → get desk.templates n ≡ get other.templates n) → newest desk.templates ≡ newest other.templates
+newest_alike desk other h = λ i n. last_or None (unwrap_or (h n i) [])
 
 -- the same change of the service leaves desks that agree on it in agreement
 same_there : (name : List ℕ) (desk other : Desk) (command : Command) (x : Change) → AgreeOn name desk other → get desk.services (subject_of command) ≡ get other.services (subject_of command) → AgreeOn name (desk_after desk command x) (desk_after other command x)
 same_there name desk other command Nothing h there = h
 same_there name desk other command (Adds t) h there =
     record {
-      templates = λ n. template_at desk command t n ∙ ap (cond (eq_by_cmp (slice_cmp nat_cmp) n (subject_of command)) (Some t)) (h.templates n) ∙ sym (template_at other command t n);
+      templates = templates_alike desk other command t h.templates;
       service = h.service;
     }
 same_there name desk other command (Becomes c) h there =
@@ -86,7 +95,7 @@ same_added : (name : List ℕ) (desk other : Desk) (command : Command) (x : Chan
 same_added name desk other command Nothing none h = h
 same_added name desk other command (Adds t) none h =
     record {
-      templates = λ n. template_at desk command t n ∙ ap (cond (eq_by_cmp (slice_cmp nat_cmp) n (subject_of command)) (Some t)) (h.templates n) ∙ sym (template_at other command t n);
+      templates = templates_alike desk other command t h.templates;
       service = h.service;
     }
 same_added name desk other command (Becomes c) none h = absurd none
@@ -114,17 +123,17 @@ StepsAlike name desk other now command = ((apply desk now command).reply ≡ (ap
 on_it : (name : List ℕ) (desk other : Desk) (now : ℕ) (command : Command) → AgreeOn name desk other → bytes_eq name (subject_of command) ≡ true → StepsAlike name desk other now command
 on_it name desk other now command h e =
     let there : get desk.services (subject_of command) ≡ get other.services (subject_of command) = subst (λ n. get desk.services n ≡ get other.services n) (named_so name command e) h.service in
-    let same : ruling_on desk now command ≡ ruling_on other now command = λ i. ruling (λ n. h.templates n i) (option_map course_of (there i)) now command in (
+    let same : ruling_on desk now command ≡ ruling_on other now command = λ i. ruling (newest_alike desk other h.templates i) (option_map course_of (there i)) now command in (
       ap (λ (r : Ruling). r.reply) same,
       subst (λ (r : Ruling). AgreeOn name (desk_after desk command (ruling_on desk now command).change) (desk_after other command r.change)) same (same_there name desk other command (ruling_on desk now command).change h there),
     )
 
 adds_it : (name : List ℕ) (desk other : Desk) (now : ℕ) (spec : TemplateSpec) → AgreeOn name desk other → StepsAlike name desk other now (Template spec)
 adds_it name desk other now spec h =
-    let same : rule_template (get desk.templates spec.name) spec ≡ rule_template (get other.templates spec.name) spec = ap (λ o. rule_template o spec) (h.templates spec.name) in (
+    let same : rule_template (newest desk.templates spec.name) spec ≡ rule_template (newest other.templates spec.name) spec = (λ i. rule_template (newest_alike desk other h.templates i spec.name) spec) in (
       ap (λ (r : Ruling). r.reply) same,
-      subst (λ (r : Ruling). AgreeOn name (desk_after desk (Template spec) (rule_template (get desk.templates spec.name) spec).change) (desk_after other (Template spec) r.change)) same
-          (same_added name desk other (Template spec) (rule_template (get desk.templates spec.name) spec).change (template_changes (get desk.templates spec.name) spec) h),
+      subst (λ (r : Ruling). AgreeOn name (desk_after desk (Template spec) (rule_template (newest desk.templates spec.name) spec).change) (desk_after other (Template spec) r.change)) same
+          (same_added name desk other (Template spec) (rule_template (newest desk.templates spec.name) spec).change (template_changes (newest desk.templates spec.name) spec) h),
     )
 
 pub steps_alike : (name : List ℕ) (desk other : Desk) (now : ℕ) (command : Command) → AgreeOn name desk other → concerns name (now, command) ≡ true → StepsAlike name desk other now command

@@ -4,6 +4,7 @@ use Rattle.std.specs.Prelude.{true, false, if◌then◌else◌, Option, Some, No
 use Rattle.canary_condition.specs.declared.outcome.Phase.{Phase}
 use Rattle.canary_condition.specs.declared.outcome.Phase.TheVariants.{Pending, Running, Successful, Inconclusive, Error, Failed}
 use Rattle.canary_metric.specs.MetricPhases.{is_completed}
+use Rattle.canary_plan.specs.Plans.{Templates}
 use Rattle.canary_plan.specs.declared.step.Step.{Step}
 use Rattle.canary_plan.specs.declared.step.Step.TheVariants.{SetWeight, Pause, Analysis}
 use Rattle.canary_plan.specs.declared.report.Entry.{Entry}
@@ -159,26 +160,26 @@ reports_behind w x c (Some r) es t p = λ i. record { course = report_behind w x
 led : (w : Watch) (x : Effect) (c d : Course) → c ≡ behind w x d → leads c ≡ acted_behind w x (leads d)
 led w x c d e = ap leads e
 
-act_behind : (w : Watch) (x : Effect) (command : Command) (c : Course) (t : ℕ) → Follows w x c → act command (behind w x c) t ≡ result_behind w x (act command c t)
-act_behind w x (Start name version) c t p =
-    unless_behind w x (start_refusal (behind w x c) version) (start_refusal c version) (leads (start (behind w x c) t version)) (leads (start c t version))
-    (by_watch w x (λ d. start_refusal (behind w x d) version ≡ start_refusal d version) (λ s xs. refl) c p)
-    (led w x (start (behind w x c) t version) (start c t version) (enter_behind w x (tell (begun c version) t (Started version)) (started_at c.stand version) t p))
-act_behind w x (Promote name) c t p =
+act_behind : (known : Templates) (w : Watch) (x : Effect) (command : Command) (c : Course) (t : ℕ) → Follows w x c → act known command (behind w x c) t ≡ result_behind w x (act known command c t)
+act_behind known w x (Start name version) c t p =
+    unless_behind w x (start_refusal known (behind w x c) version) (start_refusal known c version) (leads (start known (behind w x c) t version)) (leads (start known c t version))
+    (by_watch w x (λ d. start_refusal known (behind w x d) version ≡ start_refusal known d version) (λ s xs. refl) c p)
+    (led w x (start known (behind w x c) t version) (start known c t version) (enter_behind w x (tell (begun known c version) t (Started version)) (started_at c.stand version) t p))
+act_behind known w x (Promote name) c t p =
     unless_behind w x (promote_refusal c.stand) (promote_refusal c.stand) (leads (promote (behind w x c) t)) (leads (promote c t)) refl
     (led w x (promote (behind w x c) t) (promote c t) (enter_behind w x (tell (with_stand c (without_holds c.stand)) t Promoted) (promoted_to c.stand) t p))
-act_behind w x (PromoteFull name) c t p =
+act_behind known w x (PromoteFull name) c t p =
     unless_behind w x (progress_refusal c.stand) (progress_refusal c.stand) (leads (promote_full (behind w x c) t)) (leads (promote_full c t)) refl
     (led w x (promote_full (behind w x c) t) (promote_full c t) (enter_behind w x (tell c t PromotedFull) (length c.stand.strategy.steps) t p))
-act_behind w x (Abort name) c t p =
+act_behind known w x (Abort name) c t p =
     unless_behind w x (progress_refusal c.stand) (progress_refusal c.stand) (leads (abort_by_command (behind w x c) t)) (leads (abort_by_command c t)) refl
     (led w x (abort_by_command (behind w x c) t) (abort_by_command c t) (abort_behind w x (tell c t AbortLine) t p))
-act_behind w x (Retry name) c t p =
-    unless_behind w x (retry_refusal (behind w x c)) (retry_refusal c) (leads (retry (behind w x c) t)) (leads (retry c t))
-    (by_watch w x (λ d. retry_refusal (behind w x d) ≡ retry_refusal d) (λ s xs. refl) c p)
-    (led w x (retry (behind w x c) t) (retry c t) (enter_behind w x (tell (begun c c.stand.version) t (Retried c.stand.version)) 0 t p))
-act_behind w x (Tick name) c t p = refl
-act_behind w x (Report report) c t p =
+act_behind known w x (Retry name) c t p =
+    unless_behind w x (retry_refusal known (behind w x c)) (retry_refusal known c) (leads (retry known (behind w x c) t)) (leads (retry known c t))
+    (by_watch w x (λ d. retry_refusal known (behind w x d) ≡ retry_refusal known d) (λ s xs. refl) c p)
+    (led w x (retry known (behind w x c) t) (retry known c t) (enter_behind w x (tell (begun known c c.stand.version) t (Retried c.stand.version)) 0 t p))
+act_behind known w x (Tick name) c t p = refl
+act_behind known w x (Report report) c t p =
     let found : open_run_now (behind w x c) report.run ≡ open_run_now c report.run = ap (λ (k : Runs). find (has_number report.run) k.open_runs) (runs_behind w x c p) in
     let refused : report_refusal (behind w x c) t report.run report.entries (open_run_now c report.run) ≡ report_refusal c t report.run report.entries (open_run_now c report.run) =
     by_watch w x (λ d. report_refusal (behind w x d) t report.run report.entries (open_run_now c report.run) ≡ report_refusal d t report.run report.entries (open_run_now c report.run)) (λ s xs. refl) c p in
@@ -186,17 +187,17 @@ act_behind w x (Report report) c t p =
     (reports_if (behind w x c) (open_run_now (behind w x c) report.run) report.entries t) (reports_if c (open_run_now c report.run) report.entries t)
     (ap (report_refusal (behind w x c) t report.run report.entries) found ∙ refused)
     (ap (λ o. reports_if (behind w x c) o report.entries t) found ∙ reports_behind w x c (open_run_now c report.run) report.entries t p)
-act_behind w x (Service spec) c t p = refl
-act_behind w x (Template spec) c t p = refl
+act_behind known w x (Service spec) c t p = refl
+act_behind known w x (Template spec) c t p = refl
 
 passed_on_behind : (w : Watch) (x : Effect) (c : Course) (r : Result Acted Refusal) (t : ℕ) → Follows w x c → KeepsIf c r → passed_on (result_behind w x r) t ≡ result_behind w x (passed_on r t)
 passed_on_behind w x c (Ok a) t p k = λ i. Ok (record a { course = pass_behind w x a.course t (k ∙ p) i })
 passed_on_behind w x c (Err refusal) t p k = refl
 
-pub act_passed_behind : (w : Watch) (x : Effect) (command : Command) (c : Course) (now : ℕ) → Follows w x c → act_passed command (behind w x c) now ≡ result_behind w x (act_passed command c now)
-act_passed_behind w x command c now p =
+pub act_passed_behind : (known : Templates) (w : Watch) (x : Effect) (command : Command) (c : Course) (now : ℕ) → Follows w x c → act_passed known command (behind w x c) now ≡ result_behind w x (act_passed known command c now)
+act_passed_behind known w x command c now p =
     let t = judged_at c.stand now in
     let q : Follows w x (pass c now) = passed c now ∙ p in
-    ap (λ (d : Course). passed_on (act command d t) t) (pass_behind w x c now p)
-    ∙ ap (λ (r : Result Acted Refusal). passed_on r t) (act_behind w x command (pass c now) t q)
-    ∙ passed_on_behind w x (pass c now) (act command (pass c now) t) t q (acted command (pass c now) t)
+    ap (λ (d : Course). passed_on (act known command d t) t) (pass_behind w x c now p)
+    ∙ ap (λ (r : Result Acted Refusal). passed_on r t) (act_behind known w x command (pass c now) t q)
+    ∙ passed_on_behind w x (pass c now) (act known command (pass c now) t) t q (acted known command (pass c now) t)

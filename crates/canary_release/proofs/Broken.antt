@@ -27,22 +27,23 @@ four_groups ps qs rs ts =
     list_any-append (λ (b : Bool). b) ps (qs ++ (rs ++ ts))
     ∙ ap (λ x. some_of ps || x) (list_any-append (λ (b : Bool). b) qs (rs ++ ts) ∙ ap (λ x. some_of qs || x) (list_any-append (λ (b : Bool). b) rs ts))
 
-pub some_of_six : (a b c d e f : Bool) → some_of (a ∷ b ∷ c ∷ d ∷ e ∷ f ∷ []) ≡ ((a || (b || (c || (d || e)))) || f)
-some_of_six true b c d e f = refl
-some_of_six false true c d e f = refl
-some_of_six false false true d e f = refl
-some_of_six false false false true e f = refl
-some_of_six false false false false true f = refl
-some_of_six false false false false false true = refl
-some_of_six false false false false false false = refl
+pub some_of_seven : (a b c d e f g : Bool) → some_of (a ∷ b ∷ c ∷ d ∷ e ∷ f ∷ g ∷ []) ≡ ((a || (b || (c || (d || e)))) || (f || g))
+some_of_seven true b c d e f g = refl
+some_of_seven false true c d e f g = refl
+some_of_seven false false true d e f g = refl
+some_of_seven false false false true e f g = refl
+some_of_seven false false false false true f g = refl
+some_of_seven false false false false false true g = refl
+some_of_seven false false false false false false true = refl
+some_of_seven false false false false false false false = refl
 
--- the eighteen causes, in the groups in which they are asked
-pub in_groups : (a1 a2 a3 a4 b1 b2 b3 b4 c1 c2 c3 c4 d1 d2 d3 d4 d5 e : Bool) → some_of (a1 ∷ a2 ∷ a3 ∷ a4 ∷ b1 ∷ b2 ∷ b3 ∷ b4 ∷ c1 ∷ c2 ∷ c3 ∷ c4 ∷ d1 ∷ d2 ∷ d3 ∷ d4 ∷ d5 ∷ e ∷ []) ≡ ((a1 || (a2 || (a3 || a4))) || ((c1 || (c2 || (c3 || c4))) || ((b1 || (b2 || (b3 || b4))) || ((d1 || (d2 || (d3 || (d4 || d5)))) || e))))
-in_groups a1 a2 a3 a4 b1 b2 b3 b4 c1 c2 c3 c4 d1 d2 d3 d4 d5 e =
-    let last = some_of (d1 ∷ d2 ∷ d3 ∷ d4 ∷ d5 ∷ e ∷ []) in
-    four_groups (a1 ∷ a2 ∷ a3 ∷ a4 ∷ []) (b1 ∷ b2 ∷ b3 ∷ b4 ∷ []) (c1 ∷ c2 ∷ c3 ∷ c4 ∷ []) (d1 ∷ d2 ∷ d3 ∷ d4 ∷ d5 ∷ e ∷ [])
+-- the nineteen causes, in the groups in which they are asked
+pub in_groups : (a1 a2 a3 a4 b1 b2 b3 b4 c1 c2 c3 c4 d1 d2 d3 d4 d5 e1 e2 : Bool) → some_of (a1 ∷ a2 ∷ a3 ∷ a4 ∷ b1 ∷ b2 ∷ b3 ∷ b4 ∷ c1 ∷ c2 ∷ c3 ∷ c4 ∷ d1 ∷ d2 ∷ d3 ∷ d4 ∷ d5 ∷ e1 ∷ e2 ∷ []) ≡ ((a1 || (a2 || (a3 || a4))) || ((c1 || (c2 || (c3 || c4))) || ((b1 || (b2 || (b3 || b4))) || ((d1 || (d2 || (d3 || (d4 || d5)))) || (e1 || e2)))))
+in_groups a1 a2 a3 a4 b1 b2 b3 b4 c1 c2 c3 c4 d1 d2 d3 d4 d5 e1 e2 =
+    let last = some_of (d1 ∷ d2 ∷ d3 ∷ d4 ∷ d5 ∷ e1 ∷ e2 ∷ []) in
+    four_groups (a1 ∷ a2 ∷ a3 ∷ a4 ∷ []) (b1 ∷ b2 ∷ b3 ∷ b4 ∷ []) (c1 ∷ c2 ∷ c3 ∷ c4 ∷ []) (d1 ∷ d2 ∷ d3 ∷ d4 ∷ d5 ∷ e1 ∷ e2 ∷ [])
     ∙ ap (λ x. x || (some_of (b1 ∷ b2 ∷ b3 ∷ b4 ∷ []) || (some_of (c1 ∷ c2 ∷ c3 ∷ c4 ∷ []) || last))) (some_of_four a1 a2 a3 a4)
     ∙ ap (λ x. (a1 || (a2 || (a3 || a4))) || (x || (some_of (c1 ∷ c2 ∷ c3 ∷ c4 ∷ []) || last))) (some_of_four b1 b2 b3 b4)
     ∙ ap (λ x. (a1 || (a2 || (a3 || a4))) || ((b1 || (b2 || (b3 || b4))) || (x || last))) (some_of_four c1 c2 c3 c4)
-    ∙ ap (λ x. (a1 || (a2 || (a3 || a4))) || ((b1 || (b2 || (b3 || b4))) || ((c1 || (c2 || (c3 || c4))) || x))) (some_of_six d1 d2 d3 d4 d5 e)
-    ∙ later_first (a1 || (a2 || (a3 || a4))) (b1 || (b2 || (b3 || b4))) (c1 || (c2 || (c3 || c4))) ((d1 || (d2 || (d3 || (d4 || d5)))) || e)
+    ∙ ap (λ x. (a1 || (a2 || (a3 || a4))) || ((b1 || (b2 || (b3 || b4))) || ((c1 || (c2 || (c3 || c4))) || x))) (some_of_seven d1 d2 d3 d4 d5 e1 e2)
+    ∙ later_first (a1 || (a2 || (a3 || a4))) (b1 || (b2 || (b3 || b4))) (c1 || (c2 || (c3 || c4))) ((d1 || (d2 || (d3 || (d4 || d5)))) || (e1 || e2))

@@ -1,7 +1,7 @@
 -- The machine keeps a desk in order.
-use Rattle.std.proofs.Common.{◌≡◌, ℕ, zero, suc, List, [], ◌∷◌, Bool, true, false, refl, ap, sym, ◌∙◌, subst}
-use Rattle.std.specs.Prelude.{◌||◌, ◌&&◌, ◌-◌, not, length, filter, is_none, slice_get, cond, nat_lt, IsTrue, Option, Some, None, option_map, Result, Ok, Err}
-use Rattle.std.specs.List.{AllByRecursion, list_any}
+use Rattle.std.proofs.Common.{◌≡◌, ℕ, zero, suc, ◌+◌, List, [], ◌∷◌, ◌++◌, length-append, Bool, true, false, refl, ap, sym, ◌∙◌, subst}
+use Rattle.std.specs.Prelude.{◌||◌, ◌&&◌, ◌-◌, not, length, filter, is_none, slice_get, cond, nat_lt, nat_le, unwrap_or, IsTrue, Option, Some, None, option_map, Result, Ok, Err}
+use Rattle.std.specs.List.{AllByRecursion, list_any, last_or}
 use Rattle.std.specs.Ordering.{nat_cmp}
 use Rattle.std.specs.Cmp.Lexicographic.{slice_cmp, nat_list_cmp_total}
 use Rattle.std.specs.Str.{bytes_eq}
@@ -17,8 +17,9 @@ use Rattle.canary_plan.specs.declared.strategy.CheckedStrategy.{CheckedStrategy}
 use Rattle.canary_plan.specs.declared.command.Command.{Command}
 use Rattle.canary_plan.specs.declared.command.Command.TheVariants.{Template as AddTemplate, Service as AddService, Start, Promote, PromoteFull, Abort, Retry, Tick, Report}
 use Rattle.canary_plan.specs.declared.refusal.Refusal.{Refusal}
-use Rattle.canary_plan.specs.declared.bound.BoundParts.{BoundParts}
-use Rattle.canary_plan.specs.Plans.{Templates, is_accepted, bound_of, are_fit}
+use Rattle.canary_plan.specs.Plans.{Templates, template_of, bound_of, analysis_at, is_accepted, are_fit}
+use Rattle.canary_plan.specs.Refusals.{first_that_holds}
+use Rattle.canary_plan.specs.declared.refusal.Refusal.TheVariants.{RevisionsSpent}
 use Rattle.canary_plan.specs.PlanRefusals.{template_refusal, strategy_refusal}
 use Rattle.canary_plan.specs.Commands.{subject_of}
 use Rattle.canary_release.specs.declared.runs.OpenRun.{OpenRun}
@@ -29,23 +30,24 @@ use Rattle.canary_release.specs.Watching.{after_all}
 use Rattle.canary_release.specs.Services.{is_going, is_held}
 use Rattle.canary_release.specs.Courses.{Course, Watch, course_from, runs_now, has_number}
 use Rattle.canary_release.specs.Commands.{Acted, unless, leads}
-use Rattle.canary_release.specs.Desks.{ModelService, Desk, no_desk, Change, course_of, watch_of, rules, act_passed, act_new, new_service, adds_unless, rule_template, rule_service, ruling, ruling_on, after, desk_after, apply}
+use Rattle.canary_release.specs.Desks.{ModelService, Desk, no_desk, Change, course_of, watch_of, rules, act_passed, act_new, new_service, RevisionMap, revisions_of, newest, with_revision, newest_number, revision_refusal, adds_unless, rule_service, ruling, ruling_on, after, desk_after, apply}
 use Rattle.canary_release.specs.Desks.Change.{Nothing, Adds, Becomes}
 use Rattle.canary_release.specs.Shapes.{kept_course, kept_after, shape}
-use Rattle.canary_release.specs.Parts.{runs_wanted, is_misplaced, is_misnumbered, repeats_number, has_wrong_tallies, is_background_run, is_step_run, has_background_run, is_astray, is_judged, is_misbound, is_broken}
-use Rattle.canary_release.specs.Passing.{next_move, is_by}
-use Rattle.canary_release.specs.PartsLaws.{ActingKeepsParts, NewPartsAreUnbroken}
+use Rattle.canary_release.specs.Parts.{runs_wanted, is_misplaced, is_misnumbered, repeats_number, has_wrong_tallies, is_misbound, has_other_revisions, is_background_run, is_step_run, has_background_run, is_astray, is_judged, is_broken}
+use Rattle.canary_release.specs.Passing.{next_move, is_by, pass}
+use Rattle.canary_release.specs.PartsLaws.{PassingKeepsParts, ActingKeepsParts, NewPartsAreUnbroken}
 use Rattle.canary_release.specs.Laws.{WatchesAlike}
-use Rattle.canary_release.specs.Order.{IsRun, IsInOrder, IsTemplate, AreInOrder, StayInOrder}
+use Rattle.canary_release.specs.Order.{IsRun, IsInOrder, IsTemplate, AreRevisions, IsInRevisions, AreInOrder, StayInOrder}
 use Rattle.canary_release.proofs.Alike.{one_watch}
-use Rattle.canary_release.proofs.OrderingBasics.{neither, each, none_passes, some_same}
-use Rattle.canary_release.specs.Effects.{AreAllowed}
+use Rattle.canary_release.proofs.BoundAfter.{binds}
+use Rattle.canary_release.proofs.OrderingBasics.{both_none, neither, each, none_passes, some_same}
+use Rattle.canary_release.specs.Effects.{AreAllowed, bound_after}
 use Rattle.canary_release.proofs.OrderingAllowed.{IsNumbered, AreDistinct, IsAtMost, IsFollowing}
-use Rattle.canary_release.proofs.PartsKept.{fit_of}
-use Rattle.canary_release.proofs.PartsFresh.{Basis, Accepted, basis, accepted as accepted_basis}
 use Rattle.canary_release.proofs.OrderingReports.{follows}
 use Rattle.canary_release.proofs.OrderingPasts.{HasLists, IsOrdered, ordered_after_all}
-use Rattle.canary_release.proofs.OrderingTemplates.{KeepsKnown, AreBound, stays_same, strategy_accepted, all_fit}
+use Rattle.canary_release.proofs.OrderingTemplates.{AllBound, Extends, KnowsAll, restricted, same_known, still_bound, one_more_extends, knows_all, revision_bound, fit_in, stays_accepted, strategy_accepted}
+use Rattle.canary_release.proofs.PartsKept.{fit_of}
+use Rattle.canary_release.proofs.PartsPassing.{bound_going}
 
 -- What unbroken parts say of the open runs.
 
@@ -95,6 +97,7 @@ parts_say p e =
     ∷ list_any is_judged runs
     ∷ is_by stand.last (next_move stand)
     ∷ is_misbound stand
+    ∷ list_any (has_other_revisions stand) runs
     ∷ []
     ) in
     let within = no_cause 4 causes (list_any (is_misnumbered p.runs.count) runs) e refl in
@@ -104,100 +107,106 @@ parts_say p e =
 
 -- A service.
 
-to_lists : (s : ModelService) (rs : List Run) → AllByRecursion (IsRun s) rs → AllByRecursion (HasLists s.stand.bound s.past.measurements) rs
-to_lists s rs h = each (IsRun s) (HasLists s.stand.bound s.past.measurements) (λ r k. record { analysis = k.analysis; one_each = k.one_each; lists = k.lists }) rs h
+to_lists : (ts : RevisionMap) (s : ModelService) (rs : List Run) → AllByRecursion (IsRun ts s) rs → AllByRecursion (HasLists ts s.stand.strategy s.past.measurements) rs
+to_lists ts s rs h = each (IsRun ts s) (HasLists ts s.stand.strategy s.past.measurements) (λ r k. record { binding = k.binding; analysis = k.analysis; one_each = k.one_each; lists = k.lists }) rs h
 
-from_lists : (s : ModelService) (rs : List Run) → AllByRecursion (HasLists s.stand.bound s.past.measurements) rs → AllByRecursion (IsRun s) rs
-from_lists s rs h = each (HasLists s.stand.bound s.past.measurements) (IsRun s) (λ r k. record { analysis = k.analysis; one_each = k.one_each; lists = k.lists }) rs h
+from_lists : (ts : RevisionMap) (s : ModelService) (rs : List Run) → AllByRecursion (HasLists ts s.stand.strategy s.past.measurements) rs → AllByRecursion (IsRun ts s) rs
+from_lists ts s rs h = each (HasLists ts s.stand.strategy s.past.measurements) (IsRun ts s) (λ r k. record { binding = k.binding; analysis = k.analysis; one_each = k.one_each; lists = k.lists }) rs h
 
-pub past_ordered : (known : Templates) (name : List ℕ) (m : ModelService) → IsInOrder known name m → IsOrdered m.stand.bound m.past
-past_ordered known name m o = record { numbered = o.numbered; runs = to_lists m m.past.runs o.runs; measured = o.measured }
+pub past_ordered : (ts : RevisionMap) (name : List ℕ) (m : ModelService) → IsInOrder ts name m → IsOrdered ts m.stand.strategy m.past
+past_ordered ts name m o = record { numbered = o.numbered; runs = to_lists ts m m.past.runs o.runs; measured = o.measured }
 
 -- the change of a service that was found, and what came of it
-pub record HasBecome (known : Templates) (name : List ℕ) (m : ModelService) (command : Command) (c : Course) : Type 0 where
-  pub order : IsInOrder known name (after (Some m) c.stand c.effects)
-  pub following : IsFollowing m.stand (watched m.past) c
+pub record HasBecome (ts : RevisionMap) (name : List ℕ) (m : ModelService) (command : Command) (c : Course) : Type 0 where
+  pub order : IsInOrder ts name (after (Some m) c.stand c.effects)
+  pub following : IsFollowing ts m.stand (watched m.past) c
+  pub bound : c.stand.bound ≡ bound_after (newest ts) command (Some m) c.stand.strategy
 
-service_becomes : WatchesAlike → ActingKeepsParts → (known : Templates) → AreBound known → (name : List ℕ) (m : ModelService) (command : Command) (now : ℕ) (a : Acted) → IsInOrder known name m → act_passed command (course_of m) now ≡ Ok a → HasBecome known name m command a.course
-service_becomes alike acting known bound name m command now a o e =
+service_becomes : WatchesAlike → PassingKeepsParts → ActingKeepsParts → (ts : RevisionMap) → AllBound ts → (name : List ℕ) (m : ModelService) (command : Command) (now : ℕ) (a : Acted) → IsInOrder ts name m → act_passed (newest ts) command (course_of m) now ≡ Ok a → HasBecome ts name m command a.course
+service_becomes alike passing acting ts all name m command now a o e =
     let w : Runs = watched m.past in
-    let accepted : IsTrue (is_accepted m.stand.strategy) = subst (λ (st : CheckedStrategy). IsTrue (is_accepted st)) (sym o.strategy) (strategy_accepted known m.made o.accepted) in
-    let fit : IsTrue (are_fit m.stand.bound) = ap are_fit o.bound ∙ all_fit known bound m.stand.strategy in
-    let parts = fit_of (shape m) o.parts in
-    let basis_accepted : Accepted (basis m.stand) = accepted_basis m.stand accepted fit parts.3 in
+    let accepted : IsTrue (is_accepted m.stand.strategy) = subst (λ (st : CheckedStrategy). IsTrue (is_accepted st)) (sym o.strategy) (strategy_accepted (newest ts) m.made o.accepted) in
+    let fit : IsTrue (are_fit m.stand.bound) = fit_in ts m.stand all o.bound in
     let same : watch_of m.past ≡ after_all w = one_watch alike m.past w refl in
-    let kept : act_passed command (kept_course (shape m)) now ≡ Ok a = ap (λ (v : Watch). act_passed command (course_from m.stand v) now) (sym same) ∙ e in
-    let f0 : IsFollowing m.stand w (kept_course (shape m)) = record { same = refl; name = refl; watch = refl; allowed = tt } in
-    let f : IsFollowing m.stand w a.course = follows m.stand w basis_accepted (parts_say (shape m) o.parts).numbered command (kept_course (shape m)) now a f0 kept in
-    let unbroken : is_broken (kept_after a.course) ≡ false = (acting command (shape m) now a accepted fit o.parts kept).0 in
+    let kept : act_passed (newest ts) command (kept_course (shape m)) now ≡ Ok a = ap (λ (v : Watch). act_passed (newest ts) command (course_from m.stand v) now) (sym same) ∙ e in
+    let f0 : IsFollowing ts m.stand w (kept_course (shape m)) = record { strategy = refl; name = refl; watch = refl; bound = o.bound; wholly = λ g. (bound_going m.stand (fit_of (shape m) o.parts).0 g).0; allowed = tt } in
+    let idle = (fit_of (kept_after (pass (kept_course (shape m)) now)) (passing (shape m) now accepted fit o.parts)).0.idle in
+    let f : IsFollowing ts m.stand w a.course = follows ts m.stand w (parts_say (shape m) o.parts).numbered command (kept_course (shape m)) now a idle f0 kept in
+    let unbroken : is_broken (kept_after a.course) ≡ false = (acting (newest ts) command (shape m) now a accepted fit o.parts kept (fit_in ts a.course.stand all f.bound)).0 in
     let grown : Past = grows_by m.past a.course.effects in
     let now_watched : runs_now a.course ≡ watched grown = (λ i. f.watch i a.course.effects) ∙ sym (alike m.past a.course.effects) in
-    let strategy : a.course.stand.strategy ≡ m.stand.strategy = ap (λ (b : Basis). b.strategy) f.same in
-    let same_bound : a.course.stand.bound ≡ m.stand.bound = ap (λ (b : Basis). b.bound) f.same in
-    let ordered : IsOrdered a.course.stand.bound grown = subst (λ (b : BoundParts). IsOrdered b grown) (sym same_bound) (ordered_after_all alike m.stand.bound m.past a.course.effects f.allowed (past_ordered known name m o)) in
+    let ordered : IsOrdered ts a.course.stand.strategy grown = subst (λ (st : CheckedStrategy). IsOrdered ts st grown) (sym f.strategy) (ordered_after_all alike ts m.stand.strategy m.past a.course.effects f.allowed (past_ordered ts name m o)) in
     record {
       order =
           record {
             named = o.named;
             shown = f.name ∙ o.shown;
-            strategy = strategy ∙ o.strategy;
+            strategy = f.strategy ∙ o.strategy;
             accepted = o.accepted;
-            bound = same_bound ∙ o.bound ∙ ap (bound_of known) (sym strategy);
+            bound = f.bound;
             numbered = ordered.numbered;
-            runs = from_lists (after (Some m) a.course.stand a.course.effects) grown.runs ordered.runs;
+            runs = from_lists ts (after (Some m) a.course.stand a.course.effects) grown.runs ordered.runs;
             measured = ordered.measured;
             parts = ap (λ (v : Runs). is_broken (record { stand = a.course.stand; runs = v })) (sym now_watched) ∙ unbroken;
           };
       following = f;
+      bound = binds (newest ts) m command (course_of m) now a refl refl e ∙ ap (bound_after (newest ts) command (Some m)) (sym f.strategy);
     }
 
-service_begins : NewPartsAreUnbroken → (known : Templates) (spec : ServiceSpec) (now : ℕ) → strategy_refusal known spec ≡ None → IsInOrder known spec.name (after None (new_service known spec now).stand (new_service known spec now).effects)
-service_begins adding known spec now none =
+service_begins : NewPartsAreUnbroken → (ts : RevisionMap) (spec : ServiceSpec) (now : ℕ) → strategy_refusal (newest ts) spec ≡ None → IsInOrder ts spec.name (after None (new_service spec now).stand (new_service spec now).effects)
+service_begins adding ts spec now none =
     record {
       named = refl;
       shown = refl;
       strategy = refl;
       accepted = none;
-      bound = refl;
+      bound = record { binding = λ name. None; bound = refl };
       numbered = tt;
       runs = tt;
       measured = refl;
-      parts = adding known spec now none;
+      parts = adding spec now;
     }
 
 -- What a command brings, from the service of its name as it was found.
 
-abbrev pub OrderIf : Templates → List ℕ → Option ModelService → Type 0
-OrderIf known name None = Unit {0}
-OrderIf known name (Some m) = IsInOrder known name m
+abbrev pub OrderIf : RevisionMap → List ℕ → Option ModelService → Type 0
+OrderIf ts name None = Unit {0}
+OrderIf ts name (Some m) = IsInOrder ts name m
 
--- a new service has no runs, and what happened to it may happen
-pub record HasBegun (known : Templates) (name : List ℕ) (c : Course) : Type 0 where
-  pub order : IsInOrder known name (after None c.stand c.effects)
+-- a new service is bound as its command binds it, it has no runs, and what happened to it may
+-- happen
+pub record HasBegun (ts : RevisionMap) (command : Command) (c : Course) : Type 0 where
+  pub order : IsInOrder ts (subject_of command) (after None c.stand c.effects)
+  pub bound : c.stand.bound ≡ bound_after (newest ts) command None c.stand.strategy
   pub no_runs : (grows_by no_past c.effects).runs ≡ []
-  pub allowed : AreAllowed c.stand.bound (watched no_past) c.effects
+  pub allowed : AreAllowed ts c.stand.strategy (watched no_past) c.effects
 
-pub record HasAdded (known : Templates) (name : List ℕ) (t : Template) : Type 0 where
-  pub order : IsTemplate name t
-  pub new : known name ≡ None
+-- the next revision of a template, which has room
+pub record HasAdded (ts : RevisionMap) (name : List ℕ) (t : Template) : Type 0 where
+  pub order : IsTemplate name (newest_number (newest ts name) + 1) t
+  pub room : nat_le 1000000 (newest_number (newest ts name)) ≡ false
 
-abbrev pub HasCome : Templates → Option ModelService → Command → Change → Type 0
-HasCome known found command Nothing = Unit {0}
-HasCome known found command (Adds t) = HasAdded known (subject_of command) t
-HasCome known None command (Becomes c) = HasBegun known (subject_of command) c
-HasCome known (Some m) command (Becomes c) = HasBecome known (subject_of command) m command c
+abbrev pub HasCome : RevisionMap → Option ModelService → Command → Change → Type 0
+HasCome ts found command Nothing = Unit {0}
+HasCome ts found command (Adds t) = HasAdded ts (subject_of command) t
+HasCome ts None command (Becomes c) = HasBegun ts command c
+HasCome ts (Some m) command (Becomes c) = HasBecome ts (subject_of command) m command c
 
-module _ (alike : WatchesAlike) (acting : ActingKeepsParts) (adding : NewPartsAreUnbroken) (known : Templates) (bound : AreBound known) where
-  came_old : (m : ModelService) (command : Command) (now : ℕ) → IsInOrder known (subject_of command) m → (r : Result Acted Refusal) → act_passed command (course_of m) now ≡ r → HasCome known (Some m) command (rules r).change
-  came_old m command now o (Ok a) e = service_becomes alike acting known bound (subject_of command) m command now a o e
+no_more_rows : (b : Bool) → first_that_holds ((b, RevisionsSpent) ∷ []) ≡ None → b ≡ false
+no_more_rows true h = cc h
+no_more_rows false h = refl
+
+module _ (alike : WatchesAlike) (passing : PassingKeepsParts) (acting : ActingKeepsParts) (adding : NewPartsAreUnbroken) (ts : RevisionMap) (all : AllBound ts) where
+  came_old : (m : ModelService) (command : Command) (now : ℕ) → IsInOrder ts (subject_of command) m → (r : Result Acted Refusal) → act_passed (newest ts) command (course_of m) now ≡ r → HasCome ts (Some m) command (rules r).change
+  came_old m command now o (Ok a) e = service_becomes alike passing acting ts all (subject_of command) m command now a o e
   came_old m command now o (Err refusal) e = tt
 
-  came_new : (spec : ServiceSpec) (now : ℕ) (refusal : Option Refusal) → strategy_refusal known spec ≡ refusal → HasCome known None (AddService spec) (rules (unless refusal (leads (new_service known spec now)))).change
-  came_new spec now None e = record { order = service_begins adding known spec now e; no_runs = refl; allowed = (tt, tt) }
+  came_new : (spec : ServiceSpec) (now : ℕ) (refusal : Option Refusal) → strategy_refusal (newest ts) spec ≡ refusal → HasCome ts None (AddService spec) (rules (unless refusal (leads (new_service spec now)))).change
+  came_new spec now None e = record { order = service_begins adding ts spec now e; bound = refl; no_runs = refl; allowed = (tt, tt) }
   came_new spec now (Some refusal) e = tt
 
-  came_to_none : (command : Command) (now : ℕ) → HasCome known None command (rules (act_new known command now)).change
-  came_to_none (AddService spec) now = came_new spec now (strategy_refusal known spec) refl
+  came_to_none : (command : Command) (now : ℕ) → HasCome ts None command (rules (act_new (newest ts) command now)).change
+  came_to_none (AddService spec) now = came_new spec now (strategy_refusal (newest ts) spec) refl
   came_to_none (AddTemplate spec) now = tt
   came_to_none (Start name version) now = tt
   came_to_none (Promote name) now = tt
@@ -207,20 +216,19 @@ module _ (alike : WatchesAlike) (acting : ActingKeepsParts) (adding : NewPartsAr
   came_to_none (Tick name) now = tt
   came_to_none (Report report) now = tt
 
-  came_to_service : (found : Option ModelService) (now : ℕ) (command : Command) → OrderIf known (subject_of command) found → HasCome known found command (rule_service known (option_map course_of found) now command).change
+  came_to_service : (found : Option ModelService) (now : ℕ) (command : Command) → OrderIf ts (subject_of command) found → HasCome ts found command (rule_service (newest ts) (option_map course_of found) now command).change
   came_to_service None now command o = came_to_none command now
-  came_to_service (Some m) now command o = came_old m command now o (act_passed command (course_of m) now) refl
+  came_to_service (Some m) now command o = came_old m command now o (act_passed (newest ts) command (course_of m) now) refl
 
-  came_adds : (found : Option ModelService) (spec : TemplateSpec) (refusal : Option Refusal) → known spec.name ≡ None → template_refusal spec ≡ refusal → HasCome known found (AddTemplate spec) (adds_unless refusal spec).change
-  came_adds found spec None new e = record { order = record { named = refl; accepted = e; bound = refl }; new = new }
-  came_adds found spec (Some refusal) new e = tt
+  came_adds : (found : Option ModelService) (spec : TemplateSpec) (refusal : Option Refusal) → revision_refusal (newest_number (newest ts spec.name)) spec ≡ refusal → HasCome ts found (AddTemplate spec) (adds_unless refusal (template_of spec (newest_number (newest ts spec.name) + 1))).change
+  came_adds found spec None e =
+      let n = newest_number (newest ts spec.name) in
+      let h = both_none (template_refusal spec) (first_that_holds ((nat_le 1000000 n, RevisionsSpent) ∷ [])) e in
+      record { order = record { named = refl; accepted = h.0; bound = refl }; room = no_more_rows (nat_le 1000000 n) h.1 }
+  came_adds found spec (Some refusal) e = tt
 
-  came_template : (found : Option ModelService) (spec : TemplateSpec) (there : Option Template) → known spec.name ≡ there → HasCome known found (AddTemplate spec) (rule_template there spec).change
-  came_template found spec None e = came_adds found spec (template_refusal spec) e refl
-  came_template found spec (Some t) e = tt
-
-  pub came : (found : Option ModelService) (now : ℕ) (command : Command) → OrderIf known (subject_of command) found → HasCome known found command (ruling known (option_map course_of found) now command).change
-  came found now (AddTemplate spec) o = came_template found spec (known spec.name) refl
+  pub came : (found : Option ModelService) (now : ℕ) (command : Command) → OrderIf ts (subject_of command) found → HasCome ts found command (ruling (newest ts) (option_map course_of found) now command).change
+  came found now (AddTemplate spec) o = came_adds found spec (revision_refusal (newest_number (newest ts spec.name)) spec) refl
   came found now (AddService spec) o = came_to_service found now (AddService spec) o
   came found now (Start name version) o = came_to_service found now (Start name version) o
   came found now (Promote name) o = came_to_service found now (Promote name) o
@@ -244,80 +252,116 @@ found_inserted {A} P m name a new old q x e =
       | false ↦ λ b f. old q x f
     ] refl (sym (inserted m name a q) ∙ e)
 
--- a template of a new name leaves the others
-keeps_known : (m : FinMap (slice_cmp nat_cmp) Template) (name : List ℕ) (t : Template) → get m name ≡ None → KeepsKnown (get m) (get (insert m name t))
-keeps_known m name t new q u e =
-    inserted m name t q
-    ∙ elim (bytes_eq q name)
-    as (λ b. bytes_eq q name ≡ b → ◌≡◌ {A = Option Template} (cond b (Some t) (get m q)) (Some u)) [
-      | true ↦ λ b.
-          let gone : ◌≡◌ {A = Option Template} None (Some u) = sym new ∙ ap (get m) (sym ((bytes_eq-Decides q name).0 b)) ∙ e in
-          cc gone
-      | false ↦ λ b. e
-    ] refl
+run_kept : (ts other : RevisionMap) (s : ModelService) → Extends ts other → (r : Run) → IsRun ts s r → IsRun other s r
+run_kept ts other s more r h =
+    record {
+      binding = restricted ts h.binding;
+      analysis = ap (λ (known : Templates). analysis_at (bound_of known s.stand.strategy) r.step) (sym (same_known ts other h.binding more)) ∙ h.analysis;
+      one_each = h.one_each;
+      lists = h.lists;
+    }
 
-order_kept : (known other : Templates) (name : List ℕ) (s : ModelService) → KeepsKnown known other → IsInOrder known name s → IsInOrder other name s
-order_kept known other name s keeps o =
-    let same = stays_same known other s.made keeps o.accepted in
+order_kept : (ts other : RevisionMap) (name : List ℕ) (s : ModelService) → Extends ts other → KnowsAll (newest ts) (newest other) → IsInOrder ts name s → IsInOrder other name s
+order_kept ts other name s more knows o =
     record {
       named = o.named;
       shown = o.shown;
       strategy = o.strategy;
-      accepted = same.1;
-      bound = o.bound ∙ ap (bound_of known) o.strategy ∙ same.0 ∙ ap (bound_of other) (sym o.strategy);
+      accepted = stays_accepted (newest ts) (newest other) s.made knows o.accepted;
+      bound = still_bound ts other s.stand more o.bound;
       numbered = o.numbered;
-      runs = o.runs;
+      runs = each (IsRun ts s) (IsRun other s) (run_kept ts other s more) s.past.runs o.runs;
       measured = o.measured;
       parts = o.parts;
     }
 
-pub templates_bound : (desk : Desk) → AreInOrder desk → AreBound (get desk.templates)
-templates_bound desk o name t e = (o.templates name t e).bound
+-- a template's revisions in order, with the next one
+revisions_more : (name : List ℕ) (n : ℕ) (xs : List Template) (t : Template) → AreRevisions name n xs → IsTemplate name (n + length xs) t → AreRevisions name n (xs ++ t ∷ [])
+revisions_more name n [] t h k = (subst (λ m. IsTemplate name m t) (omega arith) k, tt)
+revisions_more name n (x ∷ xs) t h k = (h.0, revisions_more name (suc n) xs t h.1 (subst (λ m. IsTemplate name m t) (omega arith) k))
 
-pub order_of : (desk : Desk) → AreInOrder desk → (name : List ℕ) → OrderIf (get desk.templates) name (get desk.services name)
+-- the newest of revisions in order has the number of revisions
+newest_is : (name : List ℕ) (n : ℕ) (xs : List Template) (o : Option Template) → newest_number o + 1 ≡ n → AreRevisions name n xs → newest_number (last_or o xs) + 1 ≡ n + length xs
+newest_is name n [] o e h = e ∙ omega arith
+newest_is name n (x ∷ xs) o e h =
+    let is : x.revision ≡ n = ap (λ (t : Template). t.revision) h.0.bound in
+    newest_is name (suc n) xs (Some x) (omega (arith, is)) h.1 ∙ omega arith
+
+revisions_in_order : (desk : Desk) → AreInOrder desk → (name : List ℕ) → AreRevisions name 1 (revisions_of desk.templates name)
+revisions_in_order desk o name = by (get desk.templates name) refl
+  where
+    by : (found : Option (List Template)) → get desk.templates name ≡ found → AreRevisions name 1 (unwrap_or found [])
+    by None e = tt
+    by (Some xs) e = (o.templates name xs e).each
+
+pub all_bound : (desk : Desk) → AreInOrder desk → AllBound desk.templates
+all_bound desk o name k t e = revision_bound name 1 k (revisions_of desk.templates name) t (revisions_in_order desk o name) e
+
+pub order_of : (desk : Desk) → AreInOrder desk → (name : List ℕ) → OrderIf desk.templates name (get desk.services name)
 order_of desk o name = by (get desk.services name) refl
   where
-    by : (found : Option ModelService) → get desk.services name ≡ found → OrderIf (get desk.templates) name found
+    by : (found : Option ModelService) → get desk.services name ≡ found → OrderIf desk.templates name found
     by None e = tt
     by (Some s) e = o.services name s e
 
-becomes_order : (known : Templates) (found : Option ModelService) (command : Command) (c : Course) → HasCome known found command (Becomes c) → IsInOrder known (subject_of command) (after found c.stand c.effects)
-becomes_order known None command c h = h.order
-becomes_order known (Some m) command c h = h.order
+becomes_order : (ts : RevisionMap) (found : Option ModelService) (command : Command) (c : Course) → HasCome ts found command (Becomes c) → IsInOrder ts (subject_of command) (after found c.stand c.effects)
+becomes_order ts None command c h = h.order
+becomes_order ts (Some m) command c h = h.order
 
-order_after : (desk : Desk) (command : Command) (x : Change) → AreInOrder desk → HasCome (get desk.templates) (get desk.services (subject_of command)) command x → AreInOrder (desk_after desk command x)
+added_of : (desk : Desk) (command : Command) (t : Template) (found : Option ModelService) → HasCome desk.templates found command (Adds t) → HasAdded desk.templates (subject_of command) t
+added_of desk command t None h = h
+added_of desk command t (Some m) h = h
+
+-- how many revisions there are, by the number of the newest
+pub newest_counts : (desk : Desk) → AreInOrder desk → (name : List ℕ) → newest_number (newest desk.templates name) ≡ length (revisions_of desk.templates name)
+newest_counts desk o name =
+    let h : newest_number (newest desk.templates name) + 1 ≡ 1 + length (revisions_of desk.templates name) = newest_is name 1 (revisions_of desk.templates name) None refl (revisions_in_order desk o name) in
+    omega (arith, h)
+
+below : (n : ℕ) → nat_le 1000000 n ≡ false → n + 1 ≤ 1000000
+below n h = grind (arith, nat_tests, h)
+
+revisions_added : (desk : Desk) → AreInOrder desk → (name : List ℕ) (t : Template) → HasAdded desk.templates name t → IsInRevisions name (revisions_of desk.templates name ++ t ∷ [])
+revisions_added desk o name t h =
+    let xs = revisions_of desk.templates name in
+    let many : length (xs ++ t ∷ []) ≡ length xs + 1 = length-append xs (t ∷ []) in
+    let counts = newest_counts desk o name in
+    let few : newest_number (newest desk.templates name) + 1 ≤ 1000000 = below (newest_number (newest desk.templates name)) h.room in
+    record {
+      some = omega (arith, many);
+      most = omega (arith, many, counts, few);
+      each = revisions_more name 1 xs t (revisions_in_order desk o name) (subst (λ n. IsTemplate name n t) (omega (arith, counts)) h.order);
+    }
+
+order_after : (desk : Desk) (command : Command) (x : Change) → AreInOrder desk → HasCome desk.templates (get desk.services (subject_of command)) command x → AreInOrder (desk_after desk command x)
 order_after desk command Nothing o h = o
 order_after desk command (Adds t) o h =
     let name = subject_of command in
-    let added : HasAdded (get desk.templates) name t = added_of (get desk.services name) h in
+    let added : HasAdded desk.templates name t = added_of desk command t (get desk.services name) h in
     record {
-      templates = found_inserted IsTemplate desk.templates name t added.order o.templates;
-      services = λ q s e. order_kept (get desk.templates) (get (insert desk.templates name t)) q s (keeps_known desk.templates name t added.new) (o.services q s e);
+      templates = found_inserted IsInRevisions desk.templates name (revisions_of desk.templates name ++ t ∷ []) (revisions_added desk o name t added) o.templates;
+      services = λ q s e. order_kept desk.templates (with_revision desk.templates name t) q s (one_more_extends desk.templates name t) (knows_all desk.templates name t) (o.services q s e);
     }
-  where
-    added_of : (found : Option ModelService) → HasCome (get desk.templates) found command (Adds t) → HasAdded (get desk.templates) (subject_of command) t
-    added_of None h = h
-    added_of (Some m) h = h
 order_after desk command (Becomes c) o h =
     let name = subject_of command in
     record {
       templates = o.templates;
-      services = found_inserted (IsInOrder (get desk.templates)) desk.services name (after (get desk.services name) c.stand c.effects) (becomes_order (get desk.templates) (get desk.services name) command c h) o.services;
+      services = found_inserted (IsInOrder desk.templates) desk.services name (after (get desk.services name) c.stand c.effects) (becomes_order desk.templates (get desk.services name) command c h) o.services;
     }
 
-pub came_on : WatchesAlike → ActingKeepsParts → NewPartsAreUnbroken → (desk : Desk) (now : ℕ) (command : Command) → AreInOrder desk → HasCome (get desk.templates) (get desk.services (subject_of command)) command (ruling_on desk now command).change
-came_on alike acting adding desk now command o = came alike acting adding (get desk.templates) (templates_bound desk o) (get desk.services (subject_of command)) now command (order_of desk o (subject_of command))
+pub came_on : WatchesAlike → PassingKeepsParts → ActingKeepsParts → NewPartsAreUnbroken → (desk : Desk) (now : ℕ) (command : Command) → AreInOrder desk → HasCome desk.templates (get desk.services (subject_of command)) command (ruling_on desk now command).change
+came_on alike passing acting adding desk now command o = came alike passing acting adding desk.templates (all_bound desk o) (get desk.services (subject_of command)) now command (order_of desk o (subject_of command))
 
-pub order_applied : WatchesAlike → ActingKeepsParts → NewPartsAreUnbroken → (desk : Desk) (now : ℕ) (command : Command) → AreInOrder desk → AreInOrder (apply desk now command).desk
-order_applied alike acting adding desk now command o = order_after desk command (ruling_on desk now command).change o (came_on alike acting adding desk now command o)
+pub order_applied : WatchesAlike → PassingKeepsParts → ActingKeepsParts → NewPartsAreUnbroken → (desk : Desk) (now : ℕ) (command : Command) → AreInOrder desk → AreInOrder (apply desk now command).desk
+order_applied alike passing acting adding desk now command o = order_after desk command (ruling_on desk now command).change o (came_on alike passing acting adding desk now command o)
 
-pub stay_in_order : WatchesAlike → ActingKeepsParts → NewPartsAreUnbroken → StayInOrder
-stay_in_order alike acting adding desk [] o = o
-stay_in_order alike acting adding desk (x ∷ xs) o = stay_in_order alike acting adding (apply desk x.0 x.1).desk xs (order_applied alike acting adding desk x.0 x.1 o)
+pub stay_in_order : WatchesAlike → PassingKeepsParts → ActingKeepsParts → NewPartsAreUnbroken → StayInOrder
+stay_in_order alike passing acting adding desk [] o = o
+stay_in_order alike passing acting adding desk (x ∷ xs) o = stay_in_order alike passing acting adding (apply desk x.0 x.1).desk xs (order_applied alike passing acting adding desk x.0 x.1 o)
 
 pub no_desk_in_order : AreInOrder no_desk
 no_desk_in_order =
     record {
-      templates = λ q t e. let gone : ◌≡◌ {A = Option Template} None (Some t) = sym (get-empty (slice_cmp nat_cmp) q) ∙ e in cc gone;
+      templates = λ q t e. let gone : ◌≡◌ {A = Option (List Template)} None (Some t) = sym (get-empty (slice_cmp nat_cmp) q) ∙ e in cc gone;
       services = λ q s e. let gone : ◌≡◌ {A = Option ModelService} None (Some s) = sym (get-empty (slice_cmp nat_cmp) q) ∙ e in cc gone;
     }

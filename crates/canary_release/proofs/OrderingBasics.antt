@@ -1,14 +1,14 @@
 -- Small facts on numbers, tests, lists and phases, of which the proofs on order and soundness make use.
 use Rattle.std.proofs.Common.{◌≡◌, ℕ, List, [], ◌∷◌, ◌++◌, Bool, true, false, refl, ap, sym, ◌∙◌, true≢false, eqb-true, eq-eqb, arith}
 use Rattle.std.proofs.lemmas.Bool.Decides.{nat_tests}
-use Rattle.std.specs.Prelude.{None, ◌==◌, ◌||◌, nat_lt, cond, if◌then◌else◌, Option, Some, option_map, map, filter, fold}
-use Rattle.std.specs.List.{AllByRecursion, find, list_any}
+use Rattle.std.specs.Prelude.{None, ◌==◌, ◌||◌, not, nat_lt, cond, if◌then◌else◌, Option, Some, option_map, map, filter, fold}
+use Rattle.std.specs.List.{AllByRecursion, find, list_any, last_or}
 use Rattle.canary_condition.specs.declared.outcome.Phase.{Phase}
 use Rattle.canary_condition.specs.declared.outcome.Phase.TheVariants.{Pending, Running, Successful, Inconclusive, Error, Failed}
 use Rattle.canary_metric.specs.MetricPhases.{is_completed}
 use Rattle.canary_metric.specs.Verdicts.{badness, worst}
 use Rattle.canary_plan.specs.declared.refusal.Refusal.{Refusal}
-use Rattle.canary_plan.specs.Refusals.{first_that_holds}
+use Rattle.canary_plan.specs.Refusals.{first_that_holds, or_refusal}
 
 pub other_number : (a b : ℕ) → (a ≡ b → ⊥) → (a == b) ≡ false
 other_number a b differ =
@@ -23,6 +23,15 @@ not_same a b e same = true≢false (sym (eq-eqb a b same) ∙ e)
 
 pub some_same : {A : Type 0} (a b : A) → ◌≡◌ {A = Option A} (Some a) (Some b) → a ≡ b
 some_same a b h = cc h
+
+pub not_false : (b : Bool) → not b ≡ false → b ≡ true
+not_false true h = refl
+not_false false h = cc h
+
+-- the last of a list with one element more
+pub last_pushed : {A : Type 0} (o : Option A) (xs : List A) (x : A) → last_or o (xs ++ x ∷ []) ≡ Some x
+last_pushed o [] x = refl
+last_pushed o (y ∷ xs) x = last_pushed (Some y) xs x
 
 -- a test or another that fails
 pub neither : (a b : Bool) → (a || b) ≡ false → (a ≡ false) × (b ≡ false)
@@ -102,6 +111,11 @@ found_mapped test f same (x ∷ xs) =
 pub row_false : (b : Bool) (r : Refusal) (rows : List (Bool × Refusal)) → first_that_holds ((b, r) ∷ rows) ≡ None → (b ≡ false) × (first_that_holds rows ≡ None)
 row_false true r rows e = cc e
 row_false false r rows e = (refl, e)
+
+-- if neither of two refusals holds
+pub both_none : (a b : Option Refusal) → or_refusal a b ≡ None → (a ≡ None) × (b ≡ None)
+both_none None b e = (refl, e)
+both_none (Some r) b e = cc e
 
 none_below : (n : ℕ) → nat_lt n 0 ≡ true → ⊥
 none_below n h = grind (arith, nat_tests, h)

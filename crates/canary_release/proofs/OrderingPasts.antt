@@ -7,8 +7,9 @@ use Rattle.std.proofs.lemmas.Bool.Decides.{nat_tests}
 use Rattle.canary_metric.specs.declared.measurement.Measurement.{Measurement}
 use Rattle.canary_metric.specs.Metrics.{MetricValue}
 use Rattle.canary_metric.specs.Counts.{Counts, counts, size, number_with, is_error}
-use Rattle.canary_plan.specs.declared.bound.BoundParts.{BoundParts}
-use Rattle.canary_plan.specs.Plans.{analysis_at}
+use Rattle.canary_plan.specs.declared.strategy.CheckedStrategy.{CheckedStrategy}
+use Rattle.canary_plan.specs.Plans.{bound_of, analysis_at}
+use Rattle.canary_release.specs.Desks.{RevisionMap}
 use Rattle.canary_release.specs.declared.effect.Recorded.{Recorded}
 use Rattle.canary_release.specs.declared.effect.Closing.{Closing}
 use Rattle.canary_release.specs.declared.effect.Effect.{Effect}
@@ -19,20 +20,21 @@ use Rattle.canary_release.specs.Pasts.{Run, Past, change_at, opened_run, with_re
 use Rattle.canary_release.specs.Watching.{happens}
 use Rattle.canary_release.specs.Courses.{has_number}
 use Rattle.canary_release.specs.Laws.{WatchesAlike}
-use Rattle.canary_release.specs.Order.{AreNumbered, AreOrdered, is_of, AreLists, is_measured_by, is_of_some}
+use Rattle.canary_release.specs.Order.{known_by, AreNumbered, AreOrdered, is_of, AreLists, is_measured_by, is_of_some}
 use Rattle.canary_release.proofs.OrderingBasics.{other_number, not_same, some_same, each, each_both, each_and_more, each_mapped}
 use Rattle.canary_release.specs.Effects.{Allowed, AreAllowed}
 
 -- What is in order of a past, by itself.
 
-pub record HasLists (bound : BoundParts) (all : List Recorded) (r : Run) : Type 0 where
-  pub analysis : analysis_at bound r.step ≡ Some r.analysis
+pub record HasLists (ts : RevisionMap) (st : CheckedStrategy) (all : List Recorded) (r : Run) : Type 0 where
+  pub binding : List ℕ → Option ℕ
+  pub analysis : analysis_at (bound_of (known_by ts binding) st) r.step ≡ Some r.analysis
   pub one_each : length r.lists ≡ length r.analysis.metrics
   pub lists : AreLists all r.number 0 r.lists
 
-pub record IsOrdered (bound : BoundParts) (p : Past) : Type 0 where
+pub record IsOrdered (ts : RevisionMap) (st : CheckedStrategy) (p : Past) : Type 0 where
   pub numbered : AreNumbered 1 p.runs
-  pub runs : AllByRecursion (HasLists bound p.measurements) p.runs
+  pub runs : AllByRecursion (HasLists ts st p.measurements) p.runs
   pub measured : IsTrue (list_all (is_of_some p.runs) p.measurements)
 
 -- Numbers.
@@ -273,22 +275,23 @@ same_length k f [] = refl
 same_length zero f (x ∷ xs) = refl
 same_length (suc k) f (x ∷ xs) = ap suc (same_length k f xs)
 
-lists_more : (bound : BoundParts) (all : List Recorded) (x : Recorded) (w : OpenRun) (m : MetricValue) (t : Counts) → slice_get w.analysis.metrics x.metric ≡ Some m → slice_get w.tallies x.metric ≡ Some t → x.ordinal ≡ size t + 1 → size t + 1 ≤ 1000000 → (r : Run) → HasLists bound all r → IsThatRun x.run w r → HasLists bound (all ++ x ∷ []) (measured_in x r)
-lists_more bound all x w m t is_metric is_tally next room r h that =
+lists_more : (ts : RevisionMap) (st : CheckedStrategy) (all : List Recorded) (x : Recorded) (w : OpenRun) (m : MetricValue) (t : Counts) → slice_get w.analysis.metrics x.metric ≡ Some m → slice_get w.tallies x.metric ≡ Some t → x.ordinal ≡ size t + 1 → size t + 1 ≤ 1000000 → (r : Run) → HasLists ts st all r → IsThatRun x.run w r → HasLists ts st (all ++ x ∷ []) (measured_in x r)
+lists_more ts st all x w m t is_metric is_tally next room r h that =
     elim (r.number == x.run)
-    as (λ b. (r.number == x.run) ≡ b → HasLists bound (all ++ x ∷ []) (let q : Run = (if b then record r { lists = change_at x.metric (with_recorded x) r.lists } else r) in q)) [
+    as (λ b. (r.number == x.run) ≡ b → HasLists ts st (all ++ x ∷ []) (let q : Run = (if b then record r { lists = change_at x.metric (with_recorded x) r.lists } else r) in q)) [
       | true ↦ λ e.
           let number : r.number ≡ x.run = eqb-true r.number x.run e in
           let one : tallied r ≡ w = (that number).1 in
           let there : slice_get (map counts_of r.lists) x.metric ≡ Some t = ap (λ (q : OpenRun). slice_get q.tallies x.metric) one ∙ is_tally in
           record {
+            binding = h.binding;
             analysis = h.analysis;
             one_each = same_length x.metric (with_recorded x) r.lists ∙ h.one_each;
             lists = lists_measured all r.number 0 x.metric r.lists x t (sym number) (omega arith) there next room h.lists;
           }
       | false ↦ λ e.
           let other : (x.run == r.number) ≡ false = other_number x.run r.number (λ same. not_same r.number x.run e (sym same)) in
-          record { analysis = h.analysis; one_each = h.one_each; lists = lists_of_others all r.number 0 r.lists x other h.lists }
+          record { binding = h.binding; analysis = h.analysis; one_each = h.one_each; lists = lists_of_others all r.number 0 r.lists x other h.lists }
     ] refl
 
 measured_number : (x : Recorded) (r : Run) → (measured_in x r).number ≡ r.number
@@ -309,11 +312,11 @@ closed_number x r = elim (r.number == x.run) as (λ b. (let q : Run = (if b then
 closed_length : (x : Closing) (r : Run) → length (closed_in x r).lists ≡ length r.lists
 closed_length x r = elim (r.number == x.run) as (λ b. length (let q : Run = (if b then record r { closed = Some x } else r) in q).lists ≡ length r.lists) [ true ↦ refl | false ↦ refl ]
 
-lists_closed : (bound : BoundParts) (all : List Recorded) (x : Closing) (r : Run) → HasLists bound all r → HasLists bound all (closed_in x r)
-lists_closed bound all x r h =
+lists_closed : (ts : RevisionMap) (st : CheckedStrategy) (all : List Recorded) (x : Closing) (r : Run) → HasLists ts st all r → HasLists ts st all (closed_in x r)
+lists_closed ts st all x r h =
     elim (r.number == x.run)
-    as (λ b. HasLists bound all (let q : Run = (if b then record r { closed = Some x } else r) in q)) [
-      | true ↦ record { analysis = h.analysis; one_each = h.one_each; lists = h.lists }
+    as (λ b. HasLists ts st all (let q : Run = (if b then record r { closed = Some x } else r) in q)) [
+      | true ↦ record { binding = h.binding; analysis = h.analysis; one_each = h.one_each; lists = h.lists }
       | false ↦ h
     ]
 
@@ -330,22 +333,22 @@ has_place x w t is_tally q number one =
     let below : nat_lt x.metric (length q.lists) ≡ true = grind (arith, nat_tests, h, many) in
     λ i. eq-eqb x.run q.number (sym number) i && below i
 
-pub ordered_after : (bound : BoundParts) (p : Past) (x : Effect) → Allowed bound (watched p) x → IsOrdered bound p → IsOrdered bound (grows p x)
-ordered_after bound p (Told line) a o = record { numbered = o.numbered; runs = o.runs; measured = o.measured }
-ordered_after bound p (Opened x) a o =
+pub ordered_after : (ts : RevisionMap) (st : CheckedStrategy) (p : Past) (x : Effect) → Allowed ts st (watched p) x → IsOrdered ts st p → IsOrdered ts st (grows p x)
+ordered_after ts st p (Told line) a o = record { numbered = o.numbered; runs = o.runs; measured = o.measured }
+ordered_after ts st p (Opened x) a o =
     let number : x.run ≡ length p.runs + 1 = a.number in
     let all_below : AllByRecursion (λ (y : Recorded). y.run < x.run) p.measurements =
     each (IsOfRun p.runs) (λ (y : Recorded). y.run < x.run) (λ y e. let h : y.run < 1 + length p.runs = number_within 1 p.runs y o.numbered e in omega (arith, h, number)) p.measurements (all_true (is_of_some p.runs) p.measurements o.measured) in
-    let new : HasLists bound p.measurements (opened_run x) =
-    record { analysis = a.analysis; one_each = length-replicate (length x.analysis.metrics) []; lists = empty_lists p.measurements x.run 0 (length x.analysis.metrics) all_below } in
+    let new : HasLists ts st p.measurements (opened_run x) =
+    record { binding = a.binding; analysis = a.analysis; one_each = length-replicate (length x.analysis.metrics) []; lists = empty_lists p.measurements x.run 0 (length x.analysis.metrics) all_below } in
     record {
       numbered = numbered_and_more 1 p.runs (opened_run x) o.numbered (omega (arith, number));
-      runs = each_and_more (HasLists bound p.measurements) p.runs (opened_run x) o.runs new;
+      runs = each_and_more (HasLists ts st p.measurements) p.runs (opened_run x) o.runs new;
       measured =
           true_all (is_of_some (p.runs ++ opened_run x ∷ [])) p.measurements
           (each (IsOfRun p.runs) (IsOfRun (p.runs ++ opened_run x ∷ [])) (λ y e. any_more (is_measured_by y) p.runs (opened_run x) e) p.measurements (all_true (is_of_some p.runs) p.measurements o.measured));
     }
-ordered_after bound p (Measured x) a o =
+ordered_after ts st p (Measured x) a o =
     let all = p.measurements ++ x ∷ [] in
     let that = that_run x.run 1 p.runs a.run o.numbered a.found in
     let alike : (y : Recorded) → is_of_some (map (measured_in x) p.runs) y ≡ is_of_some p.runs y =
@@ -356,16 +359,16 @@ ordered_after bound p (Measured x) a o =
     record {
       numbered = same_numbered (measured_in x) (measured_number x) 1 p.runs o.numbered;
       runs =
-          each_mapped (λ (r : Run). HasLists bound all (measured_in x r)) (HasLists bound all) (measured_in x) (λ r k. k) p.runs
-          (each_both (HasLists bound p.measurements) (IsThatRun x.run a.run) (λ (r : Run). HasLists bound all (measured_in x r)) (lists_more bound p.measurements x a.run a.metric a.tally a.is_metric a.is_tally a.next a.room) p.runs o.runs that);
+          each_mapped (λ (r : Run). HasLists ts st all (measured_in x r)) (HasLists ts st all) (measured_in x) (λ r k. k) p.runs
+          (each_both (HasLists ts st p.measurements) (IsThatRun x.run a.run) (λ (r : Run). HasLists ts st all (measured_in x r)) (lists_more ts st p.measurements x a.run a.metric a.tally a.is_metric a.is_tally a.next a.room) p.runs o.runs that);
       measured = true_all (is_of_some (map (measured_in x) p.runs)) all (each_and_more (IsOfRun (map (measured_in x) p.runs)) p.measurements x old new);
     }
-ordered_after bound p (Closed x tallies) a o =
+ordered_after ts st p (Closed x tallies) a o =
     let alike : (y : Recorded) → is_of_some (map (closed_in x) p.runs) y ≡ is_of_some p.runs y =
     λ y. any_mapped (is_measured_by y) (is_measured_by y) (closed_in x) (λ r i. y.run == closed_number x r i && nat_lt y.metric (closed_length x r i)) p.runs in
     record {
       numbered = same_numbered (closed_in x) (closed_number x) 1 p.runs o.numbered;
-      runs = each_mapped (HasLists bound p.measurements) (HasLists bound p.measurements) (closed_in x) (lists_closed bound p.measurements x) p.runs o.runs;
+      runs = each_mapped (HasLists ts st p.measurements) (HasLists ts st p.measurements) (closed_in x) (lists_closed ts st p.measurements x) p.runs o.runs;
       measured =
           true_all (is_of_some (map (closed_in x) p.runs)) p.measurements
           (each (IsOfRun p.runs) (IsOfRun (map (closed_in x) p.runs)) (λ y e. alike y ∙ e) p.measurements (all_true (is_of_some p.runs) p.measurements o.measured));
@@ -375,6 +378,6 @@ ordered_after bound p (Closed x tallies) a o =
 pub watched_then : WatchesAlike → (p : Past) (x : Effect) → watched (grows p x) ≡ happens (watched p) x
 watched_then alike p x = alike p (x ∷ [])
 
-pub ordered_after_all : WatchesAlike → (bound : BoundParts) (p : Past) (xs : List Effect) → AreAllowed bound (watched p) xs → IsOrdered bound p → IsOrdered bound (grows_by p xs)
-ordered_after_all alike bound p [] h o = o
-ordered_after_all alike bound p (x ∷ xs) h o = ordered_after_all alike bound (grows p x) xs (subst (λ (w : Runs). AreAllowed bound w xs) (sym (watched_then alike p x)) h.1) (ordered_after bound p x h.0 o)
+pub ordered_after_all : WatchesAlike → (ts : RevisionMap) (st : CheckedStrategy) (p : Past) (xs : List Effect) → AreAllowed ts st (watched p) xs → IsOrdered ts st p → IsOrdered ts st (grows_by p xs)
+ordered_after_all alike ts st p [] h o = o
+ordered_after_all alike ts st p (x ∷ xs) h o = ordered_after_all alike ts st (grows p x) xs (subst (λ (w : Runs). AreAllowed ts st w xs) (sym (watched_then alike p x)) h.1) (ordered_after ts st p x h.0 o)

@@ -1,7 +1,7 @@
 -- Reports and all other commands bring allowed effects alone.
 use Rattle.std.proofs.Common.{◌≡◌, ℕ, zero, suc, ◌+◌, ◌≤◌, List, [], ◌∷◌, ◌++◌, length, Bool, true, false, refl, ap, sym, ◌∙◌, subst, arith, eqb-true, true≢false}
-use Rattle.std.specs.Prelude.{◌==◌, ◌||◌, nat_lt, nat_le, if◌then◌else◌, Option, Some, None, slice_get, option_map, Result, Ok, Err}
-use Rattle.std.specs.List.{find, list_any}
+use Rattle.std.specs.Prelude.{◌==◌, ◌||◌, nat_lt, nat_le, not, if◌then◌else◌, Option, Some, None, slice_get, option_map, Result, Ok, Err}
+use Rattle.std.specs.List.{find, list_any, last_or}
 use Rattle.std.specs.Str.{bytes_eq}
 use Rattle.std.proofs.lemmas.Slice.Eq.{bytes_eq-Decides}
 use Rattle.std.proofs.lemmas.Bool.Decides.{nat_tests}
@@ -9,13 +9,17 @@ use Rattle.canary_metric.specs.Metrics.{MetricValue}
 use Rattle.canary_metric.specs.Counts.{Counts, size}
 use Rattle.canary_metric.specs.MetricPhases.{phase_of_counts, is_completed, due_of_counts}
 use Rattle.canary_plan.specs.declared.report.Entry.{Entry}
+use Rattle.canary_plan.specs.declared.strategy.CheckedStrategy.{CheckedStrategy}
 use Rattle.canary_plan.specs.declared.command.Command.{Command}
 use Rattle.canary_plan.specs.declared.command.Command.TheVariants.{Template as AddTemplate, Service as AddService, Start, Promote, PromoteFull, Abort, Retry, Tick, Report}
 use Rattle.canary_plan.specs.declared.line.LineEvent.{LineEvent}
 use Rattle.canary_plan.specs.declared.line.LineEvent.TheVariants.{Started, Retried, Promoted, PromotedFull, Aborted as AbortLine}
 use Rattle.canary_plan.specs.declared.refusal.Refusal.{Refusal}
-use Rattle.canary_plan.specs.declared.refusal.Refusal.TheVariants.{RepeatedMetric, MetricClosed, AlreadyRecorded, OutOfTurn, Spent, Future, TooEarly}
-use Rattle.canary_plan.specs.Refusals.{or_refusal}
+use Rattle.canary_plan.specs.declared.refusal.Refusal.TheVariants.{RepeatedMetric, MetricClosed, AlreadyRecorded, OutOfTurn, Spent, Future, TooEarly, NotInProgress, NotPaused}
+use Rattle.canary_plan.specs.declared.template.Template.{Template}
+use Rattle.canary_plan.specs.Plans.{bound_of}
+use Rattle.canary_plan.specs.PlanRefusals.{bound_refusal}
+use Rattle.canary_plan.specs.Refusals.{first_that_holds, or_refusal}
 use Rattle.canary_release.specs.declared.effect.Recorded.{Recorded}
 use Rattle.canary_release.specs.declared.effect.Effect.TheVariants.{Measured}
 use Rattle.canary_release.specs.declared.runs.OpenRun.{OpenRun}
@@ -28,11 +32,15 @@ use Rattle.canary_release.specs.Courses.{Course, with_stand, happen, tell, runs_
 use Rattle.canary_release.specs.Entering.{without_holds}
 use Rattle.canary_release.specs.Passing.{pass, judged_at}
 use Rattle.canary_release.specs.Reports.{Place, place_from, place_of, names_metric, entry_refusal_at, entry_refusal, entries_refusal, report_refusal, recorded_at, recorded_if, brought, record_all, report_on}
-use Rattle.canary_release.specs.Commands.{Acted, unless, leads, reports, reports_if, start_refusal, retry_refusal, promote_refusal, progress_refusal, begun, begin, started_at, start, retry, promoted_to, promote, promote_full, abort_by_command, act}
-use Rattle.canary_release.specs.Desks.{passed_on, act_passed}
-use Rattle.canary_release.proofs.PartsFresh.{basis, Accepted}
-use Rattle.canary_release.proofs.OrderingBasics.{found_passes, found_mapped, some_same, neither, row_false}
-use Rattle.canary_release.proofs.OrderingAllowed.{IsNumbered, IsFollowing, counted_number, follows_on, now_after, stands_on}
+use Rattle.canary_release.specs.Commands.{Acted, unless, leads, reports, reports_if, is_progressing, start_refusal_at, retry_refusal_at, start_refusal, retry_refusal, promote_refusal, progress_refusal, begun, begin, started_at, start, retry, promoted_to, promote, promote_full, abort_by_command, act}
+use Rattle.canary_release.specs.Desks.{RevisionMap, revisions_of, newest, passed_on, act_passed}
+use Rattle.canary_release.specs.Services.{is_going, status}
+use Rattle.canary_release.specs.Order.{at_revision, known_by, IsBoundIn}
+use Rattle.canary_release.proofs.PartsBinding.{bound_where_not_refused}
+use Rattle.canary_release.proofs.PartsReports.{found_going}
+use Rattle.canary_release.proofs.Keeping.{recorded_stand}
+use Rattle.canary_release.proofs.OrderingBasics.{both_none, found_passes, found_mapped, some_same, neither, row_false}
+use Rattle.canary_release.proofs.OrderingAllowed.{IsNumbered, IsFollowing, counted_number, follows_on, now_after, stands_on, as_bound}
 use Rattle.canary_release.proofs.OrderingWalk.{told, entered, aborted, passed, assessed}
 
 -- Where an entry's measurement belongs.
@@ -113,10 +121,6 @@ good_entry started t before e p none =
     not_spent : (n : ℕ) → nat_le 1000000 n ≡ false → n + 1 ≤ 1000000
     not_spent n a = grind (arith, nat_tests, a)
 
-both_none : (a b : Option Refusal) → or_refusal a b ≡ None → (a ≡ None) × (b ≡ None)
-both_none None b e = (refl, e)
-both_none (Some r) b e = cc e
-
 -- The tallies of metrics that no entry before names are as they were.
 abbrev Untouched : List MetricValue → List Counts → List Entry → List Counts → Type 0
 Untouched ms ts before now = (k : ℕ) (m : MetricValue) → slice_get ms k ≡ Some m → list_any (names_metric m.name) before ≡ false → slice_get now k ≡ slice_get ts k
@@ -128,14 +132,33 @@ none_more name (b ∷ before) e h =
     let rest = none_more name before e one.1 in
     (ap (λ t. t || list_any (names_metric name) before) one.0 ∙ rest.0, rest.1)
 
-module _ (s : Stand) (w : Runs) (accepted : Accepted (basis s)) (numbered : IsNumbered w) where
+-- the newest revisions are revisions that there are
+last_at : (t : Template) (ts : List Template) → slice_get (t ∷ ts) (length ts) ≡ last_or (Some t) ts
+last_at t [] = refl
+last_at t (u ∷ ts) = last_at u ts
+
+newest_at : (ts : List Template) → at_revision ts (Some (length ts)) ≡ last_or None ts
+newest_at [] = refl
+newest_at (t ∷ ts) = last_at t ts
+
+pub newest_bound : (ts : RevisionMap) (st : CheckedStrategy) (d : Stand) → d.strategy ≡ st → d.bound ≡ bound_of (newest ts) st → IsBoundIn ts d
+newest_bound ts st d same bound =
+    let binding : List ℕ → Option ℕ = λ name. Some (length (revisions_of ts name)) in
+    let is : newest ts ≡ known_by ts binding = λ i name. sym (newest_at (revisions_of ts name)) i in
+    record { binding = binding; bound = bound ∙ (λ i. bound_of (is i) (sym same i)) }
+
+going_row : (g : Bool) (rows : List (Bool × Refusal)) → first_that_holds ((not g, NotInProgress) ∷ rows) ≡ None → g ≡ true
+going_row true rows h = refl
+going_row false rows h = cc h
+
+module _ (ts : RevisionMap) (s : Stand) (w : Runs) (numbered : IsNumbered w) where
   -- entries that aren't refused are recorded, one after another
-  recorded : (r : OpenRun) (t : ℕ) (before es : List Entry) (c : Course) (now : OpenRun) → IsFollowing s w c → open_run_now c r.number ≡ Some now → now.analysis ≡ r.analysis → Untouched r.analysis.metrics r.tallies before now.tallies → entries_refusal r.analysis.metrics r t before es ≡ None → IsFollowing s w (record_all c (brought r.analysis.metrics r es))
+  recorded : (r : OpenRun) (t : ℕ) (before es : List Entry) (c : Course) (now : OpenRun) → IsFollowing ts s w c → open_run_now c r.number ≡ Some now → now.analysis ≡ r.analysis → Untouched r.analysis.metrics r.tallies before now.tallies → entries_refusal r.analysis.metrics r t before es ≡ None → IsFollowing ts s w (record_all c (brought r.analysis.metrics r es))
   recorded r t before [] c now f found same untouched none = f
   recorded r t before (e ∷ es) c now f found same untouched none =
       let ms = r.analysis.metrics in
       elim (place_of ms r e)
-      as (λ o. place_of ms r e ≡ o → or_refusal (entry_refusal r.started t before e o) (entries_refusal ms r t (before ++ e ∷ []) es) ≡ None → IsFollowing s w (record_all c (recorded_if r e o ++ brought ms r es))) [
+      as (λ o. place_of ms r e ≡ o → or_refusal (entry_refusal r.started t before e o) (entries_refusal ms r t (before ++ e ∷ []) es) ≡ None → IsFollowing ts s w (record_all c (recorded_if r e o ++ brought ms r es))) [
         | None ↦ λ at h. cc h
         | Some p ↦ λ at h.
             let halves = both_none (entry_refusal_at r.started t before e p) (entries_refusal ms r t (before ++ e ∷ []) es) h in
@@ -148,10 +171,10 @@ module _ (s : Stand) (w : Runs) (accepted : Accepted (basis s)) (numbered : IsNu
             let unnamed : list_any (names_metric p.metric.name) before ≡ false = ap (λ (name : List ℕ). list_any (names_metric name) before) stands.named ∙ good.first in
             let is_metric : slice_get now.analysis.metrics p.place ≡ Some p.metric = (λ i. slice_get (same i).metrics (is_k i)) ∙ stands.metric in
             let is_tally : slice_get now.tallies p.place ≡ Some p.tally = ap (slice_get now.tallies) is_k ∙ untouched k p.metric stands.metric unnamed ∙ stands.tally in
-            let more : IsFollowing s w (happen c (Measured x)) =
-            follows_on s w c (Measured x) f (record { run = now; found = found; metric = p.metric; is_metric = is_metric; tally = p.tally; is_tally = is_tally; next = good.next; room = good.room; judged = refl }) in
+            let more : IsFollowing ts s w (happen c (Measured x)) =
+            follows_on ts s w c (Measured x) f (record { run = now; found = found; metric = p.metric; is_metric = is_metric; tally = p.tally; is_tally = is_tally; next = good.next; room = good.room; judged = refl }) in
             let after : open_run_now (happen c (Measured x)) r.number ≡ Some (counted_in x now) =
-            ap (λ (v : Runs). find (has_number r.number) v.open_runs) (now_after s w c (Measured x) f)
+            ap (λ (v : Runs). find (has_number r.number) v.open_runs) (now_after ts s w c (Measured x) f)
             ∙ found_mapped (has_number r.number) (counted_in x) (λ q. ap (λ n. n == r.number) (counted_number x q)) (runs_now c).open_runs
             ∙ ap (option_map (counted_in x)) found in
             let still : Untouched ms r.tallies (before ++ e ∷ []) (counted_in x now).tallies =
@@ -164,64 +187,70 @@ module _ (s : Stand) (w : Runs) (accepted : Accepted (basis s)) (numbered : IsNu
             recorded r t (before ++ e ∷ []) es (happen c (Measured x)) (counted_in x now) more after (counted_analysis x now ∙ same) still halves.1
       ] refl none
 
-  reported : (c : Course) (run : ℕ) (r : OpenRun) (es : List Entry) (t : ℕ) → IsFollowing s w c → open_run_now c run ≡ Some r → entries_refusal r.analysis.metrics r t [] es ≡ None → IsFollowing s w (report_on c r es t)
-  reported c run r es t f found none =
+  reported : (c : Course) (run : ℕ) (r : OpenRun) (es : List Entry) (t : ℕ) → is_going c.stand.state ≡ true → IsFollowing ts s w c → open_run_now c run ≡ Some r → entries_refusal r.analysis.metrics r t [] es ≡ None → IsFollowing ts s w (report_on c r es t)
+  reported c run r es t g f found none =
       let ms = r.analysis.metrics in
       let all : Course = record_all c (brought ms r es) in
       let number : r.number ≡ run = eqb-true r.number run (found_passes (has_number run) (runs_now c).open_runs r found) in
       let there : open_run_now c r.number ≡ Some r = ap (open_run_now c) number ∙ found in
-      let fa : IsFollowing s w all = recorded r t [] es c r f there refl (λ k m e h. refl) none in
-      assessed s w accepted numbered all r.number (open_run_now all r.number) t fa refl
+      let fa : IsFollowing ts s w all = recorded r t [] es c r f there refl (λ k m e h. refl) none in
+      let stands : all.stand ≡ c.stand = recorded_stand c (brought ms r es) in
+      assessed ts s w numbered all r.number (open_run_now all r.number) t (ap (λ (x : Stand). is_going x.state) stands ∙ g) fa refl
 
   -- where a command leads, if it isn't refused
   abbrev FollowsIf : Result Acted Refusal → Type 0
-  FollowsIf (Ok a) = IsFollowing s w a.course
+  FollowsIf (Ok a) = IsFollowing ts s w a.course
   FollowsIf (Err refusal) = Unit {0}
 
-  unless_follows : (refusal : Option Refusal) (a : Acted) → (refusal ≡ None → IsFollowing s w a.course) → FollowsIf (unless refusal a)
+  unless_follows : (refusal : Option Refusal) (a : Acted) → (refusal ≡ None → IsFollowing ts s w a.course) → FollowsIf (unless refusal a)
   unless_follows None a f = f refl
   unless_follows (Some refusal) a f = tt
 
-  report_follows : (c : Course) (run : ℕ) (o : Option OpenRun) (es : List Entry) (t : ℕ) → IsFollowing s w c → open_run_now c run ≡ o → FollowsIf (unless (report_refusal c t run es o) (reports_if c o es t))
-  report_follows c run None es t f e = tt
-  report_follows c run (Some r) es t f e = unless_follows (entries_refusal r.analysis.metrics r t [] es) (reports c r es t) (reported c run r es t f e)
+  report_follows : (c : Course) (run : ℕ) (o : Option OpenRun) (es : List Entry) (t : ℕ) → (is_going c.stand.state ≡ false → (runs_now c).open_runs ≡ []) → IsFollowing ts s w c → open_run_now c run ≡ o → FollowsIf (unless (report_refusal c t run es o) (reports_if c o es t))
+  report_follows c run None es t idle f e = tt
+  report_follows c run (Some r) es t idle f e = unless_follows (entries_refusal r.analysis.metrics r t [] es) (reports c r es t) (λ none. reported c run r es t (found_going (is_going c.stand.state) (has_number run) (runs_now c).open_runs r idle e) f e none)
 
-  begins : (c : Course) (t : ℕ) (version : List ℕ) (event : LineEvent) (i : ℕ) → IsFollowing s w c → IsFollowing s w (begin c t version event i)
-  begins c t version event i f =
-      let d : Course = begun c version in
-      entered s w accepted numbered (tell d t event) i t (told s w accepted numbered d t event (stands_on s w c (record (without_holds c.stand) { version = version; state = InProgress; background = false }) f refl refl))
+  begins : (c : Course) (t : ℕ) (version : List ℕ) (event : LineEvent) (i : ℕ) → bound_refusal (newest ts) c.stand.strategy ≡ None → IsFollowing ts s w c → IsFollowing ts s w (begin (newest ts) c t version event i)
+  begins c t version event i fine f =
+      let d : Course = begun (newest ts) c version in
+      let fd : IsFollowing ts s w d = stands_on ts s w c (record (without_holds c.stand) { bound = bound_of (newest ts) c.stand.strategy; version = version; state = InProgress; background = false }) f refl refl (newest_bound ts c.stand.strategy d.stand refl refl) (λ g. bound_where_not_refused (newest ts) c.stand fine) in
+      entered ts s w numbered (tell d t event) i t refl (told ts s w numbered d t event fd)
 
-  promotes : (c : Course) (t : ℕ) → IsFollowing s w c → IsFollowing s w (promote c t)
-  promotes c t f =
+  promotes : (c : Course) (t : ℕ) → is_going c.stand.state ≡ true → IsFollowing ts s w c → IsFollowing ts s w (promote c t)
+  promotes c t g f =
       let d : Course = with_stand c (without_holds c.stand) in
-      entered s w accepted numbered (tell d t Promoted) (promoted_to c.stand) t (told s w accepted numbered d t Promoted (stands_on s w c (without_holds c.stand) f refl refl))
+      entered ts s w numbered (tell d t Promoted) (promoted_to c.stand) t g (told ts s w numbered d t Promoted (stands_on ts s w c (without_holds c.stand) f refl refl (as_bound ts s w c (without_holds c.stand) f refl refl) f.wholly))
 
-  promotes_fully : (c : Course) (t : ℕ) → IsFollowing s w c → IsFollowing s w (promote_full c t)
-  promotes_fully c t f = entered s w accepted numbered (tell c t PromotedFull) (length c.stand.strategy.steps) t (told s w accepted numbered c t PromotedFull f)
+  promotes_fully : (c : Course) (t : ℕ) → is_going c.stand.state ≡ true → IsFollowing ts s w c → IsFollowing ts s w (promote_full c t)
+  promotes_fully c t g f = entered ts s w numbered (tell c t PromotedFull) (length c.stand.strategy.steps) t g (told ts s w numbered c t PromotedFull f)
 
-  aborts : (c : Course) (t : ℕ) → IsFollowing s w c → IsFollowing s w (abort_by_command c t)
-  aborts c t f = aborted s w accepted numbered (tell c t AbortLine) t (told s w accepted numbered c t AbortLine f)
+  aborts : (c : Course) (t : ℕ) → IsFollowing ts s w c → IsFollowing ts s w (abort_by_command c t)
+  aborts c t f = aborted ts s w numbered (tell c t AbortLine) t (told ts s w numbered c t AbortLine f)
 
-  acted : (command : Command) (c : Course) (t : ℕ) → IsFollowing s w c → FollowsIf (act command c t)
-  acted (Start name version) c t f = unless_follows (start_refusal c version) (leads (start c t version)) (λ e. begins c t version (Started version) (started_at c.stand version) f)
-  acted (Promote name) c t f = unless_follows (promote_refusal c.stand) (leads (promote c t)) (λ e. promotes c t f)
-  acted (PromoteFull name) c t f = unless_follows (progress_refusal c.stand) (leads (promote_full c t)) (λ e. promotes_fully c t f)
-  acted (Abort name) c t f = unless_follows (progress_refusal c.stand) (leads (abort_by_command c t)) (λ e. aborts c t f)
-  acted (Retry name) c t f = unless_follows (retry_refusal c) (leads (retry c t)) (λ e. begins c t c.stand.version (Retried c.stand.version) 0 f)
-  acted (Tick name) c t f = f
-  acted (Report report) c t f = report_follows c report.run (open_run_now c report.run) report.entries t f refl
-  acted (AddService spec) c t f = tt
-  acted (AddTemplate spec) c t f = tt
+  acted : (command : Command) (c : Course) (t : ℕ) → (is_going c.stand.state ≡ false → (runs_now c).open_runs ≡ []) → IsFollowing ts s w c → FollowsIf (act (newest ts) command c t)
+  acted (Start name version) c t idle f = unless_follows (start_refusal (newest ts) c version) (leads (start (newest ts) c t version)) (λ e. begins c t version (Started version) (started_at c.stand version) (both_none (bound_refusal (newest ts) c.stand.strategy) (start_refusal_at c version) e).0 f)
+  acted (Promote name) c t idle f = unless_follows (promote_refusal c.stand) (leads (promote c t)) (λ e. promotes c t (going_row (is_going c.stand.state) ((is_progressing (status c.stand), NotPaused) ∷ []) e) f)
+  acted (PromoteFull name) c t idle f = unless_follows (progress_refusal c.stand) (leads (promote_full c t)) (λ e. promotes_fully c t (going_row (is_going c.stand.state) [] e) f)
+  acted (Abort name) c t idle f = unless_follows (progress_refusal c.stand) (leads (abort_by_command c t)) (λ e. aborts c t f)
+  acted (Retry name) c t idle f = unless_follows (retry_refusal (newest ts) c) (leads (retry (newest ts) c t)) (λ e. begins c t c.stand.version (Retried c.stand.version) 0 (both_none (bound_refusal (newest ts) c.stand.strategy) (retry_refusal_at c) e).0 f)
+  acted (Tick name) c t idle f = f
+  acted (Report report) c t idle f = report_follows c report.run (open_run_now c report.run) report.entries t idle f refl
+  acted (AddService spec) c t idle f = tt
+  acted (AddTemplate spec) c t idle f = tt
 
   passed_after : (r : Result Acted Refusal) (t : ℕ) → FollowsIf r → FollowsIf (passed_on r t)
-  passed_after (Ok a) t f = passed s w accepted numbered a.course t f
+  passed_after (Ok a) t f = passed ts s w numbered a.course t f
   passed_after (Err refusal) t f = tt
 
-  acted_passed : (command : Command) (c : Course) (now : ℕ) → IsFollowing s w c → FollowsIf (act_passed command c now)
-  acted_passed command c now f =
+  -- no run is open of a service that is passed and not in progress
+  abbrev pub IsIdle : Course → Type 0
+  IsIdle c = is_going c.stand.state ≡ false → (runs_now c).open_runs ≡ []
+
+  acted_passed : (command : Command) (c : Course) (now : ℕ) → IsIdle (pass c now) → IsFollowing ts s w c → FollowsIf (act_passed (newest ts) command c now)
+  acted_passed command c now idle f =
       let t = judged_at c.stand now in
-      passed_after (act command (pass c now) t) t (acted command (pass c now) t (passed s w accepted numbered c now f))
+      passed_after (act (newest ts) command (pass c now) t) t (acted command (pass c now) t idle (passed ts s w numbered c now f))
 
   -- a command that isn't refused brings allowed effects alone
-  pub follows : (command : Command) (c : Course) (now : ℕ) (a : Acted) → IsFollowing s w c → act_passed command c now ≡ Ok a → IsFollowing s w a.course
-  follows command c now a f e = subst FollowsIf e (acted_passed command c now f)
+  pub follows : (command : Command) (c : Course) (now : ℕ) (a : Acted) → IsIdle (pass c now) → IsFollowing ts s w c → act_passed (newest ts) command c now ≡ Ok a → IsFollowing ts s w a.course
+  follows command c now a idle f e = subst FollowsIf e (acted_passed command c now idle f)

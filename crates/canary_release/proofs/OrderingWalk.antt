@@ -1,5 +1,5 @@
 -- Entering, passing and aborting bring allowed effects alone.
-use Rattle.std.proofs.Common.{◌≡◌, ℕ, zero, suc, ◌+◌, ◌-◌, List, [], ◌∷◌, length, Bool, true, false, refl, ap, sym, ◌∙◌, eqb-true, eq-eqb, true≢false, subst}
+use Rattle.std.proofs.Common.{◌≡◌, ℕ, zero, suc, ◌+◌, ◌-◌, List, [], ◌∷◌, length, Bool, true, false, refl, ap, sym, subst, ◌∙◌, eqb-true, eq-eqb, true≢false}
 use Rattle.std.specs.Prelude.{◌==◌, not, if◌then◌else◌, Option, Some, None, slice_get, unwrap_or, map, filter}
 use Rattle.std.specs.List.{AllByRecursion, find, zip}
 use Rattle.canary_condition.specs.declared.outcome.Phase.{Phase}
@@ -8,11 +8,19 @@ use Rattle.canary_metric.specs.MetricPhases.{is_completed}
 use Rattle.canary_metric.specs.Verdicts.{counted_phase, judging}
 use Rattle.canary_plan.specs.declared.step.Step.{Step}
 use Rattle.canary_plan.specs.declared.step.Step.TheVariants.{SetWeight, Pause, Analysis}
-use Rattle.canary_plan.specs.declared.analysis_parts.AnalysisParts.{AnalysisParts}
+use Rattle.canary_plan.specs.declared.service.Background.{Background}
 use Rattle.canary_plan.specs.declared.line.LineEvent.{LineEvent}
 use Rattle.canary_plan.specs.declared.line.LineEvent.TheVariants.{BackgroundOpened, AnalysisEntered, WeightEntered, PauseEntered, TimedPauseEntered, Finished, Completed, AbortedBy, BackgroundHeld, StepHeld, Ended}
+use Rattle.std.specs.Cmp.Lexicographic.{pointwise}
+use Rattle.canary_plan.specs.declared.analysis_parts.AnalysisParts.{AnalysisParts}
+use Rattle.canary_plan.specs.declared.bound.BoundParts.{BoundParts}
 use Rattle.canary_plan.specs.Fit.{no_analysis}
-use Rattle.canary_plan.specs.Plans.{analysis_at, analysis_or_none}
+use Rattle.canary_plan.specs.Plans.{bound_of, analysis_if, analysis_at, analysis_or_none}
+use Rattle.canary_release.specs.Services.{is_going, is_held}
+use Rattle.canary_release.specs.Parts.{is_bound_to, is_step_bound, is_background_bound, is_bound}
+use Rattle.canary_release.specs.Desks.{RevisionMap}
+use Rattle.canary_release.specs.Order.{known_by}
+use Rattle.canary_release.proofs.Chains.{going}
 use Rattle.canary_release.specs.declared.effect.Effect.TheVariants.{Told, Opened, Closed}
 use Rattle.canary_release.specs.declared.runs.OpenRun.{OpenRun}
 use Rattle.canary_release.specs.declared.runs.Runs.{Runs}
@@ -23,10 +31,9 @@ use Rattle.canary_release.specs.Courses.{Course, with_stand, tell, runs_now, has
 use Rattle.canary_release.specs.Entering.{begins_background, begin_background, open_background, done, finish, show_step, enter, abort, without_holds}
 use Rattle.canary_release.specs.Passing.{next_move, is_by, move_at, chain_end, pass, judged_at, followed}
 use Rattle.canary_release.specs.Reports.{consequence, complete, assess_run, assess}
-use Rattle.canary_release.proofs.PartsFresh.{Basis, basis, Accepted, step_analysis, background_analysis}
-use Rattle.canary_release.proofs.PartsReady.{begins}
+use Rattle.canary_release.proofs.PartsFresh.{and_left, and_right}
 use Rattle.canary_release.proofs.OrderingBasics.{not_same, each_both, found_passes, found_behind, found_first, found_filtered, fold_completed}
-use Rattle.canary_release.proofs.OrderingAllowed.{AreDistinct, IsNumbered, IsFollowing, numbered_now, follows_on, now_after, stands_on}
+use Rattle.canary_release.proofs.OrderingAllowed.{AreDistinct, IsNumbered, IsFollowing, numbered_now, follows_on, now_after, stands_on, as_bound}
 
 -- of open runs with different numbers, each is the one of its number
 each_found : (rs : List OpenRun) → AreDistinct rs → AllByRecursion (λ (q : OpenRun). find (has_number q.number) rs ≡ Some q) rs
@@ -57,40 +64,55 @@ still_found k m rs differ = found_filtered (has_number k) (is_other m) (λ r. go
           | false ↦ λ a h. absurd (true≢false h)
         ] refl e
 
--- an analysis step has an analysis
-analysis_there : (b : Basis) (i : ℕ) (names : List (List ℕ)) → Accepted b → slice_get b.strategy.steps i ≡ Some (Analysis names) → (a : AnalysisParts) × (analysis_at b.bound (Some i) ≡ Some a)
-analysis_there b i names h e = let has = step_analysis b i names h e in (has.analysis, has.found)
+-- an analysis that is bound is there
+found_bound : (names : List (List ℕ)) (o : Option AnalysisParts) → is_bound_to names o ≡ true → (a : AnalysisParts) × (o ≡ Some a)
+found_bound names None h = cc h
+found_bound names (Some a) h = (a, refl)
 
--- a background that begins has one
-background_there : (b : Basis) (i : ℕ) (started : Bool) → Accepted b → begins_background b.strategy.background i started ≡ true → (a : AnalysisParts) × (analysis_at b.bound None ≡ Some a)
-background_there b i started h e =
-    let begun = begins b.strategy.background i started e in
-    let has = background_analysis b begun.background h begun.is in
-    (has.analysis, has.found)
+step_bound : (steps : List Step) (found : List (Option AnalysisParts)) (i : ℕ) (names : List (List ℕ)) → pointwise is_step_bound steps found ≡ true → slice_get steps i ≡ Some (Analysis names) → is_bound_to names (analysis_if (slice_get found i)) ≡ true
+step_bound [] found i names h e = cc e
+step_bound (step ∷ steps) [] i names h e = cc h
+step_bound (step ∷ steps) (a ∷ found) zero names h e =
+    let is : step ≡ Analysis names = cc e in
+    subst (λ x. is_step_bound x a ≡ true) is (and_left (is_step_bound step a) (pointwise is_step_bound steps found) h)
+step_bound (step ∷ steps) (a ∷ found) (suc i) names h e = step_bound steps found i names (and_right (is_step_bound step a) (pointwise is_step_bound steps found) h) e
+
+-- an analysis step has its analysis
+analysis_there : (s : Stand) (i : ℕ) (names : List (List ℕ)) → is_bound s ≡ true → slice_get s.strategy.steps i ≡ Some (Analysis names) → (a : AnalysisParts) × (analysis_at s.bound (Some i) ≡ Some a)
+analysis_there s i names h e =
+    found_bound names (analysis_at s.bound (Some i)) (step_bound s.strategy.steps s.bound.steps i names (and_left (pointwise is_step_bound s.strategy.steps s.bound.steps) (is_background_bound s.strategy.background s.bound.background) h) e)
+
+-- a background that begins has its analysis
+background_there : (s : Stand) (i : ℕ) (started : Bool) → is_bound s ≡ true → begins_background s.strategy.background i started ≡ true → (a : AnalysisParts) × (analysis_at s.bound None ≡ Some a)
+background_there s i started h e = by s.strategy.background e (and_right (pointwise is_step_bound s.strategy.steps s.bound.steps) (is_background_bound s.strategy.background s.bound.background) h)
+  where
+    by : (b : Option Background) → begins_background b i started ≡ true → is_background_bound b s.bound.background ≡ true → (a : AnalysisParts) × (s.bound.background ≡ Some a)
+    by None e g = absurd (true≢false (sym e))
+    by (Some b) e g = found_bound b.templates s.bound.background g
 
 -- a run that is ended from outside has a completed verdict
 ended_completed : (r : OpenRun) → is_completed (run_verdict true r) ≡ true
 ended_completed r = fold_completed Successful (map (counted_phase true) (judging (zip r.analysis.metrics r.tallies))) refl
 
-module _ (s : Stand) (w : Runs) (accepted : Accepted (basis s)) (numbered : IsNumbered w) where
-  pub told : (c : Course) (at : ℕ) (event : LineEvent) → IsFollowing s w c → IsFollowing s w (tell c at event)
-  told c at event f = follows_on s w c (Told (record { moment = at; event = event })) f tt
+module _ (ts : RevisionMap) (s : Stand) (w : Runs) (numbered : IsNumbered w) where
+  pub told : (c : Course) (at : ℕ) (event : LineEvent) → IsFollowing ts s w c → IsFollowing ts s w (tell c at event)
+  told c at event f = follows_on ts s w c (Told (record { moment = at; event = event })) f tt
 
-  pub closed : (c : Course) (r : OpenRun) (at : ℕ) (outside : Bool) → IsFollowing s w c → find (has_number r.number) (runs_now c).open_runs ≡ Some r → is_completed (run_verdict outside r) ≡ true → IsFollowing s w (close_run c r at outside)
+  pub closed : (c : Course) (r : OpenRun) (at : ℕ) (outside : Bool) → IsFollowing ts s w c → find (has_number r.number) (runs_now c).open_runs ≡ Some r → is_completed (run_verdict outside r) ≡ true → IsFollowing ts s w (close_run c r at outside)
   closed c r at outside f found completed =
-      follows_on s w c (Closed (record { run = r.number; at = at; outside = outside; verdict = run_verdict outside r }) r.tallies) f (record { run = r; found = found; verdict = refl; completed = completed; last = refl })
+      follows_on ts s w c (Closed (record { run = r.number; at = at; outside = outside; verdict = run_verdict outside r }) r.tallies) f (record { run = r; found = found; verdict = refl; completed = completed; last = refl })
 
   -- one after another of open runs with different numbers
-  ended : (at : ℕ) (c : Course) (rs : List OpenRun) → IsFollowing s w c → AllByRecursion (λ (q : OpenRun). find (has_number q.number) (runs_now c).open_runs ≡ Some q) rs → AreDistinct rs → IsFollowing s w (end_runs at c rs)
+  ended : (at : ℕ) (c : Course) (rs : List OpenRun) → IsFollowing ts s w c → AllByRecursion (λ (q : OpenRun). find (has_number q.number) (runs_now c).open_runs ≡ Some q) rs → AreDistinct rs → IsFollowing ts s w (end_runs at c rs)
   ended at c [] f h d = f
   ended at c (r ∷ rs) f h d =
       let one : Course = close_run c r at true in
-      let f1 : IsFollowing s w one = closed c r at true f h.0 (ended_completed r) in
+      let f1 : IsFollowing ts s w one = closed c r at true f h.0 (ended_completed r) in
       let two : Course = end_run at c r in
-      let f2 : IsFollowing s w two = told one at (Ended r.number (run_verdict true r)) f1 in
+      let f2 : IsFollowing ts s w two = told one at (Ended r.number (run_verdict true r)) f1 in
       let now : runs_now two ≡ record { count = (runs_now c).count; open_runs = filter (is_other r.number) (runs_now c).open_runs } =
-      now_after s w one (Told (record { moment = at; event = Ended r.number (run_verdict true r) })) f1
-      ∙ now_after s w c (Closed (record { run = r.number; at = at; outside = true; verdict = run_verdict true r }) r.tallies) f in
+      now_after ts s w one (Told (record { moment = at; event = Ended r.number (run_verdict true r) })) f1
+      ∙ now_after ts s w c (Closed (record { run = r.number; at = at; outside = true; verdict = run_verdict true r }) r.tallies) f in
       ended at two rs f2
       (each_both
       (λ (q : OpenRun). find (has_number q.number) (runs_now c).open_runs ≡ Some q)
@@ -100,116 +122,130 @@ module _ (s : Stand) (w : Runs) (accepted : Accepted (basis s)) (numbered : IsNu
       rs h.1 d.0)
       d.1
 
-  pub all_ended : (c : Course) (at : ℕ) → IsFollowing s w c → IsFollowing s w (end_open_runs c at)
+  pub all_ended : (c : Course) (at : ℕ) → IsFollowing ts s w c → IsFollowing ts s w (end_open_runs c at)
   all_ended c at f =
-      let n = numbered_now s w numbered c f in
+      let n = numbered_now ts s w numbered c f in
       ended at c (runs_now c).open_runs f (each_found (runs_now c).open_runs n.distinct) n.distinct
 
-  opened : (c : Course) (step : Option ℕ) (at : ℕ) (a : AnalysisParts) → IsFollowing s w c → analysis_at s.bound step ≡ Some a → IsFollowing s w (open_run c step at)
+  opened : (c : Course) (step : Option ℕ) (at : ℕ) (a : AnalysisParts) → IsFollowing ts s w c → analysis_at c.stand.bound step ≡ Some a → IsFollowing ts s w (open_run c step at)
   opened c step at a f e =
-      let own : analysis_or_none c.stand.bound step ≡ a = (λ i. analysis_or_none (f.same i).bound step) ∙ ap (λ (o : Option AnalysisParts). unwrap_or o no_analysis) e in
-      follows_on s w c (Opened (record { run = next_run c; step = step; analysis = analysis_or_none c.stand.bound step; started = at })) f (record { number = refl; analysis = e ∙ ap (λ (x : AnalysisParts). Some x) (sym own) })
+      let b = f.bound.binding in
+      let same : bound_of (known_by ts b) s.strategy ≡ c.stand.bound = ap (bound_of (known_by ts b)) (sym f.strategy) ∙ sym f.bound.bound in
+      let is : analysis_at (bound_of (known_by ts b) s.strategy) step ≡ Some (analysis_or_none c.stand.bound step) = ap (λ (x : BoundParts). analysis_at x step) same ∙ e ∙ sym (ap (λ (o : Option AnalysisParts). Some (unwrap_or o no_analysis)) e) in
+      follows_on ts s w c (Opened (record { run = next_run c; step = step; analysis = analysis_or_none c.stand.bound step; started = at })) f (record { number = refl; binding = b; analysis = is })
 
-  background_opened : (c : Course) (i at : ℕ) → IsFollowing s w c → IsFollowing s w (open_background c i at)
-  background_opened c i at f =
+  -- standing otherwise, bound as before and in progress only where it was
+  stays : (c : Course) (d : Stand) → IsFollowing ts s w c → d.strategy ≡ c.stand.strategy → d.name ≡ c.stand.name → d.bound ≡ c.stand.bound → (is_going d.state ≡ true → is_bound d ≡ true) → IsFollowing ts s w (with_stand c d)
+  stays c d f same named bound wholly = stands_on ts s w c d f same named (as_bound ts s w c d f same bound) wholly
+
+  background_opened : (c : Course) (i at : ℕ) → is_going c.stand.state ≡ true → IsFollowing ts s w c → IsFollowing ts s w (open_background c i at)
+  background_opened c i at g f =
       elim (begins_background c.stand.strategy.background i c.stand.background)
-      as (λ b. begins_background c.stand.strategy.background i c.stand.background ≡ b → IsFollowing s w (if b then begin_background c at else c)) [
+      as (λ b. begins_background c.stand.strategy.background i c.stand.background ≡ b → IsFollowing ts s w (if b then begin_background c at else c)) [
         | true ↦ λ e.
-            let there = background_there (basis c.stand) i c.stand.background (subst Accepted (sym f.same) accepted) e in
+            let there = background_there c.stand i c.stand.background (f.wholly g) e in
             let d : Course = with_stand c (record c.stand { background = true }) in
-            let fd : IsFollowing s w d = stands_on s w c (record c.stand { background = true }) f refl refl in
-            let fo : IsFollowing s w (open_run d None at) = opened d None at there.0 fd (ap (λ (b : Basis). analysis_at b.bound None) (sym f.same) ∙ there.1) in
+            let fd : IsFollowing ts s w d = stays c (record c.stand { background = true }) f refl refl refl f.wholly in
+            let fo : IsFollowing ts s w (open_run d None at) = opened d None at there.0 fd there.1 in
             told (open_run d None at) at (BackgroundOpened (next_run c)) fo
         | false ↦ λ e. f
       ] refl
 
-  shown : (c : Course) (o : Option Step) (i at : ℕ) → IsFollowing s w c → slice_get s.strategy.steps i ≡ o → IsFollowing s w (show_step c o i at)
-  shown c (Some (SetWeight percent)) i at f e = told c at (WeightEntered i percent) f
-  shown c (Some (Pause None)) i at f e = told c at (PauseEntered i) f
-  shown c (Some (Pause (Some seconds))) i at f e = told c at (TimedPauseEntered i seconds) f
-  shown c (Some (Analysis names)) i at f e =
-      let there = analysis_there (basis s) i names accepted e in
+  shown : (c : Course) (o : Option Step) (i at : ℕ) → is_going c.stand.state ≡ true → IsFollowing ts s w c → slice_get c.stand.strategy.steps i ≡ o → IsFollowing ts s w (show_step c o i at)
+  shown c (Some (SetWeight percent)) i at g f e = told c at (WeightEntered i percent) f
+  shown c (Some (Pause None)) i at g f e = told c at (PauseEntered i) f
+  shown c (Some (Pause (Some seconds))) i at g f e = told c at (TimedPauseEntered i seconds) f
+  shown c (Some (Analysis names)) i at g f e =
+      let there = analysis_there c.stand i names (f.wholly g) e in
       told (open_run c (Some i) at) at (AnalysisEntered i (next_run c)) (opened c (Some i) at there.0 f there.1)
-  shown c None i at f e = f
+  shown c None i at g f e = f
 
-  finished : (c : Course) (at : ℕ) → IsFollowing s w c → IsFollowing s w (finish c at)
+  -- the step is shown, once the background was opened where it begins
+  after_background : (c : Course) (i at : ℕ) → is_going c.stand.state ≡ true → IsFollowing ts s w c → (o : Option Step) → slice_get c.stand.strategy.steps i ≡ o → IsFollowing ts s w (show_step (open_background c i at) o i at)
+  after_background c i at g f o e =
+      elim (begins_background c.stand.strategy.background i c.stand.background)
+      as (λ b. IsFollowing ts s w (if b then begin_background c at else c) → IsFollowing ts s w (show_step (let d : Course = (if b then begin_background c at else c) in d) o i at))
+      [ true ↦ λ h. shown (begin_background c at) o i at g h e | false ↦ λ h. shown c o i at g h e ] (background_opened c i at g f)
+
+  finished : (c : Course) (at : ℕ) → IsFollowing ts s w c → IsFollowing ts s w (finish c at)
   finished c at f =
       let d : Course = end_open_runs c at in
-      let fd : IsFollowing s w d = all_ended c at f in
+      let fd : IsFollowing ts s w d = all_ended c at f in
       let e : Course = with_stand d (done d.stand) in
-      let fe : IsFollowing s w e = stands_on s w d (done d.stand) fd refl refl in
+      let fe : IsFollowing ts s w e = stays d (done d.stand) fd refl refl refl (λ g. cc g) in
       told e at (Finished d.stand.version) fe
 
-  pub entered : (c : Course) (i at : ℕ) → IsFollowing s w c → IsFollowing s w (enter c i at)
-  entered c i at f =
+  pub entered : (c : Course) (i at : ℕ) → is_going c.stand.state ≡ true → IsFollowing ts s w c → IsFollowing ts s w (enter c i at)
+  entered c i at g f =
       let there : Course = with_stand c (record c.stand { step = i; entered = at }) in
-      let ft : IsFollowing s w there = stands_on s w c (record c.stand { step = i; entered = at }) f refl refl in
+      let ft : IsFollowing ts s w there = stays c (record c.stand { step = i; entered = at }) f refl refl refl f.wholly in
       elim (i == length c.stand.strategy.steps)
-      as (λ b. IsFollowing s w (if b then finish there at else show_step (open_background there i at) (slice_get c.stand.strategy.steps i) i at)) [
+      as (λ b. IsFollowing ts s w (if b then finish there at else show_step (open_background there i at) (slice_get c.stand.strategy.steps i) i at)) [
         | true ↦ finished there at ft
-        | false ↦ shown (open_background there i at) (slice_get c.stand.strategy.steps i) i at (background_opened there i at ft) (ap (λ (b : Basis). slice_get b.strategy.steps i) (sym f.same))
+        | false ↦ after_background there i at g ft (slice_get c.stand.strategy.steps i) refl
       ]
 
-  pub aborted : (c : Course) (at : ℕ) → IsFollowing s w c → IsFollowing s w (abort c at)
+  pub aborted : (c : Course) (at : ℕ) → IsFollowing ts s w c → IsFollowing ts s w (abort c at)
   aborted c at f =
       let d : Course = with_stand c (record (without_holds c.stand) { state = Aborted }) in
-      all_ended d at (stands_on s w c (record (without_holds c.stand) { state = Aborted }) f refl refl)
+      all_ended d at (stays c (record (without_holds c.stand) { state = Aborted }) f refl refl refl (λ g. cc g))
 
-  moved : (c : Course) (o : Option ℕ) → IsFollowing s w c → IsFollowing s w (move_at c o)
-  moved c None f = f
-  moved c (Some e) f = entered c (c.stand.step + 1) e f
+  moved : (c : Course) (o : Option ℕ) → is_going c.stand.state ≡ true → IsFollowing ts s w c → IsFollowing ts s w (move_at c o)
+  moved c None g f = f
+  moved c (Some e) g f = entered c (c.stand.step + 1) e g f
 
-  chained : (n t : ℕ) (c : Course) → IsFollowing s w c → IsFollowing s w (chain_end n t c)
+  chained : (n t : ℕ) (c : Course) → IsFollowing ts s w c → IsFollowing ts s w (chain_end n t c)
   chained zero t c f = f
   chained (suc n) t c f =
       let move : Option ℕ = next_move c.stand in
       elim (is_by t move)
-      as (λ b. IsFollowing s w (elim b [ true ↦ chain_end n t (move_at c move) | false ↦ c ]))
-      [ true ↦ chained n t (move_at c move) (moved c move f) | false ↦ f ]
+      as (λ b. is_by t move ≡ b → IsFollowing ts s w (elim b [ true ↦ chain_end n t (move_at c move) | false ↦ c ]))
+      [ true ↦ λ e. chained n t (move_at c move) (moved c move (and_left (is_going c.stand.state) (not (is_held c.stand)) (going c t e).moves.0) f) | false ↦ λ e. f ] refl
 
-  pub passed : (c : Course) (t : ℕ) → IsFollowing s w c → IsFollowing s w (pass c t)
+  pub passed : (c : Course) (t : ℕ) → IsFollowing ts s w c → IsFollowing ts s w (pass c t)
   passed c t f =
       let at = judged_at c.stand t in
       let d : Course = followed c at in
-      stands_on s w d (record d.stand { last = at }) (chained (length c.stand.strategy.steps - c.stand.step) at c f) refl refl
+      let fd = chained (length c.stand.strategy.steps - c.stand.step) at c f in
+      stays d (record d.stand { last = at }) fd refl refl refl fd.wholly
 
-  held_background : (c : Course) (t : ℕ) → IsFollowing s w c → IsFollowing s w (end_open_runs (tell (with_stand c (record c.stand { background_hold = true })) t BackgroundHeld) t)
+  held_background : (c : Course) (t : ℕ) → IsFollowing ts s w c → IsFollowing ts s w (end_open_runs (tell (with_stand c (record c.stand { background_hold = true })) t BackgroundHeld) t)
   held_background c t f =
       let d : Course = with_stand c (record c.stand { background_hold = true }) in
       let e : Course = tell d t BackgroundHeld in
-      all_ended e t (told d t BackgroundHeld (stands_on s w c (record c.stand { background_hold = true }) f refl refl))
+      all_ended e t (told d t BackgroundHeld (stays c (record c.stand { background_hold = true }) f refl refl refl f.wholly))
 
-  held_step : (c : Course) (t : ℕ) → IsFollowing s w c → IsFollowing s w (tell (with_stand c (record c.stand { step_hold = true })) t (StepHeld c.stand.step))
+  held_step : (c : Course) (t : ℕ) → IsFollowing ts s w c → IsFollowing ts s w (tell (with_stand c (record c.stand { step_hold = true })) t (StepHeld c.stand.step))
   held_step c t f =
       let d : Course = with_stand c (record c.stand { step_hold = true }) in
-      told d t (StepHeld c.stand.step) (stands_on s w c (record c.stand { step_hold = true }) f refl refl)
+      told d t (StepHeld c.stand.step) (stays c (record c.stand { step_hold = true }) f refl refl refl f.wholly)
 
-  brings : (c : Course) (run : ℕ) (step : Option ℕ) (v : Phase) (t : ℕ) → IsFollowing s w c → IsFollowing s w (consequence c run step v t)
-  brings c run step Failed t f = aborted (tell c t (AbortedBy run)) t (told c t (AbortedBy run) f)
-  brings c run step Error t f = aborted (tell c t (AbortedBy run)) t (told c t (AbortedBy run) f)
-  brings c run (Some i) Inconclusive t f = held_step c t f
-  brings c run None Inconclusive t f = held_background c t f
-  brings c run (Some i) Successful t f = entered c (c.stand.step + 1) t f
-  brings c run None Successful t f = f
-  brings c run step Pending t f = f
-  brings c run step Running t f = f
+  brings : (c : Course) (run : ℕ) (step : Option ℕ) (v : Phase) (t : ℕ) → is_going c.stand.state ≡ true → IsFollowing ts s w c → IsFollowing ts s w (consequence c run step v t)
+  brings c run step Failed t g f = aborted (tell c t (AbortedBy run)) t (told c t (AbortedBy run) f)
+  brings c run step Error t g f = aborted (tell c t (AbortedBy run)) t (told c t (AbortedBy run) f)
+  brings c run (Some i) Inconclusive t g f = held_step c t f
+  brings c run None Inconclusive t g f = held_background c t f
+  brings c run (Some i) Successful t g f = entered c (c.stand.step + 1) t g f
+  brings c run None Successful t g f = f
+  brings c run step Pending t g f = f
+  brings c run step Running t g f = f
 
-  completed : (c : Course) (r : OpenRun) (t : ℕ) → IsFollowing s w c → find (has_number r.number) (runs_now c).open_runs ≡ Some r → is_completed (run_verdict false r) ≡ true → IsFollowing s w (complete c r (run_verdict false r) t)
-  completed c r t f found done_now =
+  completed : (c : Course) (r : OpenRun) (t : ℕ) → is_going c.stand.state ≡ true → IsFollowing ts s w c → find (has_number r.number) (runs_now c).open_runs ≡ Some r → is_completed (run_verdict false r) ≡ true → IsFollowing ts s w (complete c r (run_verdict false r) t)
+  completed c r t g f found done_now =
       let v = run_verdict false r in
       let one : Course = close_run c r t false in
       let two : Course = tell one t (Completed r.number v) in
-      brings two r.number r.step v t (told one t (Completed r.number v) (closed c r t false f found done_now))
+      brings two r.number r.step v t g (told one t (Completed r.number v) (closed c r t false f found done_now))
 
-  assessed_run : (c : Course) (r : OpenRun) (t : ℕ) → IsFollowing s w c → find (has_number r.number) (runs_now c).open_runs ≡ Some r → IsFollowing s w (assess_run c r t)
-  assessed_run c r t f found =
+  assessed_run : (c : Course) (r : OpenRun) (t : ℕ) → is_going c.stand.state ≡ true → IsFollowing ts s w c → find (has_number r.number) (runs_now c).open_runs ≡ Some r → IsFollowing ts s w (assess_run c r t)
+  assessed_run c r t g f found =
       let v = run_verdict false r in
       elim (is_completed v)
-      as (λ b. is_completed v ≡ b → IsFollowing s w (if b then complete c r v t else c))
-      [ true ↦ λ e. completed c r t f found e | false ↦ λ e. f ] refl
+      as (λ b. is_completed v ≡ b → IsFollowing ts s w (if b then complete c r v t else c))
+      [ true ↦ λ e. completed c r t g f found e | false ↦ λ e. f ] refl
 
-  pub assessed : (c : Course) (number : ℕ) (o : Option OpenRun) (t : ℕ) → IsFollowing s w c → open_run_now c number ≡ o → IsFollowing s w (assess c o t)
-  assessed c number None t f e = f
-  assessed c number (Some r) t f e =
+  pub assessed : (c : Course) (number : ℕ) (o : Option OpenRun) (t : ℕ) → is_going c.stand.state ≡ true → IsFollowing ts s w c → open_run_now c number ≡ o → IsFollowing ts s w (assess c o t)
+  assessed c number None t g f e = f
+  assessed c number (Some r) t g f e =
       let same : r.number ≡ number = eqb-true r.number number (found_passes (has_number number) (runs_now c).open_runs r e) in
-      assessed_run c r t f (ap (λ n. find (has_number n) (runs_now c).open_runs) same ∙ e)
+      assessed_run c r t g f (ap (λ n. find (has_number n) (runs_now c).open_runs) same ∙ e)

@@ -1,9 +1,7 @@
 -- A command that is accepted leaves parts unbroken, and a new service's parts are unbroken.
-use Rattle.std.proofs.Common.{◌≡◌, ℕ, ◌+◌, ◌-◌, ◌≤◌, ◌<◌, List, [], ◌∷◌, length, map, refl, ap, sym, ◌∙◌, arith, subst}
-use Rattle.std.specs.Prelude.{Bool, true, false, not, ◌&&◌, ◌||◌, IsTrue, if◌then◌else◌, is_some, is_none, Option, Some, None, Result, Ok, Err}
-use Rattle.std.specs.List.{list_any, filter_map}
-use Rattle.std.specs.Cmp.Lexicographic.{pointwise}
-use Rattle.std.proofs.lemmas.List.Folds.{list_any-append}
+use Rattle.std.proofs.Common.{◌≡◌, ℕ, ◌+◌, ◌-◌, ◌≤◌, ◌<◌, List, [], length, refl, ap, sym, ◌∙◌, arith, subst}
+use Rattle.std.specs.Prelude.{Bool, true, false, not, ◌&&◌, ◌||◌, if◌then◌else◌, is_some, is_none, Option, Some, None, Result, Ok, Err}
+use Rattle.std.specs.List.{list_any}
 use Rattle.std.specs.Str.{bytes_eq}
 use Rattle.canary_plan.specs.declared.step.Step.{Step}
 use Rattle.canary_plan.specs.declared.step.Step.TheVariants.{SetWeight, Pause, Analysis}
@@ -15,10 +13,9 @@ use Rattle.canary_plan.specs.declared.line.LineEvent.TheVariants.{Started, Retri
 use Rattle.canary_plan.specs.declared.refusal.Refusal.{Refusal}
 use Rattle.canary_plan.specs.declared.refusal.Refusal.TheVariants.{InProgress as GoesOn, AlreadyStable, NotInProgress, NotPaused, NotAborted, RunsSpent}
 use Rattle.canary_plan.specs.declared.service.Background.{Background}
-use Rattle.canary_plan.specs.declared.service.ServiceSpec.{ServiceSpec}
-use Rattle.canary_plan.specs.declared.analysis_parts.AnalysisParts.{AnalysisParts}
-use Rattle.canary_plan.specs.Plans.{Templates, metrics_named, is_accepted, binds, analysis_of, bound_step, bound_background, analysis_at, are_fit}
-use Rattle.canary_plan.specs.PlanRefusals.{names_of_step, names_of_background, step_analyses, is_unfit, strategy_refusal}
+use Rattle.canary_plan.specs.declared.bound.BoundParts.{BoundParts}
+use Rattle.canary_plan.specs.Plans.{Templates, bound_of, analysis_at, are_fit}
+use Rattle.canary_plan.specs.PlanRefusals.{bound_refusal}
 use Rattle.canary_release.specs.declared.stand.State.{State}
 use Rattle.canary_release.specs.declared.stand.State.TheVariants.{InProgress, Aborted, Done}
 use Rattle.canary_release.specs.declared.stand.Status.TheVariants.{Paused, Progressing}
@@ -32,19 +29,21 @@ use Rattle.canary_release.specs.Courses.{Course, with_stand, tell, runs_now, ope
 use Rattle.canary_release.specs.Entering.{without_holds}
 use Rattle.canary_release.specs.Passing.{judged_at, pass}
 use Rattle.canary_release.specs.Reports.{report_refusal}
-use Rattle.canary_release.specs.Commands.{is_spent, is_progressing, start_refusal, retry_refusal, promote_refusal, progress_refusal, begun, begin, started_at, start, retry, promoted_to, promote, promote_full, abort_by_command, Acted, leads, unless, reports_if, act}
+use Rattle.canary_release.specs.Commands.{is_spent, is_progressing, start_refusal_at, retry_refusal_at, start_refusal, retry_refusal, promote_refusal, progress_refusal, begun, begin, started_at, start, retry, promoted_to, promote, promote_full, abort_by_command, Acted, leads, unless, reports_if, act}
 use Rattle.canary_release.specs.Desks.{passed_on, new_stand, new_service}
 use Rattle.canary_release.specs.Shapes.{kept_course, kept_after}
-use Rattle.canary_release.specs.Parts.{is_step_run, is_judged, is_step_bound, is_background_bound, is_bound, is_broken}
+use Rattle.canary_release.specs.Parts.{is_step_run, is_judged, is_bound_otherwise, is_bound, is_broken}
 use Rattle.canary_release.specs.PartsLaws.{PassingKeepsParts, ActingKeepsParts, NewPartsAreUnbroken}
-use Rattle.canary_release.proofs.OrderingTemplates.{none_unfit}
 use Rattle.canary_release.proofs.PartsRuns.{told_runs, steady_kept}
-use Rattle.canary_release.proofs.PartsKept.{of_background, has_background, Unjudged, Fit, fit_of, unbroken_of, not_below}
-use Rattle.canary_release.proofs.PartsFresh.{Basis, basis, Accepted, accepted, no_analysis_at, and_both}
+use Rattle.canary_release.proofs.PartsKept.{of_background, has_background, IsWellBound, Unjudged, Fit, fit_of, unbroken_of, not_below}
+use Rattle.canary_release.proofs.PartsFresh.{Basis, basis, Accepted, accepted}
 use Rattle.canary_release.proofs.PartsReady.{Ready, placed_end}
 use Rattle.canary_release.proofs.PartsEntering.{Loose, aborts, enters, enters_end}
-use Rattle.canary_release.proofs.PartsPassing.{goes_below, no_step_run, not_begun, passes}
-use Rattle.canary_release.proofs.PartsReports.{of_basis, reported}
+use Rattle.canary_release.proofs.PartsPassing.{goes_below, bound_going, not_bound, no_step_run, not_begun, passes}
+use Rattle.canary_release.proofs.PartsBinding.{bound_where_not_refused, never_refused, new_unbound}
+use Rattle.canary_release.proofs.Keeping.{enter_keeps, passed_keeps}
+use Rattle.canary_release.proofs.OrderingBasics.{both_none, not_false}
+use Rattle.canary_release.proofs.PartsReports.{of_strategy, reported}
 
 -- a new attempt
 
@@ -61,8 +60,8 @@ begun_room n i x count short few room = omega arith
 none_passes : (p : OpenRun → Bool) (rs : List OpenRun) → rs ≡ [] → list_any p rs ≡ false
 none_passes p rs e = rw e refl
 
-begun_ready : (s : Stand) (w : Runs) (version : List ℕ) (i : ℕ) → Accepted (basis s) → Fit s w → is_going s.state ≡ false → is_spent w ≡ false → Ready (record (without_holds s) { version = version; state = InProgress; background = false }) w (length s.strategy.steps - i)
-begun_ready s w version i acc f idle left =
+begun_ready : (s : Stand) (b : BoundParts) (w : Runs) (version : List ℕ) (i : ℕ) → Accepted (basis (record s { bound = b })) → IsWellBound (record s { bound = b }) → Fit s w → is_going s.state ≡ false → is_spent w ≡ false → Ready (record (without_holds s) { bound = b; version = version; state = InProgress; background = false }) w (length s.strategy.steps - i)
+begun_ready s b w version i acc bound f idle left =
     let none : w.open_runs ≡ [] = f.idle idle in
     record {
       going = refl;
@@ -70,21 +69,25 @@ begun_ready s w version i acc f idle left =
       background_unheld = refl;
       few = f.few;
       room = begun_room (length s.strategy.steps) i (of_background (is_some s.strategy.background) false (has_background w.open_runs) false) w.count acc.short (most (is_some s.strategy.background) false (has_background w.open_runs) false) (not_below (1000000 - w.count) 66 left);
-      runs = record { numbered = f.numbered; distinct = f.distinct; tallied = f.tallied; unjudged = none_passes is_judged w.open_runs none };
+      runs = record { numbered = f.numbered; distinct = f.distinct; tallied = f.tallied; same = none_passes (λ (r : OpenRun). is_bound_otherwise (analysis_at b r.step) r.analysis) w.open_runs none; unjudged = none_passes is_judged w.open_runs none };
       one_background = f.one_background;
       no_step = none_passes is_step_run w.open_runs none;
       background_run = subst (λ rs. (has_background rs && true) ≡ false) (sym none) refl;
       known = refl;
+      bound = bound;
     }
 
-begins_loose : (s : Basis) (t : ℕ) (c : Course) (version : List ℕ) (event : LineEvent) (i : ℕ) → Accepted s → Loose s t c → is_going c.stand.state ≡ false → is_spent (runs_now c) ≡ false → i ≤ length c.stand.strategy.steps → Loose s t (begin c t version event i)
-begins_loose s t c version event i acc l idle left le =
-    let own : Accepted (basis c.stand) = subst Accepted (sym l.same) acc in
-    let b : Course = begun c version in
+-- the basis of an attempt that begins
+abbrev pub begun_basis : Templates → Stand → Basis
+begun_basis known s = record { strategy = s.strategy; bound = bound_of known s.strategy }
+
+begins_loose : (known : Templates) (s : Basis) (t : ℕ) (c : Course) (version : List ℕ) (event : LineEvent) (i : ℕ) → Accepted (begun_basis known c.stand) → bound_refusal known c.stand.strategy ≡ None → Loose s t c → is_going c.stand.state ≡ false → is_spent (runs_now c) ≡ false → i ≤ length c.stand.strategy.steps → Loose (begun_basis known c.stand) t (begin known c t version event i)
+begins_loose known s t c version event i acc fine l idle left le =
+    let b : Course = begun known c version in
     let d : Course = tell b t event in
-    let ready = begun_ready c.stand (runs_now c) version i own l.fit idle left in
-    of_basis (basis c.stand) s t (begin c t version event i) l.same
-    (enters d i t own l.steady le (subst (λ (w : Runs). Ready b.stand w (length c.stand.strategy.steps - i)) (sym (told_runs b t event l.steady)) ready))
+    let bound : IsWellBound b.stand = (bound_where_not_refused known c.stand fine, never_refused known c.stand.strategy fine) in
+    let ready = begun_ready c.stand (bound_of known c.stand.strategy) (runs_now c) version i acc bound l.fit idle left in
+    enters d i t acc l.steady le (subst (λ (w : Runs). Ready b.stand w (length c.stand.strategy.steps - i)) (sym (told_runs b t event l.steady)) ready)
 
 -- a promotion
 
@@ -97,11 +100,11 @@ paused InProgress held o g h = if_paused (held || is_pause o) h
 paused Aborted held o g h = cc g
 paused Done held o g h = cc g
 
-pause_none : (s : Stand) (o : Option Step) → Accepted (basis s) → step_of s ≡ o → is_pause o ≡ true → is_none (analysis_at s.bound (Some s.step)) ≡ true
-pause_none s (Some (SetWeight percent)) acc is h = cc h
-pause_none s (Some (Pause seconds)) acc is h = no_analysis_at (basis s) s.step (Some (Pause seconds)) acc is (λ names x. cc x)
-pause_none s (Some (Analysis names)) acc is h = cc h
-pause_none s None acc is h = cc h
+pause_none : (s : Stand) (o : Option Step) → step_of s ≡ o → is_bound s ≡ true → is_pause o ≡ true → is_none (analysis_at s.bound (Some s.step)) ≡ true
+pause_none s (Some (SetWeight percent)) is bound h = cc h
+pause_none s (Some (Pause seconds)) is bound h = not_bound s (Pause seconds) is (λ names x. cc x) bound
+pause_none s (Some (Analysis names)) is bound h = cc h
+pause_none s None is bound h = cc h
 
 either_way : (h p n : Bool) → (p ≡ true → n ≡ true) → (h || p) ≡ true → (n || h) ≡ true
 either_way true p true w e = refl
@@ -131,41 +134,42 @@ promoted_within n i held true below = omega arith
 promoted_within n i true false below = omega arith
 promoted_within n i false false below = omega arith
 
-promoted_ready : (s : Stand) (w : Runs) → Accepted (basis s) → Fit s w → Unjudged w → is_going s.state ≡ true → is_progressing (status s) ≡ false → Ready (without_holds s) w (length s.strategy.steps - promoted_to s)
-promoted_ready s w acc f u g h =
+promoted_ready : (s : Stand) (w : Runs) → Fit s w → Unjudged w → is_going s.state ≡ true → is_progressing (status s) ≡ false → Ready (without_holds s) w (length s.strategy.steps - promoted_to s)
+promoted_ready s w f u g h =
     let below : s.step < length s.strategy.steps = goes_below s w f g in
     let stops : (is_held s || is_pause (step_of s)) ≡ true = paused s.state (is_held s) (step_of s) g h in
-    let away : (is_none (analysis_at s.bound (Some s.step)) || is_held s) ≡ true = either_way (is_held s) (is_pause (step_of s)) (is_none (analysis_at s.bound (Some s.step))) (pause_none s (step_of s) acc refl) stops in
+    let away : (is_none (analysis_at s.bound (Some s.step)) || is_held s) ≡ true = either_way (is_held s) (is_pause (step_of s)) (is_none (analysis_at s.bound (Some s.step))) (pause_none s (step_of s) refl (bound_going s f g).0) stops in
     record {
       going = g;
       unheld = refl;
       background_unheld = refl;
       few = f.few;
       room = promoted_room (length s.strategy.steps) s.step (1000000 - w.count) s.strategy.background s.background (has_background w.open_runs) s.background_hold s.step_hold below f.background_run f.known f.hold (f.room g);
-      runs = record { numbered = f.numbered; distinct = f.distinct; tallied = f.tallied; unjudged = u };
+      runs = record { numbered = f.numbered; distinct = f.distinct; tallied = f.tallied; same = f.same; unjudged = u };
       one_background = f.one_background;
       no_step = no_step_run s w.open_runs away f.home;
       background_run = not_begun (has_background w.open_runs) s.background s.background_hold f.background_run;
       known = f.known;
+      bound = bound_going s f g;
     }
 
 promotes : (s : Basis) (t : ℕ) (c : Course) → Accepted s → Loose s t c → is_going c.stand.state ≡ true → is_progressing (status c.stand) ≡ false → Loose s t (promote c t)
 promotes s t c acc l g h =
     let own : Accepted (basis c.stand) = subst Accepted (sym l.same) acc in
     let b : Course = with_stand c (without_holds c.stand) in
-    let ready = promoted_ready c.stand (runs_now c) own l.fit l.unjudged g h in
+    let ready = promoted_ready c.stand (runs_now c) l.fit l.unjudged g h in
     let within : promoted_to c.stand ≤ length c.stand.strategy.steps = promoted_within (length c.stand.strategy.steps) c.stand.step c.stand.background_hold c.stand.step_hold (goes_below c.stand (runs_now c) l.fit g) in
-    of_basis (basis c.stand) s t (promote c t) l.same
+    of_strategy (basis c.stand) s t (promote c t) l.same
     (enters (tell b t Promoted) (promoted_to c.stand) t own l.steady within (subst (λ (w : Runs). Ready b.stand w (length c.stand.strategy.steps - promoted_to c.stand)) (sym (told_runs b t Promoted l.steady)) ready))
 
 told_few : (c : Course) (t : ℕ) (event : LineEvent) (s : Basis) (u : ℕ) → Loose s u c → (runs_now (tell c t event)).count ≤ 1000000
 told_few c t event s u l = subst (λ (w : Runs). w.count ≤ 1000000) (sym (told_runs c t event l.steady)) l.fit.few
 
-promotes_full : (s : Basis) (t : ℕ) (c : Course) → Loose s t c → Loose s t (promote_full c t)
-promotes_full s t c l = of_basis (basis c.stand) s t (promote_full c t) l.same (enters_end (tell c t PromotedFull) t l.steady (told_few c t PromotedFull s t l) l.fit.known)
+promotes_full : (s : Basis) (t : ℕ) (c : Course) → Loose s t c → is_going c.stand.state ≡ true → Loose s t (promote_full c t)
+promotes_full s t c l g = of_strategy (basis c.stand) s t (promote_full c t) l.same (enters_end (tell c t PromotedFull) t l.steady (told_few c t PromotedFull s t l) l.fit.known (bound_going c.stand l.fit g))
 
 aborts_by_command : (s : Basis) (t : ℕ) (c : Course) → Loose s t c → is_going c.stand.state ≡ true → Loose s t (abort_by_command c t)
-aborts_by_command s t c l g = of_basis (basis c.stand) s t (abort_by_command c t) l.same (aborts (tell c t AbortLine) t l.steady (goes_below c.stand (runs_now c) l.fit g) (told_few c t AbortLine s t l) l.fit.known l.entered)
+aborts_by_command s t c l g = of_strategy (basis c.stand) s t (abort_by_command c t) l.same (aborts (tell c t AbortLine) t l.steady (goes_below c.stand (runs_now c) l.fit g) (told_few c t AbortLine s t l) l.fit.known (bound_going c.stand l.fit g) l.entered)
 
 -- the table
 
@@ -173,41 +177,55 @@ passed_row : (b : Bool) (x : Refusal) (rest : Option Refusal) → ◌≡◌ {A =
 passed_row true x rest h = cc h
 passed_row false x rest h = (refl, h)
 
-not_false : (b : Bool) → not b ≡ false → b ≡ true
-not_false true h = refl
-not_false false h = cc h
-
 aborted_idle : (x : State) → is_aborted x ≡ true → is_going x ≡ false
 aborted_idle InProgress h = cc h
 aborted_idle Aborted h = refl
 aborted_idle Done h = refl
 
--- where a command leads, if it is not refused
+-- where a command leads, if it is not refused, and to a fit bound
 abbrev pub LooseIf : Basis → ℕ → Result Acted Refusal → Type 0
-LooseIf s t (Ok a) = Loose s t a.course
+LooseIf s t (Ok a) = are_fit a.course.stand.bound ≡ true → (k : Basis) × Accepted k × (k.strategy ≡ s.strategy) × Loose k t a.course
 LooseIf s t (Err refusal) = Unit {0}
 
-unless_loose : (s : Basis) (t : ℕ) (o : Option Refusal) (a : Acted) → (o ≡ None → Loose s t a.course) → LooseIf s t (unless o a)
-unless_loose s t None a h = h refl
-unless_loose s t (Some refusal) a h = tt
+unless_loose : (s : Basis) (t : ℕ) (o : Option Refusal) (a : Acted) → Accepted s → (o ≡ None → Loose s t a.course) → LooseIf s t (unless o a)
+unless_loose s t None a acc h = λ fit. (s, acc, refl, h refl)
+unless_loose s t (Some refusal) a acc h = tt
+
+unless_begun : (s : Basis) (t : ℕ) (o : Option Refusal) (a : Acted) → (o ≡ None → LooseIf s t (Ok a)) → LooseIf s t (unless o a)
+unless_begun s t None a h = h refl
+unless_begun s t (Some refusal) a h = tt
 
 start_within : (s : Stand) (version : List ℕ) → started_at s version ≤ length s.strategy.steps
 start_within s version = elim (is_aborted s.state && bytes_eq version s.stable) as (λ b. (if b then length s.strategy.steps else 0) ≤ length s.strategy.steps) [ true ↦ omega arith | false ↦ omega arith ]
 
-starts : (s : Basis) (t : ℕ) (c : Course) (version : List ℕ) → Accepted s → Loose s t c → start_refusal c version ≡ None → Loose s t (start c t version)
-starts s t c version acc l h =
+-- an attempt is bound as it begins, and stays so
+begun_bound : (known : Templates) (c : Course) (t : ℕ) (version : List ℕ) (event : LineEvent) (i : ℕ) → (begin known c t version event i).stand.bound ≡ bound_of known c.stand.strategy
+begun_bound known c t version event i = (enter_keeps (tell (begun known c version) t event) i t).3
+
+begun_accepted : (known : Templates) (s : Basis) (c : Course) → Accepted s → basis c.stand ≡ s → are_fit (bound_of known c.stand.strategy) ≡ true → Accepted (begun_basis known c.stand)
+begun_accepted known s c acc same fit = record { short = subst (λ (k : Basis). length k.strategy.steps ≤ 64) (sym same) acc.short; fit = fit }
+
+leads_begun : (known : Templates) (s : Basis) (t : ℕ) (c : Course) (version : List ℕ) (event : LineEvent) (i : ℕ) → Accepted s → Loose s t c → bound_refusal known c.stand.strategy ≡ None → is_going c.stand.state ≡ false → is_spent (runs_now c) ≡ false → i ≤ length c.stand.strategy.steps → LooseIf s t (Ok (leads (begin known c t version event i)))
+leads_begun known s t c version event i acc l fine idle left le = λ fit.
+    let own : Accepted (begun_basis known c.stand) = begun_accepted known s c acc l.same (subst (λ (b : BoundParts). are_fit b ≡ true) (begun_bound known c t version event i) fit) in
+    (begun_basis known c.stand, own, ap (λ (k : Basis). k.strategy) l.same, begins_loose known s t c version event i own fine l idle left le)
+
+starts : (known : Templates) (s : Basis) (t : ℕ) (c : Course) (version : List ℕ) → Accepted s → Loose s t c → start_refusal known c version ≡ None → LooseIf s t (Ok (leads (start known c t version)))
+starts known s t c version acc l h =
     let same : Bool = is_done c.stand.state && bytes_eq version c.stand.stable in
     let spent : Option Refusal = if is_spent (runs_now c) then Some RunsSpent else None in
-    let first = passed_row (is_going c.stand.state) GoesOn (if same then Some AlreadyStable else spent) h in
+    let bound = both_none (bound_refusal known c.stand.strategy) (start_refusal_at c version) h in
+    let first = passed_row (is_going c.stand.state) GoesOn (if same then Some AlreadyStable else spent) bound.1 in
     let second = passed_row same AlreadyStable spent first.1 in
     let third = passed_row (is_spent (runs_now c)) RunsSpent None second.1 in
-    begins_loose s t c version (Started version) (started_at c.stand version) acc l first.0 third.0 (start_within c.stand version)
+    leads_begun known s t c version (Started version) (started_at c.stand version) acc l bound.0 first.0 third.0 (start_within c.stand version)
 
-retries : (s : Basis) (t : ℕ) (c : Course) → Accepted s → Loose s t c → retry_refusal c ≡ None → Loose s t (retry c t)
-retries s t c acc l h =
-    let first = passed_row (not (is_aborted c.stand.state)) NotAborted (if is_spent (runs_now c) then Some RunsSpent else None) h in
+retries : (known : Templates) (s : Basis) (t : ℕ) (c : Course) → Accepted s → Loose s t c → retry_refusal known c ≡ None → LooseIf s t (Ok (leads (retry known c t)))
+retries known s t c acc l h =
+    let bound = both_none (bound_refusal known c.stand.strategy) (retry_refusal_at c) h in
+    let first = passed_row (not (is_aborted c.stand.state)) NotAborted (if is_spent (runs_now c) then Some RunsSpent else None) bound.1 in
     let second = passed_row (is_spent (runs_now c)) RunsSpent None first.1 in
-    begins_loose s t c c.stand.version (Retried c.stand.version) 0 acc l (aborted_idle c.stand.state (not_false (is_aborted c.stand.state) first.0)) second.0 (omega arith)
+    leads_begun known s t c c.stand.version (Retried c.stand.version) 0 acc l bound.0 (aborted_idle c.stand.state (not_false (is_aborted c.stand.state) first.0)) second.0 (omega arith)
 
 in_progress : (s : Stand) → progress_refusal s ≡ None → is_going s.state ≡ true
 in_progress s h = not_false (is_going s.state) (passed_row (not (is_going s.state)) NotInProgress None h).0
@@ -222,18 +240,18 @@ reports_loose : (s : Basis) (t : ℕ) (c : Course) (o : Option OpenRun) (es : Li
 reports_loose s t c None es acc l = l
 reports_loose s t c (Some r) es acc l = reported s t c r es acc l
 
-acts : (command : Command) (s : Basis) (t : ℕ) (c : Course) → Accepted s → Loose s t c → LooseIf s t (act command c t)
-acts (Start name version) s t c acc l = unless_loose s t (start_refusal c version) (leads (start c t version)) (starts s t c version acc l)
-acts (Promote name) s t c acc l = unless_loose s t (promote_refusal c.stand) (leads (promote c t)) (promotes_if s t c acc l)
-acts (PromoteFull name) s t c acc l = unless_loose s t (progress_refusal c.stand) (leads (promote_full c t)) (λ h. promotes_full s t c l)
-acts (Abort name) s t c acc l = unless_loose s t (progress_refusal c.stand) (leads (abort_by_command c t)) (λ h. aborts_by_command s t c l (in_progress c.stand h))
-acts (Retry name) s t c acc l = unless_loose s t (retry_refusal c) (leads (retry c t)) (retries s t c acc l)
-acts (Tick name) s t c acc l = l
-acts (Report report) s t c acc l =
+acts : (known : Templates) (command : Command) (s : Basis) (t : ℕ) (c : Course) → Accepted s → Loose s t c → LooseIf s t (act known command c t)
+acts known (Start name version) s t c acc l = unless_begun s t (start_refusal known c version) (leads (start known c t version)) (starts known s t c version acc l)
+acts known (Promote name) s t c acc l = unless_loose s t (promote_refusal c.stand) (leads (promote c t)) acc (promotes_if s t c acc l)
+acts known (PromoteFull name) s t c acc l = unless_loose s t (progress_refusal c.stand) (leads (promote_full c t)) acc (λ h. promotes_full s t c l (in_progress c.stand h))
+acts known (Abort name) s t c acc l = unless_loose s t (progress_refusal c.stand) (leads (abort_by_command c t)) acc (λ h. aborts_by_command s t c l (in_progress c.stand h))
+acts known (Retry name) s t c acc l = unless_begun s t (retry_refusal known c) (leads (retry known c t)) (retries known s t c acc l)
+acts known (Tick name) s t c acc l = λ fit. (s, acc, refl, l)
+acts known (Report report) s t c acc l =
     let o : Option OpenRun = open_run_now c report.run in
-    unless_loose s t (report_refusal c t report.run report.entries o) (reports_if c o report.entries t) (λ h. reports_loose s t c o report.entries acc l)
-acts (AddService spec) s t c acc l = tt
-acts (AddTemplate spec) s t c acc l = tt
+    unless_loose s t (report_refusal c t report.run report.entries o) (reports_if c o report.entries t) acc (λ h. reports_loose s t c o report.entries acc l)
+acts known (AddService spec) s t c acc l = tt
+acts known (AddTemplate spec) s t c acc l = tt
 
 -- the laws
 
@@ -243,11 +261,8 @@ kept_loose s t h =
     let before : s.stand.entered ≤ s.stand.last = f.2 in
     record { steady = steady_kept s.runs; same = refl; entered = omega arith; fit = f.0; unjudged = f.1 }
 
-kept_accepted : (s : ServiceParts) → IsTrue (is_accepted s.stand.strategy) → IsTrue (are_fit s.stand.bound) → is_broken s ≡ false → Accepted (basis s.stand)
-kept_accepted s acc fit h = accepted s.stand acc fit (fit_of s h).3
-
 pub passing_keeps : PassingKeepsParts
-passing_keeps s t acc fit h = (passes (basis s.stand) (kept_course s) t (kept_accepted s acc fit h) (kept_loose s t h)).unbroken
+passing_keeps s t acc fit h = (passes (basis s.stand) (kept_course s) t (accepted (basis s.stand) acc fit) (kept_loose s t h)).unbroken
 
 late : (s : Basis) (t : ℕ) (c : Course) → Loose s t c → Loose s (judged_at c.stand t) c
 late s t c l = record { steady = l.steady; same = l.same; entered = (let e : c.stand.entered ≤ t = l.entered in omega arith); fit = l.fit; unjudged = l.unjudged }
@@ -255,59 +270,27 @@ late s t c l = record { steady = l.steady; same = l.same; entered = (let e : c.s
 ok_same : (a b : Acted) → ◌≡◌ {A = Result Acted Refusal} (Ok a) (Ok b) → a ≡ b
 ok_same a b h = cc h
 
--- unbroken, with this strategy, and bound so
-abbrev IsKept : Basis → Acted → Type 0
-IsKept s a = (is_broken (kept_after a.course) ≡ false) × (a.course.stand.strategy ≡ s.strategy) × (a.course.stand.bound ≡ s.bound)
-
-after : (s : Basis) (t : ℕ) (o : Result Acted Refusal) (a : Acted) → Accepted s → LooseIf s t o → passed_on o t ≡ Ok a → IsKept s a
-after s t (Ok x) a acc l h =
-    let w = passes s x.course t acc (late s t x.course l) in
-    subst (IsKept s) (ok_same (record x { course = pass x.course t }) a h) (w.unbroken, ap (λ (b : Basis). b.strategy) w.loose.same, ap (λ (b : Basis). b.bound) w.loose.same)
-after s t (Err refusal) a acc l h = cc h
+after : (s : Basis) (t : ℕ) (o : Result Acted Refusal) (a : Acted) → LooseIf s t o → passed_on o t ≡ Ok a → are_fit a.course.stand.bound ≡ true → (is_broken (kept_after a.course) ≡ false) × (a.course.stand.strategy ≡ s.strategy)
+after s t (Ok x) a l h fit =
+    let is : record x { course = pass x.course t } ≡ a = ok_same (record x { course = pass x.course t }) a h in
+    let own : are_fit x.course.stand.bound ≡ true = ap are_fit (sym (passed_keeps x.course t).1) ∙ ap (λ (y : Acted). are_fit y.course.stand.bound) is ∙ fit in
+    let k = l own in
+    let w = passes k.0 x.course t k.1 (late k.0 t x.course k.3) in
+    subst (λ (y : Acted). (is_broken (kept_after y.course) ≡ false) × (y.course.stand.strategy ≡ s.strategy)) is (w.unbroken, ap (λ (b : Basis). b.strategy) w.loose.same ∙ k.2)
+after s t (Err refusal) a l h fit = cc h
 
 pub acting_keeps : ActingKeepsParts
-acting_keeps command s now a acc fit h e =
+acting_keeps known command s now a acc bound h e fit =
     let b : Basis = basis s.stand in
     let t : ℕ = judged_at s.stand now in
     let c : Course = pass (kept_course s) now in
-    let ok = kept_accepted s acc fit h in
+    let ok = accepted b acc bound in
     let w = passes b (kept_course s) now ok (kept_loose s now h) in
-    after b t (act command c t) a ok (acts command b t c ok w.loose) e
-
--- a new service
-
-or_not : (a b : Bool) → (a || b) ≡ false → (a ≡ false) × (b ≡ false)
-or_not false b h = (refl, h)
-or_not true b h = cc h
-
-there : (b : Bool) (a : AnalysisParts) → b ≡ true → is_some (if b then Some a else None) ≡ true
-there true a h = refl
-there false a h = cc h
-
-fit_there : (known : Templates) (names : List (List ℕ)) → is_unfit known names ≡ false → is_some (analysis_of known names) ≡ true
-fit_there known names h = there (binds known names) (record { metrics = metrics_named known names }) (not_false (binds known names) h)
-
-steps_bound : (known : Templates) (steps : List Step) → list_any (is_unfit known) (filter_map names_of_step steps) ≡ false → pointwise is_step_bound steps (map (bound_step known) steps) ≡ true
-steps_bound known [] h = refl
-steps_bound known (SetWeight percent ∷ steps) h = steps_bound known steps h
-steps_bound known (Pause seconds ∷ steps) h = steps_bound known steps h
-steps_bound known (Analysis names ∷ steps) h =
-    let parts = or_not (is_unfit known names) (list_any (is_unfit known) (filter_map names_of_step steps)) h in
-    and_both (is_some (analysis_of known names)) (pointwise is_step_bound steps (map (bound_step known) steps)) (fit_there known names parts.0) (steps_bound known steps parts.1)
-
-background_bound : (known : Templates) (b : Option Background) → list_any (is_unfit known) (names_of_background b) ≡ false → is_background_bound b (bound_background known b) ≡ true
-background_bound known None h = refl
-background_bound known (Some b) h = fit_there known b.templates (or_not (is_unfit known b.templates) false h).0
-
--- a strategy that nothing refuses is bound by the same templates
-pub new_is_bound : (known : Templates) (spec : ServiceSpec) (now : ℕ) → strategy_refusal known spec ≡ None → is_bound (new_stand known spec now) ≡ true
-new_is_bound known spec now h =
-    let none = or_not (list_any (is_unfit known) (step_analyses spec)) (list_any (is_unfit known) (names_of_background spec.background)) (sym (list_any-append (is_unfit known) (step_analyses spec) (names_of_background spec.background)) ∙ none_unfit known spec h) in
-    and_both (pointwise is_step_bound spec.steps (map (bound_step known) spec.steps)) (is_background_bound spec.background (bound_background known spec.background)) (steps_bound known spec.steps none.0) (background_bound known spec.background none.1)
+    after b t (act known command c t) a (acts known command b t c ok w.loose) e fit
 
 pub new_are_unbroken : NewPartsAreUnbroken
-new_are_unbroken known spec now h =
-    let s : Stand = new_stand known spec now in
+new_are_unbroken spec now =
+    let s : Stand = new_stand spec now in
     let f : Fit s no_runs = record {
       placed = placed_end (length spec.steps) (length spec.steps) true refl refl;
       few = omega arith;
@@ -323,5 +306,7 @@ new_are_unbroken known spec now h =
       held = refl;
       known = refl;
       hold = refl;
+      bound = new_unbound spec now;
+      same = refl;
     } in
-    unbroken_of (kept_after (new_service known spec now)) f refl (omega arith) refl (ap not (new_is_bound known spec now h))
+    unbroken_of (kept_after (new_service spec now)) f refl (omega arith) refl

@@ -9,6 +9,7 @@ use Rattle.canary_plan.specs.declared.line.LineEvent.TheVariants.{BackgroundOpen
 use Rattle.canary_plan.specs.declared.strategy.CheckedStrategy.{CheckedStrategy}
 use Rattle.canary_plan.specs.Plans.{analysis_or_none}
 use Rattle.canary_release.specs.declared.effect.Effect.TheVariants.{Opened}
+use Rattle.canary_release.specs.Parts.{is_refused, is_bound, is_unbound}
 use Rattle.canary_release.specs.declared.stand.State.TheVariants.{Aborted}
 use Rattle.canary_release.specs.declared.stand.Stand.{Stand}
 use Rattle.canary_release.specs.declared.runs.Runs.{Runs}
@@ -16,9 +17,9 @@ use Rattle.canary_release.specs.Courses.{Course, with_stand, tell, runs_now, nex
 use Rattle.canary_release.specs.Entering.{without_holds, done, finish, begins_background, begin_background, open_background, show_step, enter, abort}
 use Rattle.canary_release.proofs.Keeping.{ended_stand}
 use Rattle.canary_release.proofs.PartsRuns.{Steady, with_open, ended_watch, told_runs, happened_runs, none_open}
-use Rattle.canary_release.proofs.PartsKept.{Unjudged, Fit}
+use Rattle.canary_release.proofs.PartsKept.{IsWellBound, Unjudged, Fit}
 use Rattle.canary_release.proofs.PartsFresh.{Basis, basis, Accepted, step_analysis}
-use Rattle.canary_release.proofs.PartsReady.{Ready, with_new, begins, ready_begun, placed_below, placed_end, settled, settled_open}
+use Rattle.canary_release.proofs.PartsReady.{Ready, with_new, begins, ready_begun, placed_below, placed_end, not_misbound, settled, settled_open}
 
 -- a course of this strategy, bound so, that is unbroken, but for time: its step was entered by t
 pub record Loose (s : Basis) (t : ℕ) (c : Course) : Type 0 where
@@ -36,13 +37,13 @@ loose_as t c s w steady stand runs entered fit unjudged =
       same = ap basis stand;
       entered = subst (λ (x : Stand). x.entered ≤ t) (sym stand) entered;
       fit = subst (λ (x : Stand). Fit x (runs_now c)) (sym stand) (subst (λ (v : Runs). Fit s v) (sym runs) fit);
-      unjudged = subst (λ (v : Runs). Unjudged v) (sym runs) unjudged;
+      unjudged = subst Unjudged (sym runs) unjudged;
     }
 
 -- a release that is done, or aborted
 
-done_fits : (s : Stand) (w : Runs) → s.step ≡ length s.strategy.steps → w.count ≤ 1000000 → (s.background && is_none s.strategy.background) ≡ false → Fit (done s) (with_open w [])
-done_fits s w at_end few known =
+done_fits : (s : Stand) (w : Runs) → s.step ≡ length s.strategy.steps → w.count ≤ 1000000 → (s.background && is_none s.strategy.background) ≡ false → IsWellBound s → Fit (done s) (with_open w [])
+done_fits s w at_end few known bound =
     record {
       placed = placed_end (length s.strategy.steps) s.step true at_end refl;
       few = few;
@@ -58,13 +59,15 @@ done_fits s w at_end few known =
       held = refl;
       known = known;
       hold = refl;
+      bound = not_misbound (is_bound s) (is_unbound s) (is_refused s.bound) bound;
+      same = refl;
     }
 
 abbrev pub aborted : Stand → Stand
 aborted s = record (without_holds s) { state = Aborted }
 
-aborted_fits : (s : Stand) (w : Runs) → s.step < length s.strategy.steps → w.count ≤ 1000000 → (s.background && is_none s.strategy.background) ≡ false → Fit (aborted s) (with_open w [])
-aborted_fits s w below few known =
+aborted_fits : (s : Stand) (w : Runs) → s.step < length s.strategy.steps → w.count ≤ 1000000 → (s.background && is_none s.strategy.background) ≡ false → IsWellBound s → Fit (aborted s) (with_open w [])
+aborted_fits s w below few known bound =
     record {
       placed = placed_below (length s.strategy.steps) s.step false below refl;
       few = few;
@@ -80,23 +83,25 @@ aborted_fits s w below few known =
       held = refl;
       known = known;
       hold = refl;
+      bound = not_misbound (is_bound s) false (is_refused s.bound) bound;
+      same = refl;
     }
 
 ended_steady : (c : Course) (at : ℕ) → Steady c.watch → Steady (end_open_runs c at).watch
 ended_steady c at steady = subst Steady (sym (ended_watch at c (runs_now c).open_runs)) steady
 
-pub finished : (c : Course) (at : ℕ) → Steady c.watch → c.stand.step ≡ length c.stand.strategy.steps → (runs_now c).count ≤ 1000000 → (c.stand.background && is_none c.stand.strategy.background) ≡ false → c.stand.entered ≤ at → Loose (basis c.stand) at (finish c at)
-finished c at steady at_end few known entered =
+pub finished : (c : Course) (at : ℕ) → Steady c.watch → c.stand.step ≡ length c.stand.strategy.steps → (runs_now c).count ≤ 1000000 → (c.stand.background && is_none c.stand.strategy.background) ≡ false → IsWellBound c.stand → c.stand.entered ≤ at → Loose (basis c.stand) at (finish c at)
+finished c at steady at_end few known bound entered =
     let ended : Course = end_open_runs c at in
     let as_it_was : ended.stand ≡ c.stand = ended_stand at c (runs_now c).open_runs in
     let so : Steady ended.watch = ended_steady c at steady in
     let runs = told_runs (with_stand ended (done ended.stand)) at (Finished ended.stand.version) so ∙ none_open c at steady in
-    loose_as at (finish c at) (done c.stand) (with_open (runs_now c) []) so (ap done as_it_was) runs entered (done_fits c.stand (runs_now c) at_end few known) refl
+    loose_as at (finish c at) (done c.stand) (with_open (runs_now c) []) so (ap done as_it_was) runs entered (done_fits c.stand (runs_now c) at_end few known bound) refl
 
-pub aborts : (c : Course) (at : ℕ) → Steady c.watch → c.stand.step < length c.stand.strategy.steps → (runs_now c).count ≤ 1000000 → (c.stand.background && is_none c.stand.strategy.background) ≡ false → c.stand.entered ≤ at → Loose (basis c.stand) at (abort c at)
-aborts c at steady below few known entered =
+pub aborts : (c : Course) (at : ℕ) → Steady c.watch → c.stand.step < length c.stand.strategy.steps → (runs_now c).count ≤ 1000000 → (c.stand.background && is_none c.stand.strategy.background) ≡ false → IsWellBound c.stand → c.stand.entered ≤ at → Loose (basis c.stand) at (abort c at)
+aborts c at steady below few known bound entered =
     let d : Course = with_stand c (aborted c.stand) in
-    loose_as at (abort c at) (aborted c.stand) (with_open (runs_now c) []) (ended_steady d at steady) (ended_stand at d (runs_now d).open_runs) (none_open d at steady) entered (aborted_fits c.stand (runs_now c) below few known) refl
+    loose_as at (abort c at) (aborted c.stand) (with_open (runs_now c) []) (ended_steady d at steady) (ended_stand at d (runs_now d).open_runs) (none_open d at steady) entered (aborted_fits c.stand (runs_now c) below few known bound) refl
 
 -- a step that is entered
 
@@ -114,7 +119,7 @@ shown c (Some (SetWeight percent)) at e acc steady entered below ready = told c 
 shown c (Some (Pause None)) at e acc steady entered below ready = told c at (PauseEntered c.stand.step) steady entered below ready
 shown c (Some (Pause (Some seconds))) at e acc steady entered below ready = told c at (TimedPauseEntered c.stand.step seconds) steady entered below ready
 shown c (Some (Analysis names)) at e acc steady entered below ready =
-    let fits = settled_open c.stand (runs_now c) at below (step_analysis (basis c.stand) c.stand.step names acc e) ready in
+    let fits = settled_open c.stand (runs_now c) at below (step_analysis c.stand c.stand.step names acc ready.bound.0 e) ready in
     loose_as at (tell (open_run c (Some c.stand.step) at) at (AnalysisEntered c.stand.step (next_run c))) c.stand (with_new c.stand.bound (runs_now c) (Some c.stand.step) at)
     steady refl (opened_runs c (Some c.stand.step) at (AnalysisEntered c.stand.step (next_run c)) steady) entered fits.0 fits.1
 shown c None at e acc steady entered below ready =
@@ -136,6 +141,7 @@ ready_there s w need i at r =
       no_step = r.no_step;
       background_run = r.background_run;
       known = r.known;
+      bound = r.bound;
     }
 
 below_end : (i n : ℕ) → i ≤ n → (i == n) ≡ false → i < n
@@ -156,7 +162,7 @@ enters c i at acc steady le ready =
     let r = ready_there c.stand (runs_now c) (length s.steps - i) i at ready in
     elim (i == length s.steps)
     as (λ b. (i == length s.steps) ≡ b → Loose k at (let d : Course = (if b then finish there at else show_step (open_background there i at) o i at) in d)) [
-      | true ↦ λ e. finished there at steady (at_the_end i (length s.steps) e) r.few r.known (omega arith)
+      | true ↦ λ e. finished there at steady (at_the_end i (length s.steps) e) r.few r.known r.bound (omega arith)
       | false ↦ λ e.
           let below : i < length s.steps = below_end i (length s.steps) le e in
           elim (begins_background s.background i c.stand.background)
@@ -171,12 +177,12 @@ enters c i at acc steady le ready =
     ] refl
 
 -- the end is entered
-pub enters_end : (c : Course) (at : ℕ) → Steady c.watch → (runs_now c).count ≤ 1000000 → (c.stand.background && is_none c.stand.strategy.background) ≡ false → Loose (basis c.stand) at (enter c (length c.stand.strategy.steps) at)
-enters_end c at steady few known =
+pub enters_end : (c : Course) (at : ℕ) → Steady c.watch → (runs_now c).count ≤ 1000000 → (c.stand.background && is_none c.stand.strategy.background) ≡ false → IsWellBound c.stand → Loose (basis c.stand) at (enter c (length c.stand.strategy.steps) at)
+enters_end c at steady few known bound =
     let n : ℕ = length c.stand.strategy.steps in
     let there : Course = with_stand c (stepped c.stand n at) in
     elim (n == n)
     as (λ b. (n == n) ≡ b → Loose (basis c.stand) at (let d : Course = (if b then finish there at else show_step (open_background there n at) (slice_get c.stand.strategy.steps n) n at) in d)) [
-      | true ↦ λ e. finished there at steady refl few known (omega arith)
+      | true ↦ λ e. finished there at steady refl few known bound (omega arith)
       | false ↦ λ e. absurd (not_itself n e)
     ] refl

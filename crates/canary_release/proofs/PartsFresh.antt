@@ -1,8 +1,9 @@
 -- A run that is opened has a tally for each metric, and is not judged.
 use Rattle.std.proofs.Common.{◌≡◌, ℕ, zero, suc, ◌≤◌, List, [], ◌∷◌, length, refl, ap, sym, ◌∙◌, arith, subst}
-use Rattle.std.specs.Prelude.{Bool, true, false, cond, not, ◌&&◌, ◌||◌, ◌==◌, nat_lt, nat_le, if◌then◌else◌, IsTrue, map, replicate, slice_get, is_some, is_none, Option, Some, None}
+use Rattle.std.specs.Prelude.{Bool, true, false, cond, not, ◌&&◌, ◌||◌, ◌==◌, nat_lt, nat_le, if◌then◌else◌, IsTrue, map, replicate, slice_get, is_none, Option, Some, None}
 use Rattle.std.specs.List.{list_any, list_all, zip}
 use Rattle.std.specs.Cmp.Lexicographic.{pointwise}
+use Rattle.std.proofs.lemmas.Slice.Eq.{bytes_eq-Decides}
 use Rattle.std.proofs.lemmas.Bool.Decides.{nat_tests}
 use Rattle.canary_condition.specs.declared.outcome.Phase.{Phase}
 use Rattle.canary_condition.specs.declared.outcome.Phase.TheVariants.{Pending, Running}
@@ -16,13 +17,14 @@ use Rattle.canary_plan.specs.declared.service.Background.{Background}
 use Rattle.canary_plan.specs.declared.analysis_parts.AnalysisParts.{AnalysisParts}
 use Rattle.canary_plan.specs.declared.bound.BoundParts.{BoundParts}
 use Rattle.canary_plan.specs.declared.strategy.CheckedStrategy.{CheckedStrategy}
+use Rattle.canary_plan.specs.declared.analysis_parts.Revision.{Revision}
 use Rattle.canary_plan.specs.Fit.{are_metrics_of_run, is_at_least_one, asks_for_some, have_counts}
 use Rattle.canary_plan.specs.Plans.{analysis_if, analysis_at, analysis_or_none, is_within_limits, is_background_within_limits, is_accepted, is_fit_if, are_fit}
 use Rattle.canary_release.specs.declared.stand.Stand.{Stand}
 use Rattle.canary_release.specs.declared.runs.OpenRun.{OpenRun}
 use Rattle.canary_release.specs.Watching.{opened_now}
 use Rattle.canary_release.specs.Courses.{run_verdict}
-use Rattle.canary_release.specs.Parts.{has_wrong_tallies, is_step_bound, is_background_bound, is_bound, is_misbound}
+use Rattle.canary_release.specs.Parts.{has_wrong_tallies, same_revision, is_bound_otherwise, is_bound_to, is_step_bound, is_background_bound, is_bound}
 
 -- no measurements
 abbrev nothing : Counts
@@ -103,53 +105,47 @@ length-copies (suc n) x = ap suc (length-copies n x)
 same : (n : ℕ) → (n == n) ≡ true
 same n = grind (arith, nat_tests)
 
+one_each : (ms : List MetricValue) → not (length ms == length (replicate (length ms) nothing)) ≡ false
+one_each ms = rw (length-copies (length ms) nothing) (ap not (same (length ms)))
+
 pub new_fits : (b : BoundParts) (number : ℕ) (step : Option ℕ) (at : ℕ) → has_wrong_tallies (new_run b number step at) ≡ false
-new_fits b number step at =
-    let n = length (analysis_or_none b step).metrics in
-    ap (λ k. not (n == k)) (length-copies n nothing) ∙ ap not (same n)
+new_fits b number step at = one_each (analysis_or_none b step).metrics
 
 pub new_is_open : (b : BoundParts) (number : ℕ) (step : Option ℕ) (at : ℕ) → HasAnalysis b step → is_completed (run_verdict false (new_run b number step at)) ≡ false
 new_is_open b number step at has = rw has.found (ap is_completed (running has.analysis.metrics has.some has.counted))
 
+itself : (r : Revision) → same_revision r r ≡ true
+itself r = rw ((bytes_eq-Decides r.template r.template).1 refl, same r.number) refl
+
+themselves : (rs : List Revision) → pointwise same_revision rs rs ≡ true
+themselves [] = refl
+themselves (r ∷ rs) = rw (itself r) (themselves rs)
+
+pub new_is_same : (b : BoundParts) (number : ℕ) (step : Option ℕ) (at : ℕ) → HasAnalysis b step → is_bound_otherwise (analysis_at b step) (new_run b number step at).analysis ≡ false
+new_is_same b number step at has = rw has.found (ap not (themselves has.analysis.revisions))
+
 at_least_one : (ms : List MetricValue) → are_metrics_of_run ms ≡ true → 1 ≤ length ms
 at_least_one ms h = let one = and_left (nat_le 1 (length ms)) (nat_le (length ms) 32) h in grind (arith, nat_tests)
 
--- an accepted strategy, each analysis of which is bound and fit for runs
+-- an accepted strategy, bound to analyses that are fit for runs
 pub record Accepted (b : Basis) : Type 0 where
   pub short : length b.strategy.steps ≤ 64
-  pub steps : pointwise is_step_bound b.strategy.steps b.bound.steps ≡ true
-  pub background : is_background_bound b.strategy.background b.bound.background ≡ true
   pub fit : are_fit b.bound ≡ true
 
 up_to : (a b : ℕ) → nat_le a b ≡ true → a ≤ b
 up_to a b h = grind (arith, nat_tests)
 
-not_false : (b : Bool) → not b ≡ false → b ≡ true
-not_false true h = refl
-not_false false h = cc h
-
-pub accepted : (s : Stand) → IsTrue (is_accepted s.strategy) → IsTrue (are_fit s.bound) → is_misbound s ≡ false → Accepted (basis s)
-accepted s h fit bound =
-    let steps : Bool = pointwise is_step_bound s.strategy.steps s.bound.steps in
-    let behind : Bool = is_background_bound s.strategy.background s.bound.background in
-    let both : is_bound s ≡ true = not_false (is_bound s) bound in
+pub accepted : (b : Basis) → IsTrue (is_accepted b.strategy) → IsTrue (are_fit b.bound) → Accepted b
+accepted b h fit =
     record {
-      short = up_to (length s.strategy.steps) 64 (and_left (nat_le (length s.strategy.steps) 64) (list_all is_within_limits s.strategy.steps && is_background_within_limits s.strategy.background) h);
-      steps = and_left steps behind both;
-      background = and_right steps behind both;
+      short = up_to (length b.strategy.steps) 64 (and_left (nat_le (length b.strategy.steps) 64) (list_all is_within_limits b.strategy.steps && is_background_within_limits b.strategy.background) h);
       fit = fit;
     }
 
-pub and_both : (a b : Bool) → a ≡ true → b ≡ true → (a && b) ≡ true
-and_both a b ha hb = ap (λ x. x && b) ha ∙ hb
-
-pub well_bound : (s : Stand) → Accepted (basis s) → is_misbound s ≡ false
-well_bound s a = ap not (and_both (pointwise is_step_bound s.strategy.steps s.bound.steps) (is_background_bound s.strategy.background s.bound.background) a.steps a.background)
-
 -- of what is bound and fit
-found_fit : (b : BoundParts) (step : Option ℕ) (o : Option AnalysisParts) → analysis_at b step ≡ o → is_some o ≡ true → is_fit_if o ≡ true → HasAnalysis b step
-found_fit b step None is bound fit = cc bound
-found_fit b step (Some a) is bound fit =
+found_fit : (b : BoundParts) (step : Option ℕ) (names : List (List ℕ)) (o : Option AnalysisParts) → analysis_at b step ≡ o → is_bound_to names o ≡ true → is_fit_if o ≡ true → HasAnalysis b step
+found_fit b step names None is bound fit = cc bound
+found_fit b step names (Some a) is bound fit =
     record {
       analysis = a;
       found = is;
@@ -157,42 +153,47 @@ found_fit b step (Some a) is bound fit =
       counted = and_right (are_metrics_of_run a.metrics) (have_counts a.metrics) fit;
     }
 
-pub background_analysis : (s : Basis) (b : Background) → Accepted s → s.strategy.background ≡ Some b → HasAnalysis s.bound None
-background_analysis s b acc e =
+pub background_analysis : (s : Stand) (b : Background) → Accepted (basis s) → is_bound s ≡ true → s.strategy.background ≡ Some b → HasAnalysis s.bound None
+background_analysis s b acc bound e =
+    let behind = and_right (pointwise is_step_bound s.strategy.steps s.bound.steps) (is_background_bound s.strategy.background s.bound.background) bound in
     let fit = and_right (list_all is_fit_if s.bound.steps) (is_fit_if s.bound.background) acc.fit in
-    found_fit s.bound None s.bound.background refl (subst (λ o. is_background_bound o s.bound.background ≡ true) e acc.background) fit
+    found_fit s.bound None b.templates s.bound.background refl (subst (λ o. is_background_bound o s.bound.background ≡ true) e behind) fit
 
 -- the analysis of a step, by its place
-record Listed (o : Option AnalysisParts) : Type 0 where
-  bound : is_some o ≡ true
+record Listed (names : List (List ℕ)) (o : Option AnalysisParts) : Type 0 where
+  bound : is_bound_to names o ≡ true
   fit : is_fit_if o ≡ true
 
-listed : (steps : List Step) (found : List (Option AnalysisParts)) (i : ℕ) (names : List (List ℕ)) → pointwise is_step_bound steps found ≡ true → list_all is_fit_if found ≡ true → slice_get steps i ≡ Some (Analysis names) → Listed (analysis_if (slice_get found i))
+bound_step : (step : Step) (names : List (List ℕ)) (a : Option AnalysisParts) → step ≡ Analysis names → is_step_bound step a ≡ true → is_bound_to names a ≡ true
+bound_step step names a e h = subst (λ x. is_step_bound x a ≡ true) e h
+
+listed : (steps : List Step) (found : List (Option AnalysisParts)) (i : ℕ) (names : List (List ℕ)) → pointwise is_step_bound steps found ≡ true → list_all is_fit_if found ≡ true → slice_get steps i ≡ Some (Analysis names) → Listed names (analysis_if (slice_get found i))
 listed [] found i names f g h = cc h
 listed (s ∷ ss) [] i names f g h = cc f
 listed (s ∷ ss) (a ∷ rest) zero names f g h =
     let is : s ≡ Analysis names = cc h in
     record {
-      bound = subst (λ x. is_step_bound x a ≡ true) is (and_left (is_step_bound s a) (pointwise is_step_bound ss rest) f);
+      bound = bound_step s names a is (and_left (is_step_bound s a) (pointwise is_step_bound ss rest) f);
       fit = and_left (is_fit_if a) (list_all is_fit_if rest) g;
     }
 listed (s ∷ ss) (a ∷ rest) (suc i) names f g h =
     listed ss rest i names (and_right (is_step_bound s a) (pointwise is_step_bound ss rest) f) (and_right (is_fit_if a) (list_all is_fit_if rest) g) h
 
-pub step_analysis : (s : Basis) (i : ℕ) (names : List (List ℕ)) → Accepted s → slice_get s.strategy.steps i ≡ Some (Analysis names) → HasAnalysis s.bound (Some i)
-step_analysis s i names acc e =
-    let l = listed s.strategy.steps s.bound.steps i names acc.steps (and_left (list_all is_fit_if s.bound.steps) (is_fit_if s.bound.background) acc.fit) e in
-    found_fit s.bound (Some i) (analysis_at s.bound (Some i)) refl l.bound l.fit
-
-unlisted : (steps : List Step) (found : List (Option AnalysisParts)) (i : ℕ) → pointwise is_step_bound steps found ≡ true → ((names : List (List ℕ)) → slice_get steps i ≡ Some (Analysis names) → ⊥) → is_none (analysis_if (slice_get found i)) ≡ true
-unlisted [] [] i f none = refl
-unlisted [] (a ∷ rest) i f none = cc f
-unlisted (s ∷ ss) [] i f none = refl
-unlisted (SetWeight percent ∷ ss) (a ∷ rest) zero f none = and_left (is_none a) (pointwise is_step_bound ss rest) f
-unlisted (Pause seconds ∷ ss) (a ∷ rest) zero f none = and_left (is_none a) (pointwise is_step_bound ss rest) f
-unlisted (Analysis names ∷ ss) (a ∷ rest) zero f none = absurd (none names refl)
-unlisted (s ∷ ss) (a ∷ rest) (suc i) f none = unlisted ss rest i (and_right (is_step_bound s a) (pointwise is_step_bound ss rest) f) none
+pub step_analysis : (s : Stand) (i : ℕ) (names : List (List ℕ)) → Accepted (basis s) → is_bound s ≡ true → slice_get s.strategy.steps i ≡ Some (Analysis names) → HasAnalysis s.bound (Some i)
+step_analysis s i names acc bound e =
+    let steps = and_left (pointwise is_step_bound s.strategy.steps s.bound.steps) (is_background_bound s.strategy.background s.bound.background) bound in
+    let fit = and_left (list_all is_fit_if s.bound.steps) (is_fit_if s.bound.background) acc.fit in
+    let l = listed s.strategy.steps s.bound.steps i names steps fit e in
+    found_fit s.bound (Some i) names (analysis_at s.bound (Some i)) refl l.bound l.fit
 
 -- where a step is no analysis, none is bound at it
-pub no_analysis_at : (s : Basis) (i : ℕ) (o : Option Step) → Accepted s → slice_get s.strategy.steps i ≡ o → ((names : List (List ℕ)) → o ≡ Some (Analysis names) → ⊥) → is_none (analysis_at s.bound (Some i)) ≡ true
-no_analysis_at s i o a e none = unlisted s.strategy.steps s.bound.steps i a.steps (λ names is. none names (sym e ∙ is))
+pub no_analysis_at : (steps : List Step) (found : List (Option AnalysisParts)) (i : ℕ) (step : Step) → pointwise is_step_bound steps found ≡ true → slice_get steps i ≡ Some step → ((names : List (List ℕ)) → step ≡ Analysis names → ⊥) → is_none (analysis_if (slice_get found i)) ≡ true
+no_analysis_at [] found i step f h other = cc h
+no_analysis_at (s ∷ ss) [] i step f h other = cc f
+no_analysis_at (s ∷ ss) (a ∷ rest) zero step f h other = by s (cc h) (and_left (is_step_bound s a) (pointwise is_step_bound ss rest) f)
+  where
+    by : (x : Step) → x ≡ step → is_step_bound x a ≡ true → is_none a ≡ true
+    by (SetWeight percent) e g = g
+    by (Pause seconds) e g = g
+    by (Analysis names) e g = absurd (other names (sym e))
+no_analysis_at (s ∷ ss) (a ∷ rest) (suc i) step f h other = no_analysis_at ss rest i step (and_right (is_step_bound s a) (pointwise is_step_bound ss rest) f) h other

@@ -9,7 +9,7 @@ use Rattle.canary_release.specs.declared.runs.Runs.{Runs}
 use Rattle.canary_release.specs.declared.service.ServiceParts.{ServiceParts}
 use Rattle.canary_release.specs.Services.{is_going, is_held}
 use Rattle.canary_release.specs.Passing.{next_move, is_by}
-use Rattle.canary_release.specs.Parts.{one_if, is_background_run, is_step_run, has_background_run, runs_wanted, is_misplaced, is_misnumbered, repeats_number, has_wrong_tallies, is_misbound, is_astray, is_judged, is_broken}
+use Rattle.canary_release.specs.Parts.{one_if, is_background_run, is_step_run, has_background_run, runs_wanted, is_misplaced, is_misnumbered, repeats_number, has_wrong_tallies, is_refused, is_bound, is_misbound, has_other_revisions, is_astray, is_judged, is_broken}
 use Rattle.canary_release.proofs.PartsLists.{or_left, or_right, neither, and_with}
 
 -- the run numbers of the background: it is there or not, was started or not, is open or not, and is held or not
@@ -23,11 +23,15 @@ has_background rs = list_any is_background_run rs
 abbrev pub background_needs : Stand → Runs → ℕ
 background_needs s w = of_background (is_some s.strategy.background) s.background (has_background w.open_runs) s.background_hold
 
+-- each analysis is bound, and to such as a strategy is bound to
+abbrev pub IsWellBound : Stand → Type 0
+IsWellBound s = (is_bound s ≡ true) × (is_refused s.bound ≡ false)
+
 -- no open run is judged
 abbrev pub Unjudged : Runs → Type 0
 Unjudged w = list_any is_judged w.open_runs ≡ false
 
--- all that makes parts unbroken, but for verdicts, time and what is bound
+-- all that makes parts unbroken, but for verdicts and time
 pub record Fit (s : Stand) (w : Runs) : Type 0 where
   pub placed : is_misplaced s ≡ false
   pub few : w.count ≤ 1000000
@@ -43,6 +47,8 @@ pub record Fit (s : Stand) (w : Runs) : Type 0 where
   pub held : (is_held s && not (is_going s.state)) ≡ false
   pub known : (s.background && is_none s.strategy.background) ≡ false
   pub hold : (s.background_hold && not s.background) ≡ false
+  pub bound : is_misbound s ≡ false
+  pub same : list_any (has_other_revisions s) w.open_runs ≡ false
 
 -- why parts make no service, one cause after another
 abbrev pub causes : ServiceParts → List Bool
@@ -68,6 +74,7 @@ causes s =
     ∷ list_any is_judged runs
     ∷ is_by stand.last (next_move stand)
     ∷ is_misbound stand
+    ∷ list_any (has_other_revisions stand) runs
     ∷ []
 
 abbrev pub AreFalse : List Bool → Type 0
@@ -106,7 +113,7 @@ idle_if : (g : Bool) (rs : List OpenRun) → (g ≡ false → rs ≡ []) → (no
 idle_if true rs h = refl
 idle_if false rs h = rw (h refl) refl
 
-pub fit_of : (s : ServiceParts) → is_broken s ≡ false → Fit s.stand s.runs × Unjudged s.runs × (s.stand.entered ≤ s.stand.last) × (is_misbound s.stand ≡ false)
+pub fit_of : (s : ServiceParts) → is_broken s ≡ false → Fit s.stand s.runs × Unjudged s.runs × (s.stand.entered ≤ s.stand.last)
 fit_of s h =
     let f = all_false (causes s) h in
     let a = f.1.1.1 in
@@ -127,14 +134,15 @@ fit_of s h =
         held = d.1.0;
         known = d.1.1.0;
         hold = d.1.1.1.0;
+        bound = d.1.1.1.1.1.1.0;
+        same = d.1.1.1.1.1.1.1.0;
       },
       d.1.1.1.1.0,
       not_below s.stand.last s.stand.entered f.1.0,
-      d.1.1.1.1.1.1.0,
     )
 
-pub unbroken_of : (s : ServiceParts) → Fit s.stand s.runs → Unjudged s.runs → s.stand.entered ≤ s.stand.last → is_by s.stand.last (next_move s.stand) ≡ false → is_misbound s.stand ≡ false → is_broken s ≡ false
-unbroken_of s f u le rest bound =
+pub unbroken_of : (s : ServiceParts) → Fit s.stand s.runs → Unjudged s.runs → s.stand.entered ≤ s.stand.last → is_by s.stand.last (next_move s.stand) ≡ false → is_broken s ≡ false
+unbroken_of s f u le rest =
     none_true (causes s) (
       f.placed,
       (
@@ -155,7 +163,7 @@ unbroken_of s f u le rest bound =
                       at_least 1 (length (filter is_background_run s.runs.open_runs)) f.one_background,
                       (
                         at_least 1 (length (filter is_step_run s.runs.open_runs)) f.one_step,
-                        (f.home, (f.background_run, (f.held, (f.known, (f.hold, (u, (rest, (bound, tt)))))))),
+                        (f.home, (f.background_run, (f.held, (f.known, (f.hold, (u, (rest, (f.bound, (f.same, tt))))))))),
                       ),
                     ),
                   ),

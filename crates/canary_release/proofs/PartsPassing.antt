@@ -5,7 +5,10 @@ use Rattle.std.specs.List.{list_any}
 use Rattle.std.proofs.lemmas.Bool.Decides.{nat_tests}
 use Rattle.canary_plan.specs.declared.step.Step.{Step}
 use Rattle.canary_plan.specs.declared.step.Step.TheVariants.{SetWeight, Pause, Analysis}
+use Rattle.std.specs.Cmp.Lexicographic.{pointwise}
 use Rattle.canary_plan.specs.Plans.{analysis_at}
+use Rattle.canary_release.specs.declared.stand.State.{State}
+use Rattle.canary_release.specs.declared.stand.State.TheVariants.{InProgress, Aborted, Done}
 use Rattle.canary_release.specs.declared.stand.Stand.{Stand}
 use Rattle.canary_release.specs.declared.runs.OpenRun.{OpenRun}
 use Rattle.canary_release.specs.declared.runs.Runs.{Runs}
@@ -13,12 +16,12 @@ use Rattle.canary_release.specs.Services.{is_going, is_done, is_held, step_of}
 use Rattle.canary_release.specs.Courses.{Course, runs_now}
 use Rattle.canary_release.specs.Entering.{enter}
 use Rattle.canary_release.specs.Passing.{leaves_at, Moves, judged_at, next_move, is_by, move_at, chain_end, followed, pass}
-use Rattle.canary_release.specs.Parts.{is_step_run, is_elsewhere, is_astray, is_broken}
+use Rattle.canary_release.specs.Parts.{is_step_run, is_elsewhere, is_astray, is_step_bound, is_background_bound, is_refused, is_bound, is_unbound, is_broken}
 use Rattle.canary_release.specs.Shapes.{kept_after}
 use Rattle.canary_release.proofs.Chains.{going, chain_ends}
 use Rattle.canary_release.proofs.PartsLists.{or_left, or_right, any_weaker}
-use Rattle.canary_release.proofs.PartsKept.{of_background, has_background, Unjudged, Fit, unbroken_of}
-use Rattle.canary_release.proofs.PartsFresh.{and_left, and_right, Basis, basis, Accepted, well_bound, no_analysis_at}
+use Rattle.canary_release.proofs.PartsKept.{of_background, has_background, IsWellBound, Unjudged, Fit, unbroken_of}
+use Rattle.canary_release.proofs.PartsFresh.{and_left, and_right, Basis, basis, Accepted, no_analysis_at}
 use Rattle.canary_release.proofs.PartsReady.{Ready, contradicts, going_not_done}
 use Rattle.canary_release.proofs.PartsEntering.{Loose, enters}
 
@@ -36,6 +39,18 @@ step_below n i d h e =
 
 pub goes_below : (s : Stand) (w : Runs) → Fit s w → is_going s.state ≡ true → s.step < length s.strategy.steps
 goes_below s w f g = step_below (length s.strategy.steps) s.step (is_done s.state) f.placed (going_not_done s.state g)
+
+-- a release in progress is bound
+going_bound : (a u : Bool) (x : State) → not (a || (is_done x && u)) ≡ false → is_going x ≡ true → a ≡ true
+going_bound true u x h g = refl
+going_bound false u InProgress h g = cc h
+going_bound false u Aborted h g = cc g
+going_bound false u Done h g = cc g
+
+pub bound_going : {w : Runs} (s : Stand) → Fit s w → is_going s.state ≡ true → IsWellBound s
+bound_going s f g =
+    let other : Bool = not (is_bound s || (is_done s.state && is_unbound s)) in
+    (going_bound (is_bound s) (is_unbound s) s.state (or_left other (is_refused s.bound) f.bound) g, or_right other (is_refused s.bound) f.bound)
 
 -- where the present step has no analysis, or is held, no step run is open
 
@@ -63,11 +78,12 @@ next_ready s w f u g unheld background_unheld no_step =
       background_unheld = background_unheld;
       few = f.few;
       room = subst (λ h. (length s.strategy.steps - (s.step + 1)) + of_background (is_some s.strategy.background) s.background (has_background w.open_runs) h ≤ 1000000 - w.count) background_unheld (f.room g);
-      runs = record { numbered = f.numbered; distinct = f.distinct; tallied = f.tallied; unjudged = u };
+      runs = record { numbered = f.numbered; distinct = f.distinct; tallied = f.tallied; same = f.same; unjudged = u };
       one_background = f.one_background;
       no_step = no_step;
       background_run = not_begun (has_background w.open_runs) s.background s.background_hold f.background_run;
       known = f.known;
+      bound = bound_going s f g;
     }
 
 pub later : (s : Basis) (t u : ℕ) (c : Course) → t ≤ u → Loose s t c → Loose s u c
@@ -75,11 +91,15 @@ later s t u c le l = record { steady = l.steady; same = l.same; entered = (let e
 
 -- a move
 
-leaves_none : (s : Stand) (o : Option Step) (entered e : ℕ) → Accepted (basis s) → step_of s ≡ o → leaves_at o entered ≡ Some e → is_none (analysis_at s.bound (Some s.step)) ≡ true
-leaves_none s (Some (SetWeight percent)) entered e acc is h = no_analysis_at (basis s) s.step (Some (SetWeight percent)) acc is (λ names x. cc x)
-leaves_none s (Some (Pause seconds)) entered e acc is h = no_analysis_at (basis s) s.step (Some (Pause seconds)) acc is (λ names x. cc x)
-leaves_none s (Some (Analysis names)) entered e acc is h = cc h
-leaves_none s None entered e acc is h = no_analysis_at (basis s) s.step None acc is (λ names x. cc x)
+-- where the present step is no analysis, none is bound at it
+pub not_bound : (s : Stand) (step : Step) → step_of s ≡ Some step → ((names : List (List ℕ)) → step ≡ Analysis names → ⊥) → is_bound s ≡ true → is_none (analysis_at s.bound (Some s.step)) ≡ true
+not_bound s step e other bound = no_analysis_at s.strategy.steps s.bound.steps s.step step (and_left (pointwise is_step_bound s.strategy.steps s.bound.steps) (is_background_bound s.strategy.background s.bound.background) bound) e other
+
+leaves_none : (s : Stand) (o : Option Step) (entered e : ℕ) → step_of s ≡ o → is_bound s ≡ true → leaves_at o entered ≡ Some e → is_none (analysis_at s.bound (Some s.step)) ≡ true
+leaves_none s (Some (SetWeight percent)) entered e is bound h = not_bound s (SetWeight percent) is (λ names x. cc x) bound
+leaves_none s (Some (Pause seconds)) entered e is bound h = not_bound s (Pause seconds) is (λ names x. cc x) bound
+leaves_none s (Some (Analysis names)) entered e is bound h = cc h
+leaves_none s None entered e is bound h = cc h
 
 pub not_true : (b : Bool) → not b ≡ true → b ≡ false
 not_true true h = cc h
@@ -88,13 +108,12 @@ not_true false h = refl
 moves_loose : (s : Basis) (t e : ℕ) (c next : Course) → Accepted s → Loose s t c → Moves c e next → e ≤ t → Loose s t next
 moves_loose s t e c next acc l m le =
     let st : Stand = c.stand in
-    let own : Accepted (basis st) = subst Accepted (sym l.same) acc in
     let goes : is_going st.state ≡ true = and_left (is_going st.state) (not (is_held st)) m.0 in
     let free : is_held st ≡ false = not_true (is_held st) (and_right (is_going st.state) (not (is_held st)) m.0) in
-    let away : (is_none (analysis_at st.bound (Some st.step)) || is_held st) ≡ true = ap (λ b. b || is_held st) (leaves_none st (step_of st) st.entered e own refl m.1) in
+    let away : (is_none (analysis_at st.bound (Some st.step)) || is_held st) ≡ true = ap (λ b. b || is_held st) (leaves_none st (step_of st) st.entered e refl (bound_going st l.fit goes).0 m.1) in
     let ready = next_ready st (runs_now c) l.fit l.unjudged goes (or_left st.step_hold st.background_hold free) (or_right st.step_hold st.background_hold free) (no_step_run st (runs_now c).open_runs away l.fit.home) in
     let below : st.step < length st.strategy.steps = goes_below st (runs_now c) l.fit goes in
-    let there : Loose (basis st) e (enter c (st.step + 1) e) = enters c (st.step + 1) e own l.steady (omega arith) ready in
+    let there : Loose (basis st) e (enter c (st.step + 1) e) = enters c (st.step + 1) e (subst Accepted (sym l.same) acc) l.steady (omega arith) ready in
     subst (Loose s t) (sym m.2) (later s e t (enter c (st.step + 1) e) le (subst (λ x. Loose x e (enter c (st.step + 1) e)) l.same there))
 
 chain_loose : (n t : ℕ) (s : Basis) (c : Course) → Accepted s → Loose s t c → Loose s t (chain_end n t c)
@@ -125,6 +144,8 @@ last_fits s w last f =
       held = f.held;
       known = f.known;
       hold = f.hold;
+      bound = f.bound;
+      same = f.same;
     }
 
 at_rest : (n t : ℕ) (c : Course) → length c.stand.strategy.steps ≤ c.stand.step + n → is_by t (next_move (chain_end n t c).stand) ≡ false
@@ -152,5 +173,5 @@ passes s c t acc l =
     record {
       loose = record { steady = end'.steady; same = end'.same; entered = end'.entered; fit = fit; unjudged = end'.unjudged };
       last = refl;
-      unbroken = unbroken_of (kept_after (pass c t)) fit end'.unjudged end'.entered (at_rest n at c (omega arith)) (well_bound d.stand (subst Accepted (sym end'.same) acc));
+      unbroken = unbroken_of (kept_after (pass c t)) fit end'.unjudged end'.entered (at_rest n at c (omega arith));
     }

@@ -14,16 +14,18 @@ use Rattle.canary_release.specs.declared.runs.Runs.{Runs}
 use Rattle.canary_release.specs.Services.{is_going, is_done, is_held}
 use Rattle.canary_release.specs.Courses.{has_number}
 use Rattle.canary_release.specs.Entering.{begins_background}
-use Rattle.canary_release.specs.Parts.{is_background_run, is_step_run, is_misnumbered, repeats_number, has_wrong_tallies, is_elsewhere, is_astray, is_judged}
+use Rattle.canary_release.specs.Parts.{is_background_run, is_step_run, is_misnumbered, repeats_number, has_wrong_tallies, is_bound_otherwise, is_refused, is_bound, is_unbound, is_judged, is_elsewhere, is_astray}
 use Rattle.canary_release.proofs.PartsLists.{any_weaker, any_push, any_push_other, few_push_other, few_push_first, few_none, repeats_push, and_false, or_left, or_right, neither}
-use Rattle.canary_release.proofs.PartsKept.{of_background, has_background, Unjudged, Fit}
-use Rattle.canary_release.proofs.PartsFresh.{HasAnalysis, Accepted, basis, new_run, new_fits, new_is_open, background_analysis}
+use Rattle.canary_release.proofs.PartsKept.{of_background, has_background, IsWellBound, Unjudged, Fit}
+use Rattle.canary_release.proofs.PartsFresh.{HasAnalysis, Accepted, basis, new_run, new_fits, new_is_same, new_is_open, background_analysis}
 
--- open runs: numbered, each number once, with a tally for each metric, and not judged
-pub record AreRuns (w : Runs) : Type 0 where
+-- open runs: numbered, each number once, with a tally for each metric, of the revisions that are
+-- bound, and not judged
+pub record AreRuns (b : BoundParts) (w : Runs) : Type 0 where
   pub numbered : list_any (is_misnumbered w.count) w.open_runs ≡ false
   pub distinct : repeats_number w.open_runs ≡ false
   pub tallied : list_any has_wrong_tallies w.open_runs ≡ false
+  pub same : list_any (λ (r : OpenRun). is_bound_otherwise (analysis_at b r.step) r.analysis) w.open_runs ≡ false
   pub unjudged : list_any is_judged w.open_runs ≡ false
 
 -- in progress, not held, with no step run, and with so many run numbers left beside those of the background
@@ -33,11 +35,12 @@ pub record Ready (s : Stand) (w : Runs) (need : ℕ) : Type 0 where
   pub background_unheld : s.background_hold ≡ false
   pub few : w.count ≤ 1000000
   pub room : need + of_background (is_some s.strategy.background) s.background (has_background w.open_runs) false ≤ 1000000 - w.count
-  pub runs : AreRuns w
+  pub runs : AreRuns s.bound w
   pub one_background : length (filter is_background_run w.open_runs) ≤ 1
   pub no_step : list_any is_step_run w.open_runs ≡ false
   pub background_run : (has_background w.open_runs && not s.background) ≡ false
   pub known : (s.background && is_none s.strategy.background) ≡ false
+  pub bound : IsWellBound s
 
 -- one run more is open
 abbrev pub with_new : BoundParts → Runs → Option ℕ → ℕ → Runs
@@ -52,13 +55,14 @@ numbered_next n = neither (n + 1 == 0) (nat_lt (n + 1) (n + 1)) (grind (arith, n
 not_next : (n k : ℕ) → (k == 0 || nat_lt n k) ≡ false → (k == n + 1) ≡ false
 not_next n k h = let below = or_right (k == 0) (nat_lt n k) h in grind (arith, nat_tests)
 
-more_runs : (b : BoundParts) (w : Runs) (step : Option ℕ) (at : ℕ) → HasAnalysis b step → AreRuns w → AreRuns (with_new b w step at)
+more_runs : (b : BoundParts) (w : Runs) (step : Option ℕ) (at : ℕ) → HasAnalysis b step → AreRuns b w → AreRuns b (with_new b w step at)
 more_runs b w step at has a =
     let new : OpenRun = new_run b (w.count + 1) step at in
     record {
       numbered = any_push (is_misnumbered (w.count + 1)) w.open_runs new (any_weaker (is_misnumbered w.count) (is_misnumbered (w.count + 1)) (λ r h. misnumbered_more w.count r.number h) w.open_runs a.numbered) (numbered_next w.count);
       distinct = repeats_push w.open_runs new a.distinct (any_weaker (is_misnumbered w.count) (has_number (w.count + 1)) (λ r h. not_next w.count r.number h) w.open_runs a.numbered);
       tallied = any_push has_wrong_tallies w.open_runs new a.tallied (new_fits b (w.count + 1) step at);
+      same = any_push (λ (r : OpenRun). is_bound_otherwise (analysis_at b r.step) r.analysis) w.open_runs new a.same (new_is_same b (w.count + 1) step at has);
       unjudged = any_push is_judged w.open_runs new a.unjudged (new_is_open b (w.count + 1) step at has);
     }
 
@@ -105,11 +109,12 @@ ready_begun s w need at acc b r =
       background_unheld = r.background_unheld;
       few = few_begun need w.count (is_some s.strategy.background) s.background (has_background w.open_runs) there b.new r.few r.room;
       room = room_begun need w.count (is_some s.strategy.background) s.background (has_background w.open_runs) (has_background (w.open_runs ++ new ∷ [])) there b.new r.few r.room;
-      runs = more_runs s.bound w None at (background_analysis (basis s) b.background acc b.is) r.runs;
+      runs = more_runs s.bound w None at (background_analysis s b.background acc r.bound.0 b.is) r.runs;
       one_background = few_push_first is_background_run w.open_runs new none;
       no_step = any_push is_step_run w.open_runs new r.no_step refl;
       background_run = and_false (has_background (w.open_runs ++ new ∷ [])) false refl;
       known = ap is_none b.is;
+      bound = r.bound;
     }
 
 -- a step before the end is shown
@@ -162,6 +167,9 @@ room_opened n i x count e h = omega arith
 few_opened : (n i x count : ℕ) → i < n → (n - i) + x ≤ 1000000 - count → count + 1 ≤ 1000000
 few_opened n i x count e h = omega arith
 
+pub not_misbound : (bound unbound refused : Bool) → (bound ≡ true) × (refused ≡ false) → (not (bound || unbound) || refused) ≡ false
+not_misbound bound unbound refused h = rw (h.0, h.1) refl
+
 abbrev left : Stand → Runs → Bool → ℕ
 left s w held = of_background (is_some s.strategy.background) s.background (has_background w.open_runs) held
 
@@ -182,6 +190,8 @@ settled s w below r =
       held = held_going (is_held s) (is_going s.state) r.going;
       known = r.known;
       hold = unheld_hold s.background_hold s.background r.background_unheld;
+      bound = not_misbound (is_bound s) (is_done s.state && is_unbound s) (is_refused s.bound) r.bound;
+      same = r.runs.same;
     }
 
 here : (i : ℕ) (none held : Bool) → none ≡ false → held ≡ false → (not (i == i) || (none || held)) ≡ false
@@ -208,6 +218,8 @@ settled_open s w at below has r =
         held = held_going (is_held s) (is_going s.state) r.going;
         known = r.known;
         hold = unheld_hold s.background_hold s.background r.background_unheld;
+        bound = not_misbound (is_bound s) (is_done s.state && is_unbound s) (is_refused s.bound) r.bound;
+        same = runs.same;
       },
       runs.unjudged,
     )

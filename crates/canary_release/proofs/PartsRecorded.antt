@@ -1,9 +1,10 @@
 -- Measurements change tallies alone, and a run that is closed leaves the others.
-use Rattle.std.proofs.Common.{◌≡◌, ℕ, zero, suc, ◌+◌, ◌-◌, ◌≤◌, List, [], ◌∷◌, ◌++◌, length, refl, ap, sym, arith, subst}
+use Rattle.std.proofs.Common.{◌≡◌, ℕ, zero, suc, ◌+◌, ◌-◌, ◌≤◌, List, [], ◌∷◌, ◌++◌, length, refl, ap, sym, ◌∙◌, arith, subst}
 use Rattle.std.specs.Prelude.{Bool, true, false, not, ◌&&◌, ◌||◌, ◌==◌, nat_lt, if◌then◌else◌, map, filter, is_some, is_none, Option, Some, None}
 use Rattle.std.specs.List.{list_any}
 use Rattle.canary_metric.specs.Metrics.{MetricValue}
 use Rattle.canary_plan.specs.declared.report.Entry.{Entry}
+use Rattle.canary_plan.specs.Plans.{analysis_at}
 use Rattle.canary_release.specs.declared.effect.Recorded.{Recorded}
 use Rattle.canary_release.specs.declared.effect.Effect.TheVariants.{Measured}
 use Rattle.canary_release.specs.declared.stand.Stand.{Stand}
@@ -13,7 +14,7 @@ use Rattle.canary_release.specs.Pasts.{change_at}
 use Rattle.canary_release.specs.Watching.{counted, counted_in, is_other}
 use Rattle.canary_release.specs.Courses.{Course, happen, runs_now}
 use Rattle.canary_release.specs.Reports.{Place, place_of, recorded_if, brought, record_all}
-use Rattle.canary_release.specs.Parts.{is_background_run, is_step_run, is_misnumbered, has_wrong_tallies, is_elsewhere, is_astray, is_judged}
+use Rattle.canary_release.specs.Parts.{is_background_run, is_step_run, is_misnumbered, has_wrong_tallies, has_other_revisions, is_bound_otherwise, is_elsewhere, is_astray, is_judged}
 use Rattle.canary_release.proofs.PartsLists.{any_weaker, any_filter, any_filtered, any_map, any_map_same, few_map, few_filter, repeats_filter, repeats_map, and_false, of_others, of_other}
 use Rattle.canary_release.proofs.PartsRuns.{Steady, with_open, happened_runs}
 use Rattle.canary_release.proofs.PartsKept.{of_background, has_background, Unjudged, Fit}
@@ -25,17 +26,17 @@ changed_length k f [] = refl
 changed_length zero f (x ∷ xs) = refl
 changed_length (suc k) f (x ∷ xs) = ap suc (changed_length k f xs)
 
-same_place : (x : Recorded) (r : OpenRun) → ((counted_in x r).number ≡ r.number) × ((counted_in x r).step ≡ r.step)
+same_place : (x : Recorded) (r : OpenRun) → ((counted_in x r).number ≡ r.number) × ((counted_in x r).step ≡ r.step) × (length (counted_in x r).tallies ≡ length r.tallies) × ((counted_in x r).analysis ≡ r.analysis)
 same_place x r =
     elim (r.number == x.run)
-    as (λ b. let q : OpenRun = (if b then record r { tallies = change_at x.metric (counted x) r.tallies } else r) in (q.number ≡ r.number) × (q.step ≡ r.step))
-    [ true ↦ (refl, refl) | false ↦ (refl, refl) ]
+    as (λ b. let q : OpenRun = (if b then record r { tallies = change_at x.metric (counted x) r.tallies } else r) in (q.number ≡ r.number) × (q.step ≡ r.step) × (length q.tallies ≡ length r.tallies) × (q.analysis ≡ r.analysis))
+    [ true ↦ (refl, refl, changed_length x.metric (counted x) r.tallies, refl) | false ↦ (refl, refl, refl, refl) ]
 
-wrong_alike : (x : Recorded) (r : OpenRun) → has_wrong_tallies r ≡ false → has_wrong_tallies (counted_in x r) ≡ false
-wrong_alike x r h =
-    elim (r.number == x.run)
-    as (λ b. let q : OpenRun = (if b then record r { tallies = change_at x.metric (counted x) r.tallies } else r) in has_wrong_tallies q ≡ false)
-    [ true ↦ subst (λ n. not (length r.analysis.metrics == n) ≡ false) (sym (changed_length x.metric (counted x) r.tallies)) h | false ↦ h ]
+wrong_alike : (q r : OpenRun) → q.analysis ≡ r.analysis → length q.tallies ≡ length r.tallies → has_wrong_tallies r ≡ false → has_wrong_tallies q ≡ false
+wrong_alike q r e l h = (λ i. not (length (e i).metrics == l i)) ∙ h
+
+other_alike : (s : Stand) (q r : OpenRun) → q.step ≡ r.step → q.analysis ≡ r.analysis → has_other_revisions s r ≡ false → has_other_revisions s q ≡ false
+other_alike s q r e l h = (λ i. is_bound_otherwise (analysis_at s.bound (e i)) (l i)) ∙ h
 
 abbrev pub measured : Recorded → Runs → Runs
 measured x w = with_open w (map (counted_in x) w.open_runs)
@@ -52,7 +53,7 @@ measured_fits s w x f =
       room = λ g. subst (λ b. (length s.strategy.steps - (s.step + 1)) + of_background (is_some s.strategy.background) s.background b s.background_hold ≤ 1000000 - w.count) (sym background) (f.room g);
       numbered = any_map change (is_misnumbered w.count) (is_misnumbered w.count) (λ r h. subst (λ k. (k == 0 || nat_lt w.count k) ≡ false) (sym (number r)) h) w.open_runs f.numbered;
       distinct = repeats_map change number w.open_runs f.distinct;
-      tallied = any_map change has_wrong_tallies has_wrong_tallies (wrong_alike x) w.open_runs f.tallied;
+      tallied = any_map change has_wrong_tallies has_wrong_tallies (λ r h. wrong_alike (change r) r (same_place x r).3 (same_place x r).2 h) w.open_runs f.tallied;
       idle = λ g. ap (map change) (f.idle g);
       one_background = subst (λ n. n ≤ 1) (sym (few_map change is_background_run (λ r. ap is_none (step r)) w.open_runs)) f.one_background;
       one_step = subst (λ n. n ≤ 1) (sym (few_map change is_step_run (λ r. ap is_some (step r)) w.open_runs)) f.one_step;
@@ -61,6 +62,8 @@ measured_fits s w x f =
       held = f.held;
       known = f.known;
       hold = f.hold;
+      bound = f.bound;
+      same = any_map change (has_other_revisions s) (has_other_revisions s) (λ r h. other_alike s (change r) r (step r) (same_place x r).3 h) w.open_runs f.same;
     }
 
 others_alike : (p : OpenRun → Bool) (x : Recorded) (r : OpenRun) → of_others x.run p r ≡ false → of_others x.run p (counted_in x r) ≡ false
@@ -159,6 +162,8 @@ closed_fits s w n f =
       held = f.held;
       known = f.known;
       hold = f.hold;
+      bound = f.bound;
+      same = any_filter t (has_other_revisions s) w.open_runs f.same;
     }
 
 not_other : (b : Bool) → not b ≡ true → b ≡ false

@@ -25,7 +25,7 @@ use Rattle.canary_release.proofs.PartsKept.{of_background, has_background, Fit}
 use Rattle.canary_release.proofs.PartsFresh.{Basis, basis, Accepted}
 use Rattle.canary_release.proofs.PartsReady.{none_astray, held_going}
 use Rattle.canary_release.proofs.PartsEntering.{Loose, loose_as, aborts, enters}
-use Rattle.canary_release.proofs.PartsPassing.{goes_below, next_ready}
+use Rattle.canary_release.proofs.PartsPassing.{goes_below, bound_going, next_ready}
 use Rattle.canary_release.proofs.PartsRecorded.{OthersUnjudged, StillFits, all_recorded, without, closed_fits, closed_unjudged}
 
 -- holds
@@ -47,6 +47,8 @@ step_held_fits s w f g no_step =
       held = held_going true (is_going s.state) g;
       known = f.known;
       hold = f.hold;
+      bound = f.bound;
+      same = f.same;
     }
 
 -- the run numbers that are left where the background is open are enough where it is held
@@ -70,6 +72,8 @@ background_held_fits s w f g begun room =
       held = held_going (s.step_hold || true) (is_going s.state) g;
       known = f.known;
       hold = ap not begun;
+      bound = f.bound;
+      same = refl;
     }
 
 -- once a run is closed
@@ -85,19 +89,19 @@ pub record Closes (s : Basis) (t : ℕ) (c : Course) (step : Option ℕ) : Type 
   pub going : is_going c.stand.state ≡ true
   pub run : AtRun c step
 
-pub of_basis : (s u : Basis) (t : ℕ) (c : Course) → s ≡ u → Loose s t c → Loose u t c
-of_basis s u t c e l = subst (λ x. Loose x t c) e l
+pub of_strategy : (s u : Basis) (t : ℕ) (c : Course) → s ≡ u → Loose s t c → Loose u t c
+of_strategy s u t c e l = subst (λ x. Loose x t c) e l
 
 by_run : (s : Basis) (t : ℕ) (c : Course) (run : ℕ) → Loose s t c → is_going c.stand.state ≡ true → Loose s t (abort_by_run c run t)
 by_run s t c run l g =
     let d : Course = tell c t (AbortedBy run) in
     let few : (runs_now d).count ≤ 1000000 = subst (λ (w : Runs). w.count ≤ 1000000) (sym (told_runs c t (AbortedBy run) l.steady)) l.fit.few in
-    of_basis (basis c.stand) s t (abort_by_run c run t) l.same (aborts d t l.steady (goes_below c.stand (runs_now c) l.fit g) few l.fit.known l.entered)
+    of_strategy (basis c.stand) s t (abort_by_run c run t) l.same (aborts d t l.steady (goes_below c.stand (runs_now c) l.fit g) few l.fit.known (bound_going c.stand l.fit g) l.entered)
 
 holds_step : (s : Basis) (t : ℕ) (c : Course) → Loose s t c → is_going c.stand.state ≡ true → list_any is_step_run (runs_now c).open_runs ≡ false → Loose s t (hold_step c t)
 holds_step s t c l g no_step =
     let d : Course = with_stand c (record c.stand { step_hold = true }) in
-    of_basis (basis c.stand) s t (hold_step c t) l.same
+    of_strategy (basis c.stand) s t (hold_step c t) l.same
     (loose_as t (hold_step c t) d.stand (runs_now c) l.steady refl (told_runs d t (StepHeld c.stand.step) l.steady) l.entered (step_held_fits c.stand (runs_now c) l.fit g no_step) l.unjudged)
 
 holds_background : (s : Basis) (t : ℕ) (c : Course) → Loose s t c → is_going c.stand.state ≡ true → c.stand.background ≡ true → HasRoom c.stand (runs_now c) → Loose s t (hold_background c t)
@@ -106,7 +110,7 @@ holds_background s t c l g begun room =
     let d : Course = tell b t BackgroundHeld in
     let steady = subst Steady (sym (ended_watch t d (runs_now d).open_runs)) l.steady in
     let runs = none_open d t l.steady ∙ ap (λ (w : Runs). with_open w []) (told_runs b t BackgroundHeld l.steady) in
-    of_basis (basis c.stand) s t (hold_background c t) l.same
+    of_strategy (basis c.stand) s t (hold_background c t) l.same
     (loose_as t (hold_background c t) b.stand (with_open (runs_now c) []) steady (ended_stand t d (runs_now d).open_runs) runs l.entered (background_held_fits c.stand (runs_now c) l.fit g begun room) refl)
 
 goes_on : (s : Basis) (t : ℕ) (c : Course) → Accepted (basis c.stand) → Loose s t c → is_going c.stand.state ≡ true → list_any is_step_run (runs_now c).open_runs ≡ false → is_held c.stand ≡ false → Loose s t (enter c (c.stand.step + 1) t)
@@ -114,7 +118,7 @@ goes_on s t c acc l g no_step unheld =
     let st : Stand = c.stand in
     let below : st.step < length st.strategy.steps = goes_below st (runs_now c) l.fit g in
     let ready = next_ready st (runs_now c) l.fit l.unjudged g (or_left st.step_hold st.background_hold unheld) (or_right st.step_hold st.background_hold unheld) no_step in
-    of_basis (basis st) s t (enter c (st.step + 1) t) l.same (enters c (st.step + 1) t acc l.steady (omega arith) ready)
+    of_strategy (basis st) s t (enter c (st.step + 1) t) l.same (enters c (st.step + 1) t acc l.steady (omega arith) ready)
 
 follows : (s : Basis) (t : ℕ) (c : Course) (run : ℕ) (step : Option ℕ) (v : Phase) → Closes s t c step → Loose s t (consequence c run step v t)
 follows s t c run step Failed a = by_run s t c run a.loose a.going
@@ -128,7 +132,7 @@ follows s t c run step Running a = a.loose
 
 -- a run that is found and closed
 
-found_going : (g : Bool) (t : OpenRun → Bool) (rs : List OpenRun) (r : OpenRun) → (g ≡ false → rs ≡ []) → find t rs ≡ Some r → g ≡ true
+pub found_going : (g : Bool) (t : OpenRun → Bool) (rs : List OpenRun) (r : OpenRun) → (g ≡ false → rs ≡ []) → find t rs ≡ Some r → g ≡ true
 found_going true t rs r idle h = refl
 found_going false t rs r idle h = let none : ◌≡◌ {A = Option OpenRun} None (Some r) = subst (λ xs. find t xs ≡ Some r) (idle refl) h in cc none
 
@@ -187,7 +191,7 @@ reported s t c r es acc l =
     let all : Course = record_all c (brought r.analysis.metrics r es) in
     let still : StillFits r.number c.stand all = all_recorded c r.analysis.metrics r es l.steady l.fit l.unjudged in
     let same : basis all.stand ≡ s = ap basis still.stand ∙ l.same in
-    of_basis (basis all.stand) s t (report_on c r es t) same
+    of_strategy (basis all.stand) s t (report_on c r es t) same
     (assessed t r.number all (open_run_now all r.number) (subst Accepted (sym same) acc) refl still.steady
     (subst (λ (x : Stand). x.entered ≤ t) (sym still.stand) l.entered)
     (subst (λ (x : Stand). Fit x (runs_now all)) (sym still.stand) still.fit)

@@ -1,17 +1,18 @@
 -- A command that is refused leaves the desk as it was.
-use Rattle.std.proofs.Common.{◌≡◌, ◌⊎◌, inl, inr, ℕ, refl, ap}
-use Rattle.std.specs.Prelude.{Option, Some, None, Result, Ok, Err}
+use Rattle.std.proofs.Common.{◌≡◌, ◌⊎◌, inl, inr, ℕ, ◌+◌, refl, ap}
+use Rattle.std.specs.Prelude.{Option, Some, None, option_map, Result, Ok, Err}
+use Rattle.std.specs.FinMap.{get}
+use Rattle.canary_plan.specs.Commands.{subject_of}
 use Rattle.canary_plan.specs.declared.template_spec.TemplateSpec.{TemplateSpec}
 use Rattle.canary_plan.specs.declared.template.Template.{Template as Known}
 use Rattle.canary_plan.specs.declared.command.Command.{Command}
 use Rattle.canary_plan.specs.declared.command.Command.TheVariants.{Template, Service, Start, Promote, PromoteFull, Abort, Retry, Tick, Report}
 use Rattle.canary_plan.specs.declared.refusal.Refusal.{Refusal}
-use Rattle.canary_plan.specs.Plans.{Templates}
-use Rattle.canary_plan.specs.PlanRefusals.{template_refusal}
+use Rattle.canary_plan.specs.Plans.{Templates, template_of}
 use Rattle.canary_release.specs.declared.reply.ReplyStatus.TheVariants.{Accepted, Refused}
 use Rattle.canary_release.specs.Courses.{Course}
 use Rattle.canary_release.specs.Commands.{Acted}
-use Rattle.canary_release.specs.Desks.{Ruling, rules, adds_unless, rule_template, rule_service, act_new, act_passed, ruling, ruling_on, Desk, desk_after}
+use Rattle.canary_release.specs.Desks.{Ruling, course_of, newest, rules, adds_unless, newest_number, revision_refusal, rule_template, rule_service, act_new, act_passed, ruling, ruling_on, Desk, desk_after}
 use Rattle.canary_release.specs.Desks.Change.{Nothing}
 use Rattle.canary_release.specs.Laws.{RefusalsLeaveTheDesk}
 
@@ -23,17 +24,16 @@ clear_rules : (r : Result Acted Refusal) → IsClear (rules r)
 clear_rules (Ok a) = inl refl
 clear_rules (Err refusal) = inr (refl, refl)
 
-clear_adds : (refusal : Option Refusal) (spec : TemplateSpec) → IsClear (adds_unless refusal spec)
-clear_adds None spec = inl refl
-clear_adds (Some refusal) spec = inr (refl, refl)
+clear_adds : (refusal : Option Refusal) (t : Known) → IsClear (adds_unless refusal t)
+clear_adds None t = inl refl
+clear_adds (Some refusal) t = inr (refl, refl)
 
 clear_template : (found : Option Known) (spec : TemplateSpec) → IsClear (rule_template found spec)
-clear_template None spec = clear_adds (template_refusal spec) spec
-clear_template (Some t) spec = inr (refl, refl)
+clear_template found spec = clear_adds (revision_refusal (newest_number found) spec) (template_of spec (newest_number found + 1))
 
 clear_service : (known : Templates) (found : Option Course) (now : ℕ) (command : Command) → IsClear (rule_service known found now command)
 clear_service known None now command = clear_rules (act_new known command now)
-clear_service known (Some c) now command = clear_rules (act_passed command c now)
+clear_service known (Some c) now command = clear_rules (act_passed known command c now)
 
 clear : (known : Templates) (found : Option Course) (now : ℕ) (command : Command) → IsClear (ruling known found now command)
 clear known found now (Template spec) = clear_template (known spec.name) spec
@@ -51,4 +51,4 @@ leaves desk command r (inl accepted) = inl accepted
 leaves desk command r (inr refused) = inr (refused.0, ap (desk_after desk command) refused.1)
 
 pub refusals_leave_the_desk : RefusalsLeaveTheDesk
-refusals_leave_the_desk desk now command = leaves desk command (ruling_on desk now command) (clear _ _ now command)
+refusals_leave_the_desk desk now command = leaves desk command (ruling_on desk now command) (clear (newest desk.templates) (option_map course_of (get desk.services (subject_of command))) now command)

@@ -7,7 +7,7 @@ use Rattle.canary_condition.specs.declared.outcome.Outcome.TheVariants.{Result}
 use Rattle.canary_condition.specs.declared.outcome.Phase.TheVariants.{Successful}
 use Rattle.canary_metric.specs.Counts.{counts, with_one_more}
 use Rattle.canary_plan.specs.declared.analysis_parts.AnalysisParts.{AnalysisParts}
-use Rattle.canary_plan.specs.Plans.{Templates, bound_metric}
+use Rattle.canary_plan.specs.Plans.{bound_metric}
 use Rattle.canary_plan.specs.declared.step.Step.TheVariants.{SetWeight, Pause}
 use Rattle.canary_plan.specs.declared.command.Command.{Command}
 use Rattle.canary_plan.specs.declared.command.Command.TheVariants.{Start, Promote, Abort}
@@ -22,7 +22,7 @@ use Rattle.canary_release.specs.Pasts.{no_past, grows_by, watched}
 use Rattle.canary_release.specs.Watching.{no_runs}
 use Rattle.canary_release.specs.Services.{weight}
 use Rattle.canary_release.specs.Courses.{Course}
-use Rattle.canary_release.specs.Commands.{start_refusal, promote_refusal}
+use Rattle.canary_release.specs.Commands.{start_refusal_at, promote_refusal}
 use Rattle.canary_release.specs.Desks.{machine, no_desk, new_stand}
 use Rattle.canary_release.specs.Shapes.{kept_course}
 use Rattle.canary_release.proofs.Stories.{service_after, b, ok, no, web, v1, v2, v3, m, add, background, background_setup, two_pauses, every, metric, report, result, told}
@@ -244,9 +244,6 @@ two_weights_replies = replies_from_nothing two_weights _ refl
 
 -- A service with a run of the background, measured once, and ended by an abort.
 
-abbrev each_minute : AnalysisParts
-each_minute = record { metrics = bound_metric [] (every (metric m) 60) ∷ [] }
-
 abbrev good_at_first : Recorded
 good_at_first = record { run = 1; metric = 0; ordinal = 1; taken = b + 5; outcome = Result (Whole (pos 7)); phase = Successful }
 
@@ -258,7 +255,7 @@ measured_service : service_after measured_once web ≡ Some (record {
   stand = record {
     name = web;
     strategy = record { steps = SetWeight 20 ∷ Pause None ∷ []; background = background (codes "errs") 0 };
-    bound = record { steps = replicate 2 None; background = Some each_minute };
+    bound = record { steps = replicate 2 None; background = Some (record { revisions = record { template = codes "errs"; number = 1 } ∷ []; metrics = bound_metric [] (every (metric m) 60) ∷ [] }) };
     stable = v1;
     version = v2;
     state = Aborted;
@@ -273,7 +270,7 @@ measured_service : service_after measured_once web ≡ Some (record {
     runs = record {
       number = 1;
       step = None;
-      analysis = each_minute;
+      analysis = record { revisions = record { template = codes "errs"; number = 1 } ∷ []; metrics = bound_metric [] (every (metric m) 60) ∷ [] };
       started = b;
       closed = Some (record { run = 1; at = b + 9; outside = true; verdict = Successful });
       lists = (good_at_first ∷ []) ∷ [];
@@ -293,37 +290,34 @@ measured_service = service_then (λ found. found) measured_once web _ refl
 
 -- The weight is that of step 0 at step 0, and none is set before it.
 
-abbrev no_templates : Templates
-no_templates name = None
-
 -- with no runs
 abbrev standing : Stand → Course
 standing s = kept_course (record { stand = s; runs = no_runs })
 
 of_two_pauses : Stand
-of_two_pauses = new_stand no_templates (record { name = web; version = v1; steps = two_pauses; background = None }) b
+of_two_pauses = new_stand (record { name = web; version = v1; steps = two_pauses; background = None }) b
 
 weight_at_first_step : weight (record of_two_pauses { state = InProgress; step = 0 }) ≡ 20
 unfolding of_two_pauses
 weight_at_first_step = refl
 
-weight_before_any : weight (record (new_stand no_templates (record { name = web; version = v1; steps = Pause None ∷ SetWeight 20 ∷ []; background = None }) b) { state = InProgress; step = 0 }) ≡ 0
+weight_before_any : weight (record (new_stand (record { name = web; version = v1; steps = Pause None ∷ SetWeight 20 ∷ []; background = None }) b) { state = InProgress; step = 0 }) ≡ 0
 weight_before_any = refl
 
 -- A start is refused with the stable version, and not with the version that the service shows.
 
-start_with_stable : start_refusal (standing (record of_two_pauses { version = v2 })) v1 ≡ Some AlreadyStable
+start_with_stable : start_refusal_at (standing (record of_two_pauses { version = v2 })) v1 ≡ Some AlreadyStable
 unfolding of_two_pauses
 start_with_stable = refl
 
-start_with_shown : start_refusal (standing (record of_two_pauses { version = v2 })) v2 ≡ None
+start_with_shown : start_refusal_at (standing (record of_two_pauses { version = v2 })) v2 ≡ None
 unfolding of_two_pauses
 start_with_shown = refl
 
 -- A promotion is refused where the release is done, and then where it is not at a pause.
 
 at_weight : Stand
-at_weight = record (new_stand no_templates (record { name = web; version = v1; steps = two_pauses; background = None }) b) { state = InProgress; step = 2 }
+at_weight = record (new_stand (record { name = web; version = v1; steps = two_pauses; background = None }) b) { state = InProgress; step = 2 }
 
 not_paused : promote_refusal at_weight ≡ Some NotPaused
 unfolding at_weight
@@ -335,8 +329,9 @@ not_in_progress = refl
 
 -- What is watched of a past: a run is opened, measured and closed.
 
+-- an analysis of two metrics
 abbrev of_two : AnalysisParts
-of_two = record { metrics = bound_metric [] (every (metric m) 60) ∷ bound_metric [] (every (metric m) 60) ∷ [] }
+of_two = record { revisions = []; metrics = replicate 2 (bound_metric [] (metric m)) }
 
 abbrev run_of_two : Opening
 run_of_two = record { run = 1; step = Some 1; analysis = of_two; started = b }

@@ -16,7 +16,7 @@ use Rattle.canary_release.proofs.Worlds.{replies_from_nothing, replies_then, ser
 -- A release at a pause, with a background run.
 
 background_setup_replies : (machine no_desk background_setup).replies ≡
-    ok (codes "{\"code\":\"ok\",\"template\":\"errs\"}")
+    ok (codes "{\"code\":\"ok\",\"revision\":1,\"template\":\"errs\"}")
     ∷ ok (codes "{\"code\":\"ok\",\"service\":\"web\",\"status\":\"Healthy\",\"step\":2,\"weight\":100}")
     ∷ ok (codes "{\"code\":\"ok\",\"service\":\"web\",\"status\":\"Paused\",\"step\":1,\"weight\":20}")
     ∷ []
@@ -29,7 +29,7 @@ abbrev step_setup_plain : List (ℕ × Command)
 step_setup_plain = step_setup (metric m ∷ []) [] refl
 
 step_setup_replies : (machine no_desk step_setup_plain).replies ≡
-    ok (codes "{\"code\":\"ok\",\"template\":\"t\"}")
+    ok (codes "{\"code\":\"ok\",\"revision\":1,\"template\":\"t\"}")
     ∷ ok (codes "{\"code\":\"ok\",\"service\":\"web\",\"status\":\"Healthy\",\"step\":4,\"weight\":100}")
     ∷ ok (codes "{\"code\":\"ok\",\"service\":\"web\",\"status\":\"Progressing\",\"step\":1,\"weight\":10}")
     ∷ []
@@ -362,8 +362,8 @@ templates_together_requests =
     ∷ []
 
 templates_together : (machine no_desk templates_together_requests).replies ≡
-    ok (codes "{\"code\":\"ok\",\"template\":\"t\"}")
-    ∷ ok (codes "{\"code\":\"ok\",\"template\":\"web\"}")
+    ok (codes "{\"code\":\"ok\",\"revision\":1,\"template\":\"t\"}")
+    ∷ ok (codes "{\"code\":\"ok\",\"revision\":1,\"template\":\"web\"}")
     ∷ ok (codes "{\"code\":\"ok\",\"service\":\"web\",\"status\":\"Healthy\",\"step\":1,\"weight\":100}")
     ∷ ok (codes "{\"code\":\"ok\",\"service\":\"web\",\"status\":\"Progressing\",\"step\":0,\"weight\":0}")
     ∷ ok (codes "{\"code\":\"ok\",\"phases\":[\"Failed\"],\"run\":1,\"service\":\"web\",\"status\":\"Progressing\",\"step\":0,\"verdict\":\"Running\",\"weight\":0}")

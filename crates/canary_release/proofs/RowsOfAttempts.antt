@@ -261,7 +261,7 @@ later_start_requests =
     ∷ []
 
 later_start : (machine no_desk later_start_requests).replies ≡
-    ok (codes "{\"code\":\"ok\",\"template\":\"bg\"}")
+    ok (codes "{\"code\":\"ok\",\"revision\":1,\"template\":\"bg\"}")
     ∷ ok (codes "{\"code\":\"ok\",\"service\":\"web\",\"status\":\"Healthy\",\"step\":2,\"weight\":100}")
     ∷ ok (codes "{\"code\":\"ok\",\"service\":\"web\",\"status\":\"Paused\",\"step\":1,\"weight\":20}")
     ∷ []

@@ -7,7 +7,7 @@ use Rattle.canary_plan.specs.declared.step.Step.TheVariants.{SetWeight, Pause, A
 use Rattle.canary_plan.specs.declared.service.ServiceSpec.{ServiceSpec}
 use Rattle.canary_plan.specs.declared.command.Command.{Command}
 use Rattle.canary_plan.specs.declared.command.Command.TheVariants.{Start, Promote, Abort, Retry, Tick}
-use Rattle.canary_plan.specs.Plans.{Templates}
+use Rattle.canary_plan.specs.Plans.{no_templates}
 use Rattle.canary_release.specs.declared.reply.Reply.{Reply}
 use Rattle.canary_release.specs.declared.stand.State.TheVariants.{Aborted}
 use Rattle.canary_release.specs.declared.service.ServiceParts.{ServiceParts}
@@ -27,8 +27,8 @@ both_open =
     ∷ []
 
 both_open_replies : (machine no_desk both_open).replies ≡
-    ok (codes "{\"code\":\"ok\",\"template\":\"t\"}")
-    ∷ ok (codes "{\"code\":\"ok\",\"template\":\"bg\"}")
+    ok (codes "{\"code\":\"ok\",\"revision\":1,\"template\":\"t\"}")
+    ∷ ok (codes "{\"code\":\"ok\",\"revision\":1,\"template\":\"bg\"}")
     ∷ ok (codes "{\"code\":\"ok\",\"service\":\"web\",\"status\":\"Healthy\",\"step\":4,\"weight\":100}")
     ∷ ok (codes "{\"code\":\"ok\",\"service\":\"web\",\"status\":\"Progressing\",\"step\":1,\"weight\":10}")
     ∷ []
@@ -299,7 +299,7 @@ to_an_analysis =
     ∷ []
 
 to_an_analysis_replies : (machine no_desk to_an_analysis).replies ≡
-    ok (codes "{\"code\":\"ok\",\"template\":\"t\"}")
+    ok (codes "{\"code\":\"ok\",\"revision\":1,\"template\":\"t\"}")
     ∷ ok (codes "{\"code\":\"ok\",\"service\":\"web\",\"status\":\"Healthy\",\"step\":2,\"weight\":100}")
     ∷ ok (codes "{\"code\":\"ok\",\"service\":\"web\",\"status\":\"Paused\",\"step\":0,\"weight\":0}")
     ∷ no (codes "{\"code\":\"not-paused\"}")
@@ -326,7 +326,8 @@ to_the_end_replies : (machine no_desk to_the_end).replies ≡
 unfolding digits
 to_the_end_replies = replies_from_nothing to_the_end _ refl
 
--- The templates of a background analysis: two metrics of one name, more than 8 of them, and more than 32 metrics.
+-- The templates of a background analysis: more than 8 of them; and as an attempt begins, two
+-- metrics of one name, and more than 32 metrics.
 
 abbrev wide_backgrounds : List (ℕ × Command)
 wide_backgrounds =
@@ -341,29 +342,33 @@ wide_backgrounds =
     ∷ (b, template (codes "t9") (metric (codes "m9") ∷ []) [] refl)
     ∷ (b, template (codes "again") (metric (codes "m1") ∷ []) [] refl)
     ∷ (b, template (codes "all") (metric (codes "a1") ∷ metric (codes "a2") ∷ metric (codes "a3") ∷ metric (codes "a4") ∷ metric (codes "a5") ∷ metric (codes "a6") ∷ metric (codes "a7") ∷ metric (codes "a8") ∷ metric (codes "a9") ∷ metric (codes "a10") ∷ metric (codes "a11") ∷ metric (codes "a12") ∷ metric (codes "a13") ∷ metric (codes "a14") ∷ metric (codes "a15") ∷ metric (codes "a16") ∷ metric (codes "a17") ∷ metric (codes "a18") ∷ metric (codes "a19") ∷ metric (codes "a20") ∷ metric (codes "a21") ∷ metric (codes "a22") ∷ metric (codes "a23") ∷ metric (codes "a24") ∷ metric (codes "a25") ∷ metric (codes "a26") ∷ metric (codes "a27") ∷ metric (codes "a28") ∷ metric (codes "a29") ∷ metric (codes "a30") ∷ metric (codes "a31") ∷ metric (codes "a32") ∷ []) [] refl)
-    ∷ (b, service web [] (Some (record { templates = codes "t1" ∷ codes "again" ∷ []; starting_step = 0 })))
+    ∷ (b, service (codes "dup") [] (Some (record { templates = codes "t1" ∷ codes "again" ∷ []; starting_step = 0 })))
+    ∷ (b, Start (codes "dup") v2)
     ∷ (b, service web [] (Some (record { templates = codes "t1" ∷ codes "again" ∷ codes "nope" ∷ []; starting_step = 0 })))
     ∷ (b, service web [] (Some (record { templates = codes "t1" ∷ codes "t2" ∷ codes "t3" ∷ codes "t4" ∷ codes "t5" ∷ codes "t6" ∷ codes "t7" ∷ codes "t8" ∷ codes "t9" ∷ []; starting_step = 0 })))
-    ∷ (b, service web [] (Some (record { templates = codes "all" ∷ codes "t1" ∷ []; starting_step = 0 })))
+    ∷ (b, service (codes "big") [] (Some (record { templates = codes "all" ∷ codes "t1" ∷ []; starting_step = 0 })))
+    ∷ (b, Start (codes "big") v2)
     ∷ (b, service web [] (Some (record { templates = codes "t1" ∷ codes "t2" ∷ codes "t3" ∷ codes "t4" ∷ codes "t5" ∷ codes "t6" ∷ codes "t7" ∷ codes "t8" ∷ []; starting_step = 0 })))
     ∷ (b, service (codes "api") [] (Some (record { templates = codes "all" ∷ []; starting_step = 0 })))
     ∷ []
 
 wide_backgrounds_replies : (machine no_desk wide_backgrounds).replies ≡
-    ok (codes "{\"code\":\"ok\",\"template\":\"t1\"}")
-    ∷ ok (codes "{\"code\":\"ok\",\"template\":\"t2\"}")
-    ∷ ok (codes "{\"code\":\"ok\",\"template\":\"t3\"}")
-    ∷ ok (codes "{\"code\":\"ok\",\"template\":\"t4\"}")
-    ∷ ok (codes "{\"code\":\"ok\",\"template\":\"t5\"}")
-    ∷ ok (codes "{\"code\":\"ok\",\"template\":\"t6\"}")
-    ∷ ok (codes "{\"code\":\"ok\",\"template\":\"t7\"}")
-    ∷ ok (codes "{\"code\":\"ok\",\"template\":\"t8\"}")
-    ∷ ok (codes "{\"code\":\"ok\",\"template\":\"t9\"}")
-    ∷ ok (codes "{\"code\":\"ok\",\"template\":\"again\"}")
-    ∷ ok (codes "{\"code\":\"ok\",\"template\":\"all\"}")
+    ok (codes "{\"code\":\"ok\",\"revision\":1,\"template\":\"t1\"}")
+    ∷ ok (codes "{\"code\":\"ok\",\"revision\":1,\"template\":\"t2\"}")
+    ∷ ok (codes "{\"code\":\"ok\",\"revision\":1,\"template\":\"t3\"}")
+    ∷ ok (codes "{\"code\":\"ok\",\"revision\":1,\"template\":\"t4\"}")
+    ∷ ok (codes "{\"code\":\"ok\",\"revision\":1,\"template\":\"t5\"}")
+    ∷ ok (codes "{\"code\":\"ok\",\"revision\":1,\"template\":\"t6\"}")
+    ∷ ok (codes "{\"code\":\"ok\",\"revision\":1,\"template\":\"t7\"}")
+    ∷ ok (codes "{\"code\":\"ok\",\"revision\":1,\"template\":\"t8\"}")
+    ∷ ok (codes "{\"code\":\"ok\",\"revision\":1,\"template\":\"t9\"}")
+    ∷ ok (codes "{\"code\":\"ok\",\"revision\":1,\"template\":\"again\"}")
+    ∷ ok (codes "{\"code\":\"ok\",\"revision\":1,\"template\":\"all\"}")
+    ∷ ok (codes "{\"code\":\"ok\",\"service\":\"dup\",\"status\":\"Healthy\",\"step\":0,\"weight\":100}")
     ∷ no (codes "{\"code\":\"duplicate-metric\"}")
-    ∷ no (codes "{\"code\":\"duplicate-metric\"}")
+    ∷ no (codes "{\"code\":\"unknown-template\"}")
     ∷ no (codes "{\"code\":\"bad-strategy\"}")
+    ∷ ok (codes "{\"code\":\"ok\",\"service\":\"big\",\"status\":\"Healthy\",\"step\":0,\"weight\":100}")
     ∷ no (codes "{\"code\":\"bad-strategy\"}")
     ∷ ok (codes "{\"code\":\"ok\",\"service\":\"web\",\"status\":\"Healthy\",\"step\":0,\"weight\":100}")
     ∷ ok (codes "{\"code\":\"ok\",\"service\":\"api\",\"status\":\"Healthy\",\"step\":0,\"weight\":100}")
@@ -373,9 +378,6 @@ wide_backgrounds_replies = replies_from_nothing wide_backgrounds _ refl
 
 -- The stable version is started after an abort, which leads to the end: it is refused, too, where fewer than 66 numbers of runs are left.
 
-abbrev no_templates : Templates
-no_templates name = None
-
 abbrev spec_of_web : ServiceSpec
 spec_of_web = record { name = web; version = v1; steps = two_pauses; background = None }
 
@@ -383,7 +385,7 @@ spec_of_web = record { name = web; version = v1; steps = two_pauses; background 
 abbrev aborted_after : ℕ → ServiceParts
 aborted_after n =
     record {
-      stand = record (new_stand no_templates spec_of_web b) { version = v2; state = Aborted; step = 1; entered = b + 1; last = b + 2 };
+      stand = record (new_stand spec_of_web b) { version = v2; state = Aborted; step = 1; entered = b + 1; last = b + 2 };
       runs = record { count = n; open_runs = [] };
     }
 

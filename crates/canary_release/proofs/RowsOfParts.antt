@@ -5,8 +5,8 @@ use Rattle.canary_metric.specs.Counts.{Counts}
 use Rattle.canary_plan.specs.declared.step.Step.TheVariants.{SetWeight, Pause, Analysis}
 use Rattle.canary_plan.specs.declared.service.Background.{Background}
 use Rattle.canary_plan.specs.declared.service.ServiceSpec.{ServiceSpec}
-use Rattle.canary_plan.specs.declared.analysis_parts.AnalysisParts.{AnalysisParts}
-use Rattle.canary_plan.specs.Plans.{Templates, template_of, metrics_named}
+use Rattle.canary_plan.specs.declared.template_spec.MetricSpec.{MetricSpec}
+use Rattle.canary_plan.specs.Plans.{Templates, template_of, strategy_of, bound_of, unbound, revisions_named, metrics_named}
 use Rattle.canary_release.specs.declared.stand.State.{State}
 use Rattle.canary_release.specs.declared.stand.State.TheVariants.{InProgress, Aborted, Done}
 use Rattle.canary_release.specs.declared.stand.Stand.{Stand}
@@ -20,14 +20,14 @@ use Rattle.canary_release.proofs.Stories.{b, web, v1, v2, m, background, metric,
 
 -- every analysis has one metric, which is measured three times
 abbrev three_times : Templates
-three_times name = Some (template_of (record { name = codes "t"; metrics = record (every (metric m) 60) { count = Some 3; within = refl } ∷ []; dry_run = []; within = refl }))
+three_times name = Some (template_of (record { name = codes "t"; metrics = record (every (metric m) 60) { count = Some 3; within = refl } ∷ []; dry_run = []; within = refl }) 1)
 
 -- five steps: a weight, two analyses, a pause without end, and a pause of 300 seconds
 abbrev five_steps : Option Background → ServiceSpec
 five_steps background = record { name = web; version = v1; steps = SetWeight 20 ∷ Analysis (codes "t" ∷ []) ∷ Analysis (codes "t" ∷ []) ∷ Pause None ∷ Pause (Some 300) ∷ []; background = background }
 
 abbrev stands : Option Background → State → ℕ → Stand
-stands background state i = record (new_stand three_times (five_steps background) b) { version = v2; state = state; step = i }
+stands background state i = record (new_stand (five_steps background) b) { bound = bound_of three_times (strategy_of (five_steps background)); version = v2; state = state; step = i }
 
 -- it has a background analysis, which wasn't begun
 abbrev unbegun : State → ℕ → Stand
@@ -56,7 +56,7 @@ abbrev tally : ℕ → Counts
 tally n = record { counted = n; failed = 0; inconclusive = 0; errors = 0; consecutive = 0; passes = n; last = None }
 
 abbrev with_tallies : ℕ → Option ℕ → List Counts → OpenRun
-with_tallies number step tallies = record { number = number; step = step; analysis = record { metrics = metrics_named three_times (codes "t" ∷ []) }; started = b; tallies = tallies }
+with_tallies number step tallies = record { number = number; step = step; analysis = record { revisions = revisions_named three_times (codes "t" ∷ []); metrics = metrics_named three_times (codes "t" ∷ []) }; started = b; tallies = tallies }
 
 -- an open run with no measurement
 abbrev run : ℕ → Option ℕ → OpenRun
@@ -305,34 +305,70 @@ pause_lasts = refl
 held_pause_stays : is_broken (parts (background_held (in_time 7 307 (at_step InProgress 4))) 1 []) ≡ false
 held_pause_stays = refl
 
--- What is bound: the analysis of each analysis step and that of the background, and nothing else.
+-- What it is bound to: nothing, in another state than done; another analysis; another revision than
+-- an open run's.
 
-abbrev once : Option AnalysisParts
-once = Some (record { metrics = metrics_named three_times (codes "t" ∷ []) })
+abbrev not_bound : State → ℕ → Stand
+not_bound state i = record (unbegun state i) { bound = unbound (strategy_of (five_steps (background (codes "t") 0))) }
 
-abbrev bound_to : List (Option AnalysisParts) → Option AnalysisParts → Stand → Stand
-bound_to steps background s = record s { bound = record { steps = steps; background = background } }
+unbound_when_done : is_broken (parts (not_bound Done 5) 1 []) ≡ false
+unbound_when_done = refl
 
-each_bound : is_broken (parts (bound_to (None ∷ once ∷ once ∷ None ∷ None ∷ []) once (at_step InProgress 3)) 1 []) ≡ false
-each_bound = refl
+unbound_when_aborted : is_broken (parts (not_bound Aborted 4) 1 []) ≡ true
+unbound_when_aborted = refl
 
-analysis_unbound : is_broken (parts (bound_to (None ∷ once ∷ None ∷ None ∷ None ∷ []) once (at_step InProgress 3)) 1 []) ≡ true
-analysis_unbound = refl
+bound_when_aborted : is_broken (parts (unbegun Aborted 4) 1 []) ≡ false
+bound_when_aborted = refl
 
-weight_bound : is_broken (parts (bound_to (once ∷ once ∷ once ∷ None ∷ None ∷ []) once (at_step InProgress 3)) 1 []) ≡ true
-weight_bound = refl
+without_its_background : is_broken (parts (record (unbegun Aborted 4) { bound = bound_of three_times (strategy_of (five_steps None)) }) 1 []) ≡ true
+without_its_background = refl
 
-pause_bound : is_broken (parts (bound_to (None ∷ once ∷ once ∷ None ∷ once ∷ []) once (at_step InProgress 3)) 1 []) ≡ true
-pause_bound = refl
+run_of_another_revision : is_broken (parts (at_step InProgress 3) 1 (record (run 1 None) { analysis = record (run 1 None).analysis { revisions = record { template = codes "t"; number = 2 } ∷ [] } } ∷ [])) ≡ true
+run_of_another_revision = refl
 
-bound_too_few : is_broken (parts (bound_to (None ∷ once ∷ once ∷ None ∷ []) once (at_step InProgress 3)) 1 []) ≡ true
-bound_too_few = refl
+run_of_its_revision : is_broken (parts (at_step InProgress 3) 1 (record (run 1 None) { analysis = record (run 1 None).analysis { revisions = record { template = codes "t"; number = 1 } ∷ [] } } ∷ [])) ≡ false
+run_of_its_revision = refl
 
-bound_too_many : is_broken (parts (bound_to (None ∷ once ∷ once ∷ None ∷ None ∷ None ∷ []) once (at_step InProgress 3)) 1 []) ≡ true
-bound_too_many = refl
+-- What no strategy is bound to: two metrics of one name in an analysis; a metric without end in a
+-- step's.
 
-background_unbound : is_broken (parts (bound_to (None ∷ once ∷ once ∷ None ∷ None ∷ []) None (at_step InProgress 3)) 1 []) ≡ true
-background_unbound = refl
+-- a release of one analysis step that was aborted, bound to these templates
+abbrev bound_to : Templates → List (List ℕ) → Option Background → ServiceParts
+bound_to known names background =
+    let spec : ServiceSpec = record { name = web; version = v1; steps = Analysis names ∷ []; background = background } in
+    parts (record (new_stand spec b) { bound = bound_of known (strategy_of spec); version = v2; state = Aborted; step = 0 }) 1 []
 
-bound_without_background : is_broken (parts (bound_to (None ∷ once ∷ once ∷ None ∷ None ∷ []) once (stands None InProgress 3)) 1 []) ≡ true
-bound_without_background = refl
+abbrev both : List (List ℕ)
+both = codes "t" ∷ codes "u" ∷ []
+
+-- each template has one metric, of its own name
+abbrev own_names : Templates
+own_names name = Some (template_of (record { name = name; metrics = metric name ∷ []; dry_run = []; within = refl }) 1)
+
+-- each template has that metric
+abbrev each_has : MetricSpec → Templates
+each_has x name = Some (template_of (record { name = name; metrics = x ∷ []; dry_run = []; within = refl }) 1)
+
+abbrev endless : MetricSpec
+endless = every (metric m) 60
+
+one_name_twice : is_broken (bound_to three_times both None) ≡ true
+one_name_twice = refl
+
+two_names : is_broken (bound_to own_names both None) ≡ false
+two_names = refl
+
+one_name_twice_behind : is_broken (bound_to three_times (codes "t" ∷ []) (Some (record { templates = both; starting_step = 0 }))) ≡ true
+one_name_twice_behind = refl
+
+two_names_behind : is_broken (bound_to own_names (codes "t" ∷ []) (Some (record { templates = both; starting_step = 0 }))) ≡ false
+two_names_behind = refl
+
+without_end : is_broken (bound_to (each_has endless) (codes "t" ∷ []) None) ≡ true
+without_end = refl
+
+ended_by_successes : is_broken (bound_to (each_has (record endless { pass_after = Some 2; within = refl })) (codes "t" ∷ []) None) ≡ false
+ended_by_successes = refl
+
+without_end_behind : is_broken (parts (record (unbegun Aborted 4) { bound = record { steps = (bound_of three_times (strategy_of (five_steps None))).steps; background = (bound_of (each_has endless) (strategy_of (five_steps (background (codes "t") 0)))).background } }) 1 []) ≡ false
+without_end_behind = refl

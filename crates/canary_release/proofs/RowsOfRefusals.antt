@@ -6,7 +6,7 @@ use Rattle.canary_plan.specs.declared.step.Step.TheVariants.{SetWeight, Pause, A
 use Rattle.canary_plan.specs.declared.service.ServiceSpec.{ServiceSpec}
 use Rattle.canary_plan.specs.declared.command.Command.{Command}
 use Rattle.canary_plan.specs.declared.command.Command.TheVariants.{Start, Promote, PromoteFull, Abort, Retry, Tick}
-use Rattle.canary_plan.specs.Plans.{Templates, template_of, metrics_named}
+use Rattle.canary_plan.specs.Plans.{Templates, no_templates, template_of, strategy_of, bound_of, revisions_named, metrics_named}
 use Rattle.canary_release.specs.declared.reply.Reply.{Reply}
 use Rattle.canary_release.specs.declared.stand.State.TheVariants.{InProgress, Aborted}
 use Rattle.canary_release.specs.declared.stand.Stand.{Stand}
@@ -57,7 +57,9 @@ name_taken : (machine no_desk name_taken_requests).replies ≡
 unfolding digits
 name_taken = replies_from_nothing name_taken_requests _ refl
 
--- Templates: the name is taken; a condition without a reading; a count above 1 without an interval; two metrics of one name; a dry-run name that is no metric. Each comes before those behind it.
+-- Templates, of a new name and of one that is taken: a condition without a reading; a count above 1
+-- without an interval; two metrics of one name; a dry-run name that is no metric. Each comes before
+-- those behind it.
 
 abbrev bad_templates_requests : List (ℕ × Command)
 bad_templates_requests =
@@ -75,8 +77,8 @@ bad_templates_requests =
     ∷ []
 
 bad_templates : (machine no_desk bad_templates_requests).replies ≡
-    ok (codes "{\"code\":\"ok\",\"template\":\"t\"}")
-    ∷ no (codes "{\"code\":\"template-exists\"}")
+    ok (codes "{\"code\":\"ok\",\"revision\":1,\"template\":\"t\"}")
+    ∷ no (codes "{\"code\":\"bad-condition\"}")
     ∷ no (codes "{\"code\":\"bad-condition\"}")
     ∷ no (codes "{\"code\":\"bad-condition\"}")
     ∷ no (codes "{\"code\":\"interval-needed\"}")
@@ -85,45 +87,51 @@ bad_templates : (machine no_desk bad_templates_requests).replies ≡
     ∷ no (codes "{\"code\":\"duplicate-metric\"}")
     ∷ no (codes "{\"code\":\"bad-dry-run\"}")
     ∷ no (codes "{\"code\":\"bad-dry-run\"}")
-    ∷ ok (codes "{\"code\":\"ok\",\"template\":\"u\"}")
+    ∷ ok (codes "{\"code\":\"ok\",\"revision\":1,\"template\":\"u\"}")
     ∷ []
 unfolding digits
 bad_templates = replies_from_nothing bad_templates_requests _ refl
 
--- Services: two metrics of one name among the known templates of an analysis; an unknown template; an endless metric; a bad strategy. Each comes before those behind it.
+-- Services: an unknown template goes before a bad strategy. As an attempt begins: two metrics of
+-- one name among the templates of an analysis, and then an endless metric.
 
 abbrev bad_services_requests : List (ℕ × Command)
 bad_services_requests =
     (b, template (codes "t") (metric m ∷ []) [] refl)
     ∷ (b, template (codes "u") (every (metric m) 60 ∷ []) [] refl)
-    ∷ (b, service web (Analysis (codes "t" ∷ codes "t" ∷ []) ∷ []) None)
     ∷ (b, service web (Analysis (codes "t" ∷ codes "t" ∷ codes "nope" ∷ []) ∷ []) None)
-    ∷ (b, service web (Analysis (codes "t" ∷ codes "u" ∷ codes "nope" ∷ []) ∷ []) None)
-    ∷ (b, service web (Analysis (codes "nope" ∷ []) ∷ []) None)
-    ∷ (b, service web (Analysis (codes "nope" ∷ codes "u" ∷ []) ∷ []) None)
+    ∷ (b, service web (SetWeight 101 ∷ Analysis (codes "nope" ∷ codes "u" ∷ []) ∷ []) None)
     ∷ (b, service web ([]) (background (codes "nope") 0))
-    ∷ (b, service web (Analysis (codes "u" ∷ []) ∷ []) None)
-    ∷ (b, service web (SetWeight 101 ∷ Analysis (codes "u" ∷ []) ∷ []) None)
-    ∷ (b, service web ([]) (background (codes "u") 0))
+    ∷ (b, service web (Analysis (codes "t" ∷ codes "t" ∷ []) ∷ []) None)
+    ∷ (b, Start web v2)
+    ∷ (b, service (codes "both") (Analysis (codes "t" ∷ codes "u" ∷ []) ∷ []) None)
+    ∷ (b, Start (codes "both") v2)
+    ∷ (b, service (codes "endless") (Analysis (codes "u" ∷ []) ∷ []) None)
+    ∷ (b, Start (codes "endless") v2)
+    ∷ (b, service (codes "behind") (Pause None ∷ []) (background (codes "u") 0))
+    ∷ (b, Start (codes "behind") v2)
     ∷ []
 
 bad_services : (machine no_desk bad_services_requests).replies ≡
-    ok (codes "{\"code\":\"ok\",\"template\":\"t\"}")
-    ∷ ok (codes "{\"code\":\"ok\",\"template\":\"u\"}")
-    ∷ no (codes "{\"code\":\"duplicate-metric\"}")
-    ∷ no (codes "{\"code\":\"duplicate-metric\"}")
-    ∷ no (codes "{\"code\":\"duplicate-metric\"}")
+    ok (codes "{\"code\":\"ok\",\"revision\":1,\"template\":\"t\"}")
+    ∷ ok (codes "{\"code\":\"ok\",\"revision\":1,\"template\":\"u\"}")
     ∷ no (codes "{\"code\":\"unknown-template\"}")
     ∷ no (codes "{\"code\":\"unknown-template\"}")
     ∷ no (codes "{\"code\":\"unknown-template\"}")
+    ∷ ok (codes "{\"code\":\"ok\",\"service\":\"web\",\"status\":\"Healthy\",\"step\":1,\"weight\":100}")
+    ∷ no (codes "{\"code\":\"duplicate-metric\"}")
+    ∷ ok (codes "{\"code\":\"ok\",\"service\":\"both\",\"status\":\"Healthy\",\"step\":1,\"weight\":100}")
+    ∷ no (codes "{\"code\":\"duplicate-metric\"}")
+    ∷ ok (codes "{\"code\":\"ok\",\"service\":\"endless\",\"status\":\"Healthy\",\"step\":1,\"weight\":100}")
     ∷ no (codes "{\"code\":\"endless-metric\"}")
-    ∷ no (codes "{\"code\":\"endless-metric\"}")
-    ∷ ok (codes "{\"code\":\"ok\",\"service\":\"web\",\"status\":\"Healthy\",\"step\":0,\"weight\":100}")
+    ∷ ok (codes "{\"code\":\"ok\",\"service\":\"behind\",\"status\":\"Healthy\",\"step\":1,\"weight\":100}")
+    ∷ ok (codes "{\"code\":\"ok\",\"service\":\"behind\",\"status\":\"Paused\",\"step\":0,\"weight\":0}")
     ∷ []
 unfolding digits
 bad_services = replies_from_nothing bad_services_requests _ refl
 
--- A bad strategy: a weight above 100, more than 64 steps, no template or more than 8, and more than 32 metrics.
+-- A bad strategy: a weight above 100, more than 64 steps, no template or more than 8; and as an
+-- attempt begins, more than 32 metrics.
 
 abbrev bad_strategies_requests : List (ℕ × Command)
 bad_strategies_requests =
@@ -142,26 +150,28 @@ bad_strategies_requests =
     ∷ (b, service web (Analysis [] ∷ []) None)
     ∷ (b, service web ([]) (Some (record { templates = []; starting_step = 0 })))
     ∷ (b, service web (Analysis (codes "t1" ∷ codes "t2" ∷ codes "t3" ∷ codes "t4" ∷ codes "t5" ∷ codes "t6" ∷ codes "t7" ∷ codes "t8" ∷ codes "t9" ∷ []) ∷ []) None)
-    ∷ (b, service web (Analysis (codes "all" ∷ codes "t1" ∷ []) ∷ []) None)
+    ∷ (b, service (codes "big") (Analysis (codes "all" ∷ codes "t1" ∷ []) ∷ []) None)
+    ∷ (b, Start (codes "big") v2)
     ∷ (b, service web (SetWeight 100 ∷ Analysis (codes "t1" ∷ codes "t2" ∷ codes "t3" ∷ codes "t4" ∷ codes "t5" ∷ codes "t6" ∷ codes "t7" ∷ codes "t8" ∷ []) ∷ Analysis (codes "all" ∷ []) ∷ replicate 61 (Pause None)) None)
     ∷ []
 
 bad_strategies : (machine no_desk bad_strategies_requests).replies ≡
-    ok (codes "{\"code\":\"ok\",\"template\":\"t1\"}")
-    ∷ ok (codes "{\"code\":\"ok\",\"template\":\"t2\"}")
-    ∷ ok (codes "{\"code\":\"ok\",\"template\":\"t3\"}")
-    ∷ ok (codes "{\"code\":\"ok\",\"template\":\"t4\"}")
-    ∷ ok (codes "{\"code\":\"ok\",\"template\":\"t5\"}")
-    ∷ ok (codes "{\"code\":\"ok\",\"template\":\"t6\"}")
-    ∷ ok (codes "{\"code\":\"ok\",\"template\":\"t7\"}")
-    ∷ ok (codes "{\"code\":\"ok\",\"template\":\"t8\"}")
-    ∷ ok (codes "{\"code\":\"ok\",\"template\":\"t9\"}")
-    ∷ ok (codes "{\"code\":\"ok\",\"template\":\"all\"}")
+    ok (codes "{\"code\":\"ok\",\"revision\":1,\"template\":\"t1\"}")
+    ∷ ok (codes "{\"code\":\"ok\",\"revision\":1,\"template\":\"t2\"}")
+    ∷ ok (codes "{\"code\":\"ok\",\"revision\":1,\"template\":\"t3\"}")
+    ∷ ok (codes "{\"code\":\"ok\",\"revision\":1,\"template\":\"t4\"}")
+    ∷ ok (codes "{\"code\":\"ok\",\"revision\":1,\"template\":\"t5\"}")
+    ∷ ok (codes "{\"code\":\"ok\",\"revision\":1,\"template\":\"t6\"}")
+    ∷ ok (codes "{\"code\":\"ok\",\"revision\":1,\"template\":\"t7\"}")
+    ∷ ok (codes "{\"code\":\"ok\",\"revision\":1,\"template\":\"t8\"}")
+    ∷ ok (codes "{\"code\":\"ok\",\"revision\":1,\"template\":\"t9\"}")
+    ∷ ok (codes "{\"code\":\"ok\",\"revision\":1,\"template\":\"all\"}")
     ∷ no (codes "{\"code\":\"bad-strategy\"}")
     ∷ no (codes "{\"code\":\"bad-strategy\"}")
     ∷ no (codes "{\"code\":\"bad-strategy\"}")
     ∷ no (codes "{\"code\":\"bad-strategy\"}")
     ∷ no (codes "{\"code\":\"bad-strategy\"}")
+    ∷ ok (codes "{\"code\":\"ok\",\"service\":\"big\",\"status\":\"Healthy\",\"step\":1,\"weight\":100}")
     ∷ no (codes "{\"code\":\"bad-strategy\"}")
     ∷ ok (codes "{\"code\":\"ok\",\"service\":\"web\",\"status\":\"Healthy\",\"step\":64,\"weight\":100}")
     ∷ []
@@ -280,9 +290,6 @@ bad_entries = replies_then (step_setup (metric (codes "a") ∷ record (every (me
 
 -- The numbers of runs are spent: fewer than 66 are left.
 
-abbrev no_templates : Templates
-no_templates name = None
-
 abbrev spec_of_web : ServiceSpec
 spec_of_web = record { name = web; version = v1; steps = two_pauses; background = None }
 
@@ -291,7 +298,7 @@ abbrev with_runs : ℕ → Stand → ServiceParts
 with_runs n stand = record { stand = stand; runs = record { count = n; open_runs = [] } }
 
 abbrev done_stand : Stand
-done_stand = new_stand no_templates spec_of_web b
+done_stand = new_stand spec_of_web b
 
 abbrev aborted_stand : Stand
 aborted_stand = record done_stand { version = v2; state = Aborted; step = 1; entered = b + 1; last = b + 2 }
@@ -336,7 +343,7 @@ not_aborted_before_spent = refl
 -- The measurements of a metric are spent: 1,000,000 are recorded.
 
 abbrev errs : Templates
-errs name = Some (template_of (record { name = codes "errs"; metrics = every (metric m) 60 ∷ []; dry_run = []; within = refl }))
+errs name = Some (template_of (record { name = codes "errs"; metrics = every (metric m) 60 ∷ []; dry_run = []; within = refl }) 1)
 
 abbrev measured_spec : ServiceSpec
 measured_spec = record { name = web; version = v1; steps = SetWeight 20 ∷ Pause None ∷ []; background = background (codes "errs") 0 }
@@ -345,13 +352,13 @@ measured_spec = record { name = web; version = v1; steps = SetWeight 20 ∷ Paus
 abbrev measured : ℕ → ServiceParts
 measured n =
     record {
-      stand = record (new_stand errs measured_spec b) { version = v2; state = InProgress; step = 1; background = true };
+      stand = record (new_stand measured_spec b) { bound = bound_of errs (strategy_of measured_spec); version = v2; state = InProgress; step = 1; background = true };
       runs = record {
         count = 1;
         open_runs = record {
           number = 1;
           step = None;
-          analysis = record { metrics = metrics_named errs (codes "errs" ∷ []) };
+          analysis = record { revisions = revisions_named errs (codes "errs" ∷ []); metrics = metrics_named errs (codes "errs" ∷ []) };
           started = b;
           tallies = record { counted = n; failed = 0; inconclusive = 0; errors = 0; consecutive = 0; passes = n; last = Some b } ∷ [];
         } ∷ [];

@@ -1,19 +1,22 @@
 -- What rules a command: a template beside the services, any other by its service.
-use Rattle.std.proofs.Common.{◌≡◌, ℕ, false, refl, sym}
-use Rattle.std.specs.Prelude.{Option, Some, None, Result, Ok, Err, IfOk, IsTrue}
+use Rattle.std.proofs.Common.{◌≡◌, ℕ, ◌+◌, Bool, true, false, [], ◌∷◌, refl, ap, sym, ◌∙◌}
+use Rattle.std.specs.Prelude.{nat_le, Option, Some, None, Result, Ok, Err, IfOk, IsTrue}
 use Rattle.canary_plan.specs.declared.service.ServiceSpec.{ServiceSpec}
 use Rattle.canary_plan.specs.declared.template_spec.TemplateSpec.{TemplateSpec}
-use Rattle.canary_plan.specs.declared.refusal.Refusal.TheVariants.{UnknownService}
+use Rattle.canary_plan.specs.declared.refusal.Refusal.TheVariants.{UnknownService, RevisionsSpent}
 use Rattle.canary_plan.specs.declared.command.Command.{Command}
 use Rattle.canary_plan.specs.declared.command.Command.TheVariants as command
-use Rattle.canary_plan.specs.Plans.{Templates}
+use Rattle.canary_plan.specs.declared.template.Template.{Template}
+use Rattle.canary_plan.specs.Plans.{Templates, template_of}
+use Rattle.canary_plan.specs.PlanRefusals.{template_refusal}
+use Rattle.canary_plan.specs.Refusals.{first_that_holds, or_refusal}
 use Rattle.canary_plan.specs.Commands.{template_in, service_in}
 use Rattle.canary_plan.specs.Plans.{is_accepted, are_fit}
 use Rattle.canary_plan.specs.declared.refusal.Refusal.{Refusal}
 use Rattle.canary_release.specs.declared.service.ServiceParts.{ServiceParts}
 use Rattle.canary_release.specs.declared.commands.Led.{Led}
 use Rattle.canary_release.specs.Courses.{Course}
-use Rattle.canary_release.specs.Desks.{act_passed, rule_template, rule_service, act_new, ruling}
+use Rattle.canary_release.specs.Desks.{refuses, adds_unless, revision_refusal, act_passed, rule_template, rule_service, act_new, ruling}
 use Rattle.canary_release.specs.Parts.{is_broken}
 use Rattle.canary_release.specs.PartsLaws.{ActingKeepsParts}
 use Rattle.canary_release.specs.Shapes.{whole, kept_course, kept_after, led_as, acted_as}
@@ -63,6 +66,27 @@ new_unknown known now (command.Tick s) h = refl
 new_unknown known now (command.Report r) h = refl
 
 -- where a command leads the code, the parts are unbroken
-pub acting_keeps : ActingKeepsParts → (command : Command) (s : ServiceParts) (now : ℕ) (acted : Result Led Refusal) → IsTrue (is_accepted s.stand.strategy) → IsTrue (are_fit s.stand.bound) → is_broken s ≡ false → acted_as acted ≡ act_passed command (kept_course s) now → IfOk acted (λ led. is_broken (kept_after (whole led.draft)) ≡ false)
-acting_keeps law command s now (Ok led) accepted fit unbroken e = (law command s now (led_as led) accepted fit unbroken (sym e)).0
-acting_keeps law command s now (Err refusal) accepted fit unbroken e = tt
+pub acting_keeps : ActingKeepsParts → (known : Templates) (command : Command) (s : ServiceParts) (now : ℕ) (acted : Result Led Refusal) → IsTrue (is_accepted s.stand.strategy) → IsTrue (are_fit s.stand.bound) → is_broken s ≡ false → acted_as acted ≡ act_passed known command (kept_course s) now → IfOk acted (λ led. IsTrue (are_fit led.draft.stand.bound)) → IfOk acted (λ led. is_broken (kept_after (whole led.draft)) ≡ false)
+acting_keeps law known command s now (Ok led) accepted bound unbroken e fit = (law known command s now (led_as led) accepted bound unbroken (sym e) fit).0
+acting_keeps law known command s now (Err refusal) accepted bound unbroken e fit = tt
+
+pub acting_keeps_all : {E : Type 0} → ActingKeepsParts → (known : Templates) (command : Command) (s : ServiceParts) (now : ℕ) (r : Result (Result Led Refusal) E) → IsTrue (is_accepted s.stand.strategy) → IsTrue (are_fit s.stand.bound) → is_broken s ≡ false
+    → IfOk r (λ acted. acted_as acted ≡ act_passed known command (kept_course s) now) → IfOk r (λ acted. IfOk acted (λ led. IsTrue (are_fit led.draft.stand.bound))) → IfOk r (λ acted. IfOk acted (λ led. is_broken (kept_after (whole led.draft)) ≡ false))
+acting_keeps_all law known command s now (Ok acted) accepted bound unbroken e fit = acting_keeps law known command s now acted accepted bound unbroken e fit
+acting_keeps_all law known command s now (Err fault) accepted bound unbroken e fit = tt
+
+-- a template that is refused
+pub refused_first : (n : ℕ) (spec : TemplateSpec) (refusal : Refusal) → template_refusal spec ≡ Some refusal → refuses refusal ≡ adds_unless (revision_refusal n spec) (template_of spec (n + 1))
+refused_first n spec refusal h = sym (ap (λ (r : Option Refusal). adds_unless (or_refusal r (first_that_holds ((nat_le 1000000 n, RevisionsSpent) ∷ []))) (template_of spec (n + 1))) h)
+
+-- the next revision is added, and none if there are as many as there may be, whatever number it
+-- had
+pub added : (n next : ℕ) (spec : TemplateSpec) (t : Template) → template_refusal spec ≡ None → t ≡ template_of spec next → (nat_le 1000000 n ≡ false → next ≡ n + 1)
+    → adds_unless (first_that_holds ((nat_le 1000000 n, RevisionsSpent) ∷ [])) t ≡ adds_unless (revision_refusal n spec) (template_of spec (n + 1))
+added n next spec t fine is next_is =
+    by (nat_le 1000000 n) next_is
+    ∙ sym (ap (λ (r : Option Refusal). adds_unless (or_refusal r (first_that_holds ((nat_le 1000000 n, RevisionsSpent) ∷ []))) (template_of spec (n + 1))) fine)
+  where
+    by : (b : Bool) → (b ≡ false → next ≡ n + 1) → adds_unless (first_that_holds ((b, RevisionsSpent) ∷ [])) t ≡ adds_unless (first_that_holds ((b, RevisionsSpent) ∷ [])) (template_of spec (n + 1))
+    by true e = refl
+    by false e = ap (adds_unless None) (is ∙ ap (template_of spec) (e refl))

@@ -1,5 +1,5 @@
 -- What a change brings is what is kept of the service after it.
-use Rattle.std.proofs.Common.{◌≡◌, ℕ, List, refl, ap, sym, ◌∙◌}
+use Rattle.std.proofs.Common.{◌≡◌, ℕ, ◌+◌, List, refl, ap, sym, ◌∙◌}
 use Rattle.std.specs.Prelude.{Option, Some, None, Result, Ok, Err, option_map, cond, true}
 use Rattle.std.specs.Ordering.{nat_cmp, eq_by_cmp}
 use Rattle.std.specs.Cmp.Lexicographic.{slice_cmp, nat_list_cmp_total}
@@ -12,14 +12,14 @@ use Rattle.canary_plan.specs.declared.command.Command.TheVariants.{Template, Ser
 use Rattle.canary_plan.specs.declared.template_spec.TemplateSpec.{TemplateSpec}
 use Rattle.canary_plan.specs.declared.template.Template.{Template as Known}
 use Rattle.canary_plan.specs.declared.refusal.Refusal.{Refusal}
-use Rattle.canary_plan.specs.Plans.{Templates}
-use Rattle.canary_plan.specs.PlanRefusals.{template_refusal, strategy_refusal}
+use Rattle.canary_plan.specs.Plans.{Templates, template_of}
+use Rattle.canary_plan.specs.PlanRefusals.{strategy_refusal}
 use Rattle.canary_plan.specs.Commands.{subject_of}
 use Rattle.canary_release.specs.declared.service.ServiceParts.{ServiceParts}
 use Rattle.canary_release.specs.Pasts.{no_past}
 use Rattle.canary_release.specs.Courses.{Course, Watch}
 use Rattle.canary_release.specs.Commands.{Acted, unless, leads}
-use Rattle.canary_release.specs.Desks.{ModelService, Desk, Change, rules, after, desk_after, course_of, act_new, act_passed, new_service, adds_unless, rule_template, rule_service, ruling, ruling_on, watch_of}
+use Rattle.canary_release.specs.Desks.{ModelService, Desk, Change, rules, after, desk_after, course_of, act_new, act_passed, new_service, adds_unless, newest_number, revision_refusal, newest, rule_template, rule_service, ruling, ruling_on, watch_of}
 use Rattle.canary_release.specs.Desks.Change.{Nothing, Adds, Becomes}
 use Rattle.canary_release.specs.Shapes.{shape, kept_after, said, kept_by, seen, KeepsWhatIsSeen}
 use Rattle.canary_release.proofs.Watches.{KeepsIf, acted_passed}
@@ -55,7 +55,7 @@ unless_new None a k = k
 unless_new (Some refusal) a k = tt
 
 new_watch : (known : Templates) (command : Command) (now : ℕ) → HasWatch (watch_of no_past) (act_new known command now)
-new_watch known (Service spec) now = unless_new (strategy_refusal known spec) (leads (new_service known spec now)) refl
+new_watch known (Service spec) now = unless_new (strategy_refusal known spec) (leads (new_service spec now)) refl
 new_watch known (Template spec) now = tt
 new_watch known (Start name version) now = tt
 new_watch known (Promote name) now = tt
@@ -67,15 +67,14 @@ new_watch known (Report report) now = tt
 
 fits_service : (known : Templates) (found : Option ModelService) (now : ℕ) (command : Command) → Fits found (rule_service known (option_map course_of found) now command).change
 fits_service known None now command = fits_new command (act_new known command now) (new_watch known command now)
-fits_service known (Some m) now command = fits_old m command (act_passed command (course_of m) now) (kept_watch_of (course_of m) (act_passed command (course_of m) now) (acted_passed command (course_of m) now))
+fits_service known (Some m) now command = fits_old m command (act_passed known command (course_of m) now) (kept_watch_of (course_of m) (act_passed known command (course_of m) now) (acted_passed known command (course_of m) now))
 
-fits_adds : (found : Option ModelService) (command : Command) (refusal : Option Refusal) (spec : TemplateSpec) → Fits found (adds_unless refusal spec).change
-fits_adds found command None spec = tt
-fits_adds found command (Some refusal) spec = tt
+fits_adds : (found : Option ModelService) (command : Command) (refusal : Option Refusal) (t : Known) → Fits found (adds_unless refusal t).change
+fits_adds found command None t = tt
+fits_adds found command (Some refusal) t = tt
 
 fits_template : (found : Option ModelService) (command : Command) (there : Option Known) (spec : TemplateSpec) → Fits found (rule_template there spec).change
-fits_template found command None spec = fits_adds found command (template_refusal spec) spec
-fits_template found command (Some t) spec = tt
+fits_template found command there spec = fits_adds found command (revision_refusal (newest_number there) spec) (template_of spec (newest_number there + 1))
 
 pub fits : (known : Templates) (found : Option ModelService) (now : ℕ) (command : Command) → Fits found (ruling known (option_map course_of found) now command).change
 fits known found now (Template spec) = fits_template found (Template spec) (known spec.name) spec
@@ -104,4 +103,4 @@ seen_after desk command (Becomes c) s fit brings =
     ap (option_map shape) (found_there desk command (after (get desk.services (subject_of command)) c.stand c.effects)) ∙ ap (λ (k : ServiceParts). Some k) fit ∙ brings
 
 pub keeps_what_is_seen : KeepsWhatIsSeen
-keeps_what_is_seen desk now command s brings = seen_after desk command (ruling_on desk now command).change s (fits (get desk.templates) (get desk.services (subject_of command)) now command) brings
+keeps_what_is_seen desk now command s brings = seen_after desk command (ruling_on desk now command).change s (fits (newest desk.templates) (get desk.services (subject_of command)) now command) brings

@@ -11,10 +11,9 @@ use Rattle.canary_condition.specs.Phases.{phase_of}
 use Rattle.canary_metric.specs.Metrics.{MetricValue}
 use Rattle.canary_metric.specs.Counts.{Counts, counts}
 use Rattle.canary_metric.specs.MetricPhases.{is_completed}
-use Rattle.canary_metric.specs.Verdicts.{MetricCounts, worst_of, counted_phase, judging, is_closing, are_completed, verdict_of_counts}
-use Rattle.canary_plan.specs.declared.bound.BoundParts.{BoundParts}
+use Rattle.canary_metric.specs.Verdicts.{MetricCounts, worst_of, counted_phase, judging, is_closing, are_completed, verdict_of_counts, verdict}
+use Rattle.canary_plan.specs.declared.strategy.CheckedStrategy.{CheckedStrategy}
 use Rattle.canary_plan.specs.declared.command.Command.{Command}
-use Rattle.canary_plan.specs.Plans.{Templates}
 use Rattle.canary_plan.specs.Commands.{subject_of}
 use Rattle.canary_release.specs.declared.effect.Recorded.{Recorded}
 use Rattle.canary_release.specs.declared.effect.Closing.{Closing}
@@ -24,14 +23,14 @@ use Rattle.canary_release.specs.declared.runs.OpenRun.{OpenRun}
 use Rattle.canary_release.specs.declared.runs.Runs.{Runs}
 use Rattle.canary_release.specs.Pasts.{Run, Past, change_at, opened_run, with_recorded, measured_in, closed_in, grows, grows_by, is_open, measurement_of, counts_of, tallied, watched}
 use Rattle.canary_release.specs.Courses.{Course, run_verdict}
-use Rattle.canary_release.specs.Desks.{ModelService, Desk, no_desk, Change, after, desk_after, ruling_on, apply}
+use Rattle.canary_release.specs.Desks.{ModelService, RevisionMap, Desk, no_desk, Change, after, desk_after, ruling_on, apply}
 use Rattle.canary_release.specs.Desks.Change.{Nothing, Adds, Becomes}
 use Rattle.canary_release.specs.Shapes.{shape}
 use Rattle.canary_release.specs.Parts.{is_judged}
-use Rattle.canary_release.specs.PartsLaws.{ActingKeepsParts, NewPartsAreUnbroken}
+use Rattle.canary_release.specs.PartsLaws.{PassingKeepsParts, ActingKeepsParts, NewPartsAreUnbroken}
 use Rattle.canary_release.specs.Laws.{WatchesAlike}
 use Rattle.canary_release.specs.Order.{AreInOrder}
-use Rattle.canary_release.specs.Sound.{IsJudgedBy, AreJudged, verdict_on, HasVerdict, IsSoundRun, AreSound, StaySound}
+use Rattle.canary_release.specs.Sound.{IsJudgedBy, AreJudged, HasVerdict, IsSoundRun, AreSound, StaySound}
 use Rattle.canary_release.proofs.OrderingBasics.{neither, some_same, each, each_both, each_and_more, each_mapped, fold_completed}
 use Rattle.canary_release.specs.Effects.{Allowed, AreAllowed}
 use Rattle.canary_release.proofs.OrderingPasts.{IsOrdered, IsThatRun, that_run, ordered_after, watched_then}
@@ -51,9 +50,12 @@ running outside ws e =
 
 -- A run is judged soundly so far: its measurements are judged, and if it is closed, it was closed at its verdict, a completed phase.
 
+abbrev verdict_so_far : Run → Bool → Phase
+verdict_so_far r outside = verdict r.analysis.metrics (map (map measurement_of) r.lists) outside
+
 abbrev IsClosedWell : Run → Option Closing → Type 0
 IsClosedWell r None = Unit {0}
-IsClosedWell r (Some x) = (x.run ≡ r.number) × (x.verdict ≡ verdict_on r x.outside) × (is_completed x.verdict ≡ true)
+IsClosedWell r (Some x) = (x.run ≡ r.number) × (x.verdict ≡ verdict_so_far r x.outside) × (is_completed x.verdict ≡ true)
 
 abbrev IsSoundSoFar : Run → Type 0
 IsSoundSoFar r = AreJudged r.analysis.metrics r.lists × IsClosedWell r r.closed
@@ -63,7 +65,7 @@ same_counts [] = refl
 same_counts (list ∷ lists) = ap (λ (cs : List Counts). counts_of list ∷ cs) (same_counts lists)
 
 -- the verdict of a run's tallies is that of its lists
-same_verdict : (r : Run) (outside : Bool) → run_verdict outside (tallied r) ≡ verdict_on r outside
+same_verdict : (r : Run) (outside : Bool) → run_verdict outside (tallied r) ≡ verdict_so_far r outside
 same_verdict r outside = ap (λ (cs : List Counts). verdict_of_counts outside (zip r.analysis.metrics cs)) (sym (same_counts r.lists))
 
 none_judged : (ms : List MetricValue) (n : ℕ) → AreJudged ms (replicate n [])
@@ -102,22 +104,22 @@ sound_closed x w is_verdict completed r h that =
       | false ↦ λ e. h
     ] refl
 
-sound_after : (b : BoundParts) (p : Past) (x : Effect) → Allowed b (watched p) x → IsOrdered b p → AllByRecursion IsSoundSoFar p.runs → AllByRecursion IsSoundSoFar (grows p x).runs
-sound_after b p (Told line) a o h = h
-sound_after b p (Opened x) a o h = each_and_more IsSoundSoFar p.runs (opened_run x) h (none_judged x.analysis.metrics (length x.analysis.metrics), tt)
-sound_after b p (Measured x) a o h =
+sound_after : (ts : RevisionMap) (st : CheckedStrategy) (p : Past) (x : Effect) → Allowed ts st (watched p) x → IsOrdered ts st p → AllByRecursion IsSoundSoFar p.runs → AllByRecursion IsSoundSoFar (grows p x).runs
+sound_after ts st p (Told line) a o h = h
+sound_after ts st p (Opened x) a o h = each_and_more IsSoundSoFar p.runs (opened_run x) h (none_judged x.analysis.metrics (length x.analysis.metrics), tt)
+sound_after ts st p (Measured x) a o h =
     let that = that_run x.run 1 p.runs a.run o.numbered a.found in
     each_mapped (λ (r : Run). IsSoundSoFar (measured_in x r)) IsSoundSoFar (measured_in x) (λ r k. k) p.runs
     (each_both IsSoundSoFar (IsThatRun x.run a.run) (λ (r : Run). IsSoundSoFar (measured_in x r)) (sound_measured x a.run a.metric a.is_metric a.judged) p.runs h that)
-sound_after b p (Closed x tallies) a o h =
+sound_after ts st p (Closed x tallies) a o h =
     let that = that_run x.run 1 p.runs a.run o.numbered a.found in
     each_mapped (λ (r : Run). IsSoundSoFar (closed_in x r)) IsSoundSoFar (closed_in x) (λ r k. k) p.runs
     (each_both IsSoundSoFar (IsThatRun x.run a.run) (λ (r : Run). IsSoundSoFar (closed_in x r)) (sound_closed x a.run a.verdict a.completed) p.runs h that)
 
-sound_after_all : WatchesAlike → (b : BoundParts) (p : Past) (xs : List Effect) → AreAllowed b (watched p) xs → IsOrdered b p → AllByRecursion IsSoundSoFar p.runs → AllByRecursion IsSoundSoFar (grows_by p xs).runs
-sound_after_all alike b p [] a o h = h
-sound_after_all alike b p (x ∷ xs) a o h =
-    sound_after_all alike b (grows p x) xs (subst (λ (w : Runs). AreAllowed b w xs) (sym (watched_then alike p x)) a.1) (ordered_after b p x a.0 o) (sound_after b p x a.0 o h)
+sound_after_all : WatchesAlike → (ts : RevisionMap) (st : CheckedStrategy) (p : Past) (xs : List Effect) → AreAllowed ts st (watched p) xs → IsOrdered ts st p → AllByRecursion IsSoundSoFar p.runs → AllByRecursion IsSoundSoFar (grows_by p xs).runs
+sound_after_all alike ts st p [] a o h = h
+sound_after_all alike ts st p (x ∷ xs) a o h =
+    sound_after_all alike ts st (grows p x) xs (subst (λ (w : Runs). AreAllowed ts st w xs) (sym (watched_then alike p x)) a.1) (ordered_after ts st p x a.0 o) (sound_after ts st p x a.0 o h)
 
 -- A service whose open runs aren't judged.
 
@@ -159,14 +161,14 @@ abbrev SoundIf : Option ModelService → Type 0
 SoundIf None = Unit {0}
 SoundIf (Some s) = AllByRecursion IsSoundRun s.past.runs
 
-sound_becomes : WatchesAlike → (known : Templates) (found : Option ModelService) (command : Command) (c : Course) → OrderIf known (subject_of command) found → SoundIf found → HasCome known found command (Becomes c) → AllByRecursion IsSoundRun (after found c.stand c.effects).past.runs
-sound_becomes alike known None command c o h came = subst (AllByRecursion IsSoundRun) (sym came.no_runs) tt
-sound_becomes alike known (Some m) command c o h came =
+sound_becomes : WatchesAlike → (ts : RevisionMap) (found : Option ModelService) (command : Command) (c : Course) → OrderIf ts (subject_of command) found → SoundIf found → HasCome ts found command (Becomes c) → AllByRecursion IsSoundRun (after found c.stand c.effects).past.runs
+sound_becomes alike ts None command c o h came = subst (AllByRecursion IsSoundRun) (sym came.no_runs) tt
+sound_becomes alike ts (Some m) command c o h came =
     let s : ModelService = after (Some m) c.stand c.effects in
     let f = came.following in
     let so_far = each IsSoundRun IsSoundSoFar to_so_far m.past.runs h in
-    let now : AllByRecursion IsSoundSoFar s.past.runs = sound_after_all alike m.stand.bound m.past c.effects f.allowed (past_ordered known (subject_of command) m o) so_far in
-    each_both IsSoundSoFar IsUnjudged IsSoundRun from_so_far s.past.runs now (unjudged s.past.runs (parts_say (shape s) came.order.parts).unjudged)
+    let grown = sound_after_all alike ts m.stand.strategy m.past c.effects f.allowed (past_ordered ts (subject_of command) m o) so_far in
+    each_both IsSoundSoFar IsUnjudged IsSoundRun from_so_far s.past.runs grown (unjudged s.past.runs (parts_say (shape s) came.order.parts).unjudged)
 
 sound_of : (desk : Desk) → AreSound desk → (name : List ℕ) → SoundIf (get desk.services name)
 sound_of desk h name = by (get desk.services name) refl
@@ -175,19 +177,19 @@ sound_of desk h name = by (get desk.services name) refl
     by None e = tt
     by (Some s) e = h name s e
 
-sound_on : WatchesAlike → (desk : Desk) (command : Command) (x : Change) → AreInOrder desk → AreSound desk → HasCome (get desk.templates) (get desk.services (subject_of command)) command x → AreSound (desk_after desk command x)
+sound_on : WatchesAlike → (desk : Desk) (command : Command) (x : Change) → AreInOrder desk → AreSound desk → HasCome desk.templates (get desk.services (subject_of command)) command x → AreSound (desk_after desk command x)
 sound_on alike desk command Nothing o h came = h
 sound_on alike desk command (Adds t) o h came = h
 sound_on alike desk command (Becomes c) o h came =
     let name = subject_of command in
     let found = get desk.services name in
-    found_inserted AreSoundRuns desk.services name (after found c.stand c.effects) (sound_becomes alike (get desk.templates) found command c (order_of desk o name) (sound_of desk h name) came) h
+    found_inserted AreSoundRuns desk.services name (after found c.stand c.effects) (sound_becomes alike desk.templates found command c (order_of desk o name) (sound_of desk h name) came) h
 
-pub stay_sound : WatchesAlike → ActingKeepsParts → NewPartsAreUnbroken → StaySound
-stay_sound alike acting adding desk [] o h = h
-stay_sound alike acting adding desk (x ∷ xs) o h =
+pub stay_sound : WatchesAlike → PassingKeepsParts → ActingKeepsParts → NewPartsAreUnbroken → StaySound
+stay_sound alike passing acting adding desk [] o h = h
+stay_sound alike passing acting adding desk (x ∷ xs) o h =
     let change = (ruling_on desk x.0 x.1).change in
-    stay_sound alike acting adding (apply desk x.0 x.1).desk xs (order_applied alike acting adding desk x.0 x.1 o) (sound_on alike desk x.1 change o h (came_on alike acting adding desk x.0 x.1 o))
+    stay_sound alike passing acting adding (apply desk x.0 x.1).desk xs (order_applied alike passing acting adding desk x.0 x.1 o) (sound_on alike desk x.1 change o h (came_on alike passing acting adding desk x.0 x.1 o))
 
 pub no_desk_sound : AreSound no_desk
 no_desk_sound name s e = let gone : ◌≡◌ {A = Option ModelService} None (Some s) = sym (get-empty (slice_cmp nat_cmp) name) ∙ e in cc gone

@@ -5,7 +5,7 @@ use Rattle.std.specs.FinMap.{get}
 use Rattle.canary_plan.specs.declared.service.ServiceSpec.{ServiceSpec}
 use Rattle.canary_plan.specs.declared.command.Command.{Command}
 use Rattle.canary_plan.specs.declared.line.LineEvent.TheVariants.{Created}
-use Rattle.canary_plan.specs.Plans.{Templates}
+use Rattle.canary_plan.specs.Plans.{Templates, Agree}
 use Rattle.canary_plan.specs.Commands.{subject_of, names_looked_up}
 use Rattle.canary_release.specs.declared.service.ServiceParts.{ServiceParts}
 use Rattle.canary_release.specs.declared.service.Passed.{Passed}
@@ -17,10 +17,10 @@ use Rattle.canary_release.specs.declared.decide.Decision.{Decision}
 use Rattle.canary_release.specs.Pasts.{no_past, watched}
 use Rattle.canary_release.specs.Watching.{no_runs}
 use Rattle.canary_release.specs.Courses.{Course, Watch, course_from, tell}
-use Rattle.canary_release.specs.Desks.{ModelService, course_of, new_stand, new_service, Change, Ruling, Desk, ruling, ruling_on, desk_after}
+use Rattle.canary_release.specs.Desks.{ModelService, course_of, new_stand, new_service, Change, Ruling, Desk, newest, ruling, ruling_on, desk_after}
 use Rattle.canary_release.specs.Desks.Change.{Nothing, Adds, Becomes}
-use Rattle.canary_release.specs.Shapes.{kept_course, whole, kept_after, shape, said, decided, changed, seen, IsStep}
-use Rattle.canary_release.specs.Laws.{WatchesAlike, Agree}
+use Rattle.canary_release.specs.Shapes.{kept_course, strategy_kept, whole, kept_after, shape, said, decided, changed, seen, IsStep}
+use Rattle.canary_release.specs.Laws.{WatchesAlike}
 use Rattle.canary_release.proofs.Alike.{one_watch, rules_alike}
 use Rattle.canary_release.proofs.Looking.{looks_only_at}
 
@@ -38,34 +38,39 @@ one_course alike (Some m) = rules_alike alike (λ (c : Course). Some c) m.stand 
 step_is : (desk : Desk) (now : ℕ) (command : Command) → IsStep desk now command (decided (ruling_on desk now command))
 step_is desk now command = record { change = refl; desk_after = changed_said desk command (ruling_on desk now command).change; reply = refl }
 
+-- the strategy of a course is that of what is kept
+same_strategy : (o : Option ServiceParts) → option_map (λ (c : Course). c.stand.strategy) (option_map kept_course o) ≡ option_map strategy_kept o
+same_strategy None = refl
+same_strategy (Some s) = refl
+
 -- what is ruled on what is kept, with the templates that are looked up, is what the machine rules
-same_ruling : WatchesAlike → (desk : Desk) (known : Templates) (o : Option ServiceParts) (now : ℕ) (command : Command) → Agree known (get desk.templates) (names_looked_up command) → o ≡ seen desk (subject_of command)
+same_ruling : WatchesAlike → (desk : Desk) (known : Templates) (o : Option ServiceParts) (now : ℕ) (command : Command) → Agree known (newest desk.templates) (names_looked_up (option_map strategy_kept o) command) → o ≡ seen desk (subject_of command)
     → ruling known (option_map kept_course o) now command ≡ ruling_on desk now command
 same_ruling alike desk known o now command agree there =
     let found = get desk.services (subject_of command) in
-    looks_only_at known (get desk.templates) (option_map kept_course o) now command agree
-    ∙ ap (λ (p : Option ServiceParts). ruling (get desk.templates) (option_map kept_course p) now command) there
-    ∙ sym (ap (λ (c : Option Course). ruling (get desk.templates) c now command) (one_course alike found))
+    looks_only_at known (newest desk.templates) (option_map kept_course o) now command (subst (λ s. Agree known (newest desk.templates) (names_looked_up s command)) (sym (same_strategy o)) agree)
+    ∙ ap (λ (p : Option ServiceParts). ruling (newest desk.templates) (option_map kept_course p) now command) there
+    ∙ sym (ap (λ (c : Option Course). ruling (newest desk.templates) c now command) (one_course alike found))
 
 -- what is decided from what is kept is the machine's step, where the templates that the command looks up are the desk's
 pub told_step : WatchesAlike → (desk : Desk) (known : Templates) (o : Option ServiceParts) (now : ℕ) (command : Command) (r : Ruling) (d : Decision) → d ≡ decided r → r ≡ ruling known (option_map kept_course o) now command
-    → Agree known (get desk.templates) (names_looked_up command) → o ≡ seen desk (subject_of command) → IsStep desk now command d
+    → Agree known (newest desk.templates) (names_looked_up (option_map strategy_kept o) command) → o ≡ seen desk (subject_of command) → IsStep desk now command d
 told_step alike desk known o now command r d says is agree there =
     subst (IsStep desk now command) (sym (says ∙ ap decided (is ∙ same_ruling alike desk known o now command agree there))) (step_is desk now command)
 
 pub told_rule : WatchesAlike → (desk : Desk) (known : Templates) (o : Option ServiceParts) (now : ℕ) (command : Command) (d : Decision) → d ≡ decided (ruling known (option_map kept_course o) now command)
-    → Agree known (get desk.templates) (names_looked_up command) → o ≡ seen desk (subject_of command) → IsStep desk now command d
+    → Agree known (newest desk.templates) (names_looked_up (option_map strategy_kept o) command) → o ≡ seen desk (subject_of command) → IsStep desk now command d
 told_rule alike desk known o now command d says agree there = told_step alike desk known o now command (ruling known (option_map kept_course o) now command) d says refl agree there
 
 -- a new service of the code is that of the model
-new_is : WatchesAlike → (known : Templates) (spec : ServiceSpec) (now : ℕ) → tell (kept_course (record { stand = new_stand known spec now; runs = no_runs })) now (Created spec.version) ≡ new_service known spec now
-new_is alike known spec now = ap (λ (w : Watch). tell (course_from (new_stand known spec now) w) now (Created spec.version)) (sym (one_watch alike no_past no_runs refl))
+new_is : WatchesAlike → (spec : ServiceSpec) (now : ℕ) → tell (kept_course (record { stand = new_stand spec now; runs = no_runs })) now (Created spec.version) ≡ new_service spec now
+new_is alike spec now = ap (λ (w : Watch). tell (course_from (new_stand spec now) w) now (Created spec.version)) (sym (one_watch alike no_past no_runs refl))
 
-pub new_told : WatchesAlike → (known : Templates) (spec : ServiceSpec) (now : ℕ) (s : Stand) (w : Runs) (c d : Course) → s ≡ new_stand known spec now → w ≡ no_runs → c ≡ kept_course (record { stand = s; runs = w }) → d ≡ tell c now (Created spec.version) → d ≡ new_service known spec now
-new_told alike known spec now s w c d stands none is told =
+pub new_told : WatchesAlike → (spec : ServiceSpec) (now : ℕ) (s : Stand) (w : Runs) (c d : Course) → s ≡ new_stand spec now → w ≡ no_runs → c ≡ kept_course (record { stand = s; runs = w }) → d ≡ tell c now (Created spec.version) → d ≡ new_service spec now
+new_told alike spec now s w c d stands none is told =
     told
     ∙ ap (λ (x : Course). tell x now (Created spec.version)) (is ∙ (λ i. kept_course (record { stand = stands i; runs = none i })))
-    ∙ new_is alike known spec now
+    ∙ new_is alike spec now
 
 -- what a draft ends with is what its course ends with
 pub ends_as : (d : Draft) (c : Course) (r : ServiceParts × List Effect) → r ≡ (kept_after (whole d), (whole d).effects) → whole d ≡ c → ◌≡◌ {A = Passed} (record { service = r.0; effects = r.1 }) (record { service = kept_after c; effects = c.effects })

@@ -1,8 +1,6 @@
 -- A Tick, put into a list of commands or left out.
 use Rattle.std.proofs.Common.{◌≡◌, ◌≢◌, ◌⊎◌, inl, inr, ℕ, ◌≤◌, List, [], ◌∷◌, ◌++◌, append-nil, Bool, true, false, refl, ap, sym, ◌∙◌, subst, arith, true≢false}
 use Rattle.std.specs.Prelude.{cond, IsTrue, Option, Some, None, Result, Ok, Err, option_map, max}
-use Rattle.std.specs.Ordering.{nat_cmp, eq_by_cmp}
-use Rattle.std.specs.Cmp.Lexicographic.{slice_cmp}
 use Rattle.std.specs.Str.{bytes_eq}
 use Rattle.std.proofs.lemmas.Slice.Eq.{bytes_eq-Decides}
 use Rattle.std.specs.FinMap.{get}
@@ -11,6 +9,7 @@ use Rattle.canary_plan.specs.declared.command.Command.{Command}
 use Rattle.canary_plan.specs.declared.command.Command.TheVariants.{Template, Service, Start, Promote, PromoteFull, Abort, Retry, Tick, Report}
 use Rattle.canary_plan.specs.declared.refusal.Refusal.{Refusal}
 use Rattle.canary_plan.specs.declared.refusal.Refusal.TheVariants.{UnknownService}
+use Rattle.canary_plan.specs.Plans.{Templates}
 use Rattle.canary_plan.specs.Commands.{subject_of}
 use Rattle.canary_release.specs.declared.effect.Effect.{Effect}
 use Rattle.canary_release.specs.declared.reply.Reply.{Reply}
@@ -20,13 +19,13 @@ use Rattle.canary_release.specs.Courses.{Course, Watch}
 use Rattle.canary_release.specs.Passing.{with_last, followed, judged_at, pass}
 use Rattle.canary_release.specs.Commands.{Acted, act}
 use Rattle.canary_release.specs.Replies.{accepted}
-use Rattle.canary_release.specs.Desks.{ModelService, Desk, Change, Ruling, watch_of, course_of, passed_on, act_passed, after, rules, rule_template, rule_service, ruling_on, desk_after, apply, machine}
+use Rattle.canary_release.specs.Desks.{ModelService, Desk, Change, Ruling, watch_of, course_of, passed_on, act_passed, newest, after, rules, rule_template, rule_service, ruling_on, desk_after, apply, machine}
 use Rattle.canary_release.specs.Desks.Change.{Nothing, Adds, Becomes}
 use Rattle.canary_release.specs.Laws.{is_on, passed_to, AreFrom, AgreeFrom, TicksOnlyPassTime}
 use Rattle.canary_release.proofs.Watches.{passed, acted_passed, KeepsIf}
 use Rattle.canary_release.proofs.InSteps.{passes_in_steps, later_of}
 use Rattle.canary_release.proofs.Behind.{behind, once_seen, result_behind, pass_behind, act_passed_behind}
-use Rattle.canary_release.proofs.Apart.{ChangesNoService, ChangesNoTemplate, template_changes, changes_on, put_at, template_at}
+use Rattle.canary_release.proofs.Apart.{ChangesNoService, ChangesNoTemplate, template_changes, changes_on, put_at, templates_alike, newest_alike}
 
 -- A course with several effects before its own.
 
@@ -63,12 +62,12 @@ pass_behind_all : (w : Watch) (es : List Effect) (c : Course) (t : ℕ) → c.wa
 pass_behind_all w [] c t p = (λ i. pass (record c { watch = sym p i }) t) ∙ (λ i. record (pass c t) { watch = (passed c t ∙ p) i })
 pass_behind_all w (x ∷ es) c t p = pass_behind w x (behind_all (once_seen w x) es c) t (watch_behind (once_seen w x) es c) ∙ ap (behind w x) (pass_behind_all (once_seen w x) es c t p)
 
-act_behind_all : (w : Watch) (es : List Effect) (command : Command) (c : Course) (now : ℕ) → c.watch ≡ all_seen w es → act_passed command (behind_all w es c) now ≡ result_behind_all w es (act_passed command c now)
-act_behind_all w [] command c now p = (λ i. act_passed command (record c { watch = sym p i }) now) ∙ same_watch w (act_passed command c now) c p (acted_passed command c now)
-act_behind_all w (x ∷ es) command c now p =
-    act_passed_behind w x command (behind_all (once_seen w x) es c) now (watch_behind (once_seen w x) es c)
-    ∙ ap (result_behind w x) (act_behind_all (once_seen w x) es command c now p)
-    ∙ result_more w x es (act_passed command c now)
+act_behind_all : (known : Templates) (w : Watch) (es : List Effect) (command : Command) (c : Course) (now : ℕ) → c.watch ≡ all_seen w es → act_passed known command (behind_all w es c) now ≡ result_behind_all w es (act_passed known command c now)
+act_behind_all known w [] command c now p = (λ i. act_passed known command (record c { watch = sym p i }) now) ∙ same_watch w (act_passed known command c now) c p (acted_passed known command c now)
+act_behind_all known w (x ∷ es) command c now p =
+    act_passed_behind known w x command (behind_all (once_seen w x) es c) now (watch_behind (once_seen w x) es c)
+    ∙ ap (result_behind w x) (act_behind_all known (once_seen w x) es command c now p)
+    ∙ result_more w x es (act_passed known command c now)
 
 -- A service that was passed to a moment.
 
@@ -111,12 +110,12 @@ passed_twice t u m le =
     sym (ap (λ (d : Course). grown m d.stand d.effects) (passed_further t u m le) ∙ grown_behind t m (pass (course_of (passed_to t m)) u))
 
 -- a command on the service does what it does on the one that was passed, with what happened on the way before it
-acts_further : (t u : ℕ) (m : ModelService) (command : Command) → t ≤ u → act_passed command (course_of m) u ≡ result_behind_all (watch_of m.past) (effects_to t m) (act_passed command (course_of (passed_to t m)) u)
-acts_further t u m command le =
+acts_further : (known : Templates) (t u : ℕ) (m : ModelService) (command : Command) → t ≤ u → act_passed known command (course_of m) u ≡ result_behind_all (watch_of m.past) (effects_to t m) (act_passed known command (course_of (passed_to t m)) u)
+acts_further known t u m command le =
     let at : judged_at (pass (course_of m) t).stand u ≡ judged_at m.stand u = later_of t u m.stand.last le in
-    sym (λ i. passed_on (act command (passes_in_steps (course_of m) t u le i) (at i)) (at i))
-    ∙ ap (λ (c : Course). act_passed command c u) (is_behind t m)
-    ∙ act_behind_all (watch_of m.past) (effects_to t m) command (course_of (passed_to t m)) u (seen_on t m)
+    sym (λ i. passed_on (act known command (passes_in_steps (course_of m) t u le i) (at i)) (at i))
+    ∙ ap (λ (c : Course). act_passed known command c u) (is_behind t m)
+    ∙ act_behind_all known (watch_of m.past) (effects_to t m) command (course_of (passed_to t m)) u (seen_on t m)
 
 -- Desks, with a Tick and without.
 
@@ -180,7 +179,7 @@ same_added : (t : ℕ) (name : List ℕ) (ticked plain : Desk) (command : Comman
 same_added t name ticked plain command Nothing none h = h
 same_added t name ticked plain command (Adds k) none h =
     record {
-      templates = λ n. template_at ticked command k n ∙ ap (cond (eq_by_cmp (slice_cmp nat_cmp) n (subject_of command)) (Some k)) (h.templates n) ∙ sym (template_at plain command k n);
+      templates = templates_alike ticked plain command k h.templates;
       others = h.others;
       service = h.service;
     }
@@ -188,12 +187,12 @@ same_added t name ticked plain command (Becomes c) none h = absurd none
 
 -- the ruling on a command that is no Template
 abbrev ruled : Desk → ℕ → Command → Ruling
-ruled desk now command = rule_service (get desk.templates) (option_map course_of (get desk.services (subject_of command))) now command
+ruled desk now command = rule_service (newest desk.templates) (option_map course_of (get desk.services (subject_of command))) now command
 
 on_same : (t : ℕ) (name : List ℕ) (ticked plain : Desk) (now : ℕ) (command : Command) → get ticked.services (subject_of command) ≡ get plain.services (subject_of command) → AreApart t name ticked plain
     → DoAlike t name ticked plain command (ruled ticked now command) (ruled plain now command)
 on_same t name ticked plain now command there h =
-    let same : ruled ticked now command ≡ ruled plain now command = λ i. rule_service (λ n. h.templates n i) (option_map course_of (there i)) now command in (
+    let same : ruled ticked now command ≡ ruled plain now command = λ i. rule_service (newest_alike ticked plain h.templates i) (option_map course_of (there i)) now command in (
       ap (λ (r : Ruling). r.reply) same,
       subst (λ (r : Ruling). AreApart t name (desk_after ticked command (ruled ticked now command).change) (desk_after plain command r.change)) same
           (same_change t name ticked plain command (ruled ticked now command).change (changes_on ticked now command) there h),
@@ -215,10 +214,11 @@ on_passed : (t : ℕ) (name : List ℕ) (ticked plain : Desk) (now : ℕ) (comma
     → DoAlike t name ticked plain command (ruled ticked now command) (ruled plain now command)
 on_passed t name ticked plain now command le h None ticked_is plain_is = on_same t name ticked plain now command (ticked_is ∙ sym plain_is) h
 on_passed t name ticked plain now command le h (Some m) ticked_is plain_is =
-    let r = act_passed command (course_of (passed_to t m)) now in
-    let first : ruled ticked now command ≡ rules r = ap (λ o. rule_service (get ticked.templates) (option_map course_of o) now command) ticked_is in
+    let known = newest ticked.templates in
+    let r = act_passed known command (course_of (passed_to t m)) now in
+    let first : ruled ticked now command ≡ rules r = ap (λ o. rule_service (newest ticked.templates) (option_map course_of o) now command) ticked_is in
     let second : ruled plain now command ≡ rules (result_behind_all (watch_of m.past) (effects_to t m) r) =
-    ap (λ o. rule_service (get plain.templates) (option_map course_of o) now command) plain_is ∙ ap rules (acts_further t now m command le) in
+    (λ i. rule_service (newest_alike plain ticked (λ n. sym (h.templates n)) i) (option_map course_of (plain_is i)) now command) ∙ ap rules (acts_further known t now m command le) in
     subst (λ (x : Ruling). DoAlike t name ticked plain command x (ruled plain now command)) (sym first)
     (subst (λ (x : Ruling). DoAlike t name ticked plain command (rules r) x) (sym second) (on_results t name ticked plain command m r h ticked_is plain_is))
 
@@ -240,10 +240,10 @@ on_service t name ticked plain now command h from =
 on_template : (t : ℕ) (name : List ℕ) (ticked plain : Desk) (now : ℕ) (spec : TemplateSpec) → AreApart t name ticked plain
     → DoAlike t name ticked plain (Template spec) (ruling_on ticked now (Template spec)) (ruling_on plain now (Template spec))
 on_template t name ticked plain now spec h =
-    let same : rule_template (get ticked.templates spec.name) spec ≡ rule_template (get plain.templates spec.name) spec = ap (λ o. rule_template o spec) (h.templates spec.name) in (
+    let same : rule_template (newest ticked.templates spec.name) spec ≡ rule_template (newest plain.templates spec.name) spec = (λ i. rule_template (newest_alike ticked plain h.templates i spec.name) spec) in (
       ap (λ (r : Ruling). r.reply) same,
-      subst (λ (r : Ruling). AreApart t name (desk_after ticked (Template spec) (rule_template (get ticked.templates spec.name) spec).change) (desk_after plain (Template spec) r.change)) same
-          (same_added t name ticked plain (Template spec) (rule_template (get ticked.templates spec.name) spec).change (template_changes (get ticked.templates spec.name) spec) h),
+      subst (λ (r : Ruling). AreApart t name (desk_after ticked (Template spec) (rule_template (newest ticked.templates spec.name) spec).change) (desk_after plain (Template spec) r.change)) same
+          (same_added t name ticked plain (Template spec) (rule_template (newest ticked.templates spec.name) spec).change (template_changes (newest ticked.templates spec.name) spec) h),
     )
 
 one_alike : (t : ℕ) (name : List ℕ) (ticked plain : Desk) (now : ℕ) (command : Command) → AreApart t name ticked plain → (IsTrue (is_on name command) → t ≤ now)
@@ -289,10 +289,10 @@ ticked_there t name desk m c there is =
 
 tick_of : (t : ℕ) (name : List ℕ) (desk : Desk) (o : Option ModelService) → get desk.services name ≡ o → AreApart t name (apply desk t (Tick name)).desk desk
 tick_of t name desk None there =
-    let none : ruled desk t (Tick name) ≡ rules (Err UnknownService) = ap (λ o. rule_service (get desk.templates) (option_map course_of o) t (Tick name)) there in
+    let none : ruled desk t (Tick name) ≡ rules (Err UnknownService) = ap (λ o. rule_service (newest desk.templates) (option_map course_of o) t (Tick name)) there in
     subst (λ (r : Ruling). AreApart t name (desk_after desk (Tick name) r.change) desk) (sym none) (record { templates = λ n. refl; others = λ q apart. refl; service = inl refl })
 tick_of t name desk (Some m) there =
-    let some : ruled desk t (Tick name) ≡ rules (act_passed (Tick name) (course_of m) t) = ap (λ o. rule_service (get desk.templates) (option_map course_of o) t (Tick name)) there in
+    let some : ruled desk t (Tick name) ≡ rules (act_passed (newest desk.templates) (Tick name) (course_of m) t) = ap (λ o. rule_service (newest desk.templates) (option_map course_of o) t (Tick name)) there in
     subst (λ (r : Ruling). AreApart t name (desk_after desk (Tick name) r.change) desk) (sym some)
     (ticked_there t name desk m (pass (pass (course_of m) t) (judged_at m.stand t)) there (tick_passes t (course_of m)))
 

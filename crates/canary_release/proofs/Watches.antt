@@ -4,6 +4,7 @@ use Rattle.std.specs.Prelude.{true, false, if◌then◌else◌, Option, Some, No
 use Rattle.canary_condition.specs.declared.outcome.Phase.{Phase}
 use Rattle.canary_condition.specs.declared.outcome.Phase.TheVariants.{Pending, Running, Successful, Inconclusive, Error, Failed}
 use Rattle.canary_metric.specs.MetricPhases.{is_completed}
+use Rattle.canary_plan.specs.Plans.{Templates}
 use Rattle.canary_plan.specs.declared.step.Step.{Step}
 use Rattle.canary_plan.specs.declared.step.Step.TheVariants.{SetWeight, Pause, Analysis}
 use Rattle.canary_plan.specs.declared.report.Entry.{Entry}
@@ -112,20 +113,20 @@ reports_keep : (c : Course) (r : Option OpenRun) (es : List Entry) (t : ℕ) →
 reports_keep c None es t = refl
 reports_keep c (Some r) es t = reported c r es t
 
-pub acted : (command : Command) (c : Course) (t : ℕ) → KeepsIf c (act command c t)
-acted (Start name version) c t = unless_keeps c (start_refusal c version) (leads (start c t version)) (entered (tell (begun c version) t (Started version)) (started_at c.stand version) t)
-acted (Promote name) c t = unless_keeps c (promote_refusal c.stand) (leads (promote c t)) (entered (tell (with_stand c (without_holds c.stand)) t Promoted) (promoted_to c.stand) t)
-acted (PromoteFull name) c t = unless_keeps c (progress_refusal c.stand) (leads (promote_full c t)) (entered (tell c t PromotedFull) (length c.stand.strategy.steps) t)
-acted (Abort name) c t = unless_keeps c (progress_refusal c.stand) (leads (abort_by_command c t)) (aborted (tell c t AbortLine) t)
-acted (Retry name) c t = unless_keeps c (retry_refusal c) (leads (retry c t)) (entered (tell (begun c c.stand.version) t (Retried c.stand.version)) 0 t)
-acted (Tick name) c t = refl
-acted (Report report) c t = unless_keeps c (report_refusal c t report.run report.entries (open_run_now c report.run)) (reports_if c (open_run_now c report.run) report.entries t) (reports_keep c (open_run_now c report.run) report.entries t)
-acted (Service spec) c t = tt
-acted (Template spec) c t = tt
+pub acted : (known : Templates) (command : Command) (c : Course) (t : ℕ) → KeepsIf c (act known command c t)
+acted known (Start name version) c t = unless_keeps c (start_refusal known c version) (leads (start known c t version)) (entered (tell (begun known c version) t (Started version)) (started_at c.stand version) t)
+acted known (Promote name) c t = unless_keeps c (promote_refusal c.stand) (leads (promote c t)) (entered (tell (with_stand c (without_holds c.stand)) t Promoted) (promoted_to c.stand) t)
+acted known (PromoteFull name) c t = unless_keeps c (progress_refusal c.stand) (leads (promote_full c t)) (entered (tell c t PromotedFull) (length c.stand.strategy.steps) t)
+acted known (Abort name) c t = unless_keeps c (progress_refusal c.stand) (leads (abort_by_command c t)) (aborted (tell c t AbortLine) t)
+acted known (Retry name) c t = unless_keeps c (retry_refusal known c) (leads (retry known c t)) (entered (tell (begun known c c.stand.version) t (Retried c.stand.version)) 0 t)
+acted known (Tick name) c t = refl
+acted known (Report report) c t = unless_keeps c (report_refusal c t report.run report.entries (open_run_now c report.run)) (reports_if c (open_run_now c report.run) report.entries t) (reports_keep c (open_run_now c report.run) report.entries t)
+acted known (Service spec) c t = tt
+acted known (Template spec) c t = tt
 
 passed_keeps : (c d : Course) (r : Result Acted Refusal) (t : ℕ) → Keeps c d → KeepsIf d r → KeepsIf c (passed_on r t)
 passed_keeps c d (Ok a) t k h = passed a.course t ∙ h ∙ k
 passed_keeps c d (Err refusal) t k h = tt
 
-pub acted_passed : (command : Command) (c : Course) (now : ℕ) → KeepsIf c (act_passed command c now)
-acted_passed command c now = let t = judged_at c.stand now in passed_keeps c (pass c now) (act command (pass c now) t) t (passed c now) (acted command (pass c now) t)
+pub acted_passed : (known : Templates) (command : Command) (c : Course) (now : ℕ) → KeepsIf c (act_passed known command c now)
+acted_passed known command c now = let t = judged_at c.stand now in passed_keeps c (pass c now) (act known command (pass c now) t) t (passed c now) (acted known command (pass c now) t)

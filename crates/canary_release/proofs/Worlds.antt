@@ -1,15 +1,19 @@
--- The small machine with templates and services as functions of their names, which computes, and that it is the machine.
-use Rattle.std.proofs.Common.{◌≡◌, ℕ, List, [], ◌∷◌, refl, ap, ◌∙◌}
-use Rattle.std.specs.Prelude.{cond, Option, Some, None, option_map}
+-- The small machine with the newest templates and the services as functions of their names, which
+-- computes, and that it is the machine.
+use Rattle.std.proofs.Common.{◌≡◌, ℕ, List, [], ◌∷◌, ◌++◌, Bool, true, false, refl, ap, ◌∙◌}
+use Rattle.std.specs.Prelude.{cond, Option, Some, None, option_map, unwrap_or}
+use Rattle.std.specs.List.{last_or}
 use Rattle.std.specs.Ordering.{nat_cmp, eq_by_cmp}
 use Rattle.std.specs.Cmp.Lexicographic.{slice_cmp, nat_list_cmp_total}
 use Rattle.std.specs.FinMap.{get, get-insert, get-empty}
 use Rattle.canary_plan.specs.declared.command.Command.{Command}
 use Rattle.canary_plan.specs.Commands.{subject_of}
 use Rattle.canary_release.specs.declared.reply.Reply.{Reply}
+use Rattle.canary_plan.specs.declared.template.Template.{Template}
 use Rattle.canary_plan.specs.Plans.{Templates}
-use Rattle.canary_release.specs.Desks.{ModelService, course_of, Change, Ruling, ruling, Desk, no_desk, after, desk_after, apply, machine}
+use Rattle.canary_release.specs.Desks.{ModelService, course_of, Change, Ruling, ruling, RevisionMap, revisions_of, newest, with_revision, Desk, no_desk, after, desk_after, apply, machine}
 use Rattle.canary_release.specs.Desks.Change.{Nothing, Adds, Becomes}
+use Rattle.canary_release.proofs.OrderingBasics.{last_pushed}
 use Rattle.canary_release.proofs.Stories.{replies_after, service_after}
 
 pub record World : Type 0 where
@@ -43,14 +47,25 @@ world_after_all w [] = w
 world_after_all w (x ∷ xs) = world_after_all (world_after w x.0 x.1) xs
 
 abbrev pub world_of : Desk → World
-world_of desk = record { known = get desk.templates; services = get desk.services }
+world_of desk = record { known = newest desk.templates; services = get desk.services }
+
+last_if : (b : Bool) (old : Option (List Template)) (new : List Template) (t : Template) → last_or None new ≡ Some t → last_or None (unwrap_or (cond b (Some new) old) []) ≡ cond b (Some t) (last_or None (unwrap_or old []))
+last_if true old new t e = e
+last_if false old new t e = refl
+
+-- the newest revision of each template, with one revision more of one
+pub newest_after : (templates : RevisionMap) (name : List ℕ) (t : Template) (q : List ℕ) → newest (with_revision templates name t) q ≡ changed_at (newest templates) name t q
+newest_after templates name t q =
+    let new = revisions_of templates name ++ t ∷ [] in
+    ap (λ (o : Option (List Template)). last_or None (unwrap_or o [])) (get-insert nat_list_cmp_total templates name new q)
+    ∙ last_if (eq_by_cmp (slice_cmp nat_cmp) q name) (get templates q) new t (last_pushed None (revisions_of templates name) t)
 
 change_lem : (desk : Desk) (command : Command) (c : Change) → world_of (desk_after desk command c) ≡ with_change (world_of desk) command c
 change_lem desk command Nothing = refl
-change_lem desk command (Adds t) = λ i. record { known = λ q. get-insert nat_list_cmp_total desk.templates (subject_of command) t q i; services = get desk.services }
+change_lem desk command (Adds t) = λ i. record { known = λ q. newest_after desk.templates (subject_of command) t q i; services = get desk.services }
 change_lem desk command (Becomes c) =
     let name = subject_of command in
-    λ i. record { known = get desk.templates; services = λ q. get-insert nat_list_cmp_total desk.services name (after (get desk.services name) c.stand c.effects) q i }
+    λ i. record { known = newest desk.templates; services = λ q. get-insert nat_list_cmp_total desk.services name (after (get desk.services name) c.stand c.effects) q i }
 
 pub world-apply : (desk : Desk) (now : ℕ) (command : Command) → world_of (apply desk now command).desk ≡ world_after (world_of desk) now command
 world-apply desk now command = change_lem desk command (ruling_in (world_of desk) now command).change
@@ -66,7 +81,7 @@ machine-world desk [] = refl
 machine-world desk (x ∷ xs) = machine-world (apply desk x.0 x.1).desk xs ∙ ap (λ w. world_after_all w xs) (world-apply desk x.0 x.1)
 
 pub world-no_desk : world_of no_desk ≡ nowhere
-world-no_desk = λ i. record { known = λ q. get-empty (slice_cmp nat_cmp) q i; services = λ q. get-empty (slice_cmp nat_cmp) q i }
+world-no_desk = λ i. record { known = λ q. last_or None (unwrap_or (get-empty (slice_cmp nat_cmp) q i) []); services = λ q. get-empty (slice_cmp nat_cmp) q i }
 
 from_nothing : (xs : List (ℕ × Command)) → world_of (machine no_desk xs).desk ≡ world_after_all nowhere xs
 from_nothing xs = machine-world no_desk xs ∙ ap (λ w. world_after_all w xs) world-no_desk

@@ -8,7 +8,9 @@ use Rattle.canary_plan.specs.declared.line.LineEvent.{LineEvent}
 use Rattle.canary_plan.specs.declared.line.LineEvent.TheVariants.{Started, Retried, Promoted, PromotedFull, Aborted as AbortLine}
 use Rattle.canary_plan.specs.declared.refusal.Refusal.{Refusal}
 use Rattle.canary_plan.specs.declared.refusal.Refusal.TheVariants.{ServiceExists, InProgress as GoesOn, AlreadyStable, NotInProgress, NotPaused, NotAborted, RunsSpent}
-use Rattle.canary_plan.specs.Refusals.{first_that_holds}
+use Rattle.canary_plan.specs.Plans.{Templates, bound_of}
+use Rattle.canary_plan.specs.PlanRefusals.{bound_refusal}
+use Rattle.canary_plan.specs.Refusals.{first_that_holds, or_refusal}
 use Rattle.canary_release.specs.declared.stand.State.TheVariants.{InProgress}
 use Rattle.canary_release.specs.declared.stand.Status.{Status}
 use Rattle.canary_release.specs.declared.stand.Status.TheVariants.{Healthy, Degraded, Paused, Progressing}
@@ -33,8 +35,8 @@ is_progressing Healthy = false
 is_progressing Degraded = false
 is_progressing Paused = false
 
-abbrev pub start_refusal : Course → List ℕ → Option Refusal
-start_refusal c version =
+abbrev pub start_refusal_at : Course → List ℕ → Option Refusal
+start_refusal_at c version =
     let s = c.stand in
     first_that_holds (
     (is_going s.state, GoesOn)
@@ -43,10 +45,19 @@ start_refusal c version =
     ∷ []
     )
 
-abbrev pub retry_refusal : Course → Option Refusal
-retry_refusal c =
+abbrev pub retry_refusal_at : Course → Option Refusal
+retry_refusal_at c =
     first_that_holds
     ((not (is_aborted c.stand.state), NotAborted) ∷ (is_spent (runs_now c), RunsSpent) ∷ [])
+
+-- that the strategy can't be bound to the newest revisions comes first
+
+abbrev pub start_refusal : Templates → Course → List ℕ → Option Refusal
+start_refusal known c version =
+    or_refusal (bound_refusal known c.stand.strategy) (start_refusal_at c version)
+
+abbrev pub retry_refusal : Templates → Course → Option Refusal
+retry_refusal known c = or_refusal (bound_refusal known c.stand.strategy) (retry_refusal_at c)
 
 abbrev pub promote_refusal : Stand → Option Refusal
 promote_refusal s =
@@ -59,27 +70,32 @@ progress_refusal s = first_that_holds ((not (is_going s.state), NotInProgress) �
 
 -- What it does.
 
--- an attempt with that version is in progress, with no holds and no background run yet
-abbrev pub begun : Course → List ℕ → Course
-begun c version =
+-- an attempt with that version is in progress, bound to these templates, with no holds and no
+-- background run yet
+abbrev pub begun : Templates → Course → List ℕ → Course
+begun known c version =
     with_stand c
-    (record (without_holds c.stand)
-    { version = version; state = InProgress; background = false })
+    (record (without_holds c.stand) {
+      bound = bound_of known c.stand.strategy;
+      version = version;
+      state = InProgress;
+      background = false;
+    })
 
 -- an attempt with that version, from that step
-abbrev pub begin : Course → ℕ → List ℕ → LineEvent → ℕ → Course
-begin c t version event i = enter (tell (begun c version) t event) i t
+abbrev pub begin : Templates → Course → ℕ → List ℕ → LineEvent → ℕ → Course
+begin known c t version event i = enter (tell (begun known c version) t event) i t
 
 -- a start is at step 0, or for the stable version after an abort at the end
 abbrev pub started_at : Stand → List ℕ → ℕ
 started_at s version =
     if is_aborted s.state && bytes_eq version s.stable then length s.strategy.steps else 0
 
-abbrev pub start : Course → ℕ → List ℕ → Course
-start c t version = begin c t version (Started version) (started_at c.stand version)
+abbrev pub start : Templates → Course → ℕ → List ℕ → Course
+start known c t version = begin known c t version (Started version) (started_at c.stand version)
 
-abbrev pub retry : Course → ℕ → Course
-retry c t = begin c t c.stand.version (Retried c.stand.version) 0
+abbrev pub retry : Templates → Course → ℕ → Course
+retry known c t = begin known c t c.stand.version (Retried c.stand.version) 0
 
 -- a promotion leads with the step hold to the next step, else with the background hold to the same
 -- anew, else from a pause to the next
@@ -120,17 +136,18 @@ abbrev pub reports_if : Course → Option OpenRun → List Entry → ℕ → Act
 reports_if c None entries t = leads c
 reports_if c (Some r) entries t = reports c r entries t
 
--- where a command leads a service that was passed to t, or why it is refused; a Template names no
--- service, and never comes here
-abbrev pub act : Command → Course → ℕ → Result Acted Refusal
-act (Start name version) c t = unless (start_refusal c version) (leads (start c t version))
-act (Promote name) c t = unless (promote_refusal c.stand) (leads (promote c t))
-act (PromoteFull name) c t = unless (progress_refusal c.stand) (leads (promote_full c t))
-act (Abort name) c t = unless (progress_refusal c.stand) (leads (abort_by_command c t))
-act (Retry name) c t = unless (retry_refusal c) (leads (retry c t))
-act (Tick name) c t = Ok (leads c)
-act (Report report) c t =
+-- where a command leads a service that was passed to t, or why it is refused, from the templates
+-- that are known; a Template names no service, and never comes here
+abbrev pub act : Templates → Command → Course → ℕ → Result Acted Refusal
+act known (Start name version) c t =
+    unless (start_refusal known c version) (leads (start known c t version))
+act known (Promote name) c t = unless (promote_refusal c.stand) (leads (promote c t))
+act known (PromoteFull name) c t = unless (progress_refusal c.stand) (leads (promote_full c t))
+act known (Abort name) c t = unless (progress_refusal c.stand) (leads (abort_by_command c t))
+act known (Retry name) c t = unless (retry_refusal known c) (leads (retry known c t))
+act known (Tick name) c t = Ok (leads c)
+act known (Report report) c t =
     let r = open_run_now c report.run in unless (report_refusal c t report.run report.entries r)
     (reports_if c r report.entries t)
-act (AddService spec) c t = Err ServiceExists
-act (AddTemplate spec) c t = Err ServiceExists
+act known (AddService spec) c t = Err ServiceExists
+act known (AddTemplate spec) c t = Err ServiceExists

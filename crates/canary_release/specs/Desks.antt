@@ -1,7 +1,8 @@
 -- The desk, one command, and the small machine.
-use Rattle.std.specs.Prelude.{ℕ, List, [], ◌∷◌, length, Option, Some, None, option_map, false, Result, Ok, Err}
+use Rattle.std.specs.Prelude.{ℕ, ◌+◌, nat_le, false, List, [], ◌∷◌, ◌++◌, length, Option, Some, None, option_map, unwrap_or, Result, Ok, Err}
 use Rattle.std.specs.Ordering.{nat_cmp}
 use Rattle.std.specs.Cmp.Lexicographic.{slice_cmp}
+use Rattle.std.specs.List.{last_or}
 use Rattle.std.specs.FinMap.{FinMap, get, insert, empty}
 use Rattle.canary_plan.specs.declared.service.ServiceSpec.{ServiceSpec}
 use Rattle.canary_plan.specs.declared.template_spec.TemplateSpec.{TemplateSpec}
@@ -10,9 +11,10 @@ use Rattle.canary_plan.specs.declared.command.Command.{Command}
 use Rattle.canary_plan.specs.declared.command.Command.TheVariants.{Template as AddTemplate, Service as AddService}
 use Rattle.canary_plan.specs.declared.line.LineEvent.TheVariants.{Created}
 use Rattle.canary_plan.specs.declared.refusal.Refusal.{Refusal}
-use Rattle.canary_plan.specs.declared.refusal.Refusal.TheVariants.{UnknownService, TemplateExists}
-use Rattle.canary_plan.specs.Plans.{Templates, template_of, strategy_of, bound_of}
+use Rattle.canary_plan.specs.declared.refusal.Refusal.TheVariants.{UnknownService, RevisionsSpent}
+use Rattle.canary_plan.specs.Plans.{Templates, template_of, strategy_of, unbound}
 use Rattle.canary_plan.specs.PlanRefusals.{template_refusal, strategy_refusal}
+use Rattle.canary_plan.specs.Refusals.{first_that_holds, or_refusal}
 use Rattle.canary_plan.specs.Commands.{subject_of}
 use Rattle.canary_release.specs.declared.effect.Effect.{Effect}
 use Rattle.canary_release.specs.declared.reply.Reply.{Reply}
@@ -64,19 +66,19 @@ passed_on (Err refusal) t = Err refusal
 
 -- a command on a service, which is passed to t before and after; t is the later of the moment and
 -- the service's last
-abbrev pub act_passed : Command → Course → ℕ → Result Acted Refusal
-act_passed command c now =
+abbrev pub act_passed : Templates → Command → Course → ℕ → Result Acted Refusal
+act_passed known command c now =
     let t = judged_at c.stand now in
-    passed_on (act command (pass c now) t) t
+    passed_on (act known command (pass c now) t) t
 
--- a new service is done, and bound to the templates that are known: its version is the stable one,
--- and it stands after its last step
-abbrev pub new_stand : Templates → ServiceSpec → ℕ → Stand
-new_stand known spec now =
+-- a new service is done and bound to no templates: its version is the stable one, and it stands
+-- after its last step
+abbrev pub new_stand : ServiceSpec → ℕ → Stand
+new_stand spec now =
     record {
       name = spec.name;
       strategy = strategy_of spec;
-      bound = bound_of known (strategy_of spec);
+      bound = unbound (strategy_of spec);
       stable = spec.version;
       version = spec.version;
       state = Done;
@@ -88,39 +90,66 @@ new_stand known spec now =
       last = now;
     }
 
-abbrev pub new_service : Templates → ServiceSpec → ℕ → Course
-new_service known spec now =
-    tell (course_from (new_stand known spec now) (watch_of no_past)) now (Created spec.version)
+abbrev pub new_service : ServiceSpec → ℕ → Course
+new_service spec now =
+    tell (course_from (new_stand spec now) (watch_of no_past)) now (Created spec.version)
 
 -- a command where no service of its name is there
 abbrev pub act_new : Templates → Command → ℕ → Result Acted Refusal
 act_new known (AddService spec) now =
-    unless (strategy_refusal known spec) (leads (new_service known spec now))
+    unless (strategy_refusal known spec) (leads (new_service spec now))
 act_new known command now = Err UnknownService
 
-abbrev pub adds_unless : Option Refusal → TemplateSpec → Ruling
-adds_unless None spec =
-    record { change = Adds (template_of spec); reply = accepted (template_text spec.name) }
-adds_unless (Some refusal) spec = refuses refusal
+abbrev pub adds_unless : Option Refusal → Template → Ruling
+adds_unless None t =
+    record { change = Adds t; reply = accepted (template_text t.spec.name t.revision) }
+adds_unless (Some refusal) t = refuses refusal
 
--- a template is added, where none of its name is there
+-- the number of a newest revision, 0 if there is none
+abbrev pub newest_number : Option Template → ℕ
+newest_number None = 0
+newest_number (Some t) = t.revision
+
+-- why a template is refused whose newest revision has this number
+abbrev pub revision_refusal : ℕ → TemplateSpec → Option Refusal
+revision_refusal number spec =
+    or_refusal (template_refusal spec)
+    (first_that_holds ((nat_le 1000000 number, RevisionsSpent) ∷ []))
+
+-- the next revision of a template is added, if this is its newest
 abbrev pub rule_template : Option Template → TemplateSpec → Ruling
-rule_template None spec = adds_unless (template_refusal spec) spec
-rule_template (Some t) spec = refuses TemplateExists
+rule_template newest spec =
+    let number = newest_number newest in adds_unless (revision_refusal number spec)
+    (template_of spec (number + 1))
 
 -- a command on a service, which may be there
 abbrev pub rule_service : Templates → Option Course → ℕ → Command → Ruling
 rule_service known None now command = rules (act_new known command now)
-rule_service known (Some c) now command = rules (act_passed command c now)
+rule_service known (Some c) now command = rules (act_passed known command c now)
 
 -- what a command does and answers, from the templates that are known and the service that it names
 abbrev pub ruling : Templates → Option Course → ℕ → Command → Ruling
 ruling known found now (AddTemplate spec) = rule_template (known spec.name) spec
 ruling known found now command = rule_service known found now command
 
+-- the revisions of each template, from 1 on, by name
+abbrev pub RevisionMap : Type 0
+RevisionMap = FinMap (slice_cmp nat_cmp) (List Template)
+
+abbrev pub revisions_of : RevisionMap → List ℕ → List Template
+revisions_of templates name = unwrap_or (get templates name) []
+
+-- the newest revision of each template
+abbrev pub newest : RevisionMap → Templates
+newest templates name = last_or None (revisions_of templates name)
+
+-- with one revision more of a template
+abbrev pub with_revision : RevisionMap → List ℕ → Template → RevisionMap
+with_revision templates name t = insert templates name (revisions_of templates name ++ t ∷ [])
+
 -- the templates and the services, by name
 pub record Desk : Type 0 where
-  pub templates : FinMap (slice_cmp nat_cmp) Template
+  pub templates : RevisionMap
   pub services : FinMap (slice_cmp nat_cmp) ModelService
 
 abbrev pub no_desk : Desk
@@ -156,7 +185,7 @@ with_service desk name s effects =
 abbrev pub desk_after : Desk → Command → Change → Desk
 desk_after desk command Nothing = desk
 desk_after desk command (Adds t) =
-    record desk { templates = insert desk.templates (subject_of command) t }
+    record desk { templates = with_revision desk.templates (subject_of command) t }
 desk_after desk command (Becomes c) = with_service desk (subject_of command) c.stand c.effects
 
 pub record Applied : Type 0 where
@@ -165,7 +194,7 @@ pub record Applied : Type 0 where
 
 abbrev pub ruling_on : Desk → ℕ → Command → Ruling
 ruling_on desk now command =
-    ruling (get desk.templates)
+    ruling (newest desk.templates)
     (option_map course_of (get desk.services (subject_of command))) now command
 
 -- one command at its moment

@@ -1,6 +1,6 @@
 -- Which effects may happen to a service, and that commands and time bring such alone: a change
 -- tells all that a store writes.
-use Rattle.std.specs.Prelude.{◌≡◌, ℕ, ◌+◌, ◌≤◌, true, List, [], ◌∷◌, find, Option, Some, slice_get}
+use Rattle.std.specs.Prelude.{◌≡◌, ℕ, ◌+◌, ◌≤◌, true, List, [], ◌∷◌, length, find, Option, Some, None, slice_get}
 use Rattle.std.specs.FinMap.{get}
 use Rattle.std.specs.List.{AllByRecursion}
 use Rattle.canary_condition.specs.Phases.{phase_of}
@@ -9,7 +9,9 @@ use Rattle.canary_metric.specs.Counts.{Counts, size}
 use Rattle.canary_metric.specs.MetricPhases.{is_completed}
 use Rattle.canary_plan.specs.declared.bound.BoundParts.{BoundParts}
 use Rattle.canary_plan.specs.declared.command.Command.{Command}
-use Rattle.canary_plan.specs.Plans.{analysis_at}
+use Rattle.canary_plan.specs.declared.command.Command.TheVariants as command
+use Rattle.canary_plan.specs.declared.strategy.CheckedStrategy.{CheckedStrategy}
+use Rattle.canary_plan.specs.Plans.{Templates, bound_of, unbound, analysis_at}
 use Rattle.canary_plan.specs.Commands.{subject_of}
 use Rattle.canary_release.specs.declared.effect.Opening.{Opening}
 use Rattle.canary_release.specs.declared.effect.Recorded.{Recorded}
@@ -25,14 +27,17 @@ use Rattle.canary_release.specs.Pasts.{watched}
 use Rattle.canary_release.specs.Watching.{happens}
 use Rattle.canary_release.specs.Courses.{has_number, run_verdict}
 use Rattle.canary_release.specs.Passing.{pass}
-use Rattle.canary_release.specs.Desks.{ModelService, Desk, before, course_of, ruling_on}
-use Rattle.canary_release.specs.Order.{AreInOrder}
+use Rattle.canary_release.specs.Desks.{ModelService, RevisionMap, Desk, revisions_of, newest, before, course_of, ruling_on}
+use Rattle.canary_release.specs.Order.{known_by, AreInOrder}
 use Rattle.canary_release.specs.Shapes.{said}
 
--- a run that is opened has the next number, and the analysis that is bound at its step or behind it
-pub record Opens (bound : BoundParts) (w : Runs) (x : Opening) : Type 0 where
+-- a run that is opened has the next number, and is of an analysis of the strategy, bound to
+-- revisions that there are
+pub record Opens (templates : RevisionMap) (st : CheckedStrategy) (w : Runs)
+    (x : Opening) : Type 0 where
   pub number : x.run ≡ w.count + 1
-  pub analysis : analysis_at bound x.step ≡ Some x.analysis
+  pub binding : List ℕ → Option ℕ
+  pub analysis : analysis_at (bound_of (known_by templates binding) st) x.step ≡ Some x.analysis
 
 -- a measurement is of an open run and of a metric of it, and the next of that metric
 pub record Measures (w : Runs) (x : Recorded) : Type 0 where
@@ -55,38 +60,58 @@ pub record Closes (w : Runs) (x : Closing) (tallies : List Counts) : Type 0 wher
   pub completed : is_completed x.verdict ≡ true
   pub last : tallies ≡ run.tallies
 
--- an effect may happen to a service that is bound so, of which this is watched
-abbrev pub Allowed : BoundParts → Runs → Effect → Type 0
-Allowed bound w (Told line) = Unit {0}
-Allowed bound w (Opened x) = Opens bound w x
-Allowed bound w (Measured x) = Measures w x
-Allowed bound w (Closed x tallies) = Closes w x tallies
+-- an effect may happen to a service of this strategy, of which this is watched, if these are the
+-- templates; one command may end an attempt and begin another, so its effects are not all of one
+-- binding
+abbrev pub Allowed : RevisionMap → CheckedStrategy → Runs → Effect → Type 0
+Allowed templates st w (Told line) = Unit {0}
+Allowed templates st w (Opened x) = Opens templates st w x
+Allowed templates st w (Measured x) = Measures w x
+Allowed templates st w (Closed x tallies) = Closes w x tallies
 
 -- each of them may, one after another
-abbrev pub AreAllowed : BoundParts → Runs → List Effect → Type 0
-AreAllowed bound w [] = Unit {0}
-AreAllowed bound w (x ∷ xs) = Allowed bound w x × AreAllowed bound (happens w x) xs
+abbrev pub AreAllowed : RevisionMap → CheckedStrategy → Runs → List Effect → Type 0
+AreAllowed templates st w [] = Unit {0}
+AreAllowed templates st w (x ∷ xs) =
+    Allowed templates st w x × AreAllowed templates st (happens w x) xs
 
--- a service as it was found, or a new one, becomes this one: under that name, with the strategy
--- that it had and bound as it was, and what happens may happen
-pub record Changes (found : Option ModelService) (name : List ℕ) (s : ServiceParts)
-    (effects : List Effect) : Type 0 where
-  pub named : s.stand.name ≡ name
+-- what a service with this strategy was bound to; a new one was bound to nothing
+abbrev pub bound_before : Option ModelService → CheckedStrategy → BoundParts
+bound_before None st = unbound st
+bound_before (Some m) st = m.stand.bound
+
+-- what it is bound to after a command: a Start and a Retry bind it to the templates that are known,
+-- and no other command binds it
+abbrev pub bound_after : Templates → Command → Option ModelService → CheckedStrategy → BoundParts
+bound_after known (command.Start service version) found st = bound_of known st
+bound_after known (command.Retry service) found st = bound_of known st
+bound_after known other found st = bound_before found st
+
+-- a service as it was found, or a new one, becomes this one by a command: under the name that the
+-- command has, with the strategy that it had, bound as the command binds it, and what happens may
+-- happen
+pub record Changes (templates : RevisionMap) (found : Option ModelService) (by : Command)
+    (s : ServiceParts) (effects : List Effect) : Type 0 where
+  pub named : s.stand.name ≡ subject_of by
   pub strategy : s.stand.strategy ≡ (before found s.stand).stand.strategy
-  pub bound : s.stand.bound ≡ (before found s.stand).stand.bound
-  pub allowed : AreAllowed s.stand.bound (watched (before found s.stand).past) effects
+  pub bound : s.stand.bound ≡ bound_after (newest templates) by found s.stand.strategy
+  pub allowed : AreAllowed templates s.stand.strategy (watched (before found s.stand).past) effects
 
--- a change of what a command names: a template has that name, and so has a service
-abbrev pub IsChange : Desk → List ℕ → DeskChange → Type 0
-IsChange desk name change.Nothing = Unit {0}
-IsChange desk name (change.Template t) = t.spec.name ≡ name
-IsChange desk name (change.Service s effects) = Changes (get desk.services name) name s effects
+-- a change by a command: a template has the name that the command has, and is its next revision; a
+-- service becomes another by it
+abbrev pub IsChange : Desk → Command → DeskChange → Type 0
+IsChange desk by change.Nothing = Unit {0}
+IsChange desk by (change.Template t) =
+    (t.spec.name ≡ subject_of by)
+    × (t.revision ≡ length (revisions_of desk.templates (subject_of by)) + 1)
+IsChange desk by (change.Service s effects) =
+    Changes desk.templates (get desk.services (subject_of by)) by s effects
 
--- the law: what commands change of a desk in order is such a change
+-- the law: what a command changes of a desk in order is such a change
 abbrev pub CommandsChange : Type 0
 CommandsChange =
     (desk : Desk) (now : ℕ) (command : Command) → AreInOrder desk
-    → IsChange desk (subject_of command) (said (ruling_on desk now command).change)
+    → IsChange desk command (said (ruling_on desk now command).change)
 
 -- no measurement is recorded
 abbrev pub IsQuiet : Effect → Type 0

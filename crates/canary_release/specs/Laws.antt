@@ -5,7 +5,7 @@ use Rattle.std.specs.FinMap.{get}
 use Rattle.std.specs.Str.{bytes_eq}
 use Rattle.canary_plan.specs.declared.command.Command.{Command}
 use Rattle.canary_plan.specs.declared.command.Command.TheVariants.{Template as AddTemplate, Tick}
-use Rattle.canary_plan.specs.Plans.{Templates}
+use Rattle.canary_plan.specs.Plans.{Templates, Agree}
 use Rattle.canary_plan.specs.Commands.{subject_of, names_looked_up}
 use Rattle.canary_release.specs.declared.effect.Effect.{Effect}
 use Rattle.canary_release.specs.declared.reply.Reply.{Reply}
@@ -27,15 +27,12 @@ RefusalsLeaveTheDesk =
     → let a = apply desk now command in (a.reply.status ≡ Accepted)
     ⊎ ((a.reply.status ≡ Refused) × (a.desk ≡ desk))
 
--- two sets of templates agree on these names
-abbrev pub Agree : Templates → Templates → List (List ℕ) → Type 0
-Agree known other names = AllByRecursion (λ name. known name ≡ other name) names
-
 -- a ruling looks only at the templates that its command looks up
 abbrev pub LooksOnlyAt : Type 0
 LooksOnlyAt =
     (known other : Templates) (found : Option Course) (now : ℕ) (command : Command)
-    → Agree known other (names_looked_up command)
+    → Agree known other
+    (names_looked_up (option_map (λ (c : Course). c.stand.strategy) found) command)
     → ruling known found now command ≡ ruling other found now command
 
 -- Services apart from one another.

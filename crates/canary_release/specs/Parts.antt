@@ -1,13 +1,19 @@
 -- Which parts make no service.
-use Rattle.std.specs.Prelude.{◌≡◌, ℕ, ◌+◌, ◌-◌, ◌==◌, nat_lt, ◌&&◌, ◌||◌, not, Bool, true, false, if◌then◌else◌, List, [], ◌∷◌, length, filter, Option, Some, None, is_some, is_none, Result, Ok, Err}
-use Rattle.std.specs.List.{list_any}
+use Rattle.std.specs.Prelude.{◌≡◌, ℕ, ◌+◌, ◌-◌, ◌==◌, nat_lt, ◌&&◌, ◌||◌, not, Bool, true, false, if◌then◌else◌, List, [], ◌∷◌, length, map, filter, Option, Some, None, is_some, is_none, Result, Ok, Err}
+use Rattle.std.specs.List.{list_any, list_all}
 use Rattle.std.specs.Cmp.Lexicographic.{pointwise}
+use Rattle.canary_metric.specs.Metrics.{MetricValue}
 use Rattle.canary_metric.specs.MetricPhases.{is_completed}
+use Rattle.std.specs.Str.{bytes_eq}
 use Rattle.canary_plan.specs.declared.step.Step.{Step}
 use Rattle.canary_plan.specs.declared.step.Step.TheVariants.{SetWeight, Pause, Analysis}
 use Rattle.canary_plan.specs.declared.service.Background.{Background}
+use Rattle.canary_plan.specs.declared.analysis_parts.Revision.{Revision}
 use Rattle.canary_plan.specs.declared.analysis_parts.AnalysisParts.{AnalysisParts}
+use Rattle.canary_plan.specs.declared.bound.BoundParts.{BoundParts}
 use Rattle.canary_plan.specs.Plans.{analysis_at}
+use Rattle.canary_plan.specs.PlanRefusals.{has_duplicate, is_without_end}
+use Rattle.canary_plan.specs.Commands.{same_names}
 use Rattle.canary_release.specs.declared.stand.Stand.{Stand}
 use Rattle.canary_release.specs.declared.runs.OpenRun.{OpenRun}
 use Rattle.canary_release.specs.declared.service.ServiceParts.{ServiceParts}
@@ -62,24 +68,68 @@ has_wrong_tallies r = not (length r.analysis.metrics == length r.tallies)
 
 -- What a service is bound to.
 
+abbrev pub same_revision : Revision → Revision → Bool
+same_revision a b = bytes_eq a.template b.template && a.number == b.number
+
+abbrev pub is_bound_otherwise : Option AnalysisParts → AnalysisParts → Bool
+is_bound_otherwise None a = true
+is_bound_otherwise (Some b) a = not (pointwise same_revision b.revisions a.revisions)
+
+-- its revisions aren't those to which the present attempt is bound
+abbrev pub has_other_revisions : Stand → OpenRun → Bool
+has_other_revisions s r = is_bound_otherwise (analysis_at s.bound r.step) r.analysis
+
+abbrev pub names_of_revisions : AnalysisParts → List (List ℕ)
+names_of_revisions a = map (λ (r : Revision). r.template) a.revisions
+
+-- an analysis of these names is bound, to revisions of just these templates
+abbrev pub is_bound_to : List (List ℕ) → Option AnalysisParts → Bool
+is_bound_to names None = false
+is_bound_to names (Some a) = same_names names (names_of_revisions a)
+
 abbrev pub is_step_bound : Step → Option AnalysisParts → Bool
-is_step_bound (Analysis names) a = is_some a
+is_step_bound (Analysis names) a = is_bound_to names a
 is_step_bound (SetWeight percent) a = is_none a
 is_step_bound (Pause seconds) a = is_none a
 
 abbrev pub is_background_bound : Option Background → Option AnalysisParts → Bool
 is_background_bound None a = is_none a
-is_background_bound (Some b) a = is_some a
+is_background_bound (Some b) a = is_bound_to b.templates a
 
--- each analysis of the strategy is bound, and nothing else
+-- each analysis of the strategy is bound, to its own templates
 abbrev pub is_bound : Stand → Bool
 is_bound s =
     pointwise is_step_bound s.strategy.steps s.bound.steps
     && is_background_bound s.strategy.background s.bound.background
 
--- an analysis is not bound, or one that its strategy does not have
+-- no analysis is
+abbrev pub is_unbound : Stand → Bool
+is_unbound s =
+    length s.bound.steps == length s.strategy.steps
+    && (list_all (λ (a : Option AnalysisParts). is_none a) s.bound.steps
+    && is_none s.bound.background)
+
+abbrev pub metrics_if : Option AnalysisParts → List MetricValue
+metrics_if None = []
+metrics_if (Some a) = a.metrics
+
+-- two metrics of an analysis have one name
+abbrev pub repeats_metric_in : Option AnalysisParts → Bool
+repeats_metric_in a = has_duplicate (map (λ (m : MetricValue). m.name) (metrics_if a))
+
+abbrev pub has_endless : Option AnalysisParts → Bool
+has_endless a = list_any is_without_end (metrics_if a)
+
+-- no strategy is bound to such: two metrics of one name, or a metric without end in a step's run
+abbrev pub is_refused : BoundParts → Bool
+is_refused b =
+    list_any repeats_metric_in b.steps
+    || (repeats_metric_in b.background || list_any has_endless b.steps)
+
+-- it is bound to other templates than its strategy's, or to none once a release was begun, or to
+-- what no strategy is bound to
 abbrev pub is_misbound : Stand → Bool
-is_misbound s = not (is_bound s)
+is_misbound s = not (is_bound s || (is_done s.state && is_unbound s)) || is_refused s.bound
 
 abbrev pub is_elsewhere : Stand → Option ℕ → Bool
 is_elsewhere s None = false
@@ -119,6 +169,7 @@ is_broken s =
     ∷ list_any is_judged runs
     ∷ is_by stand.last (next_move stand)
     ∷ is_misbound stand
+    ∷ list_any (has_other_revisions stand) runs
     ∷ []
     )
 

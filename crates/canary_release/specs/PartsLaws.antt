@@ -1,9 +1,8 @@
 -- The machine keeps parts accepted.
-use Rattle.std.specs.Prelude.{◌≡◌, ℕ, false, IsTrue, None, Ok}
+use Rattle.std.specs.Prelude.{◌≡◌, ℕ, false, IsTrue, Ok}
 use Rattle.canary_plan.specs.declared.service.ServiceSpec.{ServiceSpec}
 use Rattle.canary_plan.specs.declared.command.Command.{Command}
 use Rattle.canary_plan.specs.Plans.{Templates, is_accepted, are_fit}
-use Rattle.canary_plan.specs.PlanRefusals.{strategy_refusal}
 use Rattle.canary_release.specs.declared.service.ServiceParts.{ServiceParts}
 use Rattle.canary_release.specs.Passing.{pass}
 use Rattle.canary_release.specs.Commands.{Acted}
@@ -18,18 +17,17 @@ PassingKeepsParts =
     → IsTrue (are_fit s.stand.bound) → is_broken s ≡ false
     → is_broken (kept_after (pass (kept_course s) t)) ≡ false
 
--- a command that is accepted leads unbroken parts to unbroken parts, with the same strategy, bound
--- to the same
+-- a command that is accepted leads unbroken parts to unbroken parts, with the same strategy, if
+-- what it is then bound to is fit for runs
 abbrev pub ActingKeepsParts : Type 0
 ActingKeepsParts =
-    (command : Command) (s : ServiceParts) (now : ℕ) (a : Acted)
+    (known : Templates) (command : Command) (s : ServiceParts) (now : ℕ) (a : Acted)
     → IsTrue (is_accepted s.stand.strategy) → IsTrue (are_fit s.stand.bound)
-    → is_broken s ≡ false → act_passed command (kept_course s) now ≡ Ok a
+    → is_broken s ≡ false → act_passed known command (kept_course s) now ≡ Ok a
+    → IsTrue (are_fit a.course.stand.bound)
     → (is_broken (kept_after a.course) ≡ false) × (a.course.stand.strategy ≡ s.stand.strategy)
-    × (a.course.stand.bound ≡ s.stand.bound)
 
--- the parts of a new service, whose strategy nothing refuses, are unbroken
+-- a new service's parts are unbroken
 abbrev pub NewPartsAreUnbroken : Type 0
 NewPartsAreUnbroken =
-    (known : Templates) (spec : ServiceSpec) (now : ℕ) → strategy_refusal known spec ≡ None
-    → is_broken (kept_after (new_service known spec now)) ≡ false
+    (spec : ServiceSpec) (now : ℕ) → is_broken (kept_after (new_service spec now)) ≡ false

@@ -39,9 +39,11 @@ status_code reply_status.NotFound = 404
 abbrev pub accepted : List ℕ → Reply
 accepted body = record { status = reply_status.Accepted; body = body }
 
--- {"code":"ok","template":NAME}
-abbrev pub template_text : List ℕ → List ℕ
-template_text name = codes "{\"code\":\"ok\",\"template\":\"" ++ (name ++ codes "\"}")
+-- {"code":"ok","revision":R,"template":NAME}
+abbrev pub template_text : List ℕ → ℕ → List ℕ
+template_text name revision =
+    codes "{\"code\":\"ok\",\"revision\":"
+    ++ (decimal revision ++ (codes ",\"template\":\"" ++ (name ++ codes "\"}")))
 
 -- "service":NAME,"status":STATUS,"step":STEP
 abbrev pub place_text : Stand → List ℕ

@@ -1,6 +1,7 @@
 -- What is kept of a service of the model, and when the code's answers are the model's.
 use Rattle.std.specs.Prelude.{◌≡◌, ℕ, List, Option, Some, None, option_map, Result, Ok, Err}
-use Rattle.std.specs.FinMap.{get, insert}
+use Rattle.std.specs.FinMap.{get}
+use Rattle.canary_plan.specs.declared.strategy.CheckedStrategy.{CheckedStrategy}
 use Rattle.canary_plan.specs.declared.command.Command.{Command}
 use Rattle.canary_plan.specs.declared.refusal.Refusal.{Refusal}
 use Rattle.canary_plan.specs.Commands.{subject_of}
@@ -17,7 +18,7 @@ use Rattle.canary_release.specs.Courses.{Course, course_from, runs_now}
 use Rattle.canary_release.specs.Passing.{pass}
 use Rattle.canary_release.specs.Commands.{Acted}
 use Rattle.canary_release.specs.Replies.{shown_by}
-use Rattle.canary_release.specs.Desks.{ModelService, Change, Ruling, Desk, ruling_on, with_service, apply}
+use Rattle.canary_release.specs.Desks.{ModelService, Change, Ruling, Desk, with_revision, ruling_on, with_service, apply}
 use Rattle.canary_release.specs.Desks.Change.{Nothing as Stays, Adds, Becomes}
 
 -- a service as it is kept, with nothing changed: what is kept gives the watch
@@ -35,6 +36,10 @@ runs_made d = (runs_now (whole d)).count
 -- what is kept of a service of the model: how it stands, and what is watched of its past
 abbrev pub shape : ModelService → ServiceParts
 shape m = record { stand = m.stand; runs = watched m.past }
+
+-- the strategy of a service that is kept
+abbrev pub strategy_kept : ServiceParts → CheckedStrategy
+strategy_kept s = s.stand.strategy
 
 -- what is kept at the end of a course
 abbrev pub kept_after : Course → ServiceParts
@@ -67,7 +72,7 @@ decided r = record { reply = r.reply; change = said r.change }
 abbrev pub changed : Desk → Command → DeskChange → Desk
 changed desk command Nothing = desk
 changed desk command (AddsTemplate t) =
-    record desk { templates = insert desk.templates (subject_of command) t }
+    record desk { templates = with_revision desk.templates (subject_of command) t }
 changed desk command (Updates s effects) = with_service desk (subject_of command) s.stand effects
 
 -- what is kept of the service of that name, or none

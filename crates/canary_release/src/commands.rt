@@ -2,7 +2,10 @@
 ghost use Rattle.std.specs.Prelude.{◌≡◌, ◌+◌, ◌<◌, ◌≤◌, false, length, Ok, IfOk, IsTrue};
 ghost use Rattle.canary_plan.specs.declared.command.Command.TheVariants as command_of;
 ghost use Rattle.canary_release.specs.Services.{is_going};
-ghost use Rattle.canary_release.specs.Commands.{is_spent, start_refusal, retry_refusal};
+ghost use Rattle.std.specs.FinMap.{get};
+ghost use Rattle.canary_plan.specs.Plans.{bound_of, no_templates, are_fit};
+ghost use Rattle.canary_release.specs.Commands.{is_spent, start_refusal_at, retry_refusal_at};
+ghost use Rattle.canary_release.specs.Commands.{start_refusal, retry_refusal};
 ghost use Rattle.canary_release.specs.Commands.{promote_refusal, progress_refusal, begun};
 ghost use Rattle.canary_release.specs.Commands.{started_at, start, retry, promoted_to, promote};
 ghost use Rattle.canary_release.specs.Commands.{promote_full, abort_by_command, leads, unless, act};
@@ -20,10 +23,13 @@ use crate::stand::{Stand, State, Status};
 use canary_base::error::Memory;
 use canary_base::moments::Moment;
 use canary_base::names::Label;
+use canary_plan::bound::Bound;
 use canary_plan::command::Command;
+use canary_plan::fault::CheckFault;
 use canary_plan::line::LineEvent;
 use canary_plan::refusal::Refusal;
 use canary_plan::report::Report;
+use canary_plan::templates::Templates;
 use std::alloc::Global;
 
 // The numbers of runs that an attempt may take: one for each of 64 steps, one for the background,
@@ -59,6 +65,15 @@ impl Led {
         }
     }
 
+    /// It is bound to analyses that are fit for runs, as each that is bound is.
+    pub(crate) fn with_fit_bound(self) -> Led
+        ensures same { result ≡ self }
+        ensures fit { IsTrue (are_fit self.draft.stand.bound) }
+    {
+        let _ = self.draft.stand.bound.analysis(None);
+        self
+    }
+
     /// Passed to a moment.
     pub(crate) fn pass(self, alloc: Global, at: Moment) -> Result<Led, Memory>
         requires { runs_made self.draft ≤ 2000000 }
@@ -74,22 +89,24 @@ impl Led {
 /// Where a command leads a service that was passed to a moment, or why it is refused.
 pub(crate) fn act(
     alloc: Global,
+    templates: &Templates,
     draft: Draft,
     at: Moment,
     command: &Command,
 ) -> Result<Result<Led, Refusal>, Memory>
     requires { is_broken (kept_after (whole draft)) ≡ false }
-    ensures acted { IfOk result (λ acted. acted_as acted ≡ act command.now (whole draft) at) }
+    ensures acted { IfOk result
+        (λ acted. acted_as acted ≡ act (get templates.now) command.now (whole draft) at) }
     ensures made { IfOk result (λ acted. IfOk acted (λ led. runs_made led.draft ≤ 1000002)) }
 {
     match command {
         Command::Template(_) => Ok(Err(Refusal::ServiceExists)),
         Command::Service(_) => Ok(Err(Refusal::ServiceExists)),
-        Command::Start { version, .. } => start(alloc, draft, at, *version),
+        Command::Start { version, .. } => start(alloc, templates, draft, at, *version),
         Command::Promote { .. } => promote(alloc, draft, at),
         Command::PromoteFull { .. } => promote_full(alloc, draft, at),
         Command::Abort { .. } => abort(alloc, draft, at),
-        Command::Retry { .. } => retry(alloc, draft, at),
+        Command::Retry { .. } => retry(alloc, templates, draft, at),
         Command::Tick { .. } => tick(draft),
         Command::Report(brought) => report(alloc, draft, at, brought),
     }
@@ -112,24 +129,31 @@ pub(crate) fn bounds(draft: &Draft)
 // goes back to its stable version.
 fn start(
     alloc: Global,
+    templates: &Templates,
     draft: Draft,
     at: Moment,
     version: Label,
 ) -> Result<Result<Led, Refusal>, Memory>
     requires { is_broken (kept_after (whole draft)) ≡ false }
     ensures acted { IfOk result (λ acted. acted_as acted
-        ≡ unless (start_refusal (whole draft) version) (leads (start (whole draft) at version))) }
+        ≡ unless (start_refusal (get templates.now) (whole draft) version)
+        (leads (start (get templates.now) (whole draft) at version))) }
     ensures made { IfOk result (λ acted. IfOk acted (λ led. runs_made led.draft ≤ 1000002)) }
 {
     bounds(&draft);
+    let bound = match draft.stand.strategy.bind(alloc, templates) {
+        Ok(bound) => bound,
+        Err(CheckFault::Refused(refusal)) => return Ok(Err(refusal)),
+        Err(CheckFault::Memory) => return Err(Memory),
+    };
     match start_refusal(&draft, version) {
         Some(refusal) => Ok(Err(refusal)),
-        None => Ok(Ok(Led::to(draft.start(alloc, at, version)?))),
+        None => Ok(Ok(Led::to(draft.start(alloc, templates, bound, at, version)?))),
     }
 }
 
 fn start_refusal(draft: &Draft, version: Label) -> Option<Refusal>
-    ensures { result ≡ start_refusal (whole draft.now) version }
+    ensures { result ≡ start_refusal_at (whole draft.now) version }
 {
     if draft.stand.state == State::InProgress {
         return Some(Refusal::InProgress);
@@ -151,21 +175,32 @@ fn is_spent(runs: &Runs) -> bool
 }
 
 // Begins an attempt anew with the version that was aborted.
-fn retry(alloc: Global, draft: Draft, at: Moment) -> Result<Result<Led, Refusal>, Memory>
+fn retry(
+    alloc: Global,
+    templates: &Templates,
+    draft: Draft,
+    at: Moment,
+) -> Result<Result<Led, Refusal>, Memory>
     requires { is_broken (kept_after (whole draft)) ≡ false }
     ensures acted { IfOk result (λ acted. acted_as acted
-        ≡ unless (retry_refusal (whole draft)) (leads (retry (whole draft) at))) }
+        ≡ unless (retry_refusal (get templates.now) (whole draft))
+        (leads (retry (get templates.now) (whole draft) at))) }
     ensures made { IfOk result (λ acted. IfOk acted (λ led. runs_made led.draft ≤ 1000002)) }
 {
     bounds(&draft);
+    let bound = match draft.stand.strategy.bind(alloc, templates) {
+        Ok(bound) => bound,
+        Err(CheckFault::Refused(refusal)) => return Ok(Err(refusal)),
+        Err(CheckFault::Memory) => return Err(Memory),
+    };
     match retry_refusal(&draft) {
         Some(refusal) => Ok(Err(refusal)),
-        None => Ok(Ok(Led::to(draft.retry(alloc, at)?))),
+        None => Ok(Ok(Led::to(draft.retry(alloc, templates, bound, at)?))),
     }
 }
 
 fn retry_refusal(draft: &Draft) -> Option<Refusal>
-    ensures { result ≡ retry_refusal (whole draft.now) }
+    ensures { result ≡ retry_refusal_at (whole draft.now) }
 {
     if draft.stand.state != State::Aborted {
         return Some(Refusal::NotAborted);
@@ -247,7 +282,7 @@ fn report(
 ) -> Result<Result<Led, Refusal>, Memory>
     requires { is_broken (kept_after (whole draft)) ≡ false }
     ensures acted { IfOk result (λ acted. acted_as acted
-        ≡ act (command_of.Report brought.now) (whole draft) at) }
+        ≡ act no_templates (command_of.Report brought.now) (whole draft) at) }
     ensures made { IfOk result (λ acted. IfOk acted (λ led. runs_made led.draft ≤ 1000002)) }
 {
     bounds(&draft);
@@ -271,25 +306,42 @@ fn tick(draft: Draft) -> Result<Result<Led, Refusal>, Memory>
 }
 
 impl Draft {
-    fn start(self, alloc: Global, at: Moment, version: Label) -> Result<Draft, Memory>
-        requires { runs_made self ≤ 1000000 }
-        ensures started { IfOk result (λ draft. whole draft ≡ start (whole self) at version) }
+    fn start(
+        self,
+        alloc: Global,
+        templates: &Templates,
+        bound: Bound,
+        at: Moment,
+        version: Label,
+    ) -> Result<Draft, Memory>
+        requires made { runs_made self ≤ 1000000 }
+        requires bound { bound ≡ bound_of (get templates.now) self.stand.strategy }
+        ensures started { IfOk result
+            (λ draft. whole draft ≡ start (get templates.now) (whole self) at version) }
         ensures made { IfOk result (λ draft. runs_made draft ≤ runs_made self + 2) }
     {
         let step = self.stand.started_at(version);
         let event = LineEvent::Started { version };
-        let told = self.begun(version).tell(at, event)?;
+        let told = self.begun(templates, bound, version).tell(at, event)?;
         told.enter(alloc, step, at)
     }
 
-    fn retry(self, alloc: Global, at: Moment) -> Result<Draft, Memory>
-        requires { runs_made self ≤ 1000000 }
-        ensures retried { IfOk result (λ draft. whole draft ≡ retry (whole self) at) }
+    fn retry(
+        self,
+        alloc: Global,
+        templates: &Templates,
+        bound: Bound,
+        at: Moment,
+    ) -> Result<Draft, Memory>
+        requires made { runs_made self ≤ 1000000 }
+        requires bound { bound ≡ bound_of (get templates.now) self.stand.strategy }
+        ensures retried { IfOk result
+            (λ draft. whole draft ≡ retry (get templates.now) (whole self) at) }
         ensures made { IfOk result (λ draft. runs_made draft ≤ runs_made self + 2) }
     {
         let version = self.version();
         let event = LineEvent::Retried { version };
-        let told = self.begun(version).tell(at, event)?;
+        let told = self.begun(templates, bound, version).tell(at, event)?;
         told.enter(alloc, 0, at)
     }
 
@@ -329,13 +381,16 @@ impl Draft {
         told.abort(alloc, at)
     }
 
-    // An attempt with that version is in progress, with no holds and no background run yet.
-    fn begun(self, version: Label) -> Draft
-        ensures begun { whole result ≡ begun (whole self) version }
+    // An attempt with that version is in progress, bound so, with no holds and no background run
+    // yet.
+    fn begun(self, templates: &Templates, bound: Bound, version: Label) -> Draft
+        requires { bound ≡ bound_of (get templates.now) self.stand.strategy }
+        ensures begun { whole result ≡ begun (get templates.now) (whole self) version }
         ensures made { runs_made result ≡ runs_made self }
     {
         let Draft { stand, watched } = self;
         let stand = Stand {
+            bound,
             version,
             state: State::InProgress,
             background: false,

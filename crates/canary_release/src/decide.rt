@@ -1,17 +1,18 @@
 //! Decisions: what a command answers, and what it changes.
-ghost use Rattle.std.specs.Prelude.{◌≡◌, None, Ok, Err, false, IfOk, option_map};
+ghost use Rattle.std.specs.Prelude.{◌≡◌, [], ◌∷◌, nat_le, Ok, Err, false, IfOk, IsTrue, option_map};
 ghost use Rattle.std.specs.Option.{option_copied};
 ghost use Rattle.std.specs.FinMap.{get};
 ghost use Rattle.canary_plan.specs.declared.command.Command.TheVariants as command_of;
-ghost use Rattle.canary_plan.specs.Plans.{strategy_of, bound_of};
-ghost use Rattle.canary_plan.specs.PlanRefusals.{template_refusal, strategy_refusal};
+ghost use Rattle.canary_plan.specs.declared.refusal.Refusal.TheVariants as refusal_of;
+ghost use Rattle.canary_plan.specs.Plans.{Agree, strategy_of, unbound, are_fit};
+ghost use Rattle.canary_plan.specs.Refusals.{first_that_holds};
 ghost use Rattle.canary_plan.specs.Commands.{subject_of, names_looked_up};
 ghost use Rattle.canary_release.specs.Desks.{Desk, rules, refuses, new_stand, new_service};
 ghost use Rattle.canary_release.specs.Desks.{act_new, act_passed, rule_template, rule_service};
-ghost use Rattle.canary_release.specs.Desks.{adds_unless, ruling};
+ghost use Rattle.canary_release.specs.Desks.{adds_unless, newest_number, newest, ruling};
 ghost use Rattle.canary_release.specs.Parts.{is_broken};
-ghost use Rattle.canary_release.specs.Laws.{Agree};
-ghost use Rattle.canary_release.specs.Shapes.{seen, whole, kept_course, kept_after};
+ghost use Rattle.canary_release.specs.Replies.{accepted, template_text};
+ghost use Rattle.canary_release.specs.Shapes.{seen, strategy_kept, whole, kept_course, kept_after};
 ghost use Rattle.canary_release.specs.Shapes.{led_as, acted_as, decided, IsStep};
 
 use crate::commands::{self, Led};
@@ -25,6 +26,7 @@ use crate::stand::{Stand, State};
 use canary_base::error::Memory;
 use canary_base::lists::Listed;
 use canary_base::moments::Moment;
+use canary_base::names::Name;
 use canary_plan::bound::Bound;
 use canary_plan::command::Command;
 use canary_plan::fault::{BindFault, CheckFault};
@@ -37,12 +39,15 @@ use canary_plan::template_spec::TemplateSpec;
 use canary_plan::templates::Templates;
 use std::alloc::Global;
 
+// The greatest number of a template's revision.
+const MOST_REVISIONS: u32 = 1_000_000;
+
 /// What a command does to the desk.
 #[derive(Drop)]
 pub enum DeskChange {
     /// It changes nothing.
     Nothing,
-    /// This template is added.
+    /// This revision of a template is added.
     Template(Template),
     /// The service that it names becomes this one, with these effects, in order.
     Service {
@@ -87,9 +92,10 @@ impl Decision {
 }
 
 /// Decides a command at a moment: one step of the small machine, on every desk that has this
-/// service, or none, under the name that the command names, and that agrees with these templates on
-/// the names that the command looks up. A service is judged at the later of the moment and its last
-/// one. A refusal is a reply of status 422, and changes nothing.
+/// service, or none, under the name that the command names, and whose newest revisions agree with
+/// these templates on the names that the command looks up: a Start and a Retry look up those of the
+/// service's strategy. A service is judged at the later of the moment and its last one. A refusal
+/// is a reply of status 422, and changes nothing.
 ///
 /// # Errors
 /// `Memory`.
@@ -101,7 +107,8 @@ pub fn decide(
     command: &Command,
 ) -> Result<Decision, Memory>
     ensures { IfOk result (λ d. (desk : Desk)
-        → Agree (get templates.now) (get desk.templates) (names_looked_up command.now)
+        → Agree (get templates.now) (newest desk.templates)
+        (names_looked_up (option_map strategy_kept (option_copied service.entry)) command.now)
         → option_copied service.entry ≡ seen desk (subject_of command.now)
         → IsStep desk now command.now d) }
 {
@@ -128,7 +135,7 @@ fn rule(
     }
 }
 
-// A template is added, where none of its name is there.
+// The next revision of a template is added.
 fn rule_template(
     alloc: Global,
     templates: &Templates,
@@ -137,23 +144,45 @@ fn rule_template(
     ensures { IfOk result (λ d. d
         ≡ decided (rule_template (get templates.now spec.now.name) spec.now)) }
 {
-    match templates.get(spec.name) {
-        Some(_) => refuse(alloc, Refusal::TemplateExists),
-        None => add_template(alloc, spec),
-    }
-}
-
-fn add_template(alloc: Global, spec: &TemplateSpec) -> Result<Decision, Memory>
-    ensures { IfOk result (λ d. d ≡ decided (adds_unless (template_refusal spec.now) spec.now)) }
-{
-    match Template::bind(alloc, spec) {
-        Ok(template) => Ok(Decision {
-            reply: Reply::names_template(alloc, spec.name)?,
-            change: DeskChange::Template(template),
-        }),
+    let newest = newest_revision(templates, spec.name);
+    match Template::bind(alloc, spec, newest.saturating_add(1)) {
+        Ok(template) => add_revision(alloc, newest, template),
         Err(BindFault::Refused(refusal)) => refuse(alloc, refusal),
         Err(BindFault::Memory) => Err(Memory),
     }
+}
+
+// The number of a template's newest revision, 0 if there is none.
+fn newest_revision(templates: &Templates, name: Name) -> u32
+    ensures { result ≡ newest_number (get templates.now name) }
+{
+    match templates.get(name) {
+        Some(template) => template.revision(),
+        None => 0,
+    }
+}
+
+// The template is added, unless its name has as many revisions as it may have.
+fn add_revision(alloc: Global, newest: u32, template: Template) -> Result<Decision, Memory>
+    ensures { IfOk result (λ d. d
+        ≡ decided (adds_unless
+        (first_that_holds ((nat_le 1000000 newest, refusal_of.RevisionsSpent) ∷ [])) template)) }
+{
+    if newest >= MOST_REVISIONS {
+        return refuse(alloc, Refusal::RevisionsSpent);
+    }
+    let reply = names(alloc, &template)?;
+    Ok(Decision {
+        reply,
+        change: DeskChange::Template(template),
+    })
+}
+
+fn names(alloc: Global, template: &Template) -> Result<Reply, Memory>
+    ensures { IfOk result (λ reply. reply
+        ≡ accepted (template_text template.now.spec.name template.now.revision)) }
+{
+    Reply::names_template(alloc, template.spec.name, template.revision())
 }
 
 // A command on a service, which may be there.
@@ -187,7 +216,7 @@ fn act_on(
         (λ acted. IfOk acted (λ led. is_broken (kept_after (whole led.draft)) ≡ false)) }
 {
     match service {
-        Some(service) => act_passed(alloc, service, now, command),
+        Some(service) => act_passed(alloc, templates, service, now, command),
         None => act_new(alloc, templates, now, command),
     }
 }
@@ -230,33 +259,37 @@ fn show(alloc: Global, led: Led) -> Result<Decision, Memory>
 // A command on a service, which is passed before and after.
 fn act_passed(
     alloc: Global,
+    templates: &Templates,
     service: &Service,
     now: Moment,
     command: &Command,
 ) -> Result<Result<Led, Refusal>, Memory>
     ensures acted { IfOk result (λ acted. acted_as acted
-        ≡ act_passed command.now (kept_course service.now) now) }
+        ≡ act_passed (get templates.now) command.now (kept_course service.now) now) }
     ensures unbroken { IfOk result
         (λ acted. IfOk acted (λ led. is_broken (kept_after (whole led.draft)) ≡ false)) }
 {
     laws::parts();
     service.has_checked_strategy();
-    act_within(alloc, service, now, command)
+    act_within(alloc, templates, service, now, command)
 }
 
 fn act_within(
     alloc: Global,
+    templates: &Templates,
     service: &Service,
     now: Moment,
     command: &Command,
 ) -> Result<Result<Led, Refusal>, Memory>
-    ensures { IfOk result (λ acted. acted_as acted
-        ≡ act_passed command.now (kept_course service.now) now) }
+    ensures acted { IfOk result (λ acted. acted_as acted
+        ≡ act_passed (get templates.now) command.now (kept_course service.now) now) }
+    ensures fit { IfOk result
+        (λ acted. IfOk acted (λ led. IsTrue (are_fit led.draft.stand.bound))) }
 {
     let at = service.parts().stand.judged_at(now);
     let passed = service.passed_draft(alloc, now)?;
-    match commands::act(alloc, passed, at, command)? {
-        Ok(led) => Ok(Ok(led.pass(alloc, at)?)),
+    match commands::act(alloc, templates, passed, at, command)? {
+        Ok(led) => Ok(Ok(led.pass(alloc, at)?.with_fit_bound())),
         Err(refusal) => Ok(Err(refusal)),
     }
 }
@@ -292,7 +325,7 @@ fn add(
         (λ acted. IfOk acted (λ led. is_broken (kept_after (whole led.draft)) ≡ false)) }
 {
     match Strategy::check(alloc, spec, templates) {
-        Ok(strategy) => Ok(Ok(Led::to(new_service(alloc, templates, spec, strategy, now)?))),
+        Ok(strategy) => Ok(Ok(Led::to(new_service(alloc, spec, strategy, now)?))),
         Err(CheckFault::Refused(refusal)) => Ok(Err(refusal)),
         Err(CheckFault::Memory) => Err(Memory),
     }
@@ -301,52 +334,42 @@ fn add(
 // A new service has no past but the line that tells of it.
 fn new_service(
     alloc: Global,
-    templates: &Templates,
-    spec: &ServiceSpec,
-    strategy: Strategy,
-    now: Moment,
-) -> Result<Draft, Memory>
-    requires accepted { strategy_refusal (get templates.now) spec.now ≡ None }
-    requires checked { strategy ≡ strategy_of spec.now }
-    ensures new { IfOk result (λ draft. whole draft
-        ≡ new_service (get templates.now) spec.now now) }
-    ensures unbroken { IfOk result (λ draft. is_broken (kept_after (whole draft)) ≡ false) }
-{
-    laws::parts();
-    new_draft(alloc, templates, spec, strategy, now)
-}
-
-fn new_draft(
-    alloc: Global,
-    templates: &Templates,
     spec: &ServiceSpec,
     strategy: Strategy,
     now: Moment,
 ) -> Result<Draft, Memory>
     requires { strategy ≡ strategy_of spec.now }
-    ensures { IfOk result (λ draft. whole draft ≡ new_service (get templates.now) spec.now now) }
+    ensures new { IfOk result (λ draft. whole draft ≡ new_service spec.now now) }
+    ensures unbroken { IfOk result (λ draft. is_broken (kept_after (whole draft)) ≡ false) }
+{
+    laws::parts();
+    new_draft(alloc, spec, strategy, now)
+}
+
+fn new_draft(
+    alloc: Global,
+    spec: &ServiceSpec,
+    strategy: Strategy,
+    now: Moment,
+) -> Result<Draft, Memory>
+    requires { strategy ≡ strategy_of spec.now }
+    ensures { IfOk result (λ draft. whole draft ≡ new_service spec.now now) }
 {
     laws::watching();
-    let bound = strategy.bind(alloc, templates)?;
+    let bound = strategy.unbound(alloc)?;
     let parts = ServiceParts {
-        stand: new_stand(templates, spec, strategy, bound, now),
+        stand: new_stand(spec, strategy, bound, now),
         runs: Runs::new(alloc),
     };
     let version = spec.version;
     Draft::of(alloc, &parts)?.tell(now, LineEvent::Created { version })
 }
 
-// A new service is done, and bound to these templates: its version is the stable one.
-fn new_stand(
-    templates: &Templates,
-    spec: &ServiceSpec,
-    strategy: Strategy,
-    bound: Bound,
-    now: Moment,
-) -> Stand
-    requires checked { strategy ≡ strategy_of spec.now }
-    requires bound { bound ≡ bound_of (get templates.now) strategy }
-    ensures { result ≡ new_stand (get templates.now) spec.now now }
+// A new service is done and bound to no templates: its version is the stable one.
+fn new_stand(spec: &ServiceSpec, strategy: Strategy, bound: Bound, now: Moment) -> Stand
+    requires of_spec { strategy ≡ strategy_of spec.now }
+    requires unbound { bound ≡ unbound strategy }
+    ensures { result ≡ new_stand spec.now now }
 {
     let step = strategy.steps().len() as u32;
     Stand {

@@ -82,7 +82,7 @@ impl Draft {
         self.runs().count + 1
     }
 
-    /// The next run is opened, that of the analysis at a step or of the background.
+    /// The next run is opened, of the analysis that is bound at a step or behind it.
     #[tactic(auto, using(crate::proofs::Pushes::after_all_push))]
     pub(crate) fn open(self, alloc: Global, step: Option<u32>, at: Moment) -> Result<Draft, Memory>
         requires { runs_made self < 4294967295 }
@@ -93,7 +93,7 @@ impl Draft {
         let opening = Opening {
             run: self.next_run(),
             step,
-            analysis: self.stand.analysis(alloc, step)?,
+            analysis: self.stand.bound.analysis_or_none(alloc, step)?,
             started: at,
         };
         let Draft { stand, watched } = self;

@@ -91,9 +91,11 @@ pub fn sound()
     parts();
 }
 
-/// What a command changes of a desk in order tells all that a store writes: a template, or a
-/// service with its strategy and bound as it was, is under the name that the command names; a run
-/// that is opened has the next number and the analysis that is bound; a measurement is of an open
+/// What a command changes of a desk in order tells all that a store writes: a template has the name
+/// that the command has, and is the next revision of that name; a service has that name and the
+/// strategy that it had; a Start and a Retry bind it to the newest revisions, a new service is
+/// bound to none, and no other command binds one; a run that is opened has the next number, and is
+/// of an analysis of the strategy, bound to revisions that there are; a measurement is of an open
 /// run, the next of its metric, and judged by the metric's conditions; and a run that is closed is
 /// open, has its verdict, and comes with its last tallies.
 pub fn effects()

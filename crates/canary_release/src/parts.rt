@@ -1,9 +1,15 @@
 //! Parts that make a service, and those that make none.
-ghost use Rattle.std.specs.Prelude.{◌≡◌, ◌-◌, ◌≤◌, true, ◌||◌, ◌&&◌, not, nat_lt, length, filter};
-ghost use Rattle.std.specs.Prelude.{is_none, is_some};
+ghost use Rattle.std.specs.Prelude.{◌≡◌, ◌-◌, ◌≤◌, true, ◌||◌, ◌&&◌, not, nat_lt};
+ghost use Rattle.std.specs.Prelude.{length, map, filter, Option, is_none, is_some};
 ghost use Rattle.std.specs.Option.{option_copied};
-ghost use Rattle.std.specs.List.{list_any};
+ghost use Rattle.std.specs.List.{list_any, list_all};
+ghost use Rattle.std.specs.Str.{bytes_eq};
 ghost use Rattle.std.specs.Cmp.Lexicographic.{pointwise};
+ghost use Rattle.canary_metric.specs.Metrics.{MetricValue as MetricRow};
+ghost use Rattle.canary_plan.specs.declared.analysis_parts.AnalysisParts.{AnalysisParts as Parts};
+ghost use Rattle.canary_plan.specs.declared.analysis_parts.Revision.{Revision as RevisionRow};
+ghost use Rattle.canary_plan.specs.Commands.{same_names};
+ghost use Rattle.canary_plan.specs.PlanRefusals.{has_duplicate, is_without_end};
 ghost use Rattle.canary_release.specs.Courses.{has_number};
 ghost use Rattle.canary_release.specs.Passing.{next_move, is_by};
 ghost use Rattle.canary_release.specs.Services.{is_going, is_done, is_held};
@@ -11,13 +17,19 @@ ghost use Rattle.canary_release.specs.Parts.{IsAccepted, is_broken, is_misplaced
 ghost use Rattle.canary_release.specs.Parts.{background_wanted, is_misnumbered};
 ghost use Rattle.canary_release.specs.Parts.{repeats_number, has_wrong_tallies, is_astray};
 ghost use Rattle.canary_release.specs.Parts.{is_judged, is_background_run, is_step_run};
-ghost use Rattle.canary_release.specs.Parts.{has_background_run, is_misbound, is_bound};
-ghost use Rattle.canary_release.specs.Parts.{is_step_bound, is_background_bound};
+ghost use Rattle.canary_release.specs.Parts.{has_background_run, has_other_revisions};
+ghost use Rattle.canary_release.specs.Parts.{same_revision, is_misbound, is_bound, is_unbound};
+ghost use Rattle.canary_release.specs.Parts.{is_step_bound, is_background_bound, is_bound_to};
+ghost use Rattle.canary_release.specs.Parts.{repeats_metric_in, has_endless, is_refused};
 
 use crate::runs::{MOST_RUNS, OpenRun};
 use crate::service::{Service, ServiceParts};
 use crate::stand::{Stand, State};
+use canary_base::names::{Label, Name};
+use canary_metric::metric::{Metric, effective_count};
 use canary_metric::verdict::is_completed;
+use canary_plan::analysis_parts::Revision;
+use canary_plan::bound::Bound;
 use canary_plan::bound_analysis::BoundAnalysis;
 use canary_plan::step::Step;
 use std::error::Error;
@@ -27,7 +39,8 @@ use std::fmt;
 #[derive(Clone, Copy, Debug, PartialEq, Eq)]
 pub enum PartsFault {
     /// No service can stand so: its step is out of place, a run is out of place or number, a hold
-    /// or a background run is where there can be none, or something is left undone that is due.
+    /// or a background run is where there can be none, something is left undone that is due, or it
+    /// is bound to other templates than its strategy's, or to such as no strategy is bound to.
     Broken,
 }
 
@@ -67,7 +80,7 @@ pub fn is_broken(parts: &ServiceParts) -> bool
         || has_stray_run(parts)
         || has_bad_runs(parts)
         || has_bad_mark(parts)
-        || is_misbound(&parts.stand)
+        || has_bad_binding(parts)
 }
 
 // A step or an entry out of place, or runs beyond their limit.
@@ -130,50 +143,13 @@ fn has_bad_mark(parts: &ServiceParts) -> bool
         || has_move_due(stand)
 }
 
-// An analysis is not bound, or one that its strategy does not have.
-fn is_misbound(stand: &Stand) -> bool
-    ensures { result ≡ is_misbound stand.now }
+// It is bound to other templates than its strategy's, or an open run to other revisions.
+fn has_bad_binding(parts: &ServiceParts) -> bool
+    ensures { result ≡ (is_misbound parts.now.stand
+        || list_any (has_other_revisions parts.now.stand) parts.now.runs.open_runs) }
 {
-    !is_bound(stand)
-}
-
-// Each analysis of the strategy is bound, and nothing else.
-fn is_bound(stand: &Stand) -> bool
-    ensures { result ≡ is_bound stand.now }
-{
-    are_steps_bound(stand.strategy.steps(), stand.bound.steps()) && is_background_bound(stand)
-}
-
-fn are_steps_bound(steps: &[Step], bound: &[Option<BoundAnalysis>]) -> bool
-    ensures { result ≡ pointwise is_step_bound steps.now bound.now }
-{
-    match (steps, bound) {
-        ([], []) => true,
-        ([step, rest @ ..], [analysis, later @ ..]) => {
-            is_step_bound(step, analysis.as_ref()) && are_steps_bound(rest, later)
-        }
-        _ => false,
-    }
-}
-
-fn is_step_bound(step: &Step, analysis: Option<&BoundAnalysis>) -> bool
-    ensures { result ≡ is_step_bound step.now (option_copied analysis.entry) }
-{
-    match step {
-        Step::SetWeight(_) => analysis.is_none(),
-        Step::Pause(_) => analysis.is_none(),
-        Step::Analysis(_) => analysis.is_some(),
-    }
-}
-
-fn is_background_bound(stand: &Stand) -> bool
-    ensures { result
-        ≡ is_background_bound stand.now.strategy.background stand.now.bound.background }
-{
-    match stand.strategy.background() {
-        None => stand.bound.analysis(None).is_none(),
-        Some(_) => stand.bound.analysis(None).is_some(),
-    }
+    is_misbound(&parts.stand)
+        || some_has_other_revisions(&parts.stand, parts.runs.open_runs.as_slice())
 }
 
 fn is_misplaced(stand: &Stand) -> bool
@@ -268,6 +244,197 @@ fn has_wrong_tallies(run: &OpenRun) -> bool
     ensures { result ≡ has_wrong_tallies run.now }
 {
     run.analysis.metrics().len() != run.tallies.as_slice().len()
+}
+
+fn some_has_other_revisions(stand: &Stand, runs: &[OpenRun]) -> bool
+    ensures { result ≡ list_any (has_other_revisions stand.now) runs.now }
+{
+    runs.iter().any(|run| has_other_revisions(stand, run))
+}
+
+fn has_other_revisions(stand: &Stand, run: &OpenRun) -> bool
+    ensures { result ≡ has_other_revisions stand.now run.now }
+{
+    match stand.bound.analysis(run.step) {
+        Some(analysis) => !are_same(analysis.revisions(), run.analysis.revisions()),
+        None => true,
+    }
+}
+
+fn are_same(revisions: &[Revision], others: &[Revision]) -> bool
+    ensures { result ≡ pointwise same_revision revisions.now others.now }
+{
+    match (revisions, others) {
+        ([], []) => true,
+        ([first, rest @ ..], [other, later @ ..]) => {
+            first.template == other.template
+                && first.number == other.number
+                && are_same(rest, later)
+        }
+        _ => false,
+    }
+}
+
+// It is bound to other templates than its strategy's, or to none once a release was begun, or to
+// what no strategy is bound to.
+fn is_misbound(stand: &Stand) -> bool
+    ensures { result ≡ is_misbound stand.now }
+{
+    !is_well_bound(stand) || is_refused(&stand.bound)
+}
+
+fn is_well_bound(stand: &Stand) -> bool
+    ensures { result ≡ (is_bound stand.now || (is_done stand.now.state && is_unbound stand.now)) }
+{
+    is_bound(stand) || (stand.state == State::Done && is_unbound(stand))
+}
+
+// Each analysis of the strategy is bound, to its own templates.
+fn is_bound(stand: &Stand) -> bool
+    ensures { result ≡ is_bound stand.now }
+{
+    are_steps_bound(stand.strategy.steps(), stand.bound.steps()) && is_background_bound(stand)
+}
+
+fn are_steps_bound(steps: &[Step], bound: &[Option<BoundAnalysis>]) -> bool
+    ensures { result ≡ pointwise is_step_bound steps.now bound.now }
+{
+    match (steps, bound) {
+        ([], []) => true,
+        ([step, rest @ ..], [analysis, later @ ..]) => {
+            is_step_bound(step, analysis.as_ref()) && are_steps_bound(rest, later)
+        }
+        _ => false,
+    }
+}
+
+fn is_step_bound(step: &Step, analysis: Option<&BoundAnalysis>) -> bool
+    ensures { result ≡ is_step_bound step.now (option_copied analysis.entry) }
+{
+    match step {
+        Step::SetWeight(_) => analysis.is_none(),
+        Step::Pause(_) => analysis.is_none(),
+        Step::Analysis(names) => is_bound_to(names.as_slice(), analysis),
+    }
+}
+
+fn is_background_bound(stand: &Stand) -> bool
+    ensures { result
+        ≡ is_background_bound stand.now.strategy.background stand.now.bound.background }
+{
+    match stand.strategy.background() {
+        None => stand.bound.analysis(None).is_none(),
+        Some(background) => {
+            is_bound_to(background.templates.as_slice(), stand.bound.analysis(None))
+        }
+    }
+}
+
+// An analysis of these names is bound, to revisions of just these templates.
+fn is_bound_to(names: &[Name], analysis: Option<&BoundAnalysis>) -> bool
+    ensures { result ≡ is_bound_to names.now (option_copied analysis.entry) }
+{
+    match analysis {
+        None => false,
+        Some(analysis) => are_named(names, analysis.revisions()),
+    }
+}
+
+fn are_named(names: &[Name], revisions: &[Revision]) -> bool
+    ensures { result ≡ same_names names.now (map (λ (r : RevisionRow). r.template) revisions.now) }
+{
+    match (names, revisions) {
+        ([], []) => true,
+        ([name, rest @ ..], [revision, later @ ..]) => {
+            *name == revision.template && are_named(rest, later)
+        }
+        _ => false,
+    }
+}
+
+// No analysis is bound.
+fn is_unbound(stand: &Stand) -> bool
+    ensures { result ≡ is_unbound stand.now }
+{
+    let steps = stand.bound.steps();
+    steps.len() == stand.strategy.steps().len()
+        && are_none(steps)
+        && stand.bound.analysis(None).is_none()
+}
+
+fn are_none(analyses: &[Option<BoundAnalysis>]) -> bool
+    ensures { result ≡ list_all (λ (a : Option Parts). is_none a) analyses.now }
+{
+    analyses.iter().all(|analysis| analysis.is_none())
+}
+
+// No strategy is bound to such: two metrics of one name, or a metric without end in a step's run.
+fn is_refused(bound: &Bound) -> bool
+    ensures { result ≡ is_refused bound.now }
+{
+    let steps = bound.steps();
+    some_repeats_metric(steps) || repeats_metric_in(bound.analysis(None)) || some_has_endless(steps)
+}
+
+fn some_repeats_metric(analyses: &[Option<BoundAnalysis>]) -> bool
+    ensures { result ≡ list_any repeats_metric_in analyses.now }
+{
+    analyses
+        .iter()
+        .any(|analysis| repeats_metric_in(analysis.as_ref()))
+}
+
+// Two metrics of an analysis have one name.
+fn repeats_metric_in(analysis: Option<&BoundAnalysis>) -> bool
+    ensures { result ≡ repeats_metric_in (option_copied analysis.entry) }
+{
+    match analysis {
+        None => false,
+        Some(analysis) => repeats_name(analysis.metrics()),
+    }
+}
+
+fn repeats_name(metrics: &[Metric]) -> bool
+    ensures { result ≡ has_duplicate (map (λ (m : MetricRow). m.name) metrics.now) }
+{
+    match metrics {
+        [] => false,
+        [metric, later @ ..] => some_is_named(metric.name(), later) || repeats_name(later),
+    }
+}
+
+fn some_is_named(name: Label, metrics: &[Metric]) -> bool
+    ensures { result ≡ list_any (bytes_eq name) (map (λ (m : MetricRow). m.name) metrics.now) }
+{
+    match metrics {
+        [] => false,
+        [metric, later @ ..] => name == metric.name() || some_is_named(name, later),
+    }
+}
+
+fn some_has_endless(analyses: &[Option<BoundAnalysis>]) -> bool
+    ensures { result ≡ list_any has_endless analyses.now }
+{
+    analyses
+        .iter()
+        .any(|analysis| has_endless(analysis.as_ref()))
+}
+
+// A metric of an analysis has no end.
+fn has_endless(analysis: Option<&BoundAnalysis>) -> bool
+    ensures { result ≡ has_endless (option_copied analysis.entry) }
+{
+    match analysis {
+        None => false,
+        Some(analysis) => analysis.metrics().iter().any(is_without_end),
+    }
+}
+
+// It has neither an effective count nor a number of successes in a row that completes it.
+fn is_without_end(metric: &Metric) -> bool
+    ensures { result ≡ is_without_end metric.now }
+{
+    effective_count(metric).is_none() && metric.pass_after().is_none()
 }
 
 // Runs are open, and no release is in progress.

@@ -87,11 +87,11 @@ impl Reply {
         Ok(Reply::accepts(service_body(alloc, stand)?))
     }
 
-    /// The reply that names a template that was added.
-    pub(crate) fn names_template(alloc: Global, name: Name) -> Result<Reply, Memory>
-        ensures { IfOk result (λ reply. reply ≡ accepted (template_text name)) }
+    /// The reply that names a template that was added, and the number of its revision.
+    pub(crate) fn names_template(alloc: Global, name: Name, revision: u32) -> Result<Reply, Memory>
+        ensures { IfOk result (λ reply. reply ≡ accepted (template_text name revision)) }
     {
-        Ok(Reply::accepts(template_body(alloc, name)?))
+        Ok(Reply::accepts(template_body(alloc, name, revision)?))
     }
 
     /// The reply that refuses a command.
@@ -119,10 +119,10 @@ fn service_body(alloc: Global, stand: &Stand) -> Result<String, Memory>
     )?)
 }
 
-fn template_body(alloc: Global, name: Name) -> Result<String, Memory>
-    ensures { IfOk result (λ body. string_bytes body ≡ template_text name) }
+fn template_body(alloc: Global, name: Name, revision: u32) -> Result<String, Memory>
+    ensures { IfOk result (λ body. string_bytes body ≡ template_text name revision) }
 {
-    Ok(format!(in alloc; "{{\"code\":\"ok\",\"template\":\"{name}\"}}")?)
+    Ok(format!(in alloc; "{{\"code\":\"ok\",\"revision\":{revision},\"template\":\"{name}\"}}")?)
 }
 
 // The code, and where a refusal has a place, that too.

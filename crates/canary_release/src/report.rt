@@ -8,6 +8,7 @@ ghost use Rattle.canary_metric.specs.Counts.{size};
 ghost use Rattle.canary_metric.specs.MetricPhases.{due_of_counts};
 ghost use Rattle.canary_plan.specs.declared.command.Command.TheVariants as command;
 ghost use Rattle.canary_plan.specs.declared.refusal.Refusal.TheVariants as refusal;
+ghost use Rattle.canary_plan.specs.Plans.{no_templates};
 ghost use Rattle.canary_plan.specs.Refusals.{first_that_holds};
 ghost use Rattle.canary_release.specs.declared.effect.Recorded.{Recorded as RecordedRow};
 ghost use Rattle.canary_release.specs.Commands.{act};
@@ -499,7 +500,7 @@ impl Draft {
         requires room { runs_made self + 1 < 4294967295 }
         requires on_step { self.stand.step < 4294967295 }
         ensures reported { IfOk result (λ answer. reported_as answer
-            ≡ act (command.Report report.now) (whole self) at) }
+            ≡ act no_templates (command.Report report.now) (whole self) at) }
         ensures strategy { IfOk result (λ answer. IfOk answer (λ done. done.0.stand.strategy
             ≡ self.stand.strategy)) }
         ensures made { IfOk result
@@ -524,7 +525,7 @@ impl Draft {
         requires room { runs_made self ≤ 1000000 }
         requires on_step { IsOnSteps self.stand }
         ensures reported { IfOk result (λ answer. reported_as answer
-            ≡ act (command.Report report.now) (whole self) at) }
+            ≡ act no_templates (command.Report report.now) (whole self) at) }
         ensures strategy { IfOk result (λ answer. IfOk answer (λ done. done.0.stand.strategy
             ≡ self.stand.strategy)) }
         ensures made { IfOk result

@@ -150,7 +150,8 @@ impl Service {
         &self.parts.stand.strategy
     }
 
-    /// Its analyses, with their metrics.
+    /// The revisions of templates to which its last attempt is bound; none if no release was
+    /// begun.
     pub fn bound(&self) -> &Bound
         ensures value { result.now ≡ self.now.stand.bound }
     {

@@ -1,7 +1,6 @@
 //! How a service stands: its status and its weight.
 ghost use Rattle.std.specs.Prelude.{◌≡◌, ◌<◌, length, IfOk, IsSome, None};
 ghost use Rattle.std.specs.List.{filter_map, last_or};
-ghost use Rattle.canary_plan.specs.Plans.{analysis_or_none};
 ghost use Rattle.canary_release.specs.Services.{is_held, step_of, is_pause, status};
 ghost use Rattle.canary_release.specs.Services.{weight, weight_set};
 ghost use Rattle.canary_release.specs.Entering.{begins_background};
@@ -12,10 +11,8 @@ use canary_base::error::Memory;
 use canary_base::moments::Moment;
 use canary_base::names::{Label, Name};
 use canary_plan::bound::Bound;
-use canary_plan::bound_analysis::BoundAnalysis;
 use canary_plan::step::Step;
 use canary_plan::strategy::Strategy;
-use std::alloc::Global;
 
 /// Whether a release is going on.
 #[derive(Clone, Copy, Debug, PartialEq, Eq)]
@@ -57,7 +54,8 @@ impl Status {
 pub struct Stand {
     pub name: Name,
     pub strategy: Strategy,
-    /// Its analyses with their metrics.
+    /// The revisions of templates to which the last attempt is bound, with the metrics of its
+    /// analyses; none if no release was begun.
     pub bound: Bound,
     pub stable: Label,
     pub version: Label,
@@ -193,18 +191,6 @@ impl Stand {
         match self.strategy.background() {
             Some(background) => background.starting_step <= step && !self.background,
             None => false,
-        }
-    }
-
-    /// A copy of the analysis that is bound at a step, or of the background; one of no templates
-    /// where there is no such analysis.
-    pub(crate) fn analysis(&self, alloc: Global, step: Option<u32>) -> Result<BoundAnalysis, Memory>
-        ensures { IfOk result
-            (λ analysis. analysis ≡ analysis_or_none self.now.bound step) }
-    {
-        match self.bound.analysis(step) {
-            Some(analysis) => analysis.copy(),
-            None => BoundAnalysis::none(alloc),
         }
     }
 

@@ -4,7 +4,8 @@ use Rattle.canary_condition.specs.declared.outcome.Phase.{Phase}
 use Rattle.canary_metric.specs.Counts.{Counts, counts, size, with_one_more}
 use Rattle.canary_rows.specs.declared.rows.CallerRow.{CallerRow}
 use Rattle.canary_rows.specs.declared.rows.KeptRow.{KeptRow}
-use Rattle.canary_rows.specs.declared.rows.TemplateRow.{TemplateRow}
+use Rattle.canary_rows.specs.declared.rows.RevisionRow.{RevisionRow}
+use Rattle.canary_rows.specs.declared.rows.BindingRow.{BindingRow}
 use Rattle.canary_rows.specs.declared.rows.Standing.{Standing}
 use Rattle.canary_rows.specs.declared.rows.ServiceRow.{ServiceRow}
 use Rattle.canary_rows.specs.declared.rows.Ending.{Ending}
@@ -12,7 +13,7 @@ use Rattle.canary_rows.specs.declared.rows.RunRow.{RunRow}
 use Rattle.canary_rows.specs.declared.rows.TallyRow.{TallyRow}
 use Rattle.canary_rows.specs.declared.rows.MeasurementRow.{MeasurementRow}
 use Rattle.canary_rows.specs.declared.rows.HistoryRow.{HistoryRow}
-use Rattle.canary_rows.specs.Tables.{Tables, is_caller, is_service, is_run, is_tally}
+use Rattle.canary_rows.specs.Tables.{Tables, is_caller, is_service, is_binding, is_run, is_tally}
 
 -- INSERT: one row more, behind the others
 
@@ -22,11 +23,14 @@ with_caller row t = record t { callers = t.callers ++ row ∷ [] }
 abbrev pub with_kept : KeptRow → Tables → Tables
 with_kept row t = record t { kept = t.kept ++ row ∷ [] }
 
-abbrev pub with_template : TemplateRow → Tables → Tables
-with_template row t = record t { templates = t.templates ++ row ∷ [] }
+abbrev pub with_revision : RevisionRow → Tables → Tables
+with_revision row t = record t { revisions = t.revisions ++ row ∷ [] }
 
 abbrev pub with_service : ServiceRow → Tables → Tables
 with_service row t = record t { services = t.services ++ row ∷ [] }
+
+abbrev pub with_binding : BindingRow → Tables → Tables
+with_binding row t = record t { bindings = t.bindings ++ row ∷ [] }
 
 abbrev pub with_run : RunRow → Tables → Tables
 with_run row t = record t { runs = t.runs ++ row ∷ [] }
@@ -69,6 +73,14 @@ with_standing name standing t =
           (λ (row : ServiceRow). record row { standing = standing }) t.services;
     }
 
+-- a run of a service, or its present attempt, is bound to that revision of the template
+abbrev pub with_bound : List ℕ → ℕ → List ℕ → ℕ → Tables → Tables
+with_bound service run template revision t =
+    record t {
+      bindings = change_where (is_binding service run template)
+          (λ (row : BindingRow). record row { revision = revision }) t.bindings;
+    }
+
 -- a run is closed
 abbrev pub with_ending : List ℕ → ℕ → Ending → Tables → Tables
 with_ending service number ending t =
@@ -97,6 +109,9 @@ HasCaller name t = IsOne (is_caller name) t.callers
 
 abbrev pub HasService : List ℕ → Tables → Type 0
 HasService name t = IsOne (is_service name) t.services
+
+abbrev pub HasBinding : List ℕ → ℕ → List ℕ → Tables → Type 0
+HasBinding service run template t = IsOne (is_binding service run template) t.bindings
 
 abbrev pub HasRun : List ℕ → ℕ → Tables → Type 0
 HasRun service number t = IsOne (is_run service number) t.runs

@@ -6,7 +6,8 @@ use Rattle.canary_base.specs.Names.{is_name, is_label}
 use Rattle.canary_metric.specs.Counts.{AreConsistent}
 use Rattle.canary_rows.specs.declared.rows.CallerRow.{CallerRow}
 use Rattle.canary_rows.specs.declared.rows.KeptRow.{KeptRow}
-use Rattle.canary_rows.specs.declared.rows.TemplateRow.{TemplateRow}
+use Rattle.canary_rows.specs.declared.rows.RevisionRow.{RevisionRow}
+use Rattle.canary_rows.specs.declared.rows.BindingRow.{BindingRow}
 use Rattle.canary_rows.specs.declared.rows.ServiceRow.{ServiceRow}
 use Rattle.canary_rows.specs.declared.rows.RunRow.{RunRow}
 use Rattle.canary_rows.specs.declared.rows.TallyRow.{TallyRow}
@@ -31,8 +32,9 @@ pub record IsKeptWithin (row : KeptRow) : Type 0 where
   pub status : FitsNumber row.status
   pub body : IsUtf8 row.body
 
-pub record IsTemplateWithin (row : TemplateRow) : Type 0 where
+pub record IsRevisionWithin (row : RevisionRow) : Type 0 where
   pub name : IsTrue (is_name row.name)
+  pub revision : FitsNumber row.revision
   pub spec : IsUtf8 row.spec
 
 pub record IsServiceWithin (row : ServiceRow) : Type 0 where
@@ -47,6 +49,12 @@ pub record IsServiceWithin (row : ServiceRow) : Type 0 where
   pub background : FitsNumber row.standing.background
   pub runs : FitsNumber row.standing.runs
   pub last : FitsMoment row.standing.last
+
+pub record IsBindingWithin (row : BindingRow) : Type 0 where
+  pub service : IsTrue (is_name row.service)
+  pub run : FitsNumber row.run
+  pub template : IsTrue (is_name row.template)
+  pub revision : FitsNumber row.revision
 
 pub record IsRunWithin (row : RunRow) : Type 0 where
   pub service : IsTrue (is_name row.service)
@@ -82,8 +90,9 @@ pub record IsLineWithin (row : HistoryRow) : Type 0 where
 pub record AreWithin (t : Tables) : Type 0 where
   pub callers : AllByRecursion IsCallerWithin t.callers
   pub kept : AllByRecursion IsKeptWithin t.kept
-  pub templates : AllByRecursion IsTemplateWithin t.templates
+  pub revisions : AllByRecursion IsRevisionWithin t.revisions
   pub services : AllByRecursion IsServiceWithin t.services
+  pub bindings : AllByRecursion IsBindingWithin t.bindings
   pub runs : AllByRecursion IsRunWithin t.runs
   pub tallies : AllByRecursion IsTallyWithin t.tallies
   pub measurements : AllByRecursion IsMeasurementWithin t.measurements

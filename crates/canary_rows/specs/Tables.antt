@@ -4,7 +4,8 @@ use Rattle.std.specs.Prelude.{ℕ, ◌==◌, ◌&&◌, Bool, List, [], is_none}
 use Rattle.std.specs.Str.{bytes_eq}
 use Rattle.canary_rows.specs.declared.rows.CallerRow.{CallerRow}
 use Rattle.canary_rows.specs.declared.rows.KeptRow.{KeptRow}
-use Rattle.canary_rows.specs.declared.rows.TemplateRow.{TemplateRow}
+use Rattle.canary_rows.specs.declared.rows.RevisionRow.{RevisionRow}
+use Rattle.canary_rows.specs.declared.rows.BindingRow.{BindingRow}
 use Rattle.canary_rows.specs.declared.rows.ServiceRow.{ServiceRow}
 use Rattle.canary_rows.specs.declared.rows.RunRow.{RunRow}
 use Rattle.canary_rows.specs.declared.rows.TallyRow.{TallyRow}
@@ -15,8 +16,9 @@ use Rattle.canary_rows.specs.declared.rows.HistoryRow.{HistoryRow}
 pub record Tables : Type 0 where
   pub callers : List CallerRow
   pub kept : List KeptRow
-  pub templates : List TemplateRow
+  pub revisions : List RevisionRow
   pub services : List ServiceRow
+  pub bindings : List BindingRow
   pub runs : List RunRow
   pub tallies : List TallyRow
   pub measurements : List MeasurementRow
@@ -27,8 +29,9 @@ no_tables =
     record {
       callers = [];
       kept = [];
-      templates = [];
+      revisions = [];
       services = [];
+      bindings = [];
       runs = [];
       tallies = [];
       measurements = [];
@@ -43,11 +46,21 @@ is_caller name row = bytes_eq name row.name
 abbrev pub is_kept : List ℕ → ℕ → KeptRow → Bool
 is_kept caller number row = bytes_eq caller row.caller && number == row.number
 
-abbrev pub is_template : List ℕ → TemplateRow → Bool
-is_template name row = bytes_eq name row.name
+abbrev pub is_revision : List ℕ → ℕ → RevisionRow → Bool
+is_revision name revision row = bytes_eq name row.name && revision == row.revision
+
+abbrev pub is_revision_of : List ℕ → RevisionRow → Bool
+is_revision_of name row = bytes_eq name row.name
 
 abbrev pub is_service : List ℕ → ServiceRow → Bool
 is_service name row = bytes_eq name row.name
+
+abbrev pub is_binding : List ℕ → ℕ → List ℕ → BindingRow → Bool
+is_binding service run template row =
+    bytes_eq service row.service && (run == row.run && bytes_eq template row.template)
+
+abbrev pub is_binding_of : List ℕ → ℕ → BindingRow → Bool
+is_binding_of service run row = bytes_eq service row.service && run == row.run
 
 abbrev pub is_run : List ℕ → ℕ → RunRow → Bool
 is_run service number row = bytes_eq service row.service && number == row.number

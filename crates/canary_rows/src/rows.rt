@@ -21,11 +21,22 @@ pub struct KeptRow {
     pub body: Text,
 }
 
-/// A template, by the command that added it.
+/// A revision of a template, from 1 on, by the command that added it.
 #[derive(Drop)]
-pub struct TemplateRow {
+pub struct RevisionRow {
     pub name: Name,
+    pub revision: u32,
     pub spec: Text,
+}
+
+/// The revision of a template to which a run of a service is bound. Run 0 stands for the service's
+/// present attempt.
+#[derive(Clone, Copy)]
+pub struct BindingRow {
+    pub service: Name,
+    pub run: u32,
+    pub template: Name,
+    pub revision: u32,
 }
 
 /// How a service stands. The state is 0 in progress, 1 aborted, 2 done; the hold is 0 none, 1 of

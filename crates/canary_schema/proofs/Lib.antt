@@ -1,6 +1,5 @@
 mod Committed
 mod Inserts
-mod Kept
 mod Making
 mod Meta
 mod Readings

@@ -15,9 +15,7 @@ use Rattle.sqlite.specs.Tree.{Trees}
 use Rattle.sqlite.specs.declared.error.Error.{Error}
 use Rattle.sqlite.proofs.Callers.{runs_as}
 use Rattle.canary_schema.specs.Schema.{sequence}
-use Rattle.canary_rows.specs.Tables.{Tables}
-use Rattle.canary_schema.specs.Makes.{IsTableText, IsIndexText, IsAt, HoldsInside}
-use Rattle.canary_schema.proofs.Kept.{kept_rows}
+use Rattle.canary_schema.specs.Makes.{IsTableText, IsIndexText, IsAt}
 use Rattle.canary_schema.proofs.Went.{went, same_value}
 
 abbrev AreEmpty : Schema → Trees → Type 0
@@ -58,16 +56,17 @@ by_table old new text schema next count d at h =
     let now : new.now ≡ all.0 = ap (λ (p : Tally × Database). p.1) (same_value all.2) in
     (ap (λ (d : Database). d.schema) now ∙ counts.0 ∙ sym d.next_is, subst₂ (λ s (d : Database). AreEmpty s d.trees) (sym d.next_is) (sym now) counts.1)
 
-by_index : (old new : State) (text : List ℕ) (schema next : Schema) (count : ℕ) (t : Tables) → IsIndexText schema text next → HoldsInside schema old t → ExecutesInside 0 text [] old new (Ok count) → HoldsInside next new t
-by_index old new text schema next count t d at h =
-    let w = subst (λ t. Writes old new None (CreateIndex d.at) t [] count) d.whole (runs_as text [] old new schema at.holds.schema (CreateIndex d.at) d.command d.plain count h.0) in
-    let there = ap (λ (s : Schema). slice_get s.tables d.at) at.holds.schema ∙ d.there in
+by_index : (old new : State) (text : List ℕ) (schema next : Schema) (count : ℕ) → IsIndexText schema text next → IsAt schema old → ExecutesInside 0 text [] old new (Ok count) → (new.now.schema ≡ next) × AreEmpty next new.now.trees
+by_index old new text schema next count d at h =
+    let w = subst (λ t. Writes old new None (CreateIndex d.at) t [] count) d.whole (runs_as text [] old new schema at.schema_is (CreateIndex d.at) d.command d.plain count h.0) in
+    let there = ap (λ (s : Schema). slice_get s.tables d.at) at.schema_is ∙ d.there in
     let all = went (rw there at w.changed) in
     let same : all.1.index ≡ d.index = same_value (sym all.1.defined ∙ d.defined) in
-    let made : all.0.schema ≡ next = all.1.is ∙ ap (λ s. indexed s d.table all.1.index) at.holds.schema ∙ ap (indexed schema d.table) same ∙ sym d.next_is in
-    let rows = subst (λ (s : Schema). KeepsRows s.tables old.now.trees all.0.trees) at.holds.schema all.1.rows in
+    let made : all.0.schema ≡ next = all.1.is ∙ ap (λ s. indexed s d.table all.1.index) at.schema_is ∙ ap (indexed schema d.table) same ∙ sym d.next_is in
+    let rows = subst (λ (s : Schema). KeepsRows s.tables old.now.trees all.0.trees) at.schema_is all.1.rows in
     let now : new.now ≡ all.0 = ap (λ (p : Tally × Database). p.1) (same_value all.2) in
-    record { live = h.1.mode; holds = kept_rows schema next old.now new.now t d.of_the_desk (ap (λ (d : Database). d.schema) now ∙ made) (subst (λ (d : Database). KeepsRows schema.tables old.now.trees d.trees) (sym now) rows) at.holds }
+    let empty : AreEmpty (indexed schema d.table d.index) all.0.trees = kept_empty schema.tables old.now.trees all.0.trees rows at.empty in
+    (ap (λ (d : Database). d.schema) now ∙ made, subst₂ (λ s (d : Database). AreEmpty s d.trees) (sym d.next_is) (sym now) empty)
 
 pub table_added : (old new : State) (text : List ℕ) (r : Result ℕ Error) (schema next : Schema) → IsTableText schema text next → IsAt schema old → ExecutesInside 0 text [] old new r → OnOk r (IsAt next new)
 table_added old new text (Err e) schema next d at h = tt
@@ -75,6 +74,8 @@ table_added old new text (Ok count) schema next d at h =
     let is = by_table old new text schema next count d at h in
     record { live = h.1.mode; schema_is = is.0; empty = is.1 }
 
-pub index_added : (old new : State) (text : List ℕ) (r : Result ℕ Error) (schema next : Schema) (t : Tables) → IsIndexText schema text next → HoldsInside schema old t → ExecutesInside 0 text [] old new r → OnOk r (HoldsInside next new t)
-index_added old new text (Err e) schema next t d at h = tt
-index_added old new text (Ok count) schema next t d at h = by_index old new text schema next count t d at h
+pub index_added : (old new : State) (text : List ℕ) (r : Result ℕ Error) (schema next : Schema) → IsIndexText schema text next → IsAt schema old → ExecutesInside 0 text [] old new r → OnOk r (IsAt next new)
+index_added old new text (Err e) schema next d at h = tt
+index_added old new text (Ok count) schema next d at h =
+    let is = by_index old new text schema next count d at h in
+    record { live = h.1.mode; schema_is = is.0; empty = is.1 }

@@ -4,7 +4,14 @@ use Rattle.std.specs.List.{filter_map}
 use Rattle.sqlite_value.specs.Order.{Row}
 use Rattle.canary_rows.specs.declared.rows.RunRow.{RunRow}
 use Rattle.canary_rows.specs.declared.rows.TallyRow.{TallyRow}
-use Rattle.canary_schema.specs.Cells.{cells_of, number_or_null, whole_or_null, caller_cells, caller_in, kept_cells, kept_in, template_cells, template_in, service_cells, service_in, run_cells, run_in, tally_cells, tally_in, measurement_cells, measurement_in, history_cells, history_in}
+use Rattle.canary_schema.specs.Cells.{cells_of, rows_in, layout_of, number_or_null, whole_or_null, caller_cells, caller_in, kept_cells, kept_in, revision_cells, revision_in, binding_cells, binding_in, service_cells, service_in, run_cells, run_in, tally_cells, tally_in, measurement_cells, measurement_in, history_cells, history_in}
+use Rattle.sqlite.specs.Schema.{Schema}
+use Rattle.sqlite.specs.Tree.{Trees}
+use Rattle.sqlite.specs.Effect.{Database}
+use Rattle.canary_rows.specs.Tables.{Tables}
+use Rattle.canary_schema.specs.Layout.{Layout, made, moved, packed, service_at, run_at, measurement_at, history_at, revision_at, binding_at, tally_at}
+use Rattle.canary_schema.specs.Schema.{schema_at}
+use Rattle.canary_schema.specs.Stores.{Holds}
 use Rattle.canary_schema.specs.Laws.{OneReading}
 
 -- rows that are read one by one are read all
@@ -26,23 +33,34 @@ tally_read r = rw (number_read r.counts.last) refl
 tree_read : {A : Type 0} (cells : A → Row) (read : Row → Option A) → ((r : A) → read (cells r) ≡ Some r) → (tree : List Row) (rows : List A) → cells_of tree ≡ map cells rows → filter_map read (cells_of tree) ≡ rows
 tree_read cells read one tree rows stored = ap (filter_map read) stored ∙ all_read cells read one rows
 
-pub one_reading : OneReading
-one_reading schema db t h =
+rows_read : (at : Layout) (db : Database) (t : Tables) → Holds at db t → rows_in at db.trees ≡ t
+rows_read at db t h =
     let callers = tree_read caller_cells caller_in (λ r. refl) (db.trees 1) t.callers h.callers in
     let kept = tree_read kept_cells kept_in (λ r. refl) (db.trees 3) t.kept h.kept in
-    let templates = tree_read template_cells template_in (λ r. refl) (db.trees 5) t.templates h.templates in
-    let services = tree_read service_cells service_in (λ r. refl) (db.trees 7) t.services h.services in
-    let runs = tree_read run_cells run_in run_read (db.trees 9) t.runs h.runs in
-    let tallies = tree_read tally_cells tally_in tally_read (db.trees 11) t.tallies h.tallies in
-    let measurements = tree_read measurement_cells measurement_in (λ r. refl) (db.trees 13) t.measurements h.measurements in
-    let history = tree_read history_cells history_in (λ r. refl) (db.trees 16) t.history h.history in
+    let revisions = tree_read revision_cells revision_in (λ r. refl) (db.trees (revision_at at)) t.revisions h.revisions in
+    let services = tree_read service_cells service_in (λ r. refl) (db.trees (service_at at)) t.services h.services in
+    let bindings = tree_read binding_cells binding_in (λ r. refl) (db.trees (binding_at at)) t.bindings h.bindings in
+    let runs = tree_read run_cells run_in run_read (db.trees (run_at at)) t.runs h.runs in
+    let tallies = tree_read tally_cells tally_in tally_read (db.trees (tally_at at)) t.tallies h.tallies in
+    let measurements = tree_read measurement_cells measurement_in (λ r. refl) (db.trees (measurement_at at)) t.measurements h.measurements in
+    let history = tree_read history_cells history_in (λ r. refl) (db.trees (history_at at)) t.history h.history in
     λ i. record {
       callers = callers i;
       kept = kept i;
-      templates = templates i;
+      revisions = revisions i;
       services = services i;
+      bindings = bindings i;
       runs = runs i;
       tallies = tallies i;
       measurements = measurements i;
       history = history i;
     }
+
+-- the numbers of the trees tell the layout, as far as rows are read
+layout_read : (at : Layout) (trees : Trees) → rows_in (layout_of (schema_at at)) trees ≡ rows_in at trees
+layout_read made trees = refl
+layout_read moved trees = refl
+layout_read packed trees = refl
+
+pub one_reading : OneReading
+one_reading db t h = ap (λ (s : Schema). rows_in (layout_of s) db.trees) h.holds.schema ∙ layout_read h.layout db.trees ∙ rows_read h.layout db t h.holds

@@ -1,5 +1,5 @@
 -- What a store that is opened anew shows: the same database, and the rows of each table in the order of their rowids.
-use Rattle.std.proofs.Common.{◌≡◌, ◌≤◌, ◌↔◌, Bool, List, ◌++◌, Ok, Err, Result, IfOk, IfErr, IsTrue, sym, ap, ap₂, subst, ◌∙◌, arith}
+use Rattle.std.proofs.Common.{◌≡◌, ◌≤◌, ◌↔◌, ℕ, Bool, List, Ok, Err, Result, IfOk, IfErr, IsTrue, sym, ap, ap₂, subst, ◌∙◌, arith}
 use Rattle.std.specs.List.{AllByRecursion}
 use Rattle.sqlite.specs.Schema.{Schema}
 use Rattle.sqlite.specs.Table.{Table}
@@ -14,11 +14,12 @@ use Rattle.sqlite_catalog.specs.Listing.{Lists}
 use Rattle.sqlite_catalog.proofs.LayoutLemmas.{table_shape}
 use Rattle.sqlite_catalog.proofs.ReadLemmas.{lists_once}
 use Rattle.sqlite_rules.proofs.ListLemmas.{all_from}
-use Rattle.canary_schema.specs.Known.{early_tables, late_tables}
-use Rattle.canary_schema.specs.Formed.{IsDeskSchema, HasWholeTallies}
+use Rattle.canary_schema.specs.Layout.{Layout}
+use Rattle.canary_schema.specs.Schema.{schema_at}
+use Rattle.canary_schema.specs.Cells.{tally_tree}
+use Rattle.canary_schema.specs.Formed.{AreWhole, HasWholeTallies}
 use Rattle.canary_schema.specs.Numbered.{IsOpenedAnew, IsLeft}
 use Rattle.canary_schema.specs.Stores.{AreNumbered, IsNumbered, IsUsable}
-use Rattle.canary_schema.proofs.Wholes.{tables_known}
 
 -- each table of the schema has its rows in order
 abbrev AreRisen : Trees → List Table → Type 0
@@ -29,11 +30,11 @@ risen v schema ordered listed lists =
     let rising : IsTable (v.trees catalog_tree) = (subst (λ s. IsShaped s (v.trees catalog_tree)) listed.itself.0 (ordered catalog_tree)).0 in
     all_from _ schema.tables (λ t h. subst (λ s. IsShaped s (v.trees t.tree)) (table_shape listed rising lists.listed t h).0 (ordered t.tree))
 
-nine : (trees : Trees) → AreRisen trees (early_tables ++ late_tables) → AreNumbered trees
-nine trees h = (h.0, (h.1.0, (h.1.1.0, (h.1.1.1.0, (h.1.1.1.1.0, (h.1.1.1.1.1.0, (h.1.1.1.1.1.1.0, (h.1.1.1.1.1.1.1.0, (h.1.1.1.1.1.1.1.1.1.0, tt)))))))))
+ten : (at : Layout) (trees : Trees) → AreRisen trees (schema_at at).tables → AreNumbered at trees
+ten at trees h = (h.0, (h.1.0, (h.1.1.0, (h.1.1.1.0, (h.1.1.1.1.0, (h.1.1.1.1.1.0, (h.1.1.1.1.1.1.1.0, (h.1.1.1.1.1.1.1.1.0, (h.1.1.1.1.1.1.1.1.1.0, (h.1.1.1.1.1.1.1.1.1.1.0, tt))))))))))
 
-of_desk : (v : View) (schema : Schema) → IsOrdered v.shape v.trees → IsListed (v.trees catalog_tree) v.shape v.reals → Lists (v.trees catalog_tree) schema → IsDeskSchema schema → AreNumbered v.trees
-of_desk v schema ordered listed lists desk = nine v.trees (subst (AreRisen v.trees) (tables_known schema desk) (risen v schema ordered listed lists))
+of_desk : (v : View) (schema : Schema) → IsOrdered v.shape v.trees → IsListed (v.trees catalog_tree) v.shape v.reals → Lists (v.trees catalog_tree) schema → (at : Layout) → schema ≡ schema_at at → AreNumbered at v.trees
+of_desk v schema ordered listed lists at desk = ten at v.trees (subst (λ (s : Schema). AreRisen v.trees s.tables) desk (risen v schema ordered listed lists))
 
 -- trees list one database
 one_database : (a b : Database) → b.trees ≡ a.trees → IsDatabase a → IsDatabase b → b ≡ a
@@ -63,7 +64,7 @@ module _ {S : Type 0} (g : Ghosts S) (old : State) (mid : S) (left : IsLeft old 
       record {
         was = was.0;
         same = one_database old.now (state g new).now (is ∙ was.1) (live was.0.is_open).0 sound;
-        numbered = λ desk. subst AreNumbered (sym is) (of_desk (g.view mid) (state g new).now.schema (ordered clean) (listed clean) listing desk);
+        numbered = λ at desk. subst (AreNumbered at) (sym is) (of_desk (g.view mid) (state g new).now.schema (ordered clean) (listed clean) listing at desk);
       }
 
   pub all_opened : {F : Type 0} (live : IsLive old) (ordered : IsClean (g.view mid) → IsOrdered (g.view mid).shape (g.view mid).trees)
@@ -82,8 +83,11 @@ module _ {S : Type 0} (g : Ghosts S) (old : State) (mid : S) (left : IsLeft old 
       let was = left before (is_open before) in
       (was.0, same clean alive ∙ was.1)
 
--- what was found in a store holds of a connection over it
-pub all_whole : {S F : Type 0} (g : Ghosts S) (trees : Trees) (r : Result (Held S × Bool) F) → IfOk r (λ p. HasCleanDisk (state g p.0) → (state g p.0).now.trees ≡ trees)
-    → IfOk r (λ p. HasCleanDisk (state g p.0) → IsTrue p.1 ↔ HasWholeTallies trees) → IfOk r (λ p. IsUsable (state g p.0) → IsTrue p.1 ↔ HasWholeTallies (state g p.0).now.trees)
-all_whole g trees (Ok p) same whole = λ usable. subst (λ (t : Trees). IsTrue p.1 ↔ HasWholeTallies t) (sym (same usable.clean)) (whole usable.clean)
-all_whole g trees (Err e) same whole = tt
+-- what was found in a store holds of a connection over it, which shows a database of the same schema
+pub all_whole : {S F : Type 0} (g : Ghosts S) (old : State) (tally : ℕ) (trees : Trees) → tally ≡ tally_tree old.now.schema → (r : Result (Held S × Bool) F) → IfOk r (λ p. HasCleanDisk (state g p.0) → (state g p.0).now.trees ≡ trees)
+    → IfOk r (λ p. HasCleanDisk (state g p.0) → IsTrue p.1 ↔ AreWhole tally trees) → IfOk r (λ p. IsUsable (state g p.0) → IsOpenedAnew old (state g p.0))
+    → IfOk r (λ p. IsUsable (state g p.0) → IsTrue p.1 ↔ HasWholeTallies (state g p.0).now)
+all_whole g old tally trees is (Ok p) same whole opened = λ usable.
+    let number : tally ≡ tally_tree (state g p.0).now.schema = is ∙ ap (λ (d : Database). tally_tree d.schema) (sym (opened usable).same) in
+    subst (λ (n : ℕ). IsTrue p.1 ↔ AreWhole n (state g p.0).now.trees) number (subst (λ (t : Trees). IsTrue p.1 ↔ AreWhole tally t) (sym (same usable.clean)) (whole usable.clean))
+all_whole g old tally trees is (Err e) same whole opened = tt

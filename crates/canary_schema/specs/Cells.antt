@@ -1,20 +1,25 @@
 -- Rows as they stand in a tree: the rowid, and then a value for each column. A column that is the
 -- rowid holds Null.
-use Rattle.std.specs.Prelude.{ℕ, pos, List, [], ◌∷◌, map, drop, Option, Some, None}
+use Rattle.std.specs.Prelude.{ℕ, pos, List, [], ◌∷◌, map, drop, Option, Some, None, Bool, true, false, ◌==◌, slice_get}
 use Rattle.std.specs.List.{filter_map}
 use Rattle.sqlite_value.specs.declared.value.Value.{Value}
 use Rattle.sqlite_value.specs.declared.value.Value.TheVariants.{Null, Int, Text as Words}
 use Rattle.sqlite_value.specs.Order.{Row}
 use Rattle.sqlite.specs.Tree.{Trees}
+use Rattle.sqlite.specs.Table.{Table}
+use Rattle.sqlite.specs.Schema.{Schema}
+use Rattle.sqlite.specs.Effect.{Database}
 use Rattle.canary_rows.specs.declared.rows.CallerRow.{CallerRow}
 use Rattle.canary_rows.specs.declared.rows.KeptRow.{KeptRow}
-use Rattle.canary_rows.specs.declared.rows.TemplateRow.{TemplateRow}
+use Rattle.canary_rows.specs.declared.rows.RevisionRow.{RevisionRow}
+use Rattle.canary_rows.specs.declared.rows.BindingRow.{BindingRow}
 use Rattle.canary_rows.specs.declared.rows.ServiceRow.{ServiceRow}
 use Rattle.canary_rows.specs.declared.rows.RunRow.{RunRow}
 use Rattle.canary_rows.specs.declared.rows.TallyRow.{TallyRow}
 use Rattle.canary_rows.specs.declared.rows.MeasurementRow.{MeasurementRow}
 use Rattle.canary_rows.specs.declared.rows.HistoryRow.{HistoryRow}
 use Rattle.canary_rows.specs.Tables.{Tables}
+use Rattle.canary_schema.specs.Layout.{Layout, made, moved, service_at, run_at, measurement_at, history_at, revision_at, binding_at, tally_at}
 
 abbrev pub whole : ℕ → Value
 whole n = Int (pos n)
@@ -32,8 +37,12 @@ abbrev pub kept_cells : KeptRow → Row
 kept_cells r =
     Words r.caller ∷ whole r.number ∷ Words r.command ∷ whole r.status ∷ Words r.body ∷ []
 
-abbrev pub template_cells : TemplateRow → Row
-template_cells r = Words r.name ∷ Words r.spec ∷ []
+abbrev pub revision_cells : RevisionRow → Row
+revision_cells r = Words r.name ∷ whole r.revision ∷ Words r.spec ∷ []
+
+abbrev pub binding_cells : BindingRow → Row
+binding_cells r =
+    Words r.service ∷ whole r.run ∷ Words r.template ∷ whole r.revision ∷ []
 
 abbrev pub service_cells : ServiceRow → Row
 service_cells r =
@@ -80,9 +89,15 @@ kept_in (Words caller ∷ Int (pos number) ∷ Words command ∷ Int (pos status
     { caller = caller; number = number; command = command; status = status; body = body })
 kept_in cells = None
 
-abbrev pub template_in : Row → Option TemplateRow
-template_in (Words name ∷ Words spec ∷ []) = Some (record { name = name; spec = spec })
-template_in cells = None
+abbrev pub revision_in : Row → Option RevisionRow
+revision_in (Words name ∷ Int (pos revision) ∷ Words spec ∷ []) =
+    Some (record { name = name; revision = revision; spec = spec })
+revision_in cells = None
+
+abbrev pub binding_in : Row → Option BindingRow
+binding_in (Words service ∷ Int (pos run) ∷ Words template ∷ Int (pos revision) ∷ []) =
+    Some (record { service = service; run = run; template = template; revision = revision })
+binding_in cells = None
 
 abbrev pub service_in : Row → Option ServiceRow
 service_in
@@ -176,18 +191,38 @@ cells_of = map (drop 1)
 
 -- the one row of meta: its id, which is the rowid, and the schema's number
 abbrev pub meta_rows : List Row
-meta_rows = (whole 1 ∷ Null ∷ whole 1 ∷ []) ∷ []
+meta_rows = (whole 1 ∷ Null ∷ whole 2 ∷ []) ∷ []
 
--- the rows that trees hold, by the desk's schema; a row whose cells are of no such row is passed
--- over
-abbrev pub tables_in : Trees → Tables
-tables_in trees = record {
+-- the rows that trees hold, in this layout; a row whose cells are of no such row is passed over
+abbrev pub rows_in : Layout → Trees → Tables
+rows_in at trees = record {
   callers = filter_map caller_in (cells_of (trees 1));
   kept = filter_map kept_in (cells_of (trees 3));
-  templates = filter_map template_in (cells_of (trees 5));
-  services = filter_map service_in (cells_of (trees 7));
-  runs = filter_map run_in (cells_of (trees 9));
-  tallies = filter_map tally_in (cells_of (trees 11));
-  measurements = filter_map measurement_in (cells_of (trees 13));
-  history = filter_map history_in (cells_of (trees 16));
+  revisions = filter_map revision_in (cells_of (trees (revision_at at)));
+  services = filter_map service_in (cells_of (trees (service_at at)));
+  bindings = filter_map binding_in (cells_of (trees (binding_at at)));
+  runs = filter_map run_in (cells_of (trees (run_at at)));
+  tallies = filter_map tally_in (cells_of (trees (tally_at at)));
+  measurements = filter_map measurement_in (cells_of (trees (measurement_at at)));
+  history = filter_map history_in (cells_of (trees (history_at at)));
 }
+
+abbrev pub tree_or_none : Option Table → ℕ
+tree_or_none None = 0
+tree_or_none (Some t) = t.tree
+
+-- the tree of the eleventh table, which is a desk's tally
+abbrev pub tally_tree : Schema → ℕ
+tally_tree schema = tree_or_none (slice_get schema.tables 10)
+
+abbrev pub layout_by : Bool → Layout
+layout_by true = moved
+layout_by false = made
+
+-- the layout of a desk of this schema, as far as its rows are read
+abbrev pub layout_of : Schema → Layout
+layout_of schema = layout_by (tally_tree schema == 21)
+
+-- the rows that a desk's database holds
+abbrev pub tables_in : Database → Tables
+tables_in db = rows_in (layout_of db.schema) db.trees

@@ -1,3 +1,5 @@
+pub mod Layout
+pub mod First
 pub mod Schema
 pub mod Cells
 pub mod Stores

@@ -14,9 +14,10 @@ use Rattle.sqlite.specs.Listing.{understood}
 use Rattle.sqlite.specs.Given.{IsPlain}
 use Rattle.sqlite.specs.declared.error.Error.{Error}
 use Rattle.sqlite.proofs.Callers.{command_of, statement_of}
-use Rattle.canary_rows.specs.Tables.{Tables, no_tables}
-use Rattle.canary_schema.specs.Schema.{sequence, with_history}
-use Rattle.canary_schema.specs.Stores.{Holds}
+use Rattle.canary_rows.specs.Tables.{no_tables}
+use Rattle.canary_schema.specs.Layout.{made}
+use Rattle.canary_schema.specs.Schema.{sequence, schema_at}
+use Rattle.canary_schema.specs.Stores.{IsReady}
 
 -- with the table, and the table of counts where it is the first that counts
 abbrev pub made_with : Schema → Table → Schema
@@ -33,7 +34,7 @@ pub record IsTableText (schema : Schema) (text : List ℕ) (next : Schema) : Typ
   pub defined : table_defined_by text ≡ Ok table
   pub next_is : next ≡ made_with schema table
 
--- under the schema, which has the desk's tables, the text makes this index
+-- under the schema the text makes this index
 pub record IsIndexText (schema : Schema) (text : List ℕ) (next : Schema) : Type 0 where
   pub at : ℕ
   pub table : Table
@@ -44,7 +45,6 @@ pub record IsIndexText (schema : Schema) (text : List ℕ) (next : Schema) : Typ
   pub there : slice_get schema.tables at ≡ Some table
   pub defined : index_defined_by table text ≡ Ok index
   pub next_is : next ≡ indexed schema table index
-  pub of_the_desk : schema.tables ≡ with_history.tables
 
 -- inside a transaction the tables so far are there, and empty
 pub record IsAt (schema : Schema) (s : State) : Type 0 where
@@ -52,24 +52,13 @@ pub record IsAt (schema : Schema) (s : State) : Type 0 where
   pub schema_is : s.now.schema ≡ schema
   pub empty : AllByRecursion (λ t. s.now.trees t.tree ≡ []) schema.tables
 
--- inside a transaction a database of this schema holds just these rows
-pub record HoldsInside (schema : Schema) (s : State) (t : Tables) : Type 0 where
-  pub live : IsTrue s.in_transaction
-  pub holds : Holds schema s.now t
-
 -- What a statement inside a transaction does.
 
--- empty tables become more
+-- empty tables become more, or get an index
 abbrev pub Grows : {A : Type 0} → Schema → Schema → State → State → Result A Error → Type 0
 Grows schema next old new result = HasCleanDisk new → IsAt schema old → OnOk result (IsAt next new)
 
--- the tables are whole, with the row of meta and no other
-abbrev pub IsFilled : {A : Type 0} → Schema → State → State → Result A Error → Type 0
-IsFilled schema old new result =
-    HasCleanDisk new → IsAt schema old → OnOk result (HoldsInside with_history new no_tables)
-
--- indexes are added, and all rows stay
-abbrev pub AddsIndexes : {A : Type 0} → Schema → Schema → State → State → Result A Error → Type 0
-AddsIndexes schema next old new result =
-    HasCleanDisk new → (t : Tables) → HoldsInside schema old t
-    → OnOk result (HoldsInside next new t)
+-- the empty tables become a desk's, with the row of meta and no other
+abbrev pub IsFilled : {A : Type 0} → State → State → Result A Error → Type 0
+IsFilled old new result =
+    HasCleanDisk new → IsAt (schema_at made) old → OnOk result (IsReady new no_tables)

@@ -2,15 +2,15 @@
 use Rattle.std.specs.Prelude.{◌≡◌, IsTrue}
 use Rattle.sqlite.specs.State.{State}
 use Rattle.sqlite_trees.specs.View.{View, IsClean}
-use Rattle.canary_schema.specs.Formed.{IsDeskSchema}
-use Rattle.canary_schema.specs.Stores.{AreNumbered, IsUsable}
+use Rattle.canary_schema.specs.Formed.{IsRising}
+use Rattle.canary_schema.specs.Stores.{IsUsable}
 
 -- the connection was usable before, and shows the same database, whose rows stand in the order of
 -- their rowids where it is a desk's
 pub record IsOpenedAnew (old new : State) : Type 0 where
   pub was : IsUsable old
   pub same : new.now ≡ old.now
-  pub numbered : IsDeskSchema new.now.schema → AreNumbered new.now.trees
+  pub numbered : IsRising new.now
 
 -- a store that is left alone, and is still open, has the trees that the connection showed
 abbrev pub IsLeft : State → View → Type 0

@@ -1,16 +1,16 @@
 -- When a database stores rows, and what a statement does to them.
-use Rattle.std.specs.Prelude.{◌≡◌, IsTrue, List, [], ◌∷◌, map, Result, OnOk}
+use Rattle.std.specs.Prelude.{◌≡◌, IsTrue, List, map, Result, OnOk}
 use Rattle.std.specs.List.{AllByRecursion}
 use Rattle.sqlite.specs.State.{State, HasCleanDisk, Survives, KeepsCommit}
 use Rattle.sqlite.specs.Tree.{Trees}
-use Rattle.sqlite.specs.Schema.{Schema}
 use Rattle.sqlite.specs.Effect.{Database}
 use Rattle.sqlite_value.specs.Order.{Row}
 use Rattle.sqlite_trees.specs.declared.store.Shape.TheVariants as shape
 use Rattle.sqlite_trees.specs.View.{IsShaped}
 use Rattle.canary_rows.specs.Tables.{Tables}
-use Rattle.canary_schema.specs.Schema.{desk_schema, with_history}
-use Rattle.canary_schema.specs.Cells.{cells_of, meta_rows, caller_cells, kept_cells, template_cells, service_cells, run_cells, tally_cells, measurement_cells, history_cells}
+use Rattle.canary_schema.specs.Layout.{Layout, desk_trees, service_at, run_at, measurement_at, history_at, revision_at, binding_at, tally_at}
+use Rattle.canary_schema.specs.Schema.{schema_at}
+use Rattle.canary_schema.specs.Cells.{cells_of, meta_rows, caller_cells, kept_cells, revision_cells, binding_cells, service_cells, run_cells, tally_cells, measurement_cells, history_cells}
 
 -- the connection tells what its tables are: nothing wrong was read, and the disk did not fail
 pub record IsUsable (s : State) : Type 0 where
@@ -21,32 +21,34 @@ pub record IsUsable (s : State) : Type 0 where
 abbrev pub IsNumbered : List Row → Type 0
 IsNumbered = IsShaped shape.Table
 
--- so in each of the nine tables; SQLite's own table of counts, whose tree is 15, is left out
-abbrev pub AreNumbered : Trees → Type 0
-AreNumbered trees =
-    AllByRecursion (λ k. IsNumbered (trees k)) (0 ∷ 1 ∷ 3 ∷ 5 ∷ 7 ∷ 9 ∷ 11 ∷ 13 ∷ 16 ∷ [])
+-- so in each of the ten tables
+abbrev pub AreNumbered : Layout → Trees → Type 0
+AreNumbered at trees = AllByRecursion (λ k. IsNumbered (trees k)) (desk_trees at)
 
--- a database is of this schema, and holds just these rows, in the order of their rowids
-pub record Holds (is : Schema) (db : Database) (t : Tables) : Type 0 where
-  pub schema : db.schema ≡ is
-  pub numbered : AreNumbered db.trees
+-- a database is a desk's in this layout, and holds just these rows, in the order of their rowids
+pub record Holds (at : Layout) (db : Database) (t : Tables) : Type 0 where
+  pub schema : db.schema ≡ schema_at at
+  pub numbered : AreNumbered at db.trees
   pub meta : db.trees 0 ≡ meta_rows
   pub callers : cells_of (db.trees 1) ≡ map caller_cells t.callers
   pub kept : cells_of (db.trees 3) ≡ map kept_cells t.kept
-  pub templates : cells_of (db.trees 5) ≡ map template_cells t.templates
-  pub services : cells_of (db.trees 7) ≡ map service_cells t.services
-  pub runs : cells_of (db.trees 9) ≡ map run_cells t.runs
-  pub tallies : cells_of (db.trees 11) ≡ map tally_cells t.tallies
-  pub measurements : cells_of (db.trees 13) ≡ map measurement_cells t.measurements
-  pub history : cells_of (db.trees 16) ≡ map history_cells t.history
+  pub services : cells_of (db.trees (service_at at)) ≡ map service_cells t.services
+  pub runs : cells_of (db.trees (run_at at)) ≡ map run_cells t.runs
+  pub measurements : cells_of (db.trees (measurement_at at))
+      ≡ map measurement_cells t.measurements
+  pub history : cells_of (db.trees (history_at at)) ≡ map history_cells t.history
+  pub revisions : cells_of (db.trees (revision_at at)) ≡ map revision_cells t.revisions
+  pub bindings : cells_of (db.trees (binding_at at)) ≡ map binding_cells t.bindings
+  pub tallies : cells_of (db.trees (tally_at at)) ≡ map tally_cells t.tallies
 
--- it is a desk's
+-- so in one of the layouts
+pub record IsHeld (db : Database) (t : Tables) : Type 0 where
+  pub layout : Layout
+  pub holds : Holds layout db t
+
+-- the connection's database is a desk's, and holds just these rows
 abbrev pub Stores : State → Tables → Type 0
-Stores s t = Holds desk_schema s.now t
-
--- it is a desk's but for the three indexes
-abbrev pub StoresBare : State → Tables → Type 0
-StoresBare s t = Holds with_history s.now t
+Stores s t = IsHeld s.now t
 
 -- so inside a transaction
 pub record IsReady (s : State) (t : Tables) : Type 0 where

@@ -4,19 +4,21 @@ ghost use Rattle.sqlite.specs.Held.{state};
 ghost use Rattle.sqlite.specs.State.{HasCleanDisk, Opens, IsLive};
 ghost use Rattle.sqlite.specs.Steps.{IsFresh};
 ghost use Rattle.sqlite_trees.specs.View.{IsClean, IsQuiet, doubt};
-ghost use Rattle.canary_schema.specs.Formed.{HasWholeTallies};
+ghost use Rattle.canary_schema.specs.Formed.{AreWhole, HasWholeTallies};
 ghost use Rattle.canary_schema.specs.Stores.{IsUsable};
 ghost use Rattle.canary_schema.specs.Numbered.{IsOpenedAnew, IsLeft};
 
 use crate::fault::{StoreFault, fault_below, fault_of};
+use crate::known::tally_tree;
 use crate::whole::has_whole_tallies;
 use sqlite::{Alter, Connection};
 use std::alloc::Global;
 
-// Reads the rows of tally, and then opens the store.
+// Reads the rows of tally, which has this tree, and then opens the store.
 fn open_read<S: Alter + Drop>(
     alloc: Global,
     mut store: S,
+    tally: u32,
 ) -> Result<(Connection<S>, bool), (StoreFault, S)>
     requires { IsClean (S.Store.view store) → IsFresh (S.Store.view store) }
     ensures mode { IfOk result (λ r. r.0.in_transaction ≡ false) }
@@ -27,14 +29,14 @@ fn open_read<S: Alter + Drop>(
     ensures opens { IfOk result (λ r. HasCleanDisk (state S.Store r.0)
         → Opens (state S.Store r.0) × IsLive (state S.Store r.0)) }
     ensures whole { IfOk result (λ r. HasCleanDisk (state S.Store r.0)
-        → (IsTrue r.1 ↔ HasWholeTallies (S.Store.view store).trees)) }
+        → (IsTrue r.1 ↔ AreWhole tally (S.Store.view store).trees)) }
     ensures quiet { IfErr result (λ e. IsQuiet
         S.Store.view S.Store.faults S.Store.recovers S.Store.is_shielded store e.1) }
     ensures rows { IfErr result (λ e. IsClean (S.Store.view e.1)
         → IsTrue (S.Store.view e.1).is_open
         → (S.Store.view e.1).trees ≡ (S.Store.view store).trees) }
 {
-    let is_whole = match has_whole_tallies(alloc, &mut store) {
+    let is_whole = match has_whole_tallies(alloc, &mut store, tally) {
         Ok(is_whole) => is_whole,
         Err(error) => return Err((fault_below(error), store)),
     };
@@ -63,14 +65,14 @@ pub fn open_anew<S: Alter + Drop>(
     ensures opened { IfOk result (λ r. IsUsable (state S.Store r.0)
         → IsOpenedAnew (state S.Store conn) (state S.Store r.0)) }
     ensures whole { IfOk result (λ r. IsUsable (state S.Store r.0)
-        → (IsTrue r.1 ↔ HasWholeTallies (state S.Store r.0).now.trees)) }
+        → (IsTrue r.1 ↔ HasWholeTallies (state S.Store r.0).now)) }
     ensures left { IfErr result (λ e. IsLeft (state S.Store conn) (S.Store.view e.1)) }
 {
     let _settled = conn.is_autocommit();
-    let _schema = conn.schema();
+    let tally = tally_tree(conn.schema());
     let store = conn.into_store();
     if store.is_broken() {
         return Err((StoreFault::Storage, store));
     }
-    open_read(alloc, store)
+    open_read(alloc, store, tally)
 }

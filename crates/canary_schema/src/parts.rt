@@ -5,7 +5,7 @@ ghost use Rattle.sqlite_value.specs.Keys.{plain};
 ghost use Rattle.canary_schema.specs.Schema.{refers_to, keyed};
 ghost use Rattle.canary_schema.specs.Known.{formed};
 
-use crate::layout::{are_places, is_name};
+use crate::columns::{are_places, is_name};
 use sqlite_items::Items;
 use sqlite_schema::code::Terms;
 use sqlite_schema::schema::{Action, Reference, Stamps, Table};

@@ -1,10 +1,11 @@
 //! Each table of the desk, with its tree.
 ghost use Rattle.std.specs.Prelude.{◌≡◌, ◌↔◌, IsTrue, ◌++◌};
-ghost use Rattle.canary_schema.specs.Schema.{meta, caller, kept, template, service, run, tally};
-ghost use Rattle.canary_schema.specs.Schema.{measurement, sequence, history};
-ghost use Rattle.canary_schema.specs.Known.{early_tables, late_tables};
+ghost use Rattle.canary_schema.specs.Schema.{meta, caller, kept, service, run, measurement};
+ghost use Rattle.canary_schema.specs.Schema.{sequence, history, revision, binding, tally};
+ghost use Rattle.canary_schema.specs.Schema.{early_tables, late_tables};
 
-use crate::layout::{Layout, are_columns};
+use crate::columns::{ColumnLayout, are_columns};
+use crate::numbers::Numbers;
 use crate::parts::{is_formed, is_keyed, is_one_key, is_one_order, is_one_reference, is_unkeyed};
 use sqlite_schema::schema::Table;
 
@@ -14,7 +15,7 @@ fn is_meta(table: &Table) -> bool
     is_formed(table, b"meta", 0, Some(0), &[0], false)
         && are_columns(
             table.columns.as_slice(),
-            &[Layout::Whole(b"id"), Layout::Whole(b"schema")],
+            &[ColumnLayout::Whole(b"id"), ColumnLayout::Whole(b"schema")],
         )
         && is_unkeyed(table)
 }
@@ -25,7 +26,10 @@ fn is_caller(table: &Table) -> bool
     is_keyed(table, b"caller", 1, &[1])
         && are_columns(
             table.columns.as_slice(),
-            &[Layout::Words(b"name"), Layout::Whole(b"settled")],
+            &[
+                ColumnLayout::Words(b"name"),
+                ColumnLayout::Whole(b"settled"),
+            ],
         )
         && table.references.is_empty()
 }
@@ -37,106 +41,73 @@ fn is_kept(table: &Table) -> bool
         && are_columns(
             table.columns.as_slice(),
             &[
-                Layout::Words(b"caller"),
-                Layout::Whole(b"number"),
-                Layout::Words(b"command"),
-                Layout::Whole(b"status"),
-                Layout::Words(b"body"),
+                ColumnLayout::Words(b"caller"),
+                ColumnLayout::Whole(b"number"),
+                ColumnLayout::Words(b"command"),
+                ColumnLayout::Whole(b"status"),
+                ColumnLayout::Words(b"body"),
             ],
         )
         && is_one_reference(&table.references, b"caller")
 }
 
-fn is_template(table: &Table) -> bool
-    ensures { IsTrue result ↔ table.now ≡ record template { tree = 5 } }
+fn is_service(table: &Table, tree: u32) -> bool
+    ensures { IsTrue result ↔ table.now ≡ record service { tree = tree } }
 {
-    is_keyed(table, b"template", 5, &[1])
-        && are_columns(
-            table.columns.as_slice(),
-            &[Layout::Words(b"name"), Layout::Words(b"spec")],
-        )
-        && table.references.is_empty()
-}
-
-fn is_service(table: &Table) -> bool
-    ensures { IsTrue result ↔ table.now ≡ record service { tree = 7 } }
-{
-    is_keyed(table, b"service", 7, &[1])
+    is_keyed(table, b"service", tree, &[1])
         && are_columns(
             table.columns.as_slice(),
             &[
-                Layout::Words(b"name"),
-                Layout::Words(b"spec"),
-                Layout::Words(b"stable"),
-                Layout::Words(b"version"),
-                Layout::Whole(b"state"),
-                Layout::Whole(b"step"),
-                Layout::Whole(b"entered"),
-                Layout::Whole(b"hold"),
-                Layout::Whole(b"background"),
-                Layout::Whole(b"runs"),
-                Layout::Whole(b"last"),
+                ColumnLayout::Words(b"name"),
+                ColumnLayout::Words(b"spec"),
+                ColumnLayout::Words(b"stable"),
+                ColumnLayout::Words(b"version"),
+                ColumnLayout::Whole(b"state"),
+                ColumnLayout::Whole(b"step"),
+                ColumnLayout::Whole(b"entered"),
+                ColumnLayout::Whole(b"hold"),
+                ColumnLayout::Whole(b"background"),
+                ColumnLayout::Whole(b"runs"),
+                ColumnLayout::Whole(b"last"),
             ],
         )
         && table.references.is_empty()
 }
 
-fn is_run(table: &Table) -> bool
-    ensures { IsTrue result ↔ table.now ≡ record run { tree = 9 } }
+fn is_run(table: &Table, tree: u32) -> bool
+    ensures { IsTrue result ↔ table.now ≡ record run { tree = tree } }
 {
-    is_keyed(table, b"run", 9, &[1, 2])
+    is_keyed(table, b"run", tree, &[1, 2])
         && are_columns(
             table.columns.as_slice(),
             &[
-                Layout::Words(b"service"),
-                Layout::Whole(b"number"),
-                Layout::Maybe(b"step"),
-                Layout::Whole(b"started"),
-                Layout::Maybe(b"closed"),
-                Layout::Whole(b"outside"),
-                Layout::Whole(b"verdict"),
+                ColumnLayout::Words(b"service"),
+                ColumnLayout::Whole(b"number"),
+                ColumnLayout::Maybe(b"step"),
+                ColumnLayout::Whole(b"started"),
+                ColumnLayout::Maybe(b"closed"),
+                ColumnLayout::Whole(b"outside"),
+                ColumnLayout::Whole(b"verdict"),
             ],
         )
         && is_one_reference(&table.references, b"service")
 }
 
-fn is_tally(table: &Table) -> bool
-    ensures { IsTrue result ↔ table.now ≡ record tally { tree = 11 } }
+fn is_measurement(table: &Table, tree: u32, is_placed: bool) -> bool
+    ensures { IsTrue result ↔ table.now ≡ record (measurement is_placed) { tree = tree } }
 {
-    is_keyed(table, b"tally", 11, &[1, 2, 3])
+    is_formed(table, b"measurement", tree, Some(0), &[0], true)
         && are_columns(
             table.columns.as_slice(),
             &[
-                Layout::Words(b"service"),
-                Layout::Whole(b"run"),
-                Layout::Whole(b"metric"),
-                Layout::Whole(b"counted"),
-                Layout::Whole(b"failed"),
-                Layout::Whole(b"inconclusive"),
-                Layout::Whole(b"errors"),
-                Layout::Whole(b"consecutive"),
-                Layout::Whole(b"passes"),
-                Layout::Maybe(b"last"),
-            ],
-        )
-        && table.references.is_empty()
-}
-
-fn is_measurement(table: &Table) -> bool
-    ensures { IsTrue result ↔ table.now ≡ record measurement { tree = 13 } }
-{
-    is_formed(table, b"measurement", 13, Some(0), &[0], true)
-        && are_columns(
-            table.columns.as_slice(),
-            &[
-                Layout::Maybe(b"place"),
-                Layout::Words(b"service"),
-                Layout::Whole(b"run"),
-                Layout::Whole(b"metric"),
-                Layout::Whole(b"ordinal"),
-                Layout::Whole(b"taken"),
-                Layout::Whole(b"phase"),
-                Layout::Words(b"outcome"),
+                ColumnLayout::Place(is_placed),
+                ColumnLayout::Words(b"service"),
+                ColumnLayout::Whole(b"run"),
+                ColumnLayout::Whole(b"metric"),
+                ColumnLayout::Whole(b"ordinal"),
+                ColumnLayout::Whole(b"taken"),
+                ColumnLayout::Whole(b"phase"),
+                ColumnLayout::Words(b"outcome"),
             ],
         )
         && is_one_key(&table.uniques, &[2, 3, 4, 5])
@@ -144,71 +115,125 @@ fn is_measurement(table: &Table) -> bool
         && table.references.is_empty()
 }
 
-fn is_sequence(table: &Table) -> bool
-    ensures { IsTrue result ↔ table.now ≡ record sequence { tree = 15 } }
+fn is_sequence(table: &Table, tree: u32) -> bool
+    ensures { IsTrue result ↔ table.now ≡ record sequence { tree = tree } }
 {
-    is_formed(table, b"sqlite_sequence", 15, None, &[], false)
+    is_formed(table, b"sqlite_sequence", tree, None, &[], false)
         && are_columns(
             table.columns.as_slice(),
-            &[Layout::Any(b"name"), Layout::Any(b"seq")],
+            &[ColumnLayout::Any(b"name"), ColumnLayout::Any(b"seq")],
         )
         && is_unkeyed(table)
 }
 
-fn is_history(table: &Table) -> bool
-    ensures { IsTrue result ↔ table.now ≡ record history { tree = 16 } }
+fn is_history(table: &Table, tree: u32, is_placed: bool) -> bool
+    ensures { IsTrue result ↔ table.now ≡ record (history is_placed) { tree = tree } }
 {
-    is_formed(table, b"history", 16, Some(0), &[0], true)
+    is_formed(table, b"history", tree, Some(0), &[0], true)
         && are_columns(
             table.columns.as_slice(),
             &[
-                Layout::Maybe(b"place"),
-                Layout::Words(b"service"),
-                Layout::Whole(b"moment"),
-                Layout::Words(b"line"),
+                ColumnLayout::Place(is_placed),
+                ColumnLayout::Words(b"service"),
+                ColumnLayout::Whole(b"moment"),
+                ColumnLayout::Words(b"line"),
             ],
         )
         && is_unkeyed(table)
 }
 
+fn is_revision(table: &Table, tree: u32) -> bool
+    ensures { IsTrue result ↔ table.now ≡ record revision { tree = tree } }
+{
+    is_keyed(table, b"revision", tree, &[1, 2])
+        && are_columns(
+            table.columns.as_slice(),
+            &[
+                ColumnLayout::Words(b"name"),
+                ColumnLayout::Whole(b"revision"),
+                ColumnLayout::Words(b"spec"),
+            ],
+        )
+        && table.references.is_empty()
+}
+
+fn is_binding(table: &Table, tree: u32) -> bool
+    ensures { IsTrue result ↔ table.now ≡ record binding { tree = tree } }
+{
+    is_keyed(table, b"binding", tree, &[1, 2, 3])
+        && are_columns(
+            table.columns.as_slice(),
+            &[
+                ColumnLayout::Words(b"service"),
+                ColumnLayout::Whole(b"run"),
+                ColumnLayout::Words(b"template"),
+                ColumnLayout::Whole(b"revision"),
+            ],
+        )
+        && is_one_reference(&table.references, b"service")
+}
+
+fn is_tally(table: &Table, tree: u32) -> bool
+    ensures { IsTrue result ↔ table.now ≡ record tally { tree = tree } }
+{
+    is_keyed(table, b"tally", tree, &[1, 2, 3])
+        && are_columns(
+            table.columns.as_slice(),
+            &[
+                ColumnLayout::Words(b"service"),
+                ColumnLayout::Whole(b"run"),
+                ColumnLayout::Whole(b"metric"),
+                ColumnLayout::Whole(b"counted"),
+                ColumnLayout::Whole(b"failed"),
+                ColumnLayout::Whole(b"inconclusive"),
+                ColumnLayout::Whole(b"errors"),
+                ColumnLayout::Whole(b"consecutive"),
+                ColumnLayout::Whole(b"passes"),
+                ColumnLayout::Maybe(b"last"),
+            ],
+        )
+        && table.references.is_empty()
+}
+
 // The first five tables, in the order in which they are made.
-fn are_early_tables(tables: &[Table]) -> bool
-    ensures { IsTrue result ↔ tables.now ≡ early_tables }
+fn are_early_tables(tables: &[Table], numbers: &Numbers) -> bool
+    ensures { IsTrue result ↔ tables.now ≡ early_tables numbers.now }
 {
     match tables {
-        [meta, caller, kept, template, service] => {
+        [meta, caller, kept, service, run] => {
             is_meta(meta)
                 && is_caller(caller)
                 && is_kept(kept)
-                && is_template(template)
-                && is_service(service)
+                && is_service(service, numbers.service)
+                && is_run(run, numbers.run)
         }
         _ => false,
     }
 }
 
-// The other five.
-fn are_late_tables(tables: &[Table]) -> bool
-    ensures { IsTrue result ↔ tables.now ≡ late_tables }
+// The other six.
+fn are_late_tables(tables: &[Table], numbers: &Numbers) -> bool
+    ensures { IsTrue result ↔ tables.now ≡ late_tables numbers.now }
 {
     match tables {
-        [run, tally, measurement, sequence, history] => {
-            is_run(run)
-                && is_tally(tally)
-                && is_measurement(measurement)
-                && is_sequence(sequence)
-                && is_history(history)
+        [measurement, sequence, history, revision, binding, tally] => {
+            is_measurement(measurement, numbers.measurement, numbers.is_placed)
+                && is_sequence(sequence, numbers.sequence)
+                && is_history(history, numbers.history, numbers.is_placed)
+                && is_revision(revision, numbers.revision)
+                && is_binding(binding, numbers.binding)
+                && is_tally(tally, numbers.tally)
         }
         _ => false,
     }
 }
 
 // All tables.
-pub(crate) fn are_tables(tables: &[Table]) -> bool
-    ensures { IsTrue result ↔ tables.now ≡ early_tables ++ late_tables }
+pub(crate) fn are_tables(tables: &[Table], numbers: &Numbers) -> bool
+    ensures { IsTrue result ↔ tables.now ≡ early_tables numbers.now ++ late_tables numbers.now }
 {
-    if tables.len() != 10 {
+    if tables.len() != 11 {
         return false;
     }
-    are_early_tables(&tables[..5]) && are_late_tables(&tables[5..])
+    are_early_tables(&tables[..5], numbers) && are_late_tables(&tables[5..], numbers)
 }

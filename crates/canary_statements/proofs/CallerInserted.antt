@@ -7,7 +7,6 @@ use Rattle.sqlite.specs.Table.{Table}
 use Rattle.sqlite.specs.Cast.{cast_row}
 use Rattle.sqlite.specs.Command.TheVariants.{Insert}
 use Rattle.sqlite.specs.Source.TheVariants.{Values}
-use Rattle.sqlite.specs.Rowids.TheVariants.{Chosen}
 use Rattle.sqlite.specs.State.{State, ExecutesInside}
 use Rattle.sqlite.specs.Listing.{understood}
 use Rattle.sqlite.specs.Given.{IsPlain}
@@ -16,40 +15,39 @@ use Rattle.sqlite_tied.specs.Compute.{everything}
 use Rattle.canary_rows.specs.declared.rows.CallerRow.{CallerRow}
 use Rattle.canary_rows.specs.Tables.{Tables}
 use Rattle.canary_rows.specs.Changes.{with_caller}
-use Rattle.canary_schema.specs.Schema.{desk_schema, caller}
+use Rattle.canary_schema.specs.Layout.{Layout}
+use Rattle.canary_schema.specs.Schema.{schema_at, caller}
 use Rattle.canary_schema.specs.Cells.{caller_cells}
 use Rattle.canary_schema.specs.Stores.{IsReady}
-use Rattle.canary_statements.proofs.Appended.{appended, still_numbered}
-use Rattle.canary_statements.proofs.Inserted.{cast_null, cast_whole, desk_spares, adds}
+use Rattle.canary_statements.proofs.Inserted.{cast_null, cast_whole, inserted}
 use Rattle.canary_statements.proofs.Spared.{callers_now}
 
 abbrev text : List ℕ
 text = codes "INSERT INTO caller (name, settled) VALUES (?1, 1)"
 
-abbrev table : Table
-table = record caller { tree = 1 }
+abbrev table : Layout → Table
+table at = record caller { tree = 1 }
 
-is_insert : command_of (understood desk_schema text) ≡ Insert 1 (Values (lit Null ∷ col 0 0 ∷ lit (Int (pos 1)) ∷ []) 3)
+is_insert : (at : Layout) → command_of (understood (schema_at at) text) ≡ Insert 1 (Values (lit Null ∷ col 0 0 ∷ lit (Int (pos 1)) ∷ []) 3)
 unfolding understood everything
-is_insert = refl
+is_insert at = refl
 
-is_plain : IsPlain (understood desk_schema text)
+is_plain : (at : Layout) → IsPlain (understood (schema_at at) text)
 unfolding understood everything
-is_plain = (refl, refl)
+is_plain at = (refl, refl)
 
-stands : slice_get desk_schema.tables 1 ≡ Some table
+stands : (at : Layout) → slice_get (schema_at at).tables 1 ≡ Some (table at)
 unfolding everything
-stands = refl
+stands at = refl
 
-kept_as_given : (row : CallerRow) → cast_row table (Null ∷ caller_cells row) ≡ Null ∷ caller_cells row
-kept_as_given row = rw (cast_null, cast_whole (pos row.settled)) refl
+kept_as_given : (at : Layout) (row : CallerRow) → cast_row (table at) (Null ∷ caller_cells row) ≡ Null ∷ caller_cells row
+kept_as_given at row = rw (cast_null, cast_whole (pos row.settled)) refl
 
 pub caller_inserted : (old new : State) (t : Tables) (name : List ℕ) (r : Result ℕ Error) → IsReady old t → ExecutesInside 0 text (Words name ∷ []) old new r → OnOk r (IsReady new (with_caller (record { name = name; settled = 1 }) t))
 caller_inserted old new t name (Err e) ready h = tt
 caller_inserted old new t name (Ok count) ready h =
     let row : CallerRow = record { name = name; settled = 1 } in
-    let cells = caller_cells row in
-    let a = adds text 1 _ 3 table cells (Words name ∷ []) is_insert is_plain stands refl (kept_as_given row) old new count ready.stores.schema h refl in
-    let up = ready.stores.numbered.1.0 in
-    callers_now old new t ready h.1.mode a.schema (desk_spares 1 old.now.trees new.now.trees old.now.schema ready.stores.schema a.others) (still_numbered Chosen cells (old.now.trees 1) (new.now.trees 1) up a.rows) (t.callers ++ row ∷ [])
-    (appended Chosen cells (old.now.trees 1) (new.now.trees 1) up a.rows caller_cells t.callers row refl ready.stores.callers)
+    let at = ready.stores.layout in
+    let has = ready.stores.holds in
+    callers_now at old new t has (t.callers ++ row ∷ [])
+    (inserted at text 1 _ 3 (table at) (Words name ∷ []) (is_insert at) (is_plain at) (stands at) caller_cells row refl (kept_as_given at row) old new count has.schema h t.callers has.numbered.1.0 has.callers refl)

@@ -18,7 +18,8 @@ use Rattle.sqlite_tied.specs.Compute.{everything}
 use Rattle.canary_rows.specs.declared.rows.CallerRow.{CallerRow}
 use Rattle.canary_rows.specs.Tables.{Tables, is_caller}
 use Rattle.canary_rows.specs.Changes.{HasCaller, change_where, with_settled}
-use Rattle.canary_schema.specs.Schema.{desk_schema, caller}
+use Rattle.canary_schema.specs.Layout.{Layout}
+use Rattle.canary_schema.specs.Schema.{schema_at, caller}
 use Rattle.canary_schema.specs.Cells.{caller_cells}
 use Rattle.canary_schema.specs.Stores.{IsReady}
 use Rattle.canary_statements.proofs.Spared.{callers_now}
@@ -36,20 +37,20 @@ tests = op2 (Compare Eq Binary) (col 1 1) (col 0 0) ∷ []
 abbrev shown : List Term
 shown = col 1 0 ∷ col 1 0 ∷ col 1 1 ∷ col 0 1 ∷ []
 
-abbrev table : Table
-table = record caller { tree = 1 }
+abbrev table : Layout → Table
+table at = record caller { tree = 1 }
 
-is_update : command_of (understood desk_schema text) ≡ Update 1 (record { lets = []; body = plain_query 1 tests shown [] })
+is_update : (at : Layout) → command_of (understood (schema_at at) text) ≡ Update 1 (record { lets = []; body = plain_query 1 tests shown [] })
 unfolding understood everything
-is_update = refl
+is_update at = refl
 
-is_plain : IsPlain (understood desk_schema text)
+is_plain : (at : Layout) → IsPlain (understood (schema_at at) text)
 unfolding understood everything
-is_plain = (refl, refl)
+is_plain at = (refl, refl)
 
-stands : slice_get desk_schema.tables 1 ≡ Some table
+stands : (at : Layout) → slice_get (schema_at at).tables 1 ≡ Some (table at)
 unfolding everything
-stands = refl
+stands at = refl
 
 abbrev change : ℕ → CallerRow → CallerRow
 change settled row = record row { settled = settled }
@@ -57,12 +58,13 @@ change settled row = record row { settled = settled }
 fits : (name : List ℕ) (settled : ℕ) (v : Value) (row : CallerRow) → passes tests (Words name ∷ Int (pos settled) ∷ []) (v ∷ caller_cells row) ≡ is_caller name row
 fits name settled v row = and_true _ ∙ equal_words row.name name
 
-as_given : (row : CallerRow) (n : ℤ) → cast_row table (Int n ∷ caller_cells row) ≡ Int n ∷ caller_cells row
-as_given row n = rw (cast_whole n, cast_whole (pos row.settled)) refl
+as_given : (at : Layout) (row : CallerRow) (n : ℤ) → cast_row (table at) (Int n ∷ caller_cells row) ≡ Int n ∷ caller_cells row
+as_given at row n = rw (cast_whole n, cast_whole (pos row.settled)) refl
 
 pub caller_updated : (old new : State) (t : Tables) (name : List ℕ) (settled : ℕ) (r : Result ℕ Error) → IsReady old t → HasCaller name t → ExecutesInside 0 text (Words name ∷ Int (pos settled) ∷ []) old new r → OnOk r (IsReady new (with_settled name settled t))
 caller_updated old new t name settled (Err e) ready one h = tt
 caller_updated old new t name settled (Ok count) ready one h =
-    let u = updated text 1 tests shown table (Words name ∷ Int (pos settled) ∷ []) is_update is_plain stands old new count ready.stores.schema h caller_cells (is_caller name) (change settled) (fits name settled) t.callers one.0
-    (λ n. refl) (as_given (change settled one.0)) ready.stores.numbered.1.0 ready.stores.callers one.1 in
-    callers_now old new t ready h.1.mode u.schema u.spares u.numbered (change_where (is_caller name) (change settled) t.callers) u.stored
+    let at = ready.stores.layout in
+    let has = ready.stores.holds in
+    callers_now at old new t has (change_where (is_caller name) (change settled) t.callers)
+    (updated at text 1 tests shown (table at) (Words name ∷ Int (pos settled) ∷ []) (is_update at) (is_plain at) (stands at) old new count has.schema h caller_cells (is_caller name) (change settled) (fits name settled) t.callers one.0 (λ n. refl) (as_given at (change settled one.0)) has.numbered.1.0 has.callers one.1)

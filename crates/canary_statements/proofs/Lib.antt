@@ -7,7 +7,8 @@ pub mod Spared
 pub mod Inserted
 pub mod CallerInserted
 pub mod KeptInserted
-pub mod TemplateInserted
+pub mod RevisionInserted
+pub mod BindingInserted
 pub mod ServiceInserted
 pub mod RunInserted
 pub mod TallyInserted
@@ -22,6 +23,7 @@ pub mod UpdateTyped
 pub mod UpdateDesk
 pub mod UpdateTests
 pub mod CallerUpdated
+pub mod BindingUpdated
 pub mod ServiceUpdated
 pub mod RunClosed
 pub mod TallyCounted

@@ -1,5 +1,5 @@
 -- What the INSERT of a line of history does.
-use Rattle.std.proofs.Common.{◌≡◌, ◌≢◌, ℕ, pos, List, [], ◌∷◌, ◌++◌, codes, slice_get, Some, Ok, Err, Result, OnOk, IsTrue, refl}
+use Rattle.std.proofs.Common.{◌≡◌, ◌≢◌, ℕ, pos, List, [], ◌∷◌, ◌++◌, codes, slice_get, Some, Ok, Err, Result, OnOk, refl}
 use Rattle.sqlite.specs.declared.types.Value.TheVariants.{Null, Text as Words}
 use Rattle.sqlite.specs.declared.error.Error.{Error}
 use Rattle.sqlite.specs.Term.{lit, col}
@@ -7,8 +7,6 @@ use Rattle.sqlite.specs.Table.{Table}
 use Rattle.sqlite.specs.Cast.{cast_row}
 use Rattle.sqlite.specs.Command.TheVariants.{Insert}
 use Rattle.sqlite.specs.Source.TheVariants.{Values}
-use Rattle.sqlite.specs.Rows.{count_of, counter_in}
-use Rattle.sqlite.specs.Rowids.TheVariants.{Above}
 use Rattle.sqlite.specs.State.{State, ExecutesInside}
 use Rattle.sqlite.specs.Listing.{understood}
 use Rattle.sqlite.specs.Given.{IsPlain}
@@ -17,53 +15,41 @@ use Rattle.sqlite_tied.specs.Compute.{everything}
 use Rattle.canary_rows.specs.declared.rows.HistoryRow.{HistoryRow}
 use Rattle.canary_rows.specs.Tables.{Tables}
 use Rattle.canary_rows.specs.Changes.{with_line}
-use Rattle.canary_schema.specs.Schema.{desk_schema, history, sequence}
+use Rattle.canary_schema.specs.Layout.{Layout, desk_trees, sequence_at, history_at, numbers_at}
+use Rattle.canary_schema.specs.Schema.{schema_at, history}
 use Rattle.canary_schema.specs.Cells.{history_cells, whole}
 use Rattle.canary_schema.specs.Stores.{IsReady}
-use Rattle.canary_statements.proofs.Appended.{appended, still_numbered}
-use Rattle.canary_statements.proofs.Counted.{CountsRow}
-use Rattle.canary_statements.proofs.Idle.{idle}
-use Rattle.canary_statements.proofs.Inserted.{cast_null, cast_whole, counted_spares, adds_place, sequence_at, idle_desk}
-use Rattle.canary_statements.proofs.Spared.{history_now}
+use Rattle.canary_statements.proofs.Inserted.{cast_null, cast_whole, counted_in}
+use Rattle.canary_statements.proofs.Spared.{history_now, all_apart, sequence_apart}
 
 abbrev text : List ℕ
 text = codes "INSERT INTO history (service, moment, line) VALUES (?1, ?2, ?3)"
 
-abbrev table : Table
-table = record history { tree = 16 }
+abbrev table : Layout → Table
+table at = record (history (numbers_at at).is_placed) { tree = history_at at }
 
-abbrev counters : Table
-counters = record sequence { tree = 15 }
-
-is_insert : command_of (understood desk_schema text) ≡ Insert 9 (Values (lit Null ∷ lit Null ∷ col 0 0 ∷ col 0 1 ∷ col 0 2 ∷ []) 5)
+is_insert : (at : Layout) → command_of (understood (schema_at at) text) ≡ Insert 7 (Values (lit Null ∷ lit Null ∷ col 0 0 ∷ col 0 1 ∷ col 0 2 ∷ []) 5)
 unfolding understood everything
-is_insert = refl
+is_insert at = refl
 
-is_plain : IsPlain (understood desk_schema text)
+is_plain : (at : Layout) → IsPlain (understood (schema_at at) text)
 unfolding understood everything
-is_plain = (refl, refl)
+is_plain at = (refl, refl)
 
-stands : slice_get desk_schema.tables 9 ≡ Some table
+stands : (at : Layout) → slice_get (schema_at at).tables 7 ≡ Some (table at)
 unfolding everything
-stands = refl
+stands at = refl
 
-kept_as_given : (row : HistoryRow) → cast_row table (Null ∷ history_cells row) ≡ Null ∷ history_cells row
-kept_as_given row = rw (cast_null, cast_whole (pos row.moment)) refl
+kept_as_given : (at : Layout) (row : HistoryRow) → cast_row (table at) (Null ∷ history_cells row) ≡ Null ∷ history_cells row
+kept_as_given at row = rw (cast_null, cast_whole (pos row.moment)) refl
 
-of_counts : (old new : State) (t : Tables) (row : HistoryRow) → IsReady old t → IsTrue new.in_transaction → CountsRow table counters (history_cells row) old.now new.now → IsReady new (with_line row t)
-of_counts old new t row ready live a =
-    let place = Above (count_of (counter_in old.now.trees table counters)) in
-    let up = ready.stores.numbered.1.1.1.1.1.1.1.1.0 in
-    history_now old new t ready live a.schema (counted_spares 16 old.now.trees new.now.trees old.now.schema ready.stores.schema a.others) (still_numbered place (history_cells row) (old.now.trees 16) (new.now.trees 16) up a.rows) (t.history ++ row ∷ [])
-    (appended place (history_cells row) (old.now.trees 16) (new.now.trees 16) up a.rows history_cells t.history row refl ready.stores.history)
-
-apart : table.tree ≢ counters.tree
-apart e = absurd (cc)
-
-counted : (old new : State) (t : Tables) (row : HistoryRow) (count : ℕ) → IsReady old t → ExecutesInside 0 text (Words row.service ∷ whole row.moment ∷ Words row.line ∷ []) old new (Ok count) → CountsRow table counters (history_cells row) old.now new.now
-counted old new t row count ready h =
-    adds_place text 9 _ 5 table (history_cells row) (Words row.service ∷ whole row.moment ∷ Words row.line ∷ []) is_insert is_plain stands refl (kept_as_given row) old new count ready.stores.schema h refl counters sequence_at apart (idle desk_schema idle_desk 15)
+apart : (at : Layout) → (table at).tree ≢ sequence_at at
+apart at = (all_apart (sequence_at at) (desk_trees at) (sequence_apart at)).1.1.1.1.1.1.0
 
 pub line_inserted : (old new : State) (t : Tables) (row : HistoryRow) (r : Result ℕ Error) → IsReady old t → ExecutesInside 0 text (Words row.service ∷ whole row.moment ∷ Words row.line ∷ []) old new r → OnOk r (IsReady new (with_line row t))
 line_inserted old new t row (Err e) ready h = tt
-line_inserted old new t row (Ok count) ready h = of_counts old new t row ready h.1.mode (counted old new t row count ready h)
+line_inserted old new t row (Ok count) ready h =
+    let at = ready.stores.layout in
+    let has = ready.stores.holds in
+    history_now at old new t has (t.history ++ row ∷ [])
+    (counted_in at text 7 _ 5 (table at) (Words row.service ∷ whole row.moment ∷ Words row.line ∷ []) (is_insert at) (is_plain at) (stands at) history_cells row refl (kept_as_given at row) old new count has.schema h t.history has.numbered.1.1.1.1.1.1.0 has.history refl (apart at))

@@ -21,7 +21,8 @@ use Rattle.canary_rows.specs.declared.rows.Ending.{Ending}
 use Rattle.canary_rows.specs.declared.rows.RunRow.{RunRow}
 use Rattle.canary_rows.specs.Tables.{Tables, is_run}
 use Rattle.canary_rows.specs.Changes.{HasRun, change_where, with_ending}
-use Rattle.canary_schema.specs.Schema.{desk_schema, run}
+use Rattle.canary_schema.specs.Layout.{Layout, made, moved, packed, run_at}
+use Rattle.canary_schema.specs.Schema.{schema_at, run}
 use Rattle.canary_schema.specs.Cells.{whole, run_cells}
 use Rattle.canary_schema.specs.Stores.{IsReady}
 use Rattle.canary_statements.proofs.Spared.{runs_now}
@@ -39,20 +40,24 @@ tests = op2 (Compare Eq Binary) (col 1 1) (col 0 0) ∷ op2 (Compare Eq Binary) 
 abbrev shown : List Term
 shown = col 1 0 ∷ col 1 0 ∷ col 1 1 ∷ col 1 2 ∷ col 1 3 ∷ col 1 4 ∷ col 0 2 ∷ col 0 3 ∷ col 0 4 ∷ []
 
-abbrev table : Table
-table = record run { tree = 9 }
+abbrev table : Layout → Table
+table at = record run { tree = run_at at }
 
-is_update : command_of (understood desk_schema text) ≡ Update 5 (record { lets = []; body = plain_query 9 tests shown [] })
+is_update : (at : Layout) → command_of (understood (schema_at at) text) ≡ Update 4 (record { lets = []; body = plain_query (run_at at) tests shown [] })
 unfolding understood everything
-is_update = refl
+is_update made = refl
+is_update moved = refl
+is_update packed = refl
 
-is_plain : IsPlain (understood desk_schema text)
+is_plain : (at : Layout) → IsPlain (understood (schema_at at) text)
 unfolding understood everything
-is_plain = (refl, refl)
+is_plain made = (refl, refl)
+is_plain moved = (refl, refl)
+is_plain packed = (refl, refl)
 
-stands : slice_get desk_schema.tables 5 ≡ Some table
+stands : (at : Layout) → slice_get (schema_at at).tables 4 ≡ Some (table at)
 unfolding everything
-stands = refl
+stands at = refl
 
 abbrev pub ending_at : ℕ → ℕ → ℕ → Ending
 ending_at closed outside verdict = record { closed = Some closed; outside = outside; verdict = verdict }
@@ -67,8 +72,8 @@ ending_given service number closed outside verdict = Words service ∷ whole num
 fits : (service : List ℕ) (number closed outside verdict : ℕ) (v : Value) (row : RunRow) → passes tests (ending_given service number closed outside verdict) (v ∷ run_cells row) ≡ is_run service number row
 fits service number closed outside verdict v row = ap₂ (λ a b. a && (b && true)) (equal_words row.service service) (equal_number row.number number) ∙ ap (λ b. bytes_eq service row.service && b) (and_true _)
 
-as_given : (row : RunRow) (n : ℤ) → cast_row table (Int n ∷ run_cells row) ≡ Int n ∷ run_cells row
-as_given row n =
+as_given : (at : Layout) (row : RunRow) (n : ℤ) → cast_row (table at) (Int n ∷ run_cells row) ≡ Int n ∷ run_cells row
+as_given at row n =
     rw (cast_whole n, cast_whole (pos row.number), cast_maybe row.step, cast_whole (pos row.started), cast_maybe row.ending.closed, cast_whole (pos row.ending.outside), cast_whole (pos row.ending.verdict)) refl
 
 pub run_closed : (old new : State) (t : Tables) (service : List ℕ) (number closed outside verdict : ℕ) (r : Result ℕ Error) → IsReady old t → HasRun service number t → ExecutesInside 0 text (ending_given service number closed outside verdict) old new r
@@ -76,6 +81,7 @@ pub run_closed : (old new : State) (t : Tables) (service : List ℕ) (number clo
 run_closed old new t service number closed outside verdict (Err e) ready one h = tt
 run_closed old new t service number closed outside verdict (Ok count) ready one h =
     let ending = ending_at closed outside verdict in
-    let u = updated text 5 tests shown table (ending_given service number closed outside verdict) is_update is_plain stands old new count ready.stores.schema h run_cells (is_run service number) (change ending)
-    (fits service number closed outside verdict) t.runs one.0 (λ n. refl) (as_given (change ending one.0)) ready.stores.numbered.1.1.1.1.1.0 ready.stores.runs one.1 in
-    runs_now old new t ready h.1.mode u.schema u.spares u.numbered (change_where (is_run service number) (change ending) t.runs) u.stored
+    let at = ready.stores.layout in
+    let has = ready.stores.holds in
+    runs_now at old new t has (change_where (is_run service number) (change ending) t.runs)
+    (updated at text 4 tests shown (table at) (ending_given service number closed outside verdict) (is_update at) (is_plain at) (stands at) old new count has.schema h run_cells (is_run service number) (change ending) (fits service number closed outside verdict) t.runs one.0 (λ n. refl) (as_given at (change ending one.0)) has.numbered.1.1.1.1.0 has.runs one.1)

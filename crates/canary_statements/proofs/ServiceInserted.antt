@@ -7,7 +7,6 @@ use Rattle.sqlite.specs.Table.{Table}
 use Rattle.sqlite.specs.Cast.{cast_row}
 use Rattle.sqlite.specs.Command.TheVariants.{Insert}
 use Rattle.sqlite.specs.Source.TheVariants.{Values}
-use Rattle.sqlite.specs.Rowids.TheVariants.{Chosen}
 use Rattle.sqlite.specs.State.{State, ExecutesInside}
 use Rattle.sqlite.specs.Listing.{understood}
 use Rattle.sqlite.specs.Given.{IsPlain}
@@ -16,40 +15,38 @@ use Rattle.sqlite_tied.specs.Compute.{everything}
 use Rattle.canary_rows.specs.declared.rows.ServiceRow.{ServiceRow}
 use Rattle.canary_rows.specs.Tables.{Tables}
 use Rattle.canary_rows.specs.Changes.{with_service}
-use Rattle.canary_schema.specs.Schema.{desk_schema, service}
+use Rattle.canary_schema.specs.Layout.{Layout, service_at}
+use Rattle.canary_schema.specs.Schema.{schema_at, service}
 use Rattle.canary_schema.specs.Cells.{service_cells}
 use Rattle.canary_schema.specs.Stores.{IsReady}
-use Rattle.canary_statements.proofs.Appended.{appended, still_numbered}
-use Rattle.canary_statements.proofs.Inserted.{cast_null, cast_whole, desk_spares, adds}
+use Rattle.canary_statements.proofs.Inserted.{cast_null, cast_whole, inserted}
 use Rattle.canary_statements.proofs.Spared.{services_now}
 
 abbrev text : List ℕ
 text = codes "INSERT INTO service (name, spec, stable, version, state, step, entered, hold, background, runs, last) VALUES (?1, ?2, ?3, ?4, ?5, ?6, ?7, ?8, ?9, ?10, ?11)"
 
-abbrev table : Table
-table = record service { tree = 7 }
+abbrev table : Layout → Table
+table at = record service { tree = service_at at }
 
-is_insert : command_of (understood desk_schema text) ≡ Insert 4 (Values (lit Null ∷ col 0 0 ∷ col 0 1 ∷ col 0 2 ∷ col 0 3 ∷ col 0 4 ∷ col 0 5 ∷ col 0 6 ∷ col 0 7 ∷ col 0 8 ∷ col 0 9 ∷ col 0 10 ∷ []) 12)
+is_insert : (at : Layout) → command_of (understood (schema_at at) text) ≡ Insert 3 (Values (lit Null ∷ col 0 0 ∷ col 0 1 ∷ col 0 2 ∷ col 0 3 ∷ col 0 4 ∷ col 0 5 ∷ col 0 6 ∷ col 0 7 ∷ col 0 8 ∷ col 0 9 ∷ col 0 10 ∷ []) 12)
 unfolding understood everything
-is_insert = refl
+is_insert at = refl
 
-is_plain : IsPlain (understood desk_schema text)
+is_plain : (at : Layout) → IsPlain (understood (schema_at at) text)
 unfolding understood everything
-is_plain = (refl, refl)
+is_plain at = (refl, refl)
 
-stands : slice_get desk_schema.tables 4 ≡ Some table
+stands : (at : Layout) → slice_get (schema_at at).tables 3 ≡ Some (table at)
 unfolding everything
-stands = refl
+stands at = refl
 
-kept_as_given : (row : ServiceRow) → cast_row table (Null ∷ service_cells row) ≡ Null ∷ service_cells row
-kept_as_given row = rw (cast_null, cast_whole (pos row.standing.state), cast_whole (pos row.standing.step), cast_whole (pos row.standing.entered), cast_whole (pos row.standing.hold), cast_whole (pos row.standing.background), cast_whole (pos row.standing.runs), cast_whole (pos row.standing.last)) refl
+kept_as_given : (at : Layout) (row : ServiceRow) → cast_row (table at) (Null ∷ service_cells row) ≡ Null ∷ service_cells row
+kept_as_given at row = rw (cast_null, cast_whole (pos row.standing.state), cast_whole (pos row.standing.step), cast_whole (pos row.standing.entered), cast_whole (pos row.standing.hold), cast_whole (pos row.standing.background), cast_whole (pos row.standing.runs), cast_whole (pos row.standing.last)) refl
 
 pub service_inserted : (old new : State) (t : Tables) (row : ServiceRow) (r : Result ℕ Error) → IsReady old t → ExecutesInside 0 text (service_cells row) old new r → OnOk r (IsReady new (with_service (row) t))
 service_inserted old new t row (Err e) ready h = tt
 service_inserted old new t row (Ok count) ready h =
-    let row : ServiceRow = row in
-    let cells = service_cells row in
-    let a = adds text 4 _ 12 table cells (service_cells row) is_insert is_plain stands refl (kept_as_given row) old new count ready.stores.schema h refl in
-    let up = ready.stores.numbered.1.1.1.1.0 in
-    services_now old new t ready h.1.mode a.schema (desk_spares 7 old.now.trees new.now.trees old.now.schema ready.stores.schema a.others) (still_numbered Chosen cells (old.now.trees 7) (new.now.trees 7) up a.rows) (t.services ++ row ∷ [])
-    (appended Chosen cells (old.now.trees 7) (new.now.trees 7) up a.rows service_cells t.services row refl ready.stores.services)
+    let at = ready.stores.layout in
+    let has = ready.stores.holds in
+    services_now at old new t has (t.services ++ row ∷ [])
+    (inserted at text 3 _ 12 (table at) (service_cells row) (is_insert at) (is_plain at) (stands at) service_cells row refl (kept_as_given at row) old new count has.schema h t.services has.numbered.1.1.1.0 has.services refl)

@@ -20,7 +20,8 @@ use Rattle.canary_rows.specs.declared.rows.Standing.{Standing}
 use Rattle.canary_rows.specs.declared.rows.ServiceRow.{ServiceRow}
 use Rattle.canary_rows.specs.Tables.{Tables, is_service}
 use Rattle.canary_rows.specs.Changes.{HasService, change_where, with_standing}
-use Rattle.canary_schema.specs.Schema.{desk_schema, service}
+use Rattle.canary_schema.specs.Layout.{Layout, made, moved, packed, service_at}
+use Rattle.canary_schema.specs.Schema.{schema_at, service}
 use Rattle.canary_schema.specs.Cells.{whole, service_cells}
 use Rattle.canary_schema.specs.Stores.{IsReady}
 use Rattle.canary_statements.proofs.Spared.{services_now}
@@ -38,20 +39,24 @@ tests = op2 (Compare Eq Binary) (col 1 1) (col 0 0) ∷ []
 abbrev shown : List Term
 shown = col 1 0 ∷ col 1 0 ∷ col 1 1 ∷ col 1 2 ∷ col 0 1 ∷ col 0 2 ∷ col 0 3 ∷ col 0 4 ∷ col 0 5 ∷ col 0 6 ∷ col 0 7 ∷ col 0 8 ∷ col 0 9 ∷ []
 
-abbrev table : Table
-table = record service { tree = 7 }
+abbrev table : Layout → Table
+table at = record service { tree = service_at at }
 
-is_update : command_of (understood desk_schema text) ≡ Update 4 (record { lets = []; body = plain_query 7 tests shown [] })
+is_update : (at : Layout) → command_of (understood (schema_at at) text) ≡ Update 3 (record { lets = []; body = plain_query (service_at at) tests shown [] })
 unfolding understood everything
-is_update = refl
+is_update made = refl
+is_update moved = refl
+is_update packed = refl
 
-is_plain : IsPlain (understood desk_schema text)
+is_plain : (at : Layout) → IsPlain (understood (schema_at at) text)
 unfolding understood everything
-is_plain = (refl, refl)
+is_plain made = (refl, refl)
+is_plain moved = (refl, refl)
+is_plain packed = (refl, refl)
 
-stands : slice_get desk_schema.tables 4 ≡ Some table
+stands : (at : Layout) → slice_get (schema_at at).tables 3 ≡ Some (table at)
 unfolding everything
-stands = refl
+stands at = refl
 
 abbrev change : Standing → ServiceRow → ServiceRow
 change standing row = record row { standing = standing }
@@ -64,14 +69,15 @@ standing_given name s =
 fits : (name : List ℕ) (s : Standing) (v : Value) (row : ServiceRow) → passes tests (standing_given name s) (v ∷ service_cells row) ≡ is_service name row
 fits name s v row = and_true _ ∙ equal_words row.name name
 
-as_given : (row : ServiceRow) (n : ℤ) → cast_row table (Int n ∷ service_cells row) ≡ Int n ∷ service_cells row
-as_given row n =
+as_given : (at : Layout) (row : ServiceRow) (n : ℤ) → cast_row (table at) (Int n ∷ service_cells row) ≡ Int n ∷ service_cells row
+as_given at row n =
     let s = row.standing in
     rw (cast_whole n, cast_whole (pos s.state), cast_whole (pos s.step), cast_whole (pos s.entered), cast_whole (pos s.hold), cast_whole (pos s.background), cast_whole (pos s.runs), cast_whole (pos s.last)) refl
 
 pub service_updated : (old new : State) (t : Tables) (name : List ℕ) (s : Standing) (r : Result ℕ Error) → IsReady old t → HasService name t → ExecutesInside 0 text (standing_given name s) old new r → OnOk r (IsReady new (with_standing name s t))
 service_updated old new t name s (Err e) ready one h = tt
 service_updated old new t name s (Ok count) ready one h =
-    let u = updated text 4 tests shown table (standing_given name s) is_update is_plain stands old new count ready.stores.schema h service_cells (is_service name) (change s) (fits name s) t.services one.0
-    (λ n. refl) (as_given (change s one.0)) ready.stores.numbered.1.1.1.1.0 ready.stores.services one.1 in
-    services_now old new t ready h.1.mode u.schema u.spares u.numbered (change_where (is_service name) (change s) t.services) u.stored
+    let at = ready.stores.layout in
+    let has = ready.stores.holds in
+    services_now at old new t has (change_where (is_service name) (change s) t.services)
+    (updated at text 3 tests shown (table at) (standing_given name s) (is_update at) (is_plain at) (stands at) old new count has.schema h service_cells (is_service name) (change s) (fits name s) t.services one.0 (λ n. refl) (as_given at (change s one.0)) has.numbered.1.1.1.0 has.services one.1)

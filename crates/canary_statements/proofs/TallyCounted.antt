@@ -25,7 +25,8 @@ use Rattle.canary_metric.specs.Counts.{with_one_more}
 use Rattle.canary_rows.specs.declared.rows.TallyRow.{TallyRow}
 use Rattle.canary_rows.specs.Tables.{Tables, is_tally}
 use Rattle.canary_rows.specs.Changes.{AreFew, HasTally, change_where, with_counted}
-use Rattle.canary_schema.specs.Schema.{desk_schema, tally}
+use Rattle.canary_schema.specs.Layout.{Layout, made, moved, packed, tally_at}
+use Rattle.canary_schema.specs.Schema.{schema_at, tally}
 use Rattle.canary_schema.specs.Cells.{whole, tally_cells}
 use Rattle.canary_schema.specs.Stores.{IsReady}
 use Rattle.canary_statements.proofs.Spared.{tallies_now}
@@ -58,30 +59,54 @@ shown Inconclusive = col 1 0 ∷ col 1 0 ∷ col 1 1 ∷ col 1 2 ∷ col 1 3 ∷
 shown Successful = col 1 0 ∷ col 1 0 ∷ col 1 1 ∷ col 1 2 ∷ col 1 3 ∷ more 4 ∷ col 1 5 ∷ col 1 6 ∷ col 1 7 ∷ none ∷ more 9 ∷ col 0 3 ∷ []
 shown phase = col 1 0 ∷ col 1 0 ∷ col 1 1 ∷ col 1 2 ∷ col 1 3 ∷ more 4 ∷ col 1 5 ∷ col 1 6 ∷ col 1 7 ∷ none ∷ none ∷ col 0 3 ∷ []
 
-abbrev table : Table
-table = record tally { tree = 11 }
+abbrev table : Layout → Table
+table at = record tally { tree = tally_at at }
 
-is_update : (phase : Phase) → command_of (understood desk_schema (counting phase)) ≡ Update 6 (record { lets = []; body = plain_query 11 tests (shown phase) [] })
+is_update : (at : Layout) (phase : Phase) → command_of (understood (schema_at at) (counting phase)) ≡ Update 10 (record { lets = []; body = plain_query (tally_at at) tests (shown phase) [] })
 unfolding understood everything
-is_update Pending = refl
-is_update Running = refl
-is_update Successful = refl
-is_update Inconclusive = refl
-is_update Error = refl
-is_update Failed = refl
+is_update made Pending = refl
+is_update made Running = refl
+is_update made Successful = refl
+is_update made Inconclusive = refl
+is_update made Error = refl
+is_update made Failed = refl
+is_update moved Pending = refl
+is_update moved Running = refl
+is_update moved Successful = refl
+is_update moved Inconclusive = refl
+is_update moved Error = refl
+is_update moved Failed = refl
+is_update packed Pending = refl
+is_update packed Running = refl
+is_update packed Successful = refl
+is_update packed Inconclusive = refl
+is_update packed Error = refl
+is_update packed Failed = refl
 
-is_plain : (phase : Phase) → IsPlain (understood desk_schema (counting phase))
+is_plain : (at : Layout) (phase : Phase) → IsPlain (understood (schema_at at) (counting phase))
 unfolding understood everything
-is_plain Pending = (refl, refl)
-is_plain Running = (refl, refl)
-is_plain Successful = (refl, refl)
-is_plain Inconclusive = (refl, refl)
-is_plain Error = (refl, refl)
-is_plain Failed = (refl, refl)
+is_plain made Pending = (refl, refl)
+is_plain made Running = (refl, refl)
+is_plain made Successful = (refl, refl)
+is_plain made Inconclusive = (refl, refl)
+is_plain made Error = (refl, refl)
+is_plain made Failed = (refl, refl)
+is_plain moved Pending = (refl, refl)
+is_plain moved Running = (refl, refl)
+is_plain moved Successful = (refl, refl)
+is_plain moved Inconclusive = (refl, refl)
+is_plain moved Error = (refl, refl)
+is_plain moved Failed = (refl, refl)
+is_plain packed Pending = (refl, refl)
+is_plain packed Running = (refl, refl)
+is_plain packed Successful = (refl, refl)
+is_plain packed Inconclusive = (refl, refl)
+is_plain packed Error = (refl, refl)
+is_plain packed Failed = (refl, refl)
 
-stands : slice_get desk_schema.tables 6 ≡ Some table
+stands : (at : Layout) → slice_get (schema_at at).tables 10 ≡ Some (table at)
 unfolding everything
-stands = refl
+stands at = refl
 
 abbrev change : Phase → ℕ → TallyRow → TallyRow
 change phase taken row = record row { counts = with_one_more row.counts phase taken }
@@ -103,15 +128,15 @@ unfolding binary
 sum_of n few = rw (below n few) refl
 
 -- the row that the statement shows, stored
-as_given : (phase : Phase) (service : List ℕ) (run metric taken : ℕ) (row : TallyRow) (n : ℤ) → AreFew row.counts
-    → cast_row table (drop 1 (shows (shown phase) (counting_given service run metric taken) (Int n ∷ tally_cells row))) ≡ Int n ∷ tally_cells (change phase taken row)
-as_given phase service run metric taken row n few = go phase
+as_given : (at : Layout) (phase : Phase) (service : List ℕ) (run metric taken : ℕ) (row : TallyRow) (n : ℤ) → AreFew row.counts
+    → cast_row (table at) (drop 1 (shows (shown phase) (counting_given service run metric taken) (Int n ∷ tally_cells row))) ≡ Int n ∷ tally_cells (change phase taken row)
+as_given at phase service run metric taken row n few = go phase
   where
-    unmeasured : cast_row table (drop 1 (shows (shown Pending) (counting_given service run metric taken) (Int n ∷ tally_cells row))) ≡ Int n ∷ tally_cells (change Pending taken row)
+    unmeasured : cast_row (table at) (drop 1 (shows (shown Pending) (counting_given service run metric taken) (Int n ∷ tally_cells row))) ≡ Int n ∷ tally_cells (change Pending taken row)
     unmeasured =
         rw (sum_of row.counts.counted few.counted, cast_whole n, cast_whole (pos row.run), cast_whole (pos row.metric), cast_whole (pos (row.counts.counted + 1)), cast_whole (pos row.counts.failed), cast_whole (pos row.counts.inconclusive), cast_whole (pos row.counts.errors), cast_whole (pos 0), cast_whole (pos taken)) refl
 
-    go : (phase : Phase) → cast_row table (drop 1 (shows (shown phase) (counting_given service run metric taken) (Int n ∷ tally_cells row))) ≡ Int n ∷ tally_cells (change phase taken row)
+    go : (phase : Phase) → cast_row (table at) (drop 1 (shows (shown phase) (counting_given service run metric taken) (Int n ∷ tally_cells row))) ≡ Int n ∷ tally_cells (change phase taken row)
     go Pending = unmeasured
     go Running = unmeasured
     go Successful =
@@ -135,11 +160,10 @@ pub tally_counted : (old new : State) (t : Tables) (service : List ℕ) (run met
     → ExecutesInside 0 (counting phase) (counting_given service run metric taken) old new r → OnOk r (IsReady new (with_counted service run metric phase taken t))
 tally_counted old new t service run metric phase taken (Err e) ready one h = tt
 tally_counted old new t service run metric phase taken (Ok count) ready one h =
-    let given = counting_given service run metric taken in
-    let few = one.few in
-    let u = updated (counting phase) 6 tests (shown phase) table given (is_update phase) (is_plain phase) stands old new count ready.stores.schema h tally_cells (is_tally service run metric) (change phase taken)
-    (fits service run metric taken) t.tallies one.row (same_rowid phase service run metric taken one.row) (λ n. as_given phase service run metric taken one.row n few) ready.stores.numbered.1.1.1.1.1.1.0 ready.stores.tallies one.one in
-    tallies_now old new t ready h.1.mode u.schema u.spares u.numbered (change_where (is_tally service run metric) (change phase taken) t.tallies) u.stored
+    let at = ready.stores.layout in
+    let has = ready.stores.holds in
+    tallies_now at old new t has (change_where (is_tally service run metric) (change phase taken) t.tallies)
+    (updated at (counting phase) 10 tests (shown phase) (table at) (counting_given service run metric taken) (is_update at phase) (is_plain at phase) (stands at) old new count has.schema h tally_cells (is_tally service run metric) (change phase taken) (fits service run metric taken) t.tallies one.row (same_rowid phase service run metric taken one.row) (λ n. as_given at phase service run metric taken one.row n one.few) has.numbered.1.1.1.1.1.1.1.1.1.0 has.tallies one.one)
 
 pub counting_others : (phase : Phase) → (phase ≡ Error → ⊥) → (phase ≡ Failed → ⊥) → (phase ≡ Inconclusive → ⊥) → (phase ≡ Successful → ⊥) → counting Running ≡ counting phase
 counting_others Pending h k l m = refl

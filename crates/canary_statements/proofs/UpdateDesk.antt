@@ -20,47 +20,41 @@ use Rattle.sqlite_rules.specs.Action.{works}
 use Rattle.sqlite_rules.specs.Calls.{ids_of}
 use Rattle.sqlite_schema.specs.declared.schema.Keys.TheVariants.{Enforced}
 use Rattle.canary_rows.specs.Changes.{change_where}
-use Rattle.canary_schema.specs.Schema.{desk_schema}
+use Rattle.canary_schema.specs.Layout.{Layout}
+use Rattle.canary_schema.specs.Schema.{schema_at}
 use Rattle.canary_schema.specs.Cells.{cells_of}
 use Rattle.canary_schema.specs.Stores.{IsNumbered}
 use Rattle.canary_statements.proofs.Idle.{idle}
 use Rattle.canary_statements.proofs.Inserted.{desk_spares, idle_desk}
-use Rattle.canary_statements.proofs.Spared.{Spares}
+use Rattle.canary_statements.proofs.Spared.{Changed}
 use Rattle.canary_statements.proofs.UpdateAnswer.{plain_query, passes, shows}
 use Rattle.canary_statements.proofs.UpdateRows.{updates}
 use Rattle.canary_statements.proofs.UpdateTyped.{found, typed}
 
--- the rows of one table are these now, and the others are as they were
-pub record Updates {R : Type 0} (tree : ℕ) (cells : R → Row) (rows : List R) (old new : State) : Type 0 where
-  pub schema : new.now.schema ≡ old.now.schema
-  pub spares : Spares tree old.now.trees new.now.trees
-  pub numbered : IsNumbered (new.now.trees tree)
-  pub stored : cells_of (new.now.trees tree) ≡ map cells rows
-
-module _ (text : List ℕ) (at : ℕ) (tests shown : List Term) (table : Table) (params : Row)
-    (is : command_of (understood desk_schema text) ≡ Update at (record { lets = []; body = plain_query table.tree tests shown [] })) (plain : IsPlain (understood desk_schema text))
-    (there : slice_get desk_schema.tables at ≡ Some table) (before after : State) (count : ℕ) (schema : before.now.schema ≡ desk_schema) (h : ExecutesInside 0 text params before after (Ok count)) where
-  ran : Writes before after None (Update at (record { lets = []; body = plain_query table.tree tests shown [] })) (statement_of text (understood desk_schema text)) params count
-  ran = runs_as text params before after desk_schema schema (Update at (record { lets = []; body = plain_query table.tree tests shown [] })) is plain count h.0
+module _ (at : Layout) (text : List ℕ) (place : ℕ) (tests shown : List Term) (table : Table) (params : Row)
+    (is : command_of (understood (schema_at at) text) ≡ Update place (record { lets = []; body = plain_query table.tree tests shown [] })) (plain : IsPlain (understood (schema_at at) text))
+    (there : slice_get (schema_at at).tables place ≡ Some table) (before after : State) (count : ℕ) (schema : before.now.schema ≡ (schema_at at)) (h : ExecutesInside 0 text params before after (Ok count)) where
+  ran : Writes before after None (Update place (record { lets = []; body = plain_query table.tree tests shown [] })) (statement_of text (understood (schema_at at) text)) params count
+  ran = runs_as text params before after (schema_at at) schema (Update place (record { lets = []; body = plain_query table.tree tests shown [] })) is plain count h.0
 
   module _ (old new : Row) (n : ℤ) (one : filter (passes tests params) (before.now.trees table.tree) ≡ old ∷ []) (same : column (shows shown params old) 0 ≡ Int n)
       (cast : cast_row table (drop 1 (shows shown params old)) ≡ new) where
     quiet : works before.now.schema Enforced 0 table.tree (taken_by before.now.trees (edit_of before.now.trees table (ids_of (shows shown params old ∷ [])) Given 1 (shows shown params old ∷ []))) (new ∷ []) ≡ []
     quiet =
         subst (λ s. works s Enforced 0 table.tree (taken_by before.now.trees (edit_of before.now.trees table (ids_of (shows shown params old ∷ [])) Given 1 (shows shown params old ∷ []))) (new ∷ []) ≡ []) (sym schema)
-        (idle desk_schema idle_desk table.tree (taken_by before.now.trees (edit_of before.now.trees table (ids_of (shows shown params old ∷ [])) Given 1 (shows shown params old ∷ []))) (new ∷ []))
+        (idle (schema_at at) (idle_desk at) table.tree (taken_by before.now.trees (edit_of before.now.trees table (ids_of (shows shown params old ∷ [])) Given 1 (shows shown params old ∷ []))) (new ∷ []))
 
     put : (after.now.schema ≡ before.now.schema) × (after.now.trees table.tree ≡ put_row new (without_rowid n (before.now.trees table.tree)))
         × AllByRecursion (λ t. t.tree ≢ table.tree → after.now.trees t.tree ≡ before.now.trees t.tree) before.now.schema.tables
     put =
-        let u = updates before.step_limit (mode_of before) params before.now (statement_of text (understood desk_schema text)) at tests shown table old new (ap (λ (s : Schema). slice_get s.tables at) schema ∙ there) one cast quiet ran.tally after.now ran.changed in
+        let u = updates before.step_limit (mode_of before) params before.now (statement_of text (understood (schema_at at) text)) place tests shown table old new (ap (λ (s : Schema). slice_get s.tables place) schema ∙ there) one cast quiet ran.tally after.now ran.changed in
         (u.0, subst (λ v. after.now.trees table.tree ≡ put_row new (without_rowid (id_in v) (before.now.trees table.tree))) same u.1, u.2)
 
   module _ {R : Type 0} (cells : R → Row) (test : R → Bool) (change : R → R) (fits : (v : Value) (x : R) → passes tests params (v ∷ cells x) ≡ test x) (rows : List R) (row : R)
       (same : (n : ℤ) → column (shows shown params (Int n ∷ cells row)) 0 ≡ Int n) (cast : (n : ℤ) → cast_row table (drop 1 (shows shown params (Int n ∷ cells row))) ≡ Int n ∷ cells (change row)) where
-    pub updated : IsNumbered (before.now.trees table.tree) → cells_of (before.now.trees table.tree) ≡ map cells rows → filter test rows ≡ row ∷ [] → Updates table.tree cells (change_where test change rows) before after
+    pub updated : IsNumbered (before.now.trees table.tree) → cells_of (before.now.trees table.tree) ≡ map cells rows → filter test rows ≡ row ∷ [] → Changed at table.tree cells (change_where test change rows) before after
     updated up stored one =
         let f = found cells (passes tests params) test fits (before.now.trees table.tree) rows row up.1 stored one in
         let p = put (Int f.0 ∷ cells row) (Int f.0 ∷ cells (change row)) f.0 f.1 (same f.0) (cast f.0) in
         let t = typed cells (passes tests params) test fits change row f.0 (before.now.trees table.tree) (after.now.trees table.tree) rows up stored one f.1 p.1 in
-        record { schema = p.0; spares = desk_spares table.tree before.now.trees after.now.trees before.now.schema schema p.2; numbered = t.0; stored = t.1 }
+        record { live = h.1.mode; schema = p.0; spares = desk_spares at table.tree before.now.trees after.now.trees before.now.schema schema p.2; numbered = t.0; stored = t.1 }

@@ -4,12 +4,15 @@ ghost use Rattle.std.specs.Prelude.{◌≡◌, [], None};
 ghost use Rattle.sqlite.specs.Held.{state};
 ghost use Rattle.canary_metric.specs.Counts.{counts};
 ghost use Rattle.canary_rows.specs.declared.rows.KeptRow.{KeptRow};
+ghost use Rattle.canary_rows.specs.declared.rows.RevisionRow.{RevisionRow};
 ghost use Rattle.canary_rows.specs.declared.rows.ServiceRow.{ServiceRow};
+ghost use Rattle.canary_rows.specs.declared.rows.BindingRow.{BindingRow};
 ghost use Rattle.canary_rows.specs.declared.rows.RunRow.{RunRow};
 ghost use Rattle.canary_rows.specs.declared.rows.TallyRow.{TallyRow};
 ghost use Rattle.canary_rows.specs.declared.rows.HistoryRow.{HistoryRow};
-ghost use Rattle.canary_rows.specs.Changes.{with_caller, with_kept, with_template, with_service};
-ghost use Rattle.canary_rows.specs.Changes.{with_run, with_tally, with_measurement, with_line};
+ghost use Rattle.canary_rows.specs.Changes.{with_caller, with_kept, with_revision, with_service};
+ghost use Rattle.canary_rows.specs.Changes.{with_binding, with_run, with_tally, with_measurement};
+ghost use Rattle.canary_rows.specs.Changes.{with_line};
 ghost use Rattle.canary_schema.specs.Stores.{Wrote, StaysLive, StaysCommitted, SurvivesCut};
 ghost use Rattle.canary_rows.specs.Changes.{tallies_opened};
 
@@ -67,15 +70,21 @@ pub fn insert_kept<S: Alter>(
     )
 }
 
-/// Inserts a template, by the canonical text of the command that added it. An error is the
-/// database's, as where the template is there already.
-pub fn insert_template<S: Alter>(
+/// Inserts a revision of a template, by its number, from 1, and the canonical text of the command
+/// that added it. An error is the database's, as where the template has a revision of that number.
+pub fn insert_revision<S: Alter>(
     tx: &mut Transaction<'_, S>,
     name: &Name,
+    revision: u32,
     spec: &str,
 ) -> Result<usize, Error>
     ensures same_reference { tx.new.conn.ghost_name ≡ tx.old.conn.ghost_name }
-    ensures wrote { Wrote (with_template (record { name = name.now; spec = spec.now }))
+    ensures wrote { let row : RevisionRow = record {
+      name = name.now;
+      revision = revision;
+      spec = spec.now;
+    }
+        in Wrote (with_revision row)
         (state S.Store tx.old.conn.now) (state S.Store tx.new.conn.now) result }
     ensures live { StaysLive
         (state S.Store tx.old.conn.now) (state S.Store tx.new.conn.now) result }
@@ -83,8 +92,8 @@ pub fn insert_template<S: Alter>(
     ensures survives { SurvivesCut (state S.Store tx.old.conn.now) (state S.Store tx.new.conn.now) }
 {
     tx.execute(
-        "INSERT INTO template (name, spec) VALUES (?1, ?2)",
-        params![name.as_str(), spec],
+        "INSERT INTO revision (name, revision, spec) VALUES (?1, ?2, ?3)",
+        params![name.as_str(), revision, spec],
     )
 }
 
@@ -125,6 +134,36 @@ pub fn insert_service<S: Alter>(
             standing.runs,
             seconds(standing.last),
         ],
+    )
+}
+
+/// Inserts which revision of a template a run of a service is bound to; run 0 stands for the
+/// service's present attempt. An error is the database's, as where the run is bound to one of that
+/// template already, or the service is not there.
+pub fn insert_binding<S: Alter>(
+    tx: &mut Transaction<'_, S>,
+    service: &Name,
+    run: u32,
+    template: &Name,
+    revision: u32,
+) -> Result<usize, Error>
+    ensures same_reference { tx.new.conn.ghost_name ≡ tx.old.conn.ghost_name }
+    ensures wrote { let row : BindingRow = record {
+      service = service.now;
+      run = run;
+      template = template.now;
+      revision = revision;
+    }
+        in Wrote (with_binding row)
+        (state S.Store tx.old.conn.now) (state S.Store tx.new.conn.now) result }
+    ensures live { StaysLive
+        (state S.Store tx.old.conn.now) (state S.Store tx.new.conn.now) result }
+    ensures kept { StaysCommitted (state S.Store tx.old.conn.now) (state S.Store tx.new.conn.now) }
+    ensures survives { SurvivesCut (state S.Store tx.old.conn.now) (state S.Store tx.new.conn.now) }
+{
+    tx.execute(
+        "INSERT INTO binding (service, run, template, revision) VALUES (?1, ?2, ?3, ?4)",
+        params![service.as_str(), run, template.as_str(), revision],
     )
 }
 

@@ -2,9 +2,9 @@
 //! the tables in the transaction, and what was committed stays.
 ghost use Rattle.std.specs.Prelude.{◌≡◌, Some};
 ghost use Rattle.sqlite.specs.Held.{state};
-ghost use Rattle.canary_rows.specs.Changes.{HasCaller, HasService, HasRun, HasTally};
-ghost use Rattle.canary_rows.specs.Changes.{with_settled, with_standing, with_ending};
-ghost use Rattle.canary_rows.specs.Changes.{with_counted};
+ghost use Rattle.canary_rows.specs.Changes.{HasCaller, HasService, HasBinding, HasRun, HasTally};
+ghost use Rattle.canary_rows.specs.Changes.{with_settled, with_standing, with_bound};
+ghost use Rattle.canary_rows.specs.Changes.{with_ending, with_counted};
 ghost use Rattle.canary_schema.specs.Stores.{WroteIf, StaysLive, StaysCommitted, SurvivesCut};
 
 use crate::cells::seconds;
@@ -65,6 +65,30 @@ pub fn update_service<S: Alter>(
             standing.runs,
             seconds(standing.last),
         ],
+    )
+}
+
+/// Sets which revision of a template a run of a service is bound to; run 0 stands for the service's
+/// present attempt. An error is the database's, as where memory is refused.
+pub fn update_binding<S: Alter>(
+    tx: &mut Transaction<'_, S>,
+    service: &Name,
+    run: u32,
+    template: &Name,
+    revision: u32,
+) -> Result<usize, Error>
+    ensures same_reference { tx.new.conn.ghost_name ≡ tx.old.conn.ghost_name }
+    ensures wrote { WroteIf (HasBinding service.now run template.now)
+        (with_bound service.now run template.now revision)
+        (state S.Store tx.old.conn.now) (state S.Store tx.new.conn.now) result }
+    ensures live { StaysLive (state S.Store tx.old.conn.now)
+        (state S.Store tx.new.conn.now) result }
+    ensures kept { StaysCommitted (state S.Store tx.old.conn.now) (state S.Store tx.new.conn.now) }
+    ensures survives { SurvivesCut (state S.Store tx.old.conn.now) (state S.Store tx.new.conn.now) }
+{
+    tx.execute(
+        "UPDATE binding SET revision = ?4 WHERE service = ?1 AND run = ?2 AND template = ?3",
+        params![service.as_str(), run, template.as_str(), revision],
     )
 }
 

@@ -1,6 +1,6 @@
 -- One receipt more: the rows of callers and of kept requests.
 use Rattle.std.proofs.Common.{◌≡◌, ℕ, zero, suc, ◌+◌, ◌≤◌, List, [], ◌∷◌, ◌++◌, length, Bool, true, false, Some, None, refl, sym, ap, ◌∙◌, arith, append-nil, length-append, true≢false}
-use Rattle.std.specs.Prelude.{Option, cond, if◌then◌else◌, ◌==◌, ◌&&◌, filter, slice_get, unwrap_or}
+use Rattle.std.specs.Prelude.{Option, cond, if◌then◌else◌, ◌==◌, ◌&&◌, filter, unwrap_or}
 use Rattle.std.specs.Str.{bytes_eq}
 use Rattle.std.specs.FinMap.{get}
 use Rattle.std.proofs.lemmas.List.Elements.{filter-append}
@@ -15,6 +15,7 @@ use Rattle.canary_stored.specs.Values.{caller_row, kept_row}
 use Rattle.canary_stored.specs.Tables.{row_if, kept_rows}
 use Rattle.canary_stored.specs.Settling.{caller_settled}
 use Rattle.canary_stored.proofs.SettledKeys.{equal_names, own_name, other_name, at_name, same_value, changed_under}
+use Rattle.canary_stored.proofs.Pushed.{rows_at, pushed}
 use Rattle.canary_stored.proofs.SettledPasts.{HaveSamePasts}
 
 -- how many requests of a caller are settled, as its row says it
@@ -90,54 +91,30 @@ caller_put t callers k q x n false e have last are =
 
 -- Rows of kept requests.
 
-at_last : (receipts : List Receipt) (x : Receipt) → slice_get (receipts ++ x ∷ []) (length receipts) ≡ Some x
-at_last [] x = refl
-at_last (y ∷ receipts) x = at_last receipts x
+kept_as : (q : List ℕ) (number : ℕ) (receipts : List Receipt) → kept_rows q number receipts ≡ rows_at (kept_row q) number receipts
+kept_as q zero receipts = refl
+kept_as q (suc place) receipts = refl
 
-at_other : (receipts : List Receipt) (x : Receipt) (i : ℕ) → (i ≡ length receipts → ⊥) → slice_get (receipts ++ x ∷ []) i ≡ slice_get receipts i
-at_other [] x zero apart = absurd (apart refl)
-at_other [] x (suc i) apart = refl
-at_other (y ∷ receipts) x zero apart = refl
-at_other (y ∷ receipts) x (suc i) apart = at_other receipts x i (λ e. apart (ap suc e))
-
-past_last : (receipts : List Receipt) → slice_get receipts (length receipts) ≡ None
-past_last [] = refl
-past_last (y ∷ receipts) = past_last receipts
-
--- at the place of the new receipt stood nothing
-pushed_here : (receipts : List Receipt) (x : Receipt) (q : List ℕ) (place n : ℕ) (b : Bool) → (suc place == n) ≡ b → n ≡ length receipts + 1
-    → row_if (kept_row q (suc place)) (slice_get receipts place) ++ cond b (kept_row q n x ∷ []) [] ≡ row_if (kept_row q (suc place)) (slice_get (receipts ++ x ∷ []) place)
-pushed_here receipts x q place n true e last =
-    let same : suc place ≡ n = (Decides-eqb (suc place) n).0 e in
-    let here : place ≡ length receipts = omega (arith, same, last) in
-    ap (λ o. row_if (kept_row q (suc place)) o ++ kept_row q n x ∷ []) (ap (slice_get receipts) here ∙ past_last receipts)
-    ∙ ap (λ m. kept_row q m x ∷ []) (sym same)
-    ∙ sym (ap (row_if (kept_row q (suc place))) (ap (slice_get (receipts ++ x ∷ [])) here ∙ at_last receipts x))
-pushed_here receipts x q place n false e last =
-    append-nil _ ∙ sym (ap (row_if (kept_row q (suc place))) (at_other receipts x place (λ i. let same : suc place ≡ n = omega (arith, i, last) in true≢false (sym ((Decides-eqb (suc place) n).1 same) ∙ e))))
-
-none_at_zero : (receipts : List Receipt) (x : Receipt) (q : List ℕ) (n : ℕ) (b : Bool) → (zero == n) ≡ b → n ≡ length receipts + 1 → cond b (kept_row q n x ∷ []) [] ≡ kept_rows q zero (receipts ++ x ∷ [])
-none_at_zero receipts x q n true e last = let same : zero ≡ n = (Decides-eqb zero n).0 e in absurd (omega (arith, same, last))
-none_at_zero receipts x q n false e last = refl
-
-pushed : (receipts : List Receipt) (x : Receipt) (q : List ℕ) (number n : ℕ) → n ≡ length receipts + 1
+kept_pushed : (receipts : List Receipt) (x : Receipt) (q : List ℕ) (number n : ℕ) → n ≡ length receipts + 1
     → kept_rows q number receipts ++ cond (number == n) (kept_row q n x ∷ []) [] ≡ kept_rows q number (receipts ++ x ∷ [])
-pushed receipts x q zero n last = none_at_zero receipts x q n (zero == n) refl last
-pushed receipts x q (suc place) n last = pushed_here receipts x q place n (suc place == n) refl last
+kept_pushed receipts x q number n last =
+    ap (λ (rows : List KeptRow). rows ++ cond (number == n) (kept_row q n x ∷ []) []) (kept_as q number receipts)
+    ∙ pushed (kept_row q) receipts x number n last
+    ∙ sym (kept_as q number (receipts ++ x ∷ []))
 
 kept_put : (callers : CallerMap) (k q : List ℕ) (x : Receipt) (n number : ℕ) (b : Bool) → bytes_eq q k ≡ b → n ≡ length (receipts_in callers k) + 1
     → kept_rows q number (receipts_in callers q) ++ cond (b && (number == n)) (kept_row k n x ∷ []) [] ≡ kept_rows q number (unwrap_or (cond b (Some (receipts_in callers k ++ x ∷ [])) (get callers q)) [])
 kept_put callers k q x n number true e last =
     let same : q ≡ k = equal_names q k e in
     (λ i. kept_rows q number (receipts_in callers (same i)) ++ cond (number == n) (kept_row (sym same i) n x ∷ []) [])
-    ∙ pushed (receipts_in callers k) x q number n last
+    ∙ kept_pushed (receipts_in callers k) x q number n last
 kept_put callers k q x n number false e last = append-nil _
 
 -- Both.
 
 -- the tables apart from those two
 pub record HaveSameDesk (old new : Tables) : Type 0 where
-  pub templates : new.templates ≡ old.templates
+  pub revisions : new.revisions ≡ old.revisions
   pub services : new.services ≡ old.services
   pub pasts : HaveSamePasts old new
 
@@ -150,8 +127,8 @@ kept_same t k n true = refl
 kept_same t k n false = refl
 
 rest_same : (t : Tables) (k : List ℕ) (n : ℕ) (row : KeptRow) (first : Bool) → HaveSameDesk t (with_kept row (if first then with_caller (caller_row k 1) t else with_settled k n t))
-rest_same t k n row true = record { templates = refl; services = refl; pasts = record { runs = refl; tallies = refl; measurements = refl; history = refl } }
-rest_same t k n row false = record { templates = refl; services = refl; pasts = record { runs = refl; tallies = refl; measurements = refl; history = refl } }
+rest_same t k n row true = record { revisions = refl; services = refl; pasts = record { bindings = refl; runs = refl; tallies = refl; measurements = refl; history = refl } }
+rest_same t k n row false = record { revisions = refl; services = refl; pasts = record { bindings = refl; runs = refl; tallies = refl; measurements = refl; history = refl } }
 
 -- with one more receipt of a caller
 pub caller_settles : (t : Tables) (callers : CallerMap) (k : List ℕ) (n : ℕ) (x : Receipt) → AreCallerRows t callers → HaveReceipts callers → n ≡ length (receipts_in callers k) + 1

@@ -1,6 +1,6 @@
 -- A template that is added, and a service that is made or changed: the rows of both.
-use Rattle.std.proofs.Common.{◌≡◌, ℕ, List, [], ◌∷◌, ◌++◌, length, Bool, true, false, Some, None, refl, sym, ap, ◌∙◌, append-nil}
-use Rattle.std.specs.Prelude.{Option, cond, if◌then◌else◌, filter}
+use Rattle.std.proofs.Common.{◌≡◌, ℕ, zero, suc, ◌+◌, List, [], ◌∷◌, ◌++◌, length, Bool, true, false, Some, None, refl, sym, ap, ◌∙◌, append-nil}
+use Rattle.std.specs.Prelude.{Option, cond, if◌then◌else◌, ◌==◌, ◌&&◌, filter, unwrap_or}
 use Rattle.std.specs.Str.{bytes_eq}
 use Rattle.std.specs.FinMap.{get, insert}
 use Rattle.std.proofs.lemmas.List.Elements.{filter-append}
@@ -10,16 +10,17 @@ use Rattle.canary_plan.specs.declared.command.Command.TheVariants as command
 use Rattle.canary_canonical.specs.Texts.{command_text}
 use Rattle.canary_release.specs.declared.effect.Effect.{Effect}
 use Rattle.canary_release.specs.declared.service.ServiceParts.{ServiceParts}
-use Rattle.canary_release.specs.Desks.{ModelService, after, made_as}
+use Rattle.canary_release.specs.Desks.{ModelService, RevisionMap, revisions_of, with_revision as one_more, after, made_as}
 use Rattle.canary_rows.specs.declared.rows.Standing.{Standing}
-use Rattle.canary_rows.specs.declared.rows.TemplateRow.{TemplateRow}
+use Rattle.canary_rows.specs.declared.rows.RevisionRow.{RevisionRow}
 use Rattle.canary_rows.specs.declared.rows.ServiceRow.{ServiceRow}
-use Rattle.canary_rows.specs.Tables.{Tables, is_template, is_service}
-use Rattle.canary_rows.specs.Changes.{with_template, with_service, with_standing, change_where, HasService}
-use Rattle.canary_stored.specs.Values.{template_row, service_row, standing_of}
-use Rattle.canary_stored.specs.Tables.{row_if}
+use Rattle.canary_rows.specs.Tables.{Tables, is_revision, is_service}
+use Rattle.canary_rows.specs.Changes.{with_revision, with_service, with_standing, change_where, HasService}
+use Rattle.canary_stored.specs.Values.{revision_row, service_row, standing_of}
+use Rattle.canary_stored.specs.Tables.{row_if, revision_rows}
 use Rattle.canary_stored.specs.Settling.{has_service, service_put}
 use Rattle.canary_stored.proofs.SettledKeys.{NameMap, equal_names, own_name, other_name, at_name, same_value, changed_under, is_any, any_found}
+use Rattle.canary_stored.proofs.Pushed.{rows_at, pushed}
 use Rattle.canary_stored.proofs.SettledPasts.{HaveSamePasts}
 use Rattle.canary_stored.proofs.DesksRuled.{IsUpdate}
 
@@ -32,19 +33,39 @@ row_added row k q x o there false e at none = append-nil _
 
 -- A template.
 
-template_asked : (template : Template) (asked : Command) → asked ≡ command.Template template.spec → ◌≡◌ {A = TemplateRow} (record { name = template.spec.name; spec = command_text asked }) (template_row template.spec.name template)
-template_asked template asked is i = record { name = template.spec.name; spec = command_text (is i) }
+template_asked : (template : Template) (asked : Command) → asked ≡ command.Template template.spec
+    → ◌≡◌ {A = RevisionRow} (record { name = template.spec.name; revision = template.revision; spec = command_text asked }) (revision_row template.spec.name template)
+template_asked template asked is i = record { name = template.spec.name; revision = template.revision; spec = command_text (is i) }
 
-pub template_added : (t : Tables) (templates : NameMap Template) (template : Template) (asked : Command) (q : List ℕ) → asked ≡ command.Template template.spec → get templates template.spec.name ≡ None
-    → filter (is_template q) t.templates ≡ row_if (template_row q) (get templates q)
-    → filter (is_template q) (with_template (record { name = template.spec.name; spec = command_text asked }) t).templates ≡ row_if (template_row q) (get (insert templates template.spec.name template) q)
-template_added t templates template asked q is none are =
+revisions_as : (q : List ℕ) (number : ℕ) (ts : List Template) → revision_rows q number ts ≡ rows_at (λ (n : ℕ). revision_row q) number ts
+revisions_as q zero ts = refl
+revisions_as q (suc place) ts = refl
+
+revision_pushed : (ts : List Template) (x : Template) (q : List ℕ) (number n : ℕ) → n ≡ length ts + 1 → revision_rows q number ts ++ cond (number == n) (revision_row q x ∷ []) [] ≡ revision_rows q number (ts ++ x ∷ [])
+revision_pushed ts x q number n last =
+    ap (λ (rows : List RevisionRow). rows ++ cond (number == n) (revision_row q x ∷ []) []) (revisions_as q number ts)
+    ∙ pushed (λ (n : ℕ). revision_row q) ts x number n last
+    ∙ sym (revisions_as q number (ts ++ x ∷ []))
+
+revision_put : (templates : RevisionMap) (k q : List ℕ) (x : Template) (n number : ℕ) (b : Bool) → bytes_eq q k ≡ b → n ≡ length (revisions_of templates k) + 1
+    → revision_rows q number (revisions_of templates q) ++ cond (b && (number == n)) (revision_row k x ∷ []) [] ≡ revision_rows q number (unwrap_or (cond b (Some (revisions_of templates k ++ x ∷ [])) (get templates q)) [])
+revision_put templates k q x n number true e last =
+    let same : q ≡ k = equal_names q k e in
+    (λ i. revision_rows q number (revisions_of templates (same i)) ++ cond (number == n) (revision_row (sym same i) x ∷ []) [])
+    ∙ revision_pushed (revisions_of templates k) x q number n last
+revision_put templates k q x n number false e last = append-nil _
+
+pub revision_added : (t : Tables) (templates : RevisionMap) (template : Template) (asked : Command) (q : List ℕ) (number : ℕ) → asked ≡ command.Template template.spec → template.revision ≡ length (revisions_of templates template.spec.name) + 1
+    → filter (is_revision q number) t.revisions ≡ revision_rows q number (revisions_of templates q)
+    → filter (is_revision q number) (with_revision (record { name = template.spec.name; revision = template.revision; spec = command_text asked }) t).revisions ≡ revision_rows q number (revisions_of (one_more templates template.spec.name template) q)
+revision_added t templates template asked q number is last are =
     let k : List ℕ = template.spec.name in
-    ap (λ (row : TemplateRow). filter (is_template q) (t.templates ++ row ∷ [])) (template_asked template asked is)
-    ∙ filter-append (is_template q) t.templates (template_row k template ∷ [])
-    ∙ ap (λ (rows : List TemplateRow). rows ++ cond (bytes_eq q k) (template_row k template ∷ []) []) are
-    ∙ row_added template_row k q template (get templates q) (get templates k) (bytes_eq q k) refl (same_value templates q k (bytes_eq q k) refl) none
-    ∙ ap (row_if (template_row q)) (sym (at_name templates k template q))
+    let new : RevisionRow = revision_row k template in
+    ap (λ (row : RevisionRow). filter (is_revision q number) (t.revisions ++ row ∷ [])) (template_asked template asked is)
+    ∙ filter-append (is_revision q number) t.revisions (new ∷ [])
+    ∙ ap (λ (rows : List RevisionRow). rows ++ cond (bytes_eq q k && (number == template.revision)) (new ∷ []) []) are
+    ∙ revision_put templates k q template template.revision number (bytes_eq q k) refl last
+    ∙ ap (λ (o : Option (List Template)). revision_rows q number (unwrap_or o [])) (sym (at_name templates k (revisions_of templates k ++ template ∷ []) q))
 
 -- A service.
 
@@ -98,22 +119,22 @@ none_found k (Some m) e = let never : ⊥ = cc e in absurd never
 pub record HaveSameElse (old new : Tables) : Type 0 where
   pub callers : new.callers ≡ old.callers
   pub kept : new.kept ≡ old.kept
-  pub templates : new.templates ≡ old.templates
+  pub revisions : new.revisions ≡ old.revisions
   pub pasts : HaveSamePasts old new
 
 else_same : (t : Tables) (k : List ℕ) (standing : Standing) (row : ServiceRow) (there : Bool) → HaveSameElse t (if there then with_standing k standing t else with_service row t)
-else_same t k standing row true = record { callers = refl; kept = refl; templates = refl; pasts = record { runs = refl; tallies = refl; measurements = refl; history = refl } }
-else_same t k standing row false = record { callers = refl; kept = refl; templates = refl; pasts = record { runs = refl; tallies = refl; measurements = refl; history = refl } }
+else_same t k standing row true = record { callers = refl; kept = refl; revisions = refl; pasts = record { bindings = refl; runs = refl; tallies = refl; measurements = refl; history = refl } }
+else_same t k standing row false = record { callers = refl; kept = refl; revisions = refl; pasts = record { bindings = refl; runs = refl; tallies = refl; measurements = refl; history = refl } }
 
 pub put_leaves : (asked : Command) (s : ServiceParts) (t : Tables) → HaveSameElse t (service_put asked s t)
 put_leaves asked s t = else_same t s.stand.name (standing_of s.stand s.runs.count) (record { name = s.stand.name; spec = command_text asked; standing = standing_of s.stand s.runs.count }) (has_service s.stand.name t)
 
-put_by : (t : Tables) (services : NameMap ModelService) (asked : Command) (s : ServiceParts) (effects : List Effect) (q : List ℕ) (there : Bool)
-    → is_any (row_if (service_row s.stand.name) (get services s.stand.name)) ≡ there → IsUpdate (get services s.stand.name) s.stand.name asked s effects
+put_by : (templates : RevisionMap) (t : Tables) (services : NameMap ModelService) (asked : Command) (s : ServiceParts) (effects : List Effect) (q : List ℕ) (there : Bool)
+    → is_any (row_if (service_row s.stand.name) (get services s.stand.name)) ≡ there → IsUpdate templates (get services s.stand.name) asked s effects
     → filter (is_service q) t.services ≡ row_if (service_row q) (get services q)
     → filter (is_service q) (if there then with_standing s.stand.name (standing_of s.stand s.runs.count) t else with_service (record { name = s.stand.name; spec = command_text asked; standing = standing_of s.stand s.runs.count }) t).services
     ≡ row_if (service_row q) (cond (bytes_eq q s.stand.name) (Some (after (get services s.stand.name) s.stand effects)) (get services q))
-put_by t services asked s effects q true there is are =
+put_by templates t services asked s effects q true there is are =
     let k : List ℕ = s.stand.name in
     let standing : Standing = standing_of s.stand s.runs.count in
     let some = some_found k (get services k) there in
@@ -121,7 +142,7 @@ put_by t services asked s effects q true there is are =
     ∙ ap (stood k standing) are
     ∙ stood_after k q standing (get services q) (get services k) some.0 (after (get services k) s.stand effects) (bytes_eq q k) refl (same_value services q k (bytes_eq q k) refl) some.1
     (old_row q (get services k) some.0 s effects some.1 is.count)
-put_by t services asked s effects q false there is are =
+put_by templates t services asked s effects q false there is are =
     let k : List ℕ = s.stand.name in
     let m : ModelService = after (get services k) s.stand effects in
     let none : get services k ≡ None = none_found k (get services k) there in
@@ -131,11 +152,11 @@ put_by t services asked s effects q false there is are =
     ∙ row_added service_row k q m (get services q) (get services k) (bytes_eq q k) refl (same_value services q k (bytes_eq q k) refl) none
 
 -- with the service that it comes to
-pub service_puts : (t : Tables) (services : NameMap ModelService) (asked : Command) (s : ServiceParts) (effects : List Effect) (q : List ℕ) → IsUpdate (get services s.stand.name) s.stand.name asked s effects
+pub service_puts : (templates : RevisionMap) (t : Tables) (services : NameMap ModelService) (asked : Command) (s : ServiceParts) (effects : List Effect) (q : List ℕ) → IsUpdate templates (get services s.stand.name) asked s effects
     → ((q : List ℕ) → filter (is_service q) t.services ≡ row_if (service_row q) (get services q))
     → filter (is_service q) (service_put asked s t).services ≡ row_if (service_row q) (get (insert services s.stand.name (after (get services s.stand.name) s.stand effects)) q)
-service_puts t services asked s effects q is are =
-    put_by t services asked s effects q (has_service s.stand.name t) (sym (service_there t services s.stand.name (are s.stand.name))) is (are q)
+service_puts templates t services asked s effects q is are =
+    put_by templates t services asked s effects q (has_service s.stand.name t) (sym (service_there t services s.stand.name (are s.stand.name))) is (are q)
     ∙ ap (row_if (service_row q)) (sym (at_name services s.stand.name (after (get services s.stand.name) s.stand effects) q))
 
 -- the service that an UPDATE looks for stands in one row

@@ -1,5 +1,5 @@
 -- What a change of the desk tells of its command.
-use Rattle.std.proofs.Common.{◌≡◌, ℕ, List, length, Some, None, refl, sym, ap, ◌∙◌, subst}
+use Rattle.std.proofs.Common.{◌≡◌, ℕ, ◌+◌, List, length, true, false, Some, None, refl, sym, ap, ◌∙◌, subst}
 use Rattle.std.specs.Prelude.{Option, option_map, Result, Ok, Err}
 use Rattle.std.specs.FinMap.{get}
 use Rattle.canary_plan.specs.declared.service.ServiceSpec.{ServiceSpec}
@@ -9,40 +9,39 @@ use Rattle.canary_plan.specs.declared.refusal.Refusal.{Refusal}
 use Rattle.canary_plan.specs.declared.command.Command.{Command}
 use Rattle.canary_plan.specs.declared.command.Command.TheVariants as command
 use Rattle.canary_plan.specs.Plans.{Templates, template_of}
-use Rattle.canary_plan.specs.PlanRefusals.{template_refusal, strategy_refusal}
+use Rattle.canary_plan.specs.PlanRefusals.{strategy_refusal, bound_refusal}
+use Rattle.canary_plan.specs.Refusals.{or_refusal}
 use Rattle.canary_plan.specs.Commands.{subject_of}
 use Rattle.canary_release.specs.declared.effect.Effect.{Effect}
 use Rattle.canary_release.specs.declared.service.ServiceParts.{ServiceParts}
 use Rattle.canary_release.specs.declared.decide.DeskChange.{DeskChange}
 use Rattle.canary_release.specs.declared.decide.DeskChange.TheVariants as change
 use Rattle.canary_release.specs.Courses.{Course}
-use Rattle.canary_release.specs.Commands.{Acted, leads, unless}
-use Rattle.canary_release.specs.Desks.{ModelService, Desk, after, made_as, new_service, adds_unless, rule_template, rule_service, rules, ruling, ruling_on, course_of, apply}
+use Rattle.canary_release.specs.Commands.{Acted, leads, unless, start_refusal_at, start_refusal, retry_refusal_at, retry_refusal}
+use Rattle.canary_release.specs.Passing.{pass}
+use Rattle.canary_release.specs.Desks.{ModelService, RevisionMap, Desk, revisions_of, newest, before, after, made_as, new_service, adds_unless, newest_number, revision_refusal, rule_template, rule_service, rules, passed_on, ruling, ruling_on, course_of, apply}
 use Rattle.canary_release.specs.Shapes.{shape, said, changed, seen, kept_by, KeepsWhatIsSeen}
 use Rattle.canary_release.specs.Effects.{Changes, IsChange, CommandsChange}
 use Rattle.canary_release.specs.Order.{AreInOrder}
+use Rattle.canary_stored.specs.Settling.{begins}
 use Rattle.canary_stored.proofs.SettledKeys.{at_own_name, some_same}
+use Rattle.canary_stored.proofs.PassKeeps.{passing_keeps}
 
 -- A template.
 
--- it is the command's, and none of its name was there
-pub record IsAdding (known : Templates) (asked : Command) (t : Template) : Type 0 where
+-- it is the command's, and its next revision
+pub record IsAdding (templates : RevisionMap) (asked : Command) (t : Template) : Type 0 where
   pub asked_for : asked ≡ command.Template t.spec
-  pub none : known t.spec.name ≡ None
+  pub number : t.revision ≡ length (revisions_of templates t.spec.name) + 1
 
-adds_that : (spec : TemplateSpec) (t : Template) (r : Option Refusal) → change.Template t ≡ said (adds_unless r spec).change → template_of spec ≡ t
-adds_that spec t None e = cc e
-adds_that spec t (Some refusal) e = let none : ⊥ = cc e in absurd none
+adds_that : (x t : Template) (r : Option Refusal) → change.Template t ≡ said (adds_unless r x).change → x ≡ t
+adds_that x t None e = cc e
+adds_that x t (Some refusal) e = let none : ⊥ = cc e in absurd none
 
-added_as : (known : Templates) (spec : TemplateSpec) (t : Template) → known spec.name ≡ None → template_of spec ≡ t → IsAdding known (command.Template spec) t
-added_as known spec t none is = record {
-  asked_for = ap (λ (t : Template). command.Template t.spec) is;
-  none = ap (λ (t : Template). known t.spec.name) (sym is) ∙ none;
-}
-
-adds_where_none : (known : Templates) (spec : TemplateSpec) (t : Template) (o : Option Template) → known spec.name ≡ o → change.Template t ≡ said (rule_template o spec).change → IsAdding known (command.Template spec) t
-adds_where_none known spec t None at e = added_as known spec t at (adds_that spec t (template_refusal spec) e)
-adds_where_none known spec t (Some x) at e = let none : ⊥ = cc e in absurd none
+adds_by : (o : Option Template) (spec : TemplateSpec) (t : Template) → change.Template t ≡ said (rule_template o spec).change → command.Template spec ≡ command.Template t.spec
+adds_by o spec t e =
+    let number : ℕ = newest_number o in
+    ap (λ (x : Template). command.Template x.spec) (adds_that (template_of spec (number + 1)) t (revision_refusal number spec) e)
 
 adds_nothing : (r : Result Acted Refusal) (t : Template) → change.Template t ≡ said (rules r).change → ⊥
 adds_nothing (Ok a) t e = cc e
@@ -52,16 +51,24 @@ service_adds_nothing : (known : Templates) (found : Option Course) (now : ℕ) (
 service_adds_nothing known None now asked t e = adds_nothing _ t e
 service_adds_nothing known (Some c) now asked t e = adds_nothing _ t e
 
-pub adding : (known : Templates) (found : Option Course) (now : ℕ) (asked : Command) (t : Template) → change.Template t ≡ said (ruling known found now asked).change → IsAdding known asked t
-adding known found now (command.Template spec) t e = adds_where_none known spec t (known spec.name) refl e
-adding known found now (command.Service spec) t e = absurd (service_adds_nothing known found now (command.Service spec) t e)
-adding known found now (command.Start name version) t e = absurd (service_adds_nothing known found now (command.Start name version) t e)
-adding known found now (command.Promote name) t e = absurd (service_adds_nothing known found now (command.Promote name) t e)
-adding known found now (command.PromoteFull name) t e = absurd (service_adds_nothing known found now (command.PromoteFull name) t e)
-adding known found now (command.Abort name) t e = absurd (service_adds_nothing known found now (command.Abort name) t e)
-adding known found now (command.Retry name) t e = absurd (service_adds_nothing known found now (command.Retry name) t e)
-adding known found now (command.Tick name) t e = absurd (service_adds_nothing known found now (command.Tick name) t e)
-adding known found now (command.Report report) t e = absurd (service_adds_nothing known found now (command.Report report) t e)
+asked_so : (known : Templates) (found : Option Course) (now : ℕ) (asked : Command) (t : Template) → change.Template t ≡ said (ruling known found now asked).change → asked ≡ command.Template t.spec
+asked_so known found now (command.Template spec) t e = adds_by (known spec.name) spec t e
+asked_so known found now (command.Service spec) t e = absurd (service_adds_nothing known found now (command.Service spec) t e)
+asked_so known found now (command.Start name version) t e = absurd (service_adds_nothing known found now (command.Start name version) t e)
+asked_so known found now (command.Promote name) t e = absurd (service_adds_nothing known found now (command.Promote name) t e)
+asked_so known found now (command.PromoteFull name) t e = absurd (service_adds_nothing known found now (command.PromoteFull name) t e)
+asked_so known found now (command.Abort name) t e = absurd (service_adds_nothing known found now (command.Abort name) t e)
+asked_so known found now (command.Retry name) t e = absurd (service_adds_nothing known found now (command.Retry name) t e)
+asked_so known found now (command.Tick name) t e = absurd (service_adds_nothing known found now (command.Tick name) t e)
+asked_so known found now (command.Report report) t e = absurd (service_adds_nothing known found now (command.Report report) t e)
+
+pub adding : CommandsChange → (desk : Desk) (now : ℕ) (asked : Command) (t : Template) → AreInOrder desk → change.Template t ≡ said (ruling_on desk now asked).change → IsAdding desk.templates asked t
+adding commands desk now asked t order is =
+    let next : IsChange desk asked (change.Template t) = subst (IsChange desk asked) (sym is) (commands desk now asked order) in
+    record {
+      asked_for = asked_so (newest desk.templates) _ now asked t is;
+      number = next.1 ∙ ap (λ (name : List ℕ). length (revisions_of desk.templates name) + 1) (sym next.0);
+    }
 
 -- A service that was not there.
 
@@ -70,18 +77,17 @@ made_in spec (change.Service s effects) = made_as s.stand
 made_in spec change.Nothing = spec
 made_in spec (change.Template t) = spec
 
-made_that : (known : Templates) (spec : ServiceSpec) (now : ℕ) (s : ServiceParts) (effects : List Effect) (r : Option Refusal) → change.Service s effects ≡ said (rules (unless r (leads (new_service known spec now)))).change
+made_that : (spec : ServiceSpec) (now : ℕ) (s : ServiceParts) (effects : List Effect) (r : Option Refusal) → change.Service s effects ≡ said (rules (unless r (leads (new_service spec now)))).change
     → command.Service spec ≡ command.Service (made_as s.stand)
-made_that known spec now s effects None e = ap (λ (d : DeskChange). command.Service (made_in spec d)) (sym e)
-made_that known spec now s effects (Some refusal) e = let none : ⊥ = cc e in absurd none
+made_that spec now s effects None e = ap (λ (d : DeskChange). command.Service (made_in spec d)) (sym e)
+made_that spec now s effects (Some refusal) e = let none : ⊥ = cc e in absurd none
 
-template_updates_nothing : (spec : TemplateSpec) (s : ServiceParts) (effects : List Effect) (r : Option Refusal) → change.Service s effects ≡ said (adds_unless r spec).change → ⊥
-template_updates_nothing spec s effects None e = cc e
-template_updates_nothing spec s effects (Some refusal) e = cc e
+template_updates_nothing : (t : Template) (s : ServiceParts) (effects : List Effect) (r : Option Refusal) → change.Service s effects ≡ said (adds_unless r t).change → ⊥
+template_updates_nothing t s effects None e = cc e
+template_updates_nothing t s effects (Some refusal) e = cc e
 
 template_updates_none : (spec : TemplateSpec) (s : ServiceParts) (effects : List Effect) (o : Option Template) → change.Service s effects ≡ said (rule_template o spec).change → ⊥
-template_updates_none spec s effects None e = template_updates_nothing spec s effects (template_refusal spec) e
-template_updates_none spec s effects (Some t) e = cc e
+template_updates_none spec s effects o e = let number : ℕ = newest_number o in template_updates_nothing (template_of spec (number + 1)) s effects (revision_refusal number spec) e
 
 stays : (s : ServiceParts) (effects : List Effect) → change.Service s effects ≡ change.Nothing → ⊥
 stays s effects e = cc e
@@ -89,7 +95,7 @@ stays s effects e = cc e
 -- only a command that makes a service changes one that is not there
 made_new : (known : Templates) (now : ℕ) (asked : Command) (s : ServiceParts) (effects : List Effect) → change.Service s effects ≡ said (ruling known None now asked).change → asked ≡ command.Service (made_as s.stand)
 made_new known now (command.Template spec) s effects e = absurd (template_updates_none spec s effects (known spec.name) e)
-made_new known now (command.Service spec) s effects e = made_that known spec now s effects (strategy_refusal known spec) e
+made_new known now (command.Service spec) s effects e = made_that spec now s effects (strategy_refusal known spec) e
 made_new known now (command.Start name version) s effects e = absurd (stays s effects e)
 made_new known now (command.Promote name) s effects e = absurd (stays s effects e)
 made_new known now (command.PromoteFull name) s effects e = absurd (stays s effects e)
@@ -98,13 +104,49 @@ made_new known now (command.Retry name) s effects e = absurd (stays s effects e)
 made_new known now (command.Tick name) s effects e = absurd (stays s effects e)
 made_new known now (command.Report report) s effects e = absurd (stays s effects e)
 
+-- An attempt that begins.
+
+unless_none : (r : Option Refusal) (a : Acted) (t : ℕ) (s : ServiceParts) (effects : List Effect) → change.Service s effects ≡ said (rules (passed_on (unless r a) t)).change → r ≡ None
+unless_none None a t s effects e = refl
+unless_none (Some refusal) a t s effects e = absurd (stays s effects e)
+
+first_none : (a b : Option Refusal) → or_refusal a b ≡ None → a ≡ None
+first_none None b e = refl
+first_none (Some refusal) b e = let none : ⊥ = cc e in absurd none
+
+-- nothing refuses to bind its strategy
+begun_by : (known : Templates) (m : ModelService) (now : ℕ) (asked : Command) (s : ServiceParts) (effects : List Effect) → begins asked ≡ true → change.Service s effects ≡ said (ruling known (Some (course_of m)) now asked).change → bound_refusal known m.stand.strategy ≡ None
+begun_by known m now (command.Start name version) s effects begin e =
+    let c : Course = pass (course_of m) now in
+    let none : start_refusal known c version ≡ None = unless_none (start_refusal known c version) _ _ s effects e in
+    ap (bound_refusal known) (sym (passing_keeps (course_of m) now)) ∙ first_none (bound_refusal known c.stand.strategy) (start_refusal_at c version) none
+begun_by known m now (command.Retry name) s effects begin e =
+    let c : Course = pass (course_of m) now in
+    let none : retry_refusal known c ≡ None = unless_none (retry_refusal known c) _ _ s effects e in
+    ap (bound_refusal known) (sym (passing_keeps (course_of m) now)) ∙ first_none (bound_refusal known c.stand.strategy) (retry_refusal_at c) none
+begun_by known m now (command.Template spec) s effects begin e = absurd (cc)
+begun_by known m now (command.Service spec) s effects begin e = absurd (cc)
+begun_by known m now (command.Promote name) s effects begin e = absurd (cc)
+begun_by known m now (command.PromoteFull name) s effects begin e = absurd (cc)
+begun_by known m now (command.Abort name) s effects begin e = absurd (cc)
+begun_by known m now (command.Tick name) s effects begin e = absurd (cc)
+begun_by known m now (command.Report report) s effects begin e = absurd (cc)
+
+begun_if : (known : Templates) (found : Option ModelService) (now : ℕ) (asked : Command) (s : ServiceParts) (effects : List Effect) → s.stand.strategy ≡ (before found s.stand).stand.strategy → begins asked ≡ true
+    → change.Service s effects ≡ said (ruling known (option_map course_of found) now asked).change → bound_refusal known s.stand.strategy ≡ None
+begun_if known None now asked s effects same begin e =
+    let made : asked ≡ command.Service (made_as s.stand) = made_new known now asked s effects e in
+    let no : false ≡ true = sym (ap begins made) ∙ begin in absurd (cc)
+begun_if known (Some m) now asked s effects same begin e = ap (bound_refusal known) same ∙ begun_by known m now asked s effects begin e
+
 -- A service that changes.
 
--- what happens may happen to the service as it was found; its parts count the runs that it has then; and a new one is the command's
-pub record IsUpdate (found : Option ModelService) (name : List ℕ) (asked : Command) (s : ServiceParts) (effects : List Effect) : Type 0 where
-  pub changes : Changes found name s effects
+-- what happens may happen to the service as it was found; its parts count the runs that it has then; a new one is the command's; and an attempt begins only if nothing refuses to bind it
+pub record IsUpdate (templates : RevisionMap) (found : Option ModelService) (asked : Command) (s : ServiceParts) (effects : List Effect) : Type 0 where
+  pub changes : Changes templates found asked s effects
   pub count : s.runs.count ≡ length (after found s.stand effects).past.runs
   pub made : found ≡ None → asked ≡ command.Service (made_as s.stand)
+  pub begun : begins asked ≡ true → bound_refusal (newest templates) s.stand.strategy ≡ None
 
 counted : KeepsWhatIsSeen → (desk : Desk) (now : ℕ) (asked : Command) (s : ServiceParts) (effects : List Effect) → change.Service s effects ≡ said (ruling_on desk now asked).change → changed desk asked (change.Service s effects) ≡ (apply desk now asked).desk
     → s.runs.count ≡ length (after (get desk.services (subject_of asked)) s.stand effects).past.runs
@@ -115,13 +157,16 @@ counted law desk now asked s effects is then =
     ap (λ (s : ServiceParts). s.runs.count) same
 
 pub updating : CommandsChange → KeepsWhatIsSeen → (desk : Desk) (now : ℕ) (asked : Command) (s : ServiceParts) (effects : List Effect) → AreInOrder desk → change.Service s effects ≡ said (ruling_on desk now asked).change → changed desk asked (change.Service s effects) ≡ (apply desk now asked).desk
-    → (subject_of asked ≡ s.stand.name) × IsUpdate (get desk.services s.stand.name) s.stand.name asked s effects
+    → (subject_of asked ≡ s.stand.name) × IsUpdate desk.templates (get desk.services s.stand.name) asked s effects
 updating commands keeps desk now asked s effects order is then =
-    let changes : Changes (get desk.services (subject_of asked)) (subject_of asked) s effects = subst (IsChange desk (subject_of asked)) (sym is) (commands desk now asked order) in (
+    let found : Option ModelService = get desk.services (subject_of asked) in
+    let known : Templates = newest desk.templates in
+    let changes : Changes desk.templates found asked s effects = subst (IsChange desk asked) (sym is) (commands desk now asked order) in (
       sym changes.named,
-      subst (λ (n : List ℕ). IsUpdate (get desk.services n) n asked s effects) (sym changes.named) (record {
+      subst (λ (n : List ℕ). IsUpdate desk.templates (get desk.services n) asked s effects) (sym changes.named) (record {
         changes = changes;
         count = counted keeps desk now asked s effects is then;
-        made = λ none. made_new (get desk.templates) now asked s effects (subst (λ (o : Option ModelService). change.Service s effects ≡ said (ruling (get desk.templates) (option_map course_of o) now asked).change) none is);
+        made = λ none. made_new known now asked s effects (subst (λ (o : Option ModelService). change.Service s effects ≡ said (ruling known (option_map course_of o) now asked).change) none is);
+        begun = λ begin. begun_if known found now asked s effects changes.strategy begin is;
       }),
     )

@@ -4,7 +4,7 @@ use Rattle.std.specs.Prelude.{ℕ, ◌==◌, map, Some}
 use Rattle.std.specs.List.{AllByRecursion}
 use Rattle.canary_condition.specs.PhaseTexts.{phase_of_number}
 use Rattle.canary_metric.specs.Counts.{CountsOneMore}
-use Rattle.canary_plan.specs.declared.bound.BoundParts.{BoundParts}
+use Rattle.canary_plan.specs.declared.strategy.CheckedStrategy.{CheckedStrategy}
 use Rattle.canary_release.specs.declared.effect.Closing.{Closing}
 use Rattle.canary_release.specs.declared.effect.Recorded.{Recorded}
 use Rattle.canary_release.specs.declared.effect.Effect.{Effect}
@@ -12,6 +12,7 @@ use Rattle.canary_release.specs.declared.effect.Effect.TheVariants.{Told, Opened
 use Rattle.canary_release.specs.Effects.{Allowed, AreAllowed}
 use Rattle.canary_release.specs.Laws.{WatchesAlike}
 use Rattle.canary_release.specs.Order.{AreNumbered}
+use Rattle.canary_release.specs.Desks.{RevisionMap}
 use Rattle.canary_release.specs.Pasts.{Run, Past, opened_run, measured_in, closed_in, grows, watched}
 use Rattle.canary_release.specs.Watching.{happens}
 use Rattle.canary_rows.specs.Tables.{Tables}
@@ -26,16 +27,17 @@ use Rattle.canary_stored.proofs.RunsClosed.{closed_happens}
 
 -- What happens.
 
-one_happens : CountsOneMore → (name : List ℕ) (bound : BoundParts) (x : Effect) (t : Tables) (p : Past)
-    → ArePastRows t name p → AreNumbered 1 p.runs → Allowed bound (watched p) x → OneHappens name x t p
-one_happens one name bound (Told line) t p are numbered allowed = told_happens name line t p are numbered
-one_happens one name bound (Opened x) t p are numbered allowed = opened_happens name bound x t p are numbered allowed
-one_happens one name bound (Measured x) t p are numbered allowed = measured_happens one name x t p are numbered allowed
-one_happens one name bound (Closed x tallies) t p are numbered allowed = closed_happens name x tallies t p are numbered allowed
+one_happens : CountsOneMore → (name : List ℕ) (templates : RevisionMap) (strategy : CheckedStrategy) (x : Effect) (t : Tables) (p : Past)
+    → ArePastRows t name p → AreNumbered 1 p.runs → Allowed templates strategy (watched p) x → OneHappens name x t p
+one_happens one name templates strategy (Told line) t p are numbered allowed = told_happens name line t p are numbered
+one_happens one name templates strategy (Opened x) t p are numbered allowed = opened_happens name templates strategy x t p are numbered allowed
+one_happens one name templates strategy (Measured x) t p are numbered allowed = measured_happens one name x t p are numbered allowed
+one_happens one name templates strategy (Closed x tallies) t p are numbered allowed = closed_happens name x tallies t p are numbered allowed
 
 others_then : (q : List ℕ) (a b c : Tables) → AreOthersRows a b q → AreOthersRows b c q → AreOthersRows a c q
 others_then q a b c first later = record {
   runs = λ number. later.runs number ∙ first.runs number;
+  bindings = λ place template. later.bindings place template ∙ first.bindings place template;
   tallies = λ number metric. later.tallies number metric ∙ first.tallies number metric;
   measurements = later.measurements ∙ first.measurements;
   history = later.history ∙ first.history;
@@ -45,16 +47,17 @@ same_then : (a b c : Tables) → AreElseSame a b → AreElseSame b c → AreElse
 same_then a b c first later = record {
   callers = later.callers ∙ first.callers;
   kept = later.kept ∙ first.kept;
-  templates = later.templates ∙ first.templates;
+  revisions = later.revisions ∙ first.revisions;
   services = later.services ∙ first.services;
+  attempts = λ q template. later.attempts q template ∙ first.attempts q template;
 }
 
 none_happens : (name : List ℕ) (t : Tables) (p : Past) → ArePastRows t name p → Happens name [] t p
 none_happens name t p are = record {
   rows = are;
   asks = tt;
-  others = λ q differ. record { runs = λ number. refl; tallies = λ number metric. refl; measurements = refl; history = refl };
-  rest = record { callers = refl; kept = refl; templates = refl; services = refl };
+  others = λ q differ. record { runs = λ number. refl; bindings = λ place template. refl; tallies = λ number metric. refl; measurements = refl; history = refl };
+  rest = record { callers = refl; kept = refl; revisions = refl; services = refl; attempts = λ q template. refl };
 }
 
 happens_then : (name : List ℕ) (x : Effect) (xs : List Effect) (t : Tables) (p : Past) → OneHappens name x t p → Happens name xs (happened name x t) (grows p x) → Happens name (x ∷ xs) t p
@@ -66,12 +69,12 @@ happens_then name x xs t p first later = record {
 }
 
 pub effects_happen : CountsOneMore → WatchesAlike → EffectsHappen
-effects_happen one alike name bound [] t p are numbered allowed = none_happens name t p are
-effects_happen one alike name bound (x ∷ xs) t p are numbered allowed =
-    let first : OneHappens name x t p = one_happens one name bound x t p are numbered allowed.0 in
+effects_happen one alike name templates strategy [] t p are numbered allowed = none_happens name t p are
+effects_happen one alike name templates strategy (x ∷ xs) t p are numbered allowed =
+    let first : OneHappens name x t p = one_happens one name templates strategy x t p are numbered allowed.0 in
     let watch : happens (watched p) x ≡ watched (grows p x) = sym (alike p (x ∷ [])) in
-    let allowed_later : AreAllowed bound (watched (grows p x)) xs = subst (λ w. AreAllowed bound w xs) watch allowed.1 in
-    happens_then name x xs t p first (effects_happen one alike name bound xs (happened name x t) (grows p x) first.rows first.numbered allowed_later)
+    let allowed_later : AreAllowed templates strategy (watched (grows p x)) xs = subst (λ w. AreAllowed templates strategy w xs) watch allowed.1 in
+    happens_then name x xs t p first (effects_happen one alike name templates strategy xs (happened name x t) (grows p x) first.rows first.numbered allowed_later)
 
 -- What is read back.
 

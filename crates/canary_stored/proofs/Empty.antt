@@ -1,22 +1,24 @@
 -- Tables without rows hold no contents.
 use Rattle.std.proofs.Common.{◌≡◌, ℕ, zero, suc, ◌-◌, List, [], length, Some, None, refl, sym, ap, ◌∙◌, subst}
-use Rattle.std.specs.Prelude.{map, slice_get, unwrap_or}
+use Rattle.std.specs.Prelude.{Option, map, slice_get, unwrap_or}
+use Rattle.std.specs.List.{AllByRecursion}
 use Rattle.std.specs.Ordering.{nat_cmp}
 use Rattle.std.specs.Cmp.Lexicographic.{slice_cmp}
 use Rattle.std.specs.FinMap.{FinMap, get, get-empty, empty}
 use Rattle.canary_plan.specs.declared.template.Template.{Template}
 use Rattle.canary_plan.specs.declared.command.Command.TheVariants as command
 use Rattle.canary_release.specs.Pasts.{Past, no_past}
-use Rattle.canary_release.specs.Desks.{ModelService}
+use Rattle.canary_release.specs.Desks.{ModelService, revisions_of}
 use Rattle.canary_once.specs.declared.book.Receipt.{Receipt}
 use Rattle.canary_once.specs.Contents.{no_contents, receipts_of, receipt_at}
 use Rattle.canary_once.specs.Records.{past_in, past_of}
 use Rattle.canary_once.specs.Sound.{AreContents}
 use Rattle.canary_rows.specs.Tables.{no_tables}
-use Rattle.canary_stored.specs.Values.{caller_row, template_row, service_row, measurement_row, history_row}
-use Rattle.canary_stored.specs.Tables.{row_if, kept_rows, run_rows, tally_rows, AreRows, IsReadable, IsReadableCommand, IsReadablePast}
+use Rattle.canary_stored.specs.Values.{caller_row, service_row, measurement_row, history_row}
+use Rattle.canary_stored.specs.Tables.{row_if, kept_rows, revision_rows, binding_rows, run_rows, tally_rows, AreRows, IsReadable, IsReadableCommand, IsReadablePast}
 use Rattle.canary_stored.specs.Reading.{contents_of}
 use Rattle.canary_stored.specs.Laws.{EmptyHoldsNothing}
+use Rattle.canary_stored.proofs.RevisionsBack.{IsReadableTemplate}
 use Rattle.canary_stored.proofs.ReadBack.{reads_back}
 
 no_kept : (caller : List ℕ) (number : ℕ) → [] ≡ kept_rows caller number []
@@ -31,6 +33,10 @@ no_tallies : (name : List ℕ) (number metric : ℕ) → [] ≡ tally_rows name 
 no_tallies name zero metric = refl
 no_tallies name (suc place) metric = refl
 
+no_revisions : (name : List ℕ) (number : ℕ) → [] ≡ revision_rows name number []
+no_revisions name zero = refl
+no_revisions name (suc place) = refl
+
 none : {A : Type 0} (k : List ℕ) → let m : FinMap (slice_cmp nat_cmp) A = empty in None ≡ get m k
 none k = sym (get-empty (slice_cmp nat_cmp) k)
 
@@ -44,8 +50,9 @@ no_rows : AreRows no_tables no_contents
 no_rows = record {
   callers = λ name. ap (row_if (λ receipts. caller_row name (length receipts))) (none name);
   kept = λ caller number. no_kept caller number ∙ ap (kept_rows caller number) (no_receipts caller);
-  templates = λ name. ap (row_if (template_row name)) (none name);
+  revisions = λ name number. no_revisions name number ∙ ap (λ o. revision_rows name number (unwrap_or o [])) (none name);
   services = λ name. ap (row_if (service_row name)) (none name);
+  bindings = λ name number template. ap (binding_rows name number template) (none name);
   runs = λ name number. no_runs name number ∙ ap (λ (p : Past). run_rows name number p.runs) (no_past_of name);
   tallies = λ name number metric. no_tallies name number metric ∙ ap (λ (p : Past). tally_rows name number metric p.runs) (no_past_of name);
   measurements = λ name. ap (λ (p : Past). map (measurement_row name) p.measurements) (no_past_of name);
@@ -55,8 +62,8 @@ no_rows = record {
 no_receipt : (caller : List ℕ) (number : ℕ) (r : Receipt) → receipt_at no_contents caller number ≡ Some r → IsReadableCommand r.command
 no_receipt caller number r e = let no : slice_get [] (number - 1) ≡ Some r = ap (λ receipts. slice_get receipts (number - 1)) (no_receipts caller) ∙ e in absurd (cc)
 
-no_template : (name : List ℕ) (t : Template) → get no_contents.desk.templates name ≡ Some t → IsReadableCommand (command.Template t.spec)
-no_template name t e = let no : None ≡ Some t = none name ∙ e in absurd (cc)
+no_template : (name : List ℕ) → AllByRecursion IsReadableTemplate (revisions_of no_contents.desk.templates name)
+no_template name = subst (λ (o : Option (List Template)). AllByRecursion IsReadableTemplate (unwrap_or o [])) (none name) tt
 
 no_service : (name : List ℕ) (m : ModelService) → get no_contents.desk.services name ≡ Some m → IsReadableCommand (command.Service m.made)
 no_service name m e = let no : None ≡ Some m = none name ∙ e in absurd (cc)

@@ -1,10 +1,11 @@
--- Callers, receipts, templates, histories and measurements are found.
+-- Callers, receipts, revisions, histories and measurements are found.
 use Rattle.std.proofs.Common.{◌≡◌, ℕ, zero, suc, ◌≤◌, List, [], ◌∷◌, length, take, Some, None, refl, sym, ap, ◌∙◌, subst, arith}
-use Rattle.std.specs.Prelude.{Option, is_some, filter, map, drop, slice_get, unwrap_or}
+use Rattle.std.specs.Prelude.{Option, is_some, filter, find, map, drop, slice_get, unwrap_or}
 use Rattle.std.specs.List.{filter_map, cons_option, AllByRecursion}
 use Rattle.std.specs.FinMap.{get}
 use Rattle.std.proofs.lemmas.List.{take-map, drop-map}
 use Rattle.canary_canonical.specs.Readings.{IsCanonical}
+use Rattle.canary_plan.specs.declared.template.Template.{Template}
 use Rattle.canary_plan.specs.declared.line.Line.{Line}
 use Rattle.canary_release.specs.declared.effect.Recorded.{Recorded}
 use Rattle.canary_release.specs.Pasts.{Run, counts_of}
@@ -14,22 +15,14 @@ use Rattle.canary_once.specs.Records.{past_of}
 use Rattle.canary_rows.specs.declared.rows.KeptRow.{KeptRow}
 use Rattle.canary_rows.specs.declared.rows.MeasurementRow.{MeasurementRow}
 use Rattle.canary_rows.specs.Tables.{Tables, is_kept, is_measurement_of}
-use Rattle.canary_stored.specs.Values.{caller_row, kept_row, receipt_of_row, template_row, template_of_row, measurement_row, measurement_of_row, history_row, line_of_row, service_row, run_row, tally_row}
-use Rattle.canary_stored.specs.Tables.{row_if, kept_rows, run_at, tally_rows_of, IsReadableCommand, IsReadableLine, IsReadableMeasurement}
-use Rattle.canary_stored.specs.Reading.{contents_of, HoldsContents}
-use Rattle.canary_stored.specs.Finding.{first_row, IsFound, AreRead, settled_by}
-use Rattle.canary_stored.specs.Laws.{KeysAreUnique, CountsAreFound, ReceiptsAreFound, KeptTextsAreCanonical, TemplatesAreFound, HistoriesAreFound, MeasurementsAreFound}
-use Rattle.canary_stored.proofs.RowsBack.{receipt_back, template_back, measurement_back, line_back}
+use Rattle.canary_stored.specs.Values.{caller_row, kept_row, receipt_of_row, revision_row, measurement_row, measurement_of_row, history_row, line_of_row, service_row, binding_row, run_row, tally_row}
+use Rattle.canary_stored.specs.Tables.{row_if, kept_rows, revision_rows, is_of_template, revisions_bound, run_at, tally_rows_of, IsReadableCommand, IsReadableLine, IsReadableMeasurement}
+use Rattle.canary_stored.specs.Reading.{first_row, contents_of, HoldsContents}
+use Rattle.canary_stored.specs.Finding.{IsFound, AreRead, settled_by}
+use Rattle.canary_stored.specs.Laws.{KeysAreUnique, CountsAreFound, ReceiptsAreFound, KeptTextsAreCanonical, RevisionsAreFound, NewestAreFound, HistoriesAreFound, MeasurementsAreFound}
+use Rattle.canary_stored.proofs.RowsBack.{receipt_back, measurement_back, line_back, found_under}
+use Rattle.canary_stored.proofs.RevisionsBack.{revision_found, newest_found}
 use Rattle.canary_stored.proofs.ReadBack.{at_number}
-
--- one row or none is found as what there is
-if_found : {A R : Type 0} (row : A → R) (reads : R → Option A) (o : Option A) → ((x : A) → o ≡ Some x → reads (row x) ≡ Some x) → IsFound reads (first_row (row_if row o)) o
-if_found row reads None back = record { value = refl; read = refl }
-if_found row reads (Some x) back = record { value = back x refl; read = ap Some (back x refl) }
-
--- under these rows
-pub found_under : {A R : Type 0} (row : A → R) (reads : R → Option A) (rows : List R) (o : Option A) → rows ≡ row_if row o → ((x : A) → o ≡ Some x → reads (row x) ≡ Some x) → IsFound reads (first_row rows) o
-found_under row reads rows o are back = subst (λ rs. IsFound reads (first_row rs) o) (sym are) (if_found row reads o back)
 
 -- One row at most.
 
@@ -40,6 +33,10 @@ one_at_most row (Some x) = omega arith
 one_kept : (caller : List ℕ) (number : ℕ) (receipts : List Receipt) → length (kept_rows caller number receipts) ≤ 1
 one_kept caller zero receipts = omega arith
 one_kept caller (suc place) receipts = one_at_most (kept_row caller (suc place)) (slice_get receipts place)
+
+one_revision : (name : List ℕ) (number : ℕ) (templates : List Template) → length (revision_rows name number templates) ≤ 1
+one_revision name zero templates = omega arith
+one_revision name (suc place) templates = one_at_most (revision_row name) (slice_get templates place)
 
 one_tally : (name : List ℕ) (number metric : ℕ) (o : Option Run) → length (tally_rows_of name number metric o) ≤ 1
 one_tally name number metric None = omega arith
@@ -54,13 +51,14 @@ keys_are_unique t holds =
     record {
       callers = λ name. as_long _ _ (holds.rows.callers name) (one_at_most (λ receipts. caller_row name (length receipts)) _);
       kept = λ caller number. as_long _ _ (holds.rows.kept caller number) (one_kept caller number _);
-      templates = λ name. as_long _ _ (holds.rows.templates name) (one_at_most (template_row name) _);
+      revisions = λ name number. as_long _ _ (holds.rows.revisions name number) (one_revision name number _);
       services = λ name. as_long _ _ (holds.rows.services name) (one_at_most (service_row name) _);
+      bindings = λ name number template. as_long _ _ (holds.rows.bindings name number template) (one_at_most (binding_row name number) (find (is_of_template template) (revisions_bound (get (contents_of t).desk.services name) number)));
       runs = λ name number. as_long _ _ (holds.rows.runs name number) (one_at_most (run_row name) (run_at number (runs name)));
       tallies = λ name number metric. as_long _ _ (holds.rows.tallies name number metric) (one_tally name number metric (run_at number (runs name)));
     }
 
--- Callers, receipts and templates.
+-- Callers, receipts and revisions.
 
 settled_in : (name : List ℕ) (o : Option (List Receipt)) → settled_by (first_row (row_if (λ receipts. caller_row name (length receipts)) o)) ≡ length (unwrap_or o [])
 settled_in name None = refl
@@ -93,9 +91,11 @@ kept_texts_are_canonical t holds caller (suc place) row e =
     let c : Contents = contents_of t in
     canonical_if caller (suc place) (slice_get (receipts_of c caller) place) (λ r k. holds.readable.receipts caller (suc place) r (at_number c caller place ∙ k)) row (ap first_row (sym (holds.rows.kept caller (suc place))) ∙ e)
 
-pub templates_are_found : TemplatesAreFound
-templates_are_found t holds name =
-    found_under (template_row name) template_of_row _ _ (holds.rows.templates name) (λ x e. template_back name x (holds.readable.templates name x e) (holds.lawful.desk.templates name x e))
+pub revisions_are_found : RevisionsAreFound
+revisions_are_found t holds name number = revision_found t (contents_of t) holds.rows holds.readable holds.lawful name number
+
+pub newest_are_found : NewestAreFound
+newest_are_found t holds name row is = newest_found t (contents_of t) holds.rows holds.readable holds.lawful name row is
 
 -- Lists.
 

@@ -31,6 +31,7 @@ pub told_happens : (name : List ℕ) (line : Line) (t : Tables) (p : Past) → A
 told_happens name line t p are numbered = record {
   rows = record {
     runs = are.runs;
+    bindings = are.bindings;
     tallies = are.tallies;
     measurements = are.measurements;
     history = passes_more (is_line_of name) t.history (history_row name line) (own_name name) ∙ ap (λ rows. rows ++ history_row name line ∷ []) are.history ∙ sym (map_more (history_row name) p.history line);
@@ -38,10 +39,11 @@ told_happens name line t p are numbered = record {
   asks = tt;
   others = λ q differ. record {
     runs = λ number. refl;
+    bindings = λ place template. refl;
     tallies = λ number metric. refl;
     measurements = refl;
     history = fails_more (is_line_of q) t.history (history_row name line) differ;
   };
-  rest = record { callers = refl; kept = refl; templates = refl; services = refl };
+  rest = record { callers = refl; kept = refl; revisions = refl; services = refl; attempts = λ q template. refl };
   numbered = numbered;
 }

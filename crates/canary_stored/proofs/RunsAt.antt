@@ -3,11 +3,15 @@ use Rattle.std.proofs.Common.{◌≡◌, ℕ, zero, suc, ◌+◌, List, [], ◌�
 use Rattle.std.specs.Prelude.{◌==◌, cond, filter, map, Option, Some, None, option_map, slice_get}
 use Rattle.std.specs.List.{find}
 use Rattle.std.proofs.lemmas.Option.{slice_get-map}
+use Rattle.canary_plan.specs.declared.analysis_parts.AnalysisParts.{AnalysisParts}
 use Rattle.canary_release.specs.declared.runs.OpenRun.{OpenRun}
 use Rattle.canary_release.specs.Courses.{has_number}
 use Rattle.canary_release.specs.Order.{AreNumbered}
 use Rattle.canary_release.specs.Pasts.{Run, is_open, tallied}
-use Rattle.canary_stored.specs.Tables.{run_at}
+use Rattle.canary_stored.specs.Values.{binding_row}
+use Rattle.canary_stored.specs.Tables.{row_if, run_at, is_of_template, revisions_of_run}
+use Rattle.canary_stored.proofs.PastRows.{bound_rows}
+use Rattle.canary_stored.proofs.Pushed.{at_last, past_last, at_other}
 
 -- Numbers.
 
@@ -34,21 +38,16 @@ pub run_in_map : (f : Run → Run) (number : ℕ) (runs : List Run) → run_at n
 run_in_map f zero runs = refl
 run_in_map f (suc place) runs = slice_get-map f runs place
 
+same_revisions : (f : Run → Run) → ((r : Run) → (f r).analysis ≡ r.analysis) → (o : Option Run) → revisions_of_run o ≡ revisions_of_run (option_map f o)
+same_revisions f same None = refl
+same_revisions f same (Some r) = ap (λ (a : AnalysisParts). a.revisions) (sym (same r))
+
+-- runs that keep their analyses are bound as they were
+pub same_bound : (name : List ℕ) (number : ℕ) (template : List ℕ) (f : Run → Run) → ((r : Run) → (f r).analysis ≡ r.analysis) → (runs : List Run) → bound_rows name number template runs ≡ bound_rows name number template (map f runs)
+same_bound name number template f same runs =
+    ap (λ rs. row_if (binding_row name number) (find (is_of_template template) rs)) (same_revisions f same (run_at number runs) ∙ ap revisions_of_run (sym (run_in_map f number runs)))
+
 -- One run more.
-
-at_last : {A : Type 0} (xs : List A) (x : A) → slice_get (xs ++ x ∷ []) (length xs) ≡ Some x
-at_last [] x = refl
-at_last (y ∷ xs) x = at_last xs x
-
-past_last : {A : Type 0} (xs : List A) → slice_get xs (length xs) ≡ None
-past_last [] = refl
-past_last (x ∷ xs) = past_last xs
-
-at_other : {A : Type 0} (xs : List A) (x : A) (i : ℕ) → (i ≡ length xs → ⊥) → slice_get (xs ++ x ∷ []) i ≡ slice_get xs i
-at_other [] x zero apart = absurd (apart refl)
-at_other [] x (suc i) apart = refl
-at_other (y ∷ xs) x zero apart = refl
-at_other (y ∷ xs) x (suc i) apart = at_other xs x i (λ e. apart (ap suc e))
 
 pub run_at_last : (runs : List Run) (r : Run) (number : ℕ) → number ≡ length runs + 1 → run_at number (runs ++ r ∷ []) ≡ Some r
 run_at_last runs r zero last = absurd (omega (arith, last))

@@ -1,5 +1,5 @@
 -- A run is closed: what this makes of the rows of a past.
-use Rattle.std.proofs.Common.{◌≡◌, ℕ, List, [], ◌∷◌, Bool, true, false, refl, ap, sym, ◌∙◌}
+use Rattle.std.proofs.Common.{◌≡◌, ℕ, suc, List, [], ◌∷◌, Bool, true, false, refl, ap, sym, ◌∙◌}
 use Rattle.std.specs.Prelude.{◌==◌, ◌&&◌, if◌then◌else◌, map, Option, Some, None, option_map}
 use Rattle.std.specs.Str.{bytes_eq}
 use Rattle.canary_metric.specs.Counts.{Counts}
@@ -15,7 +15,7 @@ use Rattle.canary_stored.specs.Values.{ending_of, run_row}
 use Rattle.canary_stored.specs.Tables.{row_if, run_at, run_rows, tally_rows, tally_rows_of}
 use Rattle.canary_stored.proofs.PastRows.{ArePastRows}
 use Rattle.canary_stored.proofs.Filters.{own_name, turned, changed_under, left_alone, first_holds, apart_by_name}
-use Rattle.canary_stored.proofs.RunsAt.{same_numbers, run_in_map, StandsThere, found_stands}
+use Rattle.canary_stored.proofs.RunsAt.{same_numbers, same_bound, run_in_map, StandsThere, found_stands}
 use Rattle.canary_stored.proofs.OneHappens.{OneHappens}
 
 abbrev with_end : Closing → RunRow → RunRow
@@ -52,6 +52,10 @@ same_number : (x : Closing) (r : Run) (t : Bool) → (r.number == x.run) ≡ t �
 same_number x r true t = rw t refl
 same_number x r false t = rw t refl
 
+same_analysis : (x : Closing) (r : Run) (t : Bool) → (r.number == x.run) ≡ t → (closed_in x r).analysis ≡ r.analysis
+same_analysis x r true t = rw t refl
+same_analysis x r false t = rw t refl
+
 -- the run is there
 
 stands_in_rows : (name : List ℕ) (number : ℕ) (t : Tables) (p : Past) (r : Run) → ArePastRows t name p → run_at number p.runs ≡ Some r → IsOne (is_run name number) t.runs
@@ -67,6 +71,7 @@ closed_happens name x tallies t p are numbered closes =
             changed_under (is_run name number) (is_run name x.run) (with_end x) (λ row. refl) t.runs
             ∙ ap (change_where (is_run name x.run) (with_end x)) (are.runs number)
             ∙ run_rows_closed name x number p.runs;
+        bindings = λ place template. are.bindings place template ∙ same_bound name (suc place) template (closed_in x) (λ r. same_analysis x r (r.number == x.run) refl) p.runs;
         tallies = λ number metric. are.tallies number metric ∙ tally_rows_closed name number metric x p.runs;
         measurements = are.measurements;
         history = are.history;
@@ -76,10 +81,11 @@ closed_happens name x tallies t p are numbered closes =
         runs = λ number.
             left_alone (is_run q number) (is_run name x.run) (with_end x) (λ row. refl)
             (λ row e. ap (λ b. b && (x.run == row.number)) (apart_by_name q name row.service differ (first_holds (bytes_eq q row.service) (number == row.number) e))) t.runs;
+        bindings = λ place template. refl;
         tallies = λ number metric. refl;
         measurements = refl;
         history = refl;
       };
-      rest = record { callers = refl; kept = refl; templates = refl; services = refl };
+      rest = record { callers = refl; kept = refl; revisions = refl; services = refl; attempts = λ q template. refl };
       numbered = same_numbers (closed_in x) (λ r. same_number x r (r.number == x.run) refl) 1 p.runs numbered;
     }

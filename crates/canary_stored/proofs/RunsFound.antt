@@ -2,38 +2,43 @@
 use Rattle.std.proofs.Common.{◌≡◌, ℕ, zero, suc, ◌+◌, ◌==◌, List, [], ◌∷◌, length, Bool, true, false, Some, None, refl, sym, ap, ◌∙◌, subst, arith}
 use Rattle.std.specs.Prelude.{Option, cond, ◌&&◌, filter, map, find, slice_get, option_map, option_and_then, is_none, IsPermutation}
 use Rattle.std.specs.Str.{bytes_eq}
-use Rattle.std.specs.List.{AllByRecursion}
+use Rattle.std.specs.List.{AllByRecursion, list_any}
 use Rattle.std.specs.FinMap.{get}
 use Rattle.std.proofs.lemmas.List.Elements.{filter_agree}
 use Rattle.canary_metric.specs.Counts.{Counts}
 use Rattle.canary_plan.specs.declared.command.Command.{Command}
 use Rattle.canary_plan.specs.declared.bound.BoundParts.{BoundParts}
 use Rattle.canary_plan.specs.declared.strategy.CheckedStrategy.{CheckedStrategy}
-use Rattle.canary_plan.specs.Plans.{Templates, strategy_of, bound_of}
+use Rattle.canary_plan.specs.declared.command.Command.TheVariants as command
+use Rattle.canary_plan.specs.Plans.{Templates, strategy_of, bound_of, analysis_or_none}
 use Rattle.canary_release.specs.declared.effect.Recorded.{Recorded}
 use Rattle.canary_release.specs.declared.effect.Closing.{Closing}
 use Rattle.canary_release.specs.declared.runs.OpenRun.{OpenRun}
-use Rattle.canary_release.specs.Order.{AreNumbered, IsRun, IsInOrder}
+use Rattle.canary_release.specs.Order.{AreNumbered, IsRun, IsInOrder, AreRevisions}
+use Rattle.canary_release.specs.Parts.{has_other_revisions}
 use Rattle.canary_release.specs.Pasts.{Run, is_open, counts_of, tallied, watched}
 use Rattle.canary_release.specs.Shapes.{shape}
-use Rattle.canary_release.specs.Desks.{ModelService}
+use Rattle.canary_release.specs.Desks.{ModelService, RevisionMap, revisions_of}
+use Rattle.canary_once.specs.declared.record.RunRecord.{RunRecord}
 use Rattle.canary_once.specs.Contents.{Contents}
-use Rattle.canary_once.specs.Records.{record_of, is_numbered, past_in, past_of, run_of}
+use Rattle.canary_once.specs.Records.{record_of, record_numbered, is_numbered, past_in, past_of, run_of}
 use Rattle.canary_rows.specs.declared.rows.RunRow.{RunRow}
 use Rattle.canary_rows.specs.declared.rows.TallyRow.{TallyRow}
 use Rattle.canary_rows.specs.declared.rows.ServiceRow.{ServiceRow}
 use Rattle.canary_rows.specs.Tables.{Tables, is_run, is_open_run_of, is_tally}
 use Rattle.canary_stored.specs.Values.{made_from, run_row, tally_row, ending_of, service_row}
-use Rattle.canary_stored.specs.Tables.{row_if, run_at, tally_rows_of, IsReadableRun}
-use Rattle.canary_stored.specs.Reading.{contents_of, HoldsContents}
+use Rattle.canary_stored.specs.Tables.{row_if, run_at, tally_rows_of, IsReadableCommand, IsReadableRun}
+use Rattle.canary_stored.specs.Reading.{first_row, known_in, contents_of, HoldsContents}
 use Rattle.canary_stored.specs.Ordered.{AscendByMetric, AscendByNumber}
 use Rattle.canary_rows.specs.Tables.{is_tally_of}
-use Rattle.canary_stored.specs.Finding.{first_row, IsFound, tallies_told, tallies_of, record_closed, record_of_row, open_run_of, with_analysis, open_runs_by, parts_standing, parts_made, parts_of_row}
-use Rattle.canary_stored.specs.Laws.{TalliesAreFound, RunsAreFound, OpenRunsAreFound, ServicesAreFound}
+use Rattle.canary_stored.specs.Finding.{IsFound, tallies_told, tallies_of, strategy_by, analysis_by, record_closed, record_of_row, open_run_of, with_analysis, open_runs_by, parts_standing, parts_made, parts_of_row}
+use Rattle.canary_stored.specs.Laws.{TalliesAreFound, RunsAreFound, RunsHaveServices, OpenRunsAreFound, ServicesAreFound}
 use Rattle.canary_stored.proofs.Keys.{optional}
-use Rattle.canary_stored.proofs.RowsBack.{closing_back, stand_back, analysis_back, all_at}
+use Rattle.canary_stored.proofs.RowsBack.{closing_back, stand_back, all_at}
+use Rattle.canary_stored.proofs.BindingsBack.{in_order as revisions_in_order, bound_back, analysis_back, open_analysis}
+use Rattle.canary_stored.proofs.BoundWholly.{neither, bound_so}
 use Rattle.canary_stored.proofs.InOrder.{filter_twice, filter_map_of, same_one, rises, same_order, none_below}
-use Rattle.canary_stored.proofs.Numbered.{both_in_turn, other_first, either_order, filters_swap, find_first, Follow, follow_above, follow_rises, key_at, at_place, weaker, all_filter, rise_filter, rise_map, by_place, map_both, map_then}
+use Rattle.canary_stored.proofs.Numbered.{both_in_turn, other_first, either_order, filters_swap, find_first, Follow, follow_above, follow_rises, key_at, at_place, all_filter, rise_filter, rise_map, by_place, map_both, map_then}
 
 abbrev metric_in : TallyRow → ℕ
 metric_in row = row.metric
@@ -113,12 +118,12 @@ find_run number rs f =
     ∙ ap (λ (ys : List Run). slice_get ys 0) (filter_agree (is_numbered number) (λ r. number == run_number r) (λ r. either_order r.number number) rs ∙ under_number number rs f)
     ∙ the_one (run_at number rs)
 
-in_order : (known : Templates) (name : List ℕ) (o : Option ModelService) → ((s : ModelService) → o ≡ Some s → IsInOrder known name s) → Follow run_number 1 (past_in o).runs
-in_order known name None is = tt
-in_order known name (Some s) is = follows 1 s.past.runs (is s refl).numbered
+in_order : (templates : RevisionMap) (name : List ℕ) (o : Option ModelService) → ((s : ModelService) → o ≡ Some s → IsInOrder templates name s) → Follow run_number 1 (past_in o).runs
+in_order templates name None is = tt
+in_order templates name (Some s) is = follows 1 s.past.runs (is s refl).numbered
 
 numbered : (t : Tables) → HoldsContents t → (name : List ℕ) → Follow run_number 1 (past_of (contents_of t) name).runs
-numbered t holds name = let c : Contents = contents_of t in in_order (get c.desk.templates) name (get c.desk.services name) (holds.lawful.desk.services name)
+numbered t holds name = let c : Contents = contents_of t in in_order c.desk.templates name (get c.desk.services name) (holds.lawful.desk.services name)
 
 run_is : (t : Tables) → HoldsContents t → (name : List ℕ) (number : ℕ) → run_of (contents_of t) name number ≡ option_map record_of (run_at number (past_of (contents_of t) name).runs)
 run_is t holds name number = ap (option_map record_of) (find_run number (past_of (contents_of t) name).runs (numbered t holds name))
@@ -148,17 +153,63 @@ run_has : (P : Run → Type 0) (rs : List Run) → AllByRecursion P rs → (numb
 run_has P rs all zero r e = absurd (cc)
 run_has P rs all (suc place) r e = all_at P rs all place r e
 
+-- the strategy by a service's row is that of the service
+strategy_back : (name : List ℕ) (m : ModelService) → IsReadableCommand (command.Service m.made) → strategy_by (Some (service_row name m)) ≡ Some (strategy_of m.made)
+strategy_back name m readable = ap (λ o. option_map strategy_of (made_from o)) readable
+
+-- a service whose row has this strategy is there
+record HasStrategy (found : Option ModelService) (strategy : CheckedStrategy) : Type 0 where
+  service : ModelService
+  there : found ≡ Some service
+  is : strategy_of service.made ≡ strategy
+
+by_strategy : (name : List ℕ) (found : Option ModelService) (strategy : CheckedStrategy) → ((m : ModelService) → found ≡ Some m → IsReadableCommand (command.Service m.made)) → strategy_by (first_row (row_if (service_row name) found)) ≡ Some strategy → HasStrategy found strategy
+by_strategy name None strategy readable e = absurd (cc)
+by_strategy name (Some m) strategy readable e =
+    let same : Some (strategy_of m.made) ≡ Some strategy = sym (strategy_back name m (readable m refl)) ∙ e in
+    record { service = m; there = refl; is = cc same }
+
+-- the analysis of a run, by its row
+run_analysis : (t : Tables) → HoldsContents t → (name : List ℕ) (strategy : CheckedStrategy) → HasStrategy (get (contents_of t).desk.services name) strategy → (place : ℕ) (r : Run) → slice_get (past_of (contents_of t) name).runs place ≡ Some r
+    → analysis_by t strategy (run_row name r) ≡ r.analysis
+run_analysis t holds name strategy has place r e =
+    let c : Contents = contents_of t in
+    let m : ModelService = has.service in
+    let order : IsInOrder c.desk.templates name m = holds.lawful.desk.services name m has.there in
+    let at : slice_get m.past.runs place ≡ Some r = ap (λ o. slice_get (past_in o).runs place) (sym has.there) ∙ e in
+    let is : IsRun c.desk.templates m r = all_at (IsRun c.desk.templates m) m.past.runs order.runs place r at in
+    let number : r.number ≡ suc place = (let n : r.number ≡ place + 1 = key_at run_number 1 m.past.runs (follows 1 m.past.runs order.numbered) place r at in omega arith) in
+    (λ i. analysis_or_none (bound_of (known_in t name (number i)) (sym has.is i)) r.step) ∙ analysis_back t c holds.rows holds.readable holds.lawful name m has.there place r at is
+
+run_analysis_at : (t : Tables) → HoldsContents t → (name : List ℕ) (strategy : CheckedStrategy) → HasStrategy (get (contents_of t).desk.services name) strategy → (number : ℕ) (r : Run) → run_at number (past_of (contents_of t) name).runs ≡ Some r
+    → analysis_by t strategy (run_row name r) ≡ r.analysis
+run_analysis_at t holds name strategy has zero r e = absurd (cc)
+run_analysis_at t holds name strategy has (suc place) r e = run_analysis t holds name strategy has place r e
+
 pub runs_are_found : RunsAreFound
-runs_are_found t holds name number =
+runs_are_found t holds name number strategy there =
     let c : Contents = contents_of t in
     let rs : List Run = (past_of c name).runs in
     let tallies : List Counts = tallies_of c name number in
-    let found : IsFound (record_of_row tallies) (first_row (filter (is_run name number) t.runs)) (option_map record_of (run_at number rs)) =
-    found_as (run_row name) (record_of_row tallies) record_of _ (run_at number rs) (holds.rows.runs name number) (λ r e.
+    let reads : RunRow → Option RunRecord = λ row. record_of_row (analysis_by t strategy row) tallies row in
+    let has : HasStrategy (get c.desk.services name) strategy = by_strategy name (get c.desk.services name) strategy (holds.readable.made name) (ap (λ rows. strategy_by (first_row rows)) (sym (holds.rows.services name)) ∙ there) in
+    let found : IsFound reads (first_row (filter (is_run name number) t.runs)) (option_map record_of (run_at number rs)) =
+    found_as (run_row name) reads record_of _ (run_at number rs) (holds.rows.runs name number) (λ r e.
     let these : tallies ≡ map counts_of r.lists = sym (ap (λ o. map counts_of (lists_of o)) (sym e) ∙ tallies_are t holds name number) in
-    ap (option_map (record_closed (run_row name r) tallies)) (closing_back r.number r.closed (run_has IsReadableRun rs (holds.readable.pasts name).runs number r e))
-    ∙ (λ i. Some (record (record_of r) { tallies = these i }))) in
-    subst (IsFound (record_of_row tallies) (first_row (filter (is_run name number) t.runs))) (sym (run_is t holds name number)) found
+    let analysis : analysis_by t strategy (run_row name r) ≡ r.analysis = run_analysis_at t holds name strategy has number r e in
+    ap (option_map (record_closed (run_row name r) (analysis_by t strategy (run_row name r)) tallies)) (closing_back r.number r.closed (run_has IsReadableRun rs (holds.readable.pasts name).runs number r e))
+    ∙ (λ i. Some (record (record_of r) { analysis = analysis i; tallies = these i }))) in
+    subst (IsFound reads (first_row (filter (is_run name number) t.runs))) (sym (run_is t holds name number)) found
+
+none_by : (name : List ℕ) (found : Option ModelService) → first_row (row_if (service_row name) found) ≡ None → found ≡ None
+none_by name None e = refl
+none_by name (Some m) e = absurd (cc)
+
+pub runs_have_services : RunsHaveServices
+runs_have_services t holds name number there =
+    let c : Contents = contents_of t in
+    let none : get c.desk.services name ≡ None = none_by name (get c.desk.services name) (ap first_row (sym (holds.rows.services name)) ∙ there) in
+    ap (λ o. record_numbered (past_in o) number) none
 
 -- Open runs.
 
@@ -226,27 +277,36 @@ open_runs_are_found t holds name bound rows moved ascend =
     ∙ sym (map_then (with_analysis bound) tallied (filter is_open rs))
 
 -- by what a service is bound to they are those that are watched
-own_open_runs : (m : ModelService) → AllByRecursion (IsRun m) m.past.runs → map (with_analysis m.stand.bound) (watched m.past).open_runs ≡ (watched m.past).open_runs
-own_open_runs m runs =
+own_open_runs : (templates : RevisionMap) (name : List ℕ) (m : ModelService) → ((q : List ℕ) → AreRevisions q 1 (revisions_of templates q)) → IsInOrder templates name m → map (with_analysis m.stand.bound) (watched m.past).open_runs ≡ (watched m.past).open_runs
+own_open_runs templates name m are order =
     let bound : BoundParts = m.stand.bound in
+    let open_runs : List Run = filter is_open m.past.runs in
     let P : Run → Type 0 = λ r. tallied_by bound r ≡ tallied r in
-    map_both (with_analysis bound) tallied tallied (filter is_open m.past.runs) (all_filter is_open P m.past.runs (weaker (IsRun m) P (λ r is. λ i. record (tallied r) { analysis = analysis_back m r is i }) m.past.runs runs))
+    let same : list_any (has_other_revisions m.stand) (map tallied open_runs) ≡ false = (bound_so (shape m) order.parts).same in
+    map_both (with_analysis bound) tallied tallied open_runs (each open_runs (all_filter is_open (IsRun templates m) m.past.runs order.runs) same)
+  where
+    each : (rs : List Run) → AllByRecursion (IsRun templates m) rs → list_any (has_other_revisions m.stand) (map tallied rs) ≡ false → AllByRecursion (λ (r : Run). tallied_by m.stand.bound r ≡ tallied r) rs
+    each [] runs same = tt
+    each (r ∷ rs) runs same =
+        let parts = neither (has_other_revisions m.stand (tallied r)) (list_any (has_other_revisions m.stand) (map tallied rs)) same in
+        let analysis : analysis_or_none m.stand.bound r.step ≡ r.analysis = open_analysis templates m r are order.bound runs.0 parts.0 in
+        (λ i. record (tallied r) { analysis = analysis i }, each rs runs.1 parts.1)
 
 -- Services.
 
 pub services_are_found : ServicesAreFound
 services_are_found t holds name =
     let c : Contents = contents_of t in
-    let known : Templates = get c.desk.templates in
+    let known : Templates = known_in t name 0 in
     let open_runs : BoundParts → List OpenRun = open_runs_by c name in
     found_as (service_row name) (parts_of_row known open_runs) shape _ (get c.desk.services name) (holds.rows.services name) (λ m e.
-    let order : IsInOrder known name m = holds.lawful.desk.services name m e in
+    let order : IsInOrder c.desk.templates name m = holds.lawful.desk.services name m e in
     let row : ServiceRow = service_row name m in
     let strategy : CheckedStrategy = strategy_of m.made in
     let bound : BoundParts = bound_of known strategy in
-    let to : m.stand.bound ≡ bound = order.bound ∙ ap (bound_of known) order.strategy in
+    let to : m.stand.bound ≡ bound = bound_back t c holds.rows holds.readable holds.lawful name m e in
     let runs : open_runs bound ≡ (watched m.past).open_runs =
-    (λ i. map (with_analysis (sym to i)) (watched (past_in (e i))).open_runs) ∙ own_open_runs m order.runs in
+    (λ i. map (with_analysis (sym to i)) (watched (past_in (e i))).open_runs) ∙ own_open_runs c.desk.templates name m (revisions_in_order c holds.lawful) order in
     ap (λ (o : Option Command). option_and_then (parts_made known open_runs row) (made_from o)) (holds.readable.made name m e)
     ∙ ap (option_map (parts_standing row (open_runs bound))) (stand_back name strategy bound m.stand (length m.past.runs) order.shown order.strategy to)
     ∙ (λ i. Some (record { stand = m.stand; runs = record { count = length m.past.runs; open_runs = runs i } })))

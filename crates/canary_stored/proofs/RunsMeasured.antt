@@ -18,7 +18,7 @@ use Rattle.canary_stored.specs.Values.{run_row, tally_row, measurement_row}
 use Rattle.canary_stored.specs.Tables.{row_if, run_at, run_rows, tally_rows, tally_rows_of}
 use Rattle.canary_stored.proofs.PastRows.{ArePastRows}
 use Rattle.canary_stored.proofs.Filters.{own_name, turned, passes_more, fails_more, changed_under, left_alone, first_holds, apart_by_name}
-use Rattle.canary_stored.proofs.RunsAt.{same_numbers, has_its_number, run_in_map, StandsThere, found_stands}
+use Rattle.canary_stored.proofs.RunsAt.{same_numbers, same_bound, has_its_number, run_in_map, StandsThere, found_stands}
 use Rattle.canary_stored.proofs.OneHappens.{OneHappens, map_more}
 use Rattle.canary_stored.proofs.Few.{counts_few}
 
@@ -41,6 +41,10 @@ run_rows_measured name x number runs = rows_if_measured name x (run_at number ru
 same_number : (x : Recorded) (r : Run) (t : Bool) → (r.number == x.run) ≡ t → (measured_in x r).number ≡ r.number
 same_number x r true t = rw t refl
 same_number x r false t = rw t refl
+
+same_analysis : (x : Recorded) (r : Run) (t : Bool) → (r.number == x.run) ≡ t → (measured_in x r).analysis ≡ r.analysis
+same_analysis x r true t = rw t refl
+same_analysis x r false t = rw t refl
 
 -- the list at a place, of lists of which one is changed
 
@@ -167,6 +171,7 @@ pub measured_happens : CountsOneMore → (name : List ℕ) (x : Recorded) (t : T
 measured_happens one name x t p are numbered measures = record {
   rows = record {
     runs = λ number. are.runs number ∙ run_rows_measured name x number p.runs;
+    bindings = λ place template. are.bindings place template ∙ same_bound name (suc place) template (measured_in x) (λ r. same_analysis x r (r.number == x.run) refl) p.runs;
     tallies = λ number metric.
         changed_under (is_tally name number metric) (is_tally name x.run x.metric) (counts_more x) (λ row. refl) t.tallies
         ∙ ap (change_where (is_tally name x.run x.metric) (counts_more x)) (are.tallies number metric)
@@ -180,12 +185,13 @@ measured_happens one name x t p are numbered measures = record {
   asks = measured_asks one name x t p are numbered measures;
   others = λ q differ. record {
     runs = λ number. refl;
+    bindings = λ place template. refl;
     tallies = λ number metric.
         left_alone (is_tally q number metric) (is_tally name x.run x.metric) (counts_more x) (λ row. refl)
         (λ row e. ap (λ b. b && ((x.run == row.run) && (x.metric == row.metric))) (apart_by_name q name row.service differ (first_holds (bytes_eq q row.service) ((number == row.run) && (metric == row.metric)) e))) t.tallies;
     measurements = fails_more (is_measurement_of q) t.measurements (measurement_row name x) differ;
     history = refl;
   };
-  rest = record { callers = refl; kept = refl; templates = refl; services = refl };
+  rest = record { callers = refl; kept = refl; revisions = refl; services = refl; attempts = λ q template. refl };
   numbered = same_numbers (measured_in x) (λ r. same_number x r (r.number == x.run) refl) 1 p.runs numbered;
 }

@@ -1,25 +1,29 @@
 -- A run is opened: what this makes of the rows of a past.
 use Rattle.std.proofs.Common.{◌≡◌, ℕ, zero, suc, ◌+◌, ◌<◌, List, [], ◌∷◌, ◌++◌, length, Bool, true, false, refl, ap, sym, ◌∙◌, subst, arith, eqb-true, eq-eqb, true≢false, append-nil, append_assoc}
-use Rattle.std.specs.Prelude.{◌==◌, ◌&&◌, cond, filter, replicate, Option, slice_get}
+use Rattle.std.specs.Prelude.{◌==◌, ◌&&◌, cond, filter, find, replicate, Option, slice_get}
 use Rattle.std.specs.Str.{bytes_eq}
 use Rattle.std.proofs.lemmas.List.Elements.{filter-append}
 use Rattle.canary_metric.specs.Counts.{counts}
-use Rattle.canary_plan.specs.declared.bound.BoundParts.{BoundParts}
+use Rattle.canary_plan.specs.declared.strategy.CheckedStrategy.{CheckedStrategy}
+use Rattle.canary_plan.specs.Plans.{distinct}
 use Rattle.canary_release.specs.declared.effect.Opening.{Opening}
 use Rattle.canary_release.specs.declared.effect.Recorded.{Recorded}
 use Rattle.canary_release.specs.declared.effect.Effect.TheVariants.{Opened}
 use Rattle.canary_release.specs.Effects.{Opens}
 use Rattle.canary_release.specs.Order.{AreNumbered}
+use Rattle.canary_release.specs.Desks.{RevisionMap}
 use Rattle.canary_release.specs.Pasts.{Run, Past, opened_run, counts_of, watched}
 use Rattle.canary_rows.specs.declared.rows.RunRow.{RunRow}
 use Rattle.canary_rows.specs.declared.rows.TallyRow.{TallyRow}
-use Rattle.canary_rows.specs.Tables.{Tables, is_run, is_tally}
+use Rattle.canary_rows.specs.declared.rows.BindingRow.{BindingRow}
+use Rattle.canary_rows.specs.Tables.{Tables, is_binding, is_run, is_tally}
 use Rattle.canary_rows.specs.Changes.{with_run, with_tally}
-use Rattle.canary_stored.specs.Values.{run_row, tally_row}
-use Rattle.canary_stored.specs.Tables.{row_if, run_rows, tally_rows, tally_rows_of}
+use Rattle.canary_stored.specs.Values.{binding_row, run_row, tally_row}
+use Rattle.canary_stored.specs.Tables.{row_if, is_of_template, revisions_of_run, run_rows, tally_rows, tally_rows_of}
 use Rattle.canary_stored.specs.Settling.{run_opened}
 use Rattle.canary_rows.specs.Changes.{tallies_opened}
-use Rattle.canary_stored.proofs.PastRows.{ArePastRows, AreOthersRows, AreElseSame}
+use Rattle.canary_stored.proofs.PastRows.{bound_rows, ArePastRows, AreOthersRows, AreElseSame}
+use Rattle.canary_stored.proofs.BindingsPut.{with_bindings, new_bindings, bound_one_by_one, new_under}
 use Rattle.canary_stored.proofs.Filters.{own_name, not_both, fails_more}
 use Rattle.canary_stored.proofs.RunsAt.{numbered_and_more, run_at_last, no_run_yet, run_at_other}
 use Rattle.canary_stored.proofs.OneHappens.{OneHappens}
@@ -48,10 +52,12 @@ abbrev metrics_in : Opening → ℕ
 metrics_in x = length x.analysis.metrics
 
 abbrev after_opening : List ℕ → Opening → Tables → Tables
-after_opening name x t = with_tallies (new_tallies name x.run 0 (metrics_in x)) (with_run (run_row name (opened_run x)) t)
+after_opening name x t = with_bindings (new_bindings name x.run (distinct x.analysis.revisions)) (with_tallies (new_tallies name x.run 0 (metrics_in x)) (with_run (run_row name (opened_run x)) t))
 
 opening : (name : List ℕ) (x : Opening) (t : Tables) → run_opened name x t ≡ after_opening name x t
-opening name x t = opened_one_by_one name x.run 0 (metrics_in x) (with_run (run_row name (opened_run x)) t)
+opening name x t =
+    bound_one_by_one name x.run (distinct x.analysis.revisions) (tallies_opened name x.run 0 (metrics_in x) (with_run (run_row name (opened_run x)) t))
+    ∙ ap (with_bindings (new_bindings name x.run (distinct x.analysis.revisions))) (opened_one_by_one name x.run 0 (metrics_in x) (with_run (run_row name (opened_run x)) t))
 
 -- The run's row.
 
@@ -157,11 +163,43 @@ tally_rows_more name number metric x runs rows last are =
     ∙ ap (λ (old : List TallyRow). old ++ filter (is_tally name number metric) (new_tallies name x.run 0 (metrics_in x))) are
     ∙ tallies_pushed name number metric x runs (number == x.run) last refl
 
+-- Its bindings.
+
+bindings_pushed : (name : List ℕ) (number : ℕ) (template : List ℕ) (x : Opening) (runs : List Run) (t : Bool) → x.run ≡ length runs + 1 → (number == x.run) ≡ t
+    → bound_rows name number template runs ++ cond t (row_if (binding_row name x.run) (find (is_of_template template) x.analysis.revisions)) [] ≡ bound_rows name number template (runs ++ opened_run x ∷ [])
+bindings_pushed name number template x runs true last e =
+    let same : number ≡ x.run = eqb-true number x.run e in
+    let here : number ≡ length runs + 1 = same ∙ last in
+    let rows : Option Run → List BindingRow = λ o. row_if (binding_row name number) (find (is_of_template template) (revisions_of_run o)) in
+    ap (λ o. rows o ++ row_if (binding_row name x.run) (find (is_of_template template) x.analysis.revisions)) (no_run_yet runs number here)
+    ∙ ap (λ n. row_if (binding_row name n) (find (is_of_template template) x.analysis.revisions)) (sym same)
+    ∙ sym (ap rows (run_at_last runs (opened_run x) number here))
+bindings_pushed name number template x runs false last e =
+    append-nil (bound_rows name number template runs)
+    ∙ sym (ap (λ o. row_if (binding_row name number) (find (is_of_template template) (revisions_of_run o))) (run_at_other runs (opened_run x) number (λ here. true≢false (sym (eq-eqb number x.run (here ∙ sym last)) ∙ e))))
+
+bindings_more : (name : List ℕ) (number : ℕ) (template : List ℕ) (x : Opening) (runs : List Run) (rows : List BindingRow) → x.run ≡ length runs + 1 → filter (is_binding name number template) rows ≡ bound_rows name number template runs
+    → filter (is_binding name number template) (rows ++ new_bindings name x.run (distinct x.analysis.revisions)) ≡ bound_rows name number template (runs ++ opened_run x ∷ [])
+bindings_more name number template x runs rows last are =
+    filter-append (is_binding name number template) rows (new_bindings name x.run (distinct x.analysis.revisions))
+    ∙ (λ i. are i ++ new_under name name number x.run template x.analysis.revisions true (number == x.run) (own_name name) refl i)
+    ∙ bindings_pushed name number template x runs (number == x.run) last refl
+
+-- no row of another service, or of a present attempt
+bindings_other : (q name : List ℕ) (number : ℕ) (template : List ℕ) (x : Opening) (rows : List BindingRow) (b c : Bool) → bytes_eq q name ≡ b → (number == x.run) ≡ c → (b && c) ≡ false
+    → filter (is_binding q number template) (rows ++ new_bindings name x.run (distinct x.analysis.revisions)) ≡ filter (is_binding q number template) rows
+bindings_other q name number template x rows b c e f none =
+    filter-append (is_binding q number template) rows (new_bindings name x.run (distinct x.analysis.revisions))
+    ∙ ap (λ (more : List BindingRow). filter (is_binding q number template) rows ++ more)
+    (new_under q name number x.run template x.analysis.revisions b c e f ∙ ap (λ a. cond a (row_if (binding_row name x.run) (find (is_of_template template) x.analysis.revisions)) []) none)
+    ∙ append-nil (filter (is_binding q number template) rows)
+
 -- The whole effect.
 
 opened_rows : (name : List ℕ) (x : Opening) (t : Tables) (p : Past) → x.run ≡ length p.runs + 1 → ArePastRows t name p → ArePastRows (after_opening name x t) name (record p { runs = p.runs ++ opened_run x ∷ [] })
 opened_rows name x t p last are = record {
   runs = λ number. run_rows_more name number (opened_run x) p.runs t.runs last (are.runs number);
+  bindings = λ place template. bindings_more name (suc place) template x p.runs t.bindings last (are.bindings place template);
   tallies = λ number metric. tally_rows_more name number metric x p.runs t.tallies last (are.tallies number metric);
   measurements = are.measurements;
   history = are.history;
@@ -170,6 +208,7 @@ opened_rows name x t p last are = record {
 opened_others : (name : List ℕ) (x : Opening) (t : Tables) (q : List ℕ) → bytes_eq q name ≡ false → AreOthersRows t (after_opening name x t) q
 opened_others name x t q differ = record {
   runs = λ number. fails_more (is_run q number) t.runs (run_row name (opened_run x)) (ap (λ b. b && (number == x.run)) differ);
+  bindings = λ place template. bindings_other q name (suc place) template x t.bindings false (suc place == x.run) differ refl refl;
   tallies = λ number metric.
       filter-append (is_tally q number metric) t.tallies (new_tallies name x.run 0 (metrics_in x))
       ∙ ap (λ (rows : List TallyRow). filter (is_tally q number metric) t.tallies ++ rows) (none_of_name q name number x.run metric 0 (metrics_in x) differ)
@@ -178,12 +217,22 @@ opened_others name x t q differ = record {
   history = refl;
 }
 
-opened_rest : (name : List ℕ) (x : Opening) (t : Tables) → AreElseSame t (after_opening name x t)
-opened_rest name x t = record { callers = refl; kept = refl; templates = refl; services = refl }
+and_never : (b : Bool) → (b && false) ≡ false
+and_never true = refl
+and_never false = refl
 
-pub opened_happens : (name : List ℕ) (bound : BoundParts) (x : Opening) (t : Tables) (p : Past)
-    → ArePastRows t name p → AreNumbered 1 p.runs → Opens bound (watched p) x → OneHappens name (Opened x) t p
-opened_happens name bound x t p are numbered opens =
+opened_rest : (name : List ℕ) (x : Opening) (t : Tables) → (x.run ≡ 0 → ⊥) → AreElseSame t (after_opening name x t)
+opened_rest name x t some = record {
+  callers = refl;
+  kept = refl;
+  revisions = refl;
+  services = refl;
+  attempts = λ q template. bindings_other q name 0 template x t.bindings (bytes_eq q name) false refl (not_both 0 x.run (λ e. some (sym e))) (and_never (bytes_eq q name));
+}
+
+pub opened_happens : (name : List ℕ) (templates : RevisionMap) (strategy : CheckedStrategy) (x : Opening) (t : Tables) (p : Past)
+    → ArePastRows t name p → AreNumbered 1 p.runs → Opens templates strategy (watched p) x → OneHappens name (Opened x) t p
+opened_happens name templates strategy x t p are numbered opens =
     let tables : after_opening name x t ≡ run_opened name x t = sym (opening name x t) in
     let grown : Past = record p { runs = p.runs ++ opened_run x ∷ [] } in
     let last : x.run ≡ length p.runs + 1 = opens.number in
@@ -191,6 +240,6 @@ opened_happens name bound x t p are numbered opens =
       rows = subst (λ (new : Tables). ArePastRows new name grown) tables (opened_rows name x t p last are);
       asks = tt;
       others = λ q differ. subst (λ (new : Tables). AreOthersRows t new q) tables (opened_others name x t q differ);
-      rest = subst (AreElseSame t) tables (opened_rest name x t);
+      rest = subst (AreElseSame t) tables (opened_rest name x t (λ none. absurd (omega (arith, last, none))));
       numbered = numbered_and_more 1 p.runs (opened_run x) numbered (omega (arith, last));
     }

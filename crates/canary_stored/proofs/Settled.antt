@@ -1,7 +1,8 @@
 -- After the statements of a settled request the tables hold the contents with that request, and its statements find what they ask for.
-use Rattle.std.proofs.Common.{◌≡◌, sym, ap, ◌∙◌, subst}
-use Rattle.std.specs.Prelude.{filter}
-use Rattle.canary_release.specs.Desks.{Desk}
+use Rattle.std.proofs.Common.{◌≡◌, ℕ, zero, suc, List, Some, None, refl, sym, ap, ◌∙◌, subst}
+use Rattle.std.specs.Prelude.{Option, filter}
+use Rattle.std.specs.FinMap.{get}
+use Rattle.canary_release.specs.Desks.{ModelService, Desk}
 use Rattle.canary_release.specs.Laws.{RefusalsLeaveTheDesk}
 use Rattle.canary_release.specs.Shapes.{changed, KeepsWhatIsSeen}
 use Rattle.canary_release.specs.Effects.{CommandsChange}
@@ -9,14 +10,15 @@ use Rattle.canary_release.specs.Order.{StayInOrder}
 use Rattle.canary_once.specs.declared.book.Settlement.{Settlement}
 use Rattle.canary_once.specs.Contents.{Contents, CallerMap, with_receipt, with_settlement, IsSettling}
 use Rattle.canary_once.specs.Sound.{AreContents}
-use Rattle.canary_rows.specs.Tables.{Tables, is_caller, is_kept, is_template, is_service}
+use Rattle.canary_rows.specs.Tables.{Tables, is_caller, is_kept, is_revision, is_service, is_binding}
 use Rattle.canary_rows.specs.Changes.{with_kept}
 use Rattle.canary_stored.specs.Values.{kept_row}
-use Rattle.canary_stored.specs.Tables.{AreRows, IsReadable}
+use Rattle.canary_stored.specs.Tables.{binding_rows, AreRows, IsReadable}
 use Rattle.canary_stored.specs.Reading.{contents_of, HoldsContents}
 use Rattle.canary_stored.specs.Settling.{caller_settled, request_settled, RequestAsks}
 use Rattle.canary_stored.specs.Laws.{ReadsBack, RequestsFind, RequestsSettle}
-use Rattle.canary_stored.proofs.PastRows.{EffectsHappen, EffectsStayReadable}
+use Rattle.canary_once.specs.Records.{past_in}
+use Rattle.canary_stored.proofs.PastRows.{bound_rows, EffectsHappen, EffectsStayReadable}
 use Rattle.canary_stored.proofs.SettledPasts.{pasts_kept}
 use Rattle.canary_stored.proofs.Callers.{AreCallerRows, HaveSameDesk, CallerSettles, caller_settles, caller_asks}
 use Rattle.canary_stored.proofs.Desks.{AreDeskRows, DeskSettles, desk_settles}
@@ -26,18 +28,29 @@ use Rattle.canary_stored.proofs.SettledLawful.{stays_lawful}
 caller_rows : (t : Tables) (c : Contents) → AreRows t c → AreCallerRows t c.callers
 caller_rows t c are = record { callers = are.callers; kept = are.kept }
 
+-- the rows of the binding of a run
+of_run : (q : List ℕ) (place : ℕ) (template : List ℕ) (o : Option ModelService) → binding_rows q (suc place) template o ≡ bound_rows q (suc place) template (past_in o).runs
+of_run q place template None = refl
+of_run q place template (Some m) = refl
+
+bindings_of : (q : List ℕ) (number : ℕ) (template : List ℕ) (t : Tables) (desk : Desk) → AreDeskRows t desk → filter (is_binding q number template) t.bindings ≡ binding_rows q number template (get desk.services q)
+bindings_of q zero template t desk are = are.attempts q template
+bindings_of q (suc place) template t desk are = (are.pasts q).bindings place template ∙ sym (of_run q place template (get desk.services q))
+
 desk_rows : (t : Tables) (c : Contents) → AreRows t c → AreDeskRows t c.desk
 desk_rows t c are = record {
-  templates = are.templates;
+  revisions = are.revisions;
   services = are.services;
-  pasts = λ q. record { runs = are.runs q; tallies = are.tallies q; measurements = are.measurements q; history = are.history q };
+  attempts = λ q. are.bindings q 0;
+  pasts = λ q. record { runs = are.runs q; bindings = λ place template. are.bindings q (suc place) template ∙ of_run q place template (get c.desk.services q); tallies = are.tallies q; measurements = are.measurements q; history = are.history q };
 }
 
 -- tables with the same rows of the desk
 desk_rows_kept : (t new : Tables) (desk : Desk) → HaveSameDesk t new → AreDeskRows t desk → AreDeskRows new desk
 desk_rows_kept t new desk same are = record {
-  templates = λ q. ap (filter (is_template q)) same.templates ∙ are.templates q;
+  revisions = λ q number. ap (filter (is_revision q number)) same.revisions ∙ are.revisions q number;
   services = λ q. ap (filter (is_service q)) same.services ∙ are.services q;
+  attempts = λ q template. ap (filter (is_binding q 0 template)) same.pasts.bindings ∙ are.attempts q template;
   pasts = λ q. pasts_kept t new q _ same.pasts (are.pasts q);
 }
 
@@ -45,8 +58,9 @@ both_rows : (between new : Tables) (callers : CallerMap) (desk : Desk) → AreCa
 both_rows between new callers desk of_callers of_desk same_callers same_kept = record {
   callers = λ q. ap (filter (is_caller q)) same_callers ∙ of_callers.callers q;
   kept = λ q number. ap (filter (is_kept q number)) same_kept ∙ of_callers.kept q number;
-  templates = of_desk.templates;
+  revisions = of_desk.revisions;
   services = of_desk.services;
+  bindings = λ q number template. bindings_of q number template new desk of_desk;
   runs = λ q. (of_desk.pasts q).runs;
   tallies = λ q. (of_desk.pasts q).tallies;
   measurements = λ q. (of_desk.pasts q).measurements;

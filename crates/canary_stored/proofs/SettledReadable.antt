@@ -2,6 +2,7 @@
 use Rattle.std.proofs.Common.{◌≡◌, ℕ, zero, suc, ◌-◌, List, [], ◌∷◌, ◌++◌, Bool, true, false, Some, None, refl, sym, ap, ◌∙◌, subst}
 use Rattle.std.specs.Prelude.{Option, cond, slice_get, unwrap_or}
 use Rattle.std.specs.Str.{bytes_eq}
+use Rattle.std.specs.List.{AllByRecursion}
 use Rattle.std.specs.FinMap.{get, insert}
 use Rattle.canary_plan.specs.declared.template.Template.{Template}
 use Rattle.canary_plan.specs.declared.command.Command.{Command}
@@ -11,7 +12,7 @@ use Rattle.canary_release.specs.declared.effect.Effect.{Effect}
 use Rattle.canary_release.specs.declared.service.ServiceParts.{ServiceParts}
 use Rattle.canary_release.specs.declared.decide.DeskChange.{DeskChange}
 use Rattle.canary_release.specs.declared.decide.DeskChange.TheVariants as change
-use Rattle.canary_release.specs.Desks.{ModelService, Desk, before, after, made_as, with_service, ruling_on, apply}
+use Rattle.canary_release.specs.Desks.{ModelService, Desk, revisions_of, with_revision, before, after, made_as, with_service, ruling_on, apply}
 use Rattle.canary_release.specs.Shapes.{said, changed, KeepsWhatIsSeen}
 use Rattle.canary_release.specs.Effects.{CommandsChange}
 use Rattle.canary_release.specs.Order.{AreInOrder}
@@ -22,6 +23,7 @@ use Rattle.canary_once.specs.Records.{past_in}
 use Rattle.canary_once.specs.Sound.{AreContents}
 use Rattle.canary_stored.specs.Tables.{IsReadableCommand, IsReadablePast, IsReadable}
 use Rattle.canary_stored.specs.Settling.{IsReadableChange, IsReadableSettlement}
+use Rattle.canary_stored.proofs.RevisionsBack.{IsReadableTemplate}
 use Rattle.canary_stored.proofs.PastRows.{EffectsStayReadable}
 use Rattle.canary_stored.proofs.SettledKeys.{NameMap, equal_names, at_name, some_same}
 use Rattle.canary_stored.proofs.DesksRuled.{IsAdding, adding, updating}
@@ -53,7 +55,7 @@ each_receipt P callers caller q x k number all one e =
 -- The desk.
 
 pub record IsReadableDesk (desk : Desk) : Type 0 where
-  pub templates : (name : List ℕ) (t : Template) → get desk.templates name ≡ Some t → IsReadableCommand (command.Template t.spec)
+  pub templates : (name : List ℕ) → AllByRecursion IsReadableTemplate (revisions_of desk.templates name)
   pub made : (name : List ℕ) (m : ModelService) → get desk.services name ≡ Some m → IsReadableCommand (command.Service m.made)
   pub pasts : (name : List ℕ) → IsReadablePast (past_in (get desk.services name))
 
@@ -65,12 +67,26 @@ each_of P o x y false one all e = all y e
 each_inserted : {A : Type 0} (P : A → Type 0) (m : NameMap A) (k q : List ℕ) (x y : A) → P x → ((z : A) → get m q ≡ Some z → P z) → get (insert m k x) q ≡ Some y → P y
 each_inserted P m k q x y one all e = each_of P (get m q) x y (bytes_eq q k) one all (sym (at_name m k x q) ∙ e)
 
-template_readable : (desk : Desk) (template : Template) → IsReadableDesk desk → IsReadableCommand (command.Template template.spec) → IsReadableDesk (record desk { templates = insert desk.templates template.spec.name template })
-template_readable desk template are one = record {
-  templates = λ q t e. each_inserted (λ (t : Template). IsReadableCommand (command.Template t.spec)) desk.templates template.spec.name q template t one (are.templates q) e;
-  made = are.made;
-  pasts = are.pasts;
-}
+-- one revision more
+one_more : (ts : List Template) (t : Template) → AllByRecursion IsReadableTemplate ts → IsReadableTemplate t → AllByRecursion IsReadableTemplate (ts ++ t ∷ [])
+one_more [] t all one = (one, tt)
+one_more (x ∷ ts) t all one = (all.0, one_more ts t all.1 one)
+
+revisions_there : (o : Option (List Template)) (ts : List Template) (b : Bool) → AllByRecursion IsReadableTemplate ts → AllByRecursion IsReadableTemplate (unwrap_or o []) → AllByRecursion IsReadableTemplate (unwrap_or (cond b (Some ts) o) [])
+revisions_there o ts true one all = one
+revisions_there o ts false one all = all
+
+template_readable : (desk : Desk) (template : Template) → IsReadableDesk desk → IsReadableTemplate template → IsReadableDesk (record desk { templates = with_revision desk.templates template.spec.name template })
+template_readable desk template are one =
+    let k : List ℕ = template.spec.name in
+    let longer : List Template = revisions_of desk.templates k ++ template ∷ [] in
+    record {
+      templates = λ q.
+          subst (λ (o : Option (List Template)). AllByRecursion IsReadableTemplate (unwrap_or o [])) (sym (at_name desk.templates k longer q))
+          (revisions_there (get desk.templates q) longer (bytes_eq q k) (one_more (revisions_of desk.templates k) template (are.templates k) one) (are.templates q));
+      made = are.made;
+      pasts = are.pasts;
+    }
 
 -- the command that made a service, which may be new
 made_readable : (found : Option ModelService) (asked : Command) (s : ServiceParts) (effects : List Effect) → IsReadableCommand asked → (found ≡ None → asked ≡ command.Service (made_as s.stand)) → ((m : ModelService) → found ≡ Some m → IsReadableCommand (command.Service m.made))
@@ -102,8 +118,8 @@ desk_readable : EffectsStayReadable → CommandsChange → KeepsWhatIsSeen → (
     → IsReadableDesk desk → IsReadableCommand asked → IsReadableChange made → IsReadableDesk (changed desk asked made)
 desk_readable law commands keeps desk now asked change.Nothing order is stands are one more = are
 desk_readable law commands keeps desk now asked (change.Template template) order is stands are one more =
-    let adds : IsAdding (get desk.templates) asked template = adding (get desk.templates) _ now asked template is in
-    subst (λ (k : List ℕ). IsReadableDesk (record desk { templates = insert desk.templates k template })) (sym (ap subject_of adds.asked_for))
+    let adds : IsAdding desk.templates asked template = adding commands desk now asked template order is in
+    subst (λ (k : List ℕ). IsReadableDesk (record desk { templates = with_revision desk.templates k template })) (sym (ap subject_of adds.asked_for))
     (template_readable desk template are (subst IsReadableCommand adds.asked_for one))
 desk_readable law commands keeps desk now asked (change.Service s effects) order is stands are one more =
     let update = updating commands keeps desk now asked s effects order is stands in

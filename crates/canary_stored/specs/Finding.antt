@@ -1,9 +1,11 @@
 -- What a store finds in the tables of the contents that they hold.
-use Rattle.std.specs.Prelude.{◌≡◌, ℕ, List, [], map, Option, Some, None, slice_get, option_map, option_and_then, unwrap_or}
+use Rattle.std.specs.Prelude.{◌≡◌, ℕ, List, [], map, Option, Some, None, option_map, option_and_then, unwrap_or}
 use Rattle.std.specs.List.{filter_map}
 use Rattle.canary_metric.specs.Counts.{Counts}
 use Rattle.canary_plan.specs.declared.service.ServiceSpec.{ServiceSpec}
+use Rattle.canary_plan.specs.declared.analysis_parts.AnalysisParts.{AnalysisParts}
 use Rattle.canary_plan.specs.declared.bound.BoundParts.{BoundParts}
+use Rattle.canary_plan.specs.declared.strategy.CheckedStrategy.{CheckedStrategy}
 use Rattle.canary_plan.specs.Plans.{Templates, strategy_of, bound_of, analysis_or_none}
 use Rattle.canary_canonical.specs.Readings.{canonical_in}
 use Rattle.canary_release.specs.declared.effect.Closing.{Closing}
@@ -17,10 +19,9 @@ use Rattle.canary_once.specs.Records.{past_of, run_of}
 use Rattle.canary_rows.specs.declared.rows.CallerRow.{CallerRow}
 use Rattle.canary_rows.specs.declared.rows.RunRow.{RunRow}
 use Rattle.canary_rows.specs.declared.rows.ServiceRow.{ServiceRow}
+use Rattle.canary_rows.specs.Tables.{Tables}
 use Rattle.canary_stored.specs.Values.{made_from, stand_of, closing_of}
-
-abbrev pub first_row : {R : Type 0} → List R → Option R
-first_row rows = slice_get rows 0
+use Rattle.canary_stored.specs.Reading.{known_in}
 
 -- the row that is there is read, as what is sought
 pub record IsFound {R A : Type 0} (reads : R → Option A) (row : Option R)
@@ -48,20 +49,33 @@ tallies_told (Some r) = r.tallies
 abbrev pub tallies_of : Contents → List ℕ → ℕ → List Counts
 tallies_of c name number = tallies_told (run_of c name number)
 
-abbrev pub record_closed : RunRow → List Counts → Option Closing → RunRecord
-record_closed row tallies closed =
+-- the strategy of a service, by its row
+abbrev pub strategy_by : Option ServiceRow → Option CheckedStrategy
+strategy_by row =
+    option_map strategy_of
+    (option_and_then (λ (r : ServiceRow). made_from (canonical_in r.spec)) row)
+
+-- the analysis of a run of a service with this strategy: that at its step, bound to the run's own
+-- revisions
+abbrev pub analysis_by : Tables → CheckedStrategy → RunRow → AnalysisParts
+analysis_by t strategy row =
+    analysis_or_none (bound_of (known_in t row.service row.number) strategy) row.step
+
+abbrev pub record_closed : RunRow → AnalysisParts → List Counts → Option Closing → RunRecord
+record_closed row analysis tallies closed =
     record {
       number = row.number;
       step = row.step;
+      analysis = analysis;
       started = row.started;
       closed = closed;
       tallies = tallies;
     }
 
--- a run, by its row and its tallies
-abbrev pub record_of_row : List Counts → RunRow → Option RunRecord
-record_of_row tallies row =
-    option_map (record_closed row tallies) (closing_of row.number row.ending)
+-- a run, by its row, its analysis and its tallies
+abbrev pub record_of_row : AnalysisParts → List Counts → RunRow → Option RunRecord
+record_of_row analysis tallies row =
+    option_map (record_closed row analysis tallies) (closing_of row.number row.ending)
 
 -- an open run, by its row, of the analysis that is bound at its step
 abbrev pub open_run_of : BoundParts → Contents → List ℕ → RunRow → OpenRun

@@ -1,5 +1,5 @@
 -- What it is to read a row.
-use Rattle.std.specs.Prelude.{◌≡◌, ◌≢◌, Option, Some, None, Result, Ok, Err}
+use Rattle.std.specs.Prelude.{◌≡◌, ◌≢◌, ℕ, Option, Some, None, Result, Ok, Err}
 use Rattle.canary_canonical.specs.declared.form.FormFault.{FormFault}
 use Rattle.canary_canonical.specs.declared.form.FormFault.TheVariants as form
 use Rattle.canary_plan.specs.declared.template.Template.{Template}
@@ -20,11 +20,11 @@ IsRowRead value (Ok found) = value ≡ Some found
 IsRowRead value (Err Broken) = value ≡ None
 IsRowRead value (Err Memory) = Unit {0}
 
--- a template is read that a command adds, where nothing refuses it
-abbrev pub IsTemplateRead : Option Command → Result Template RowFault → Type 0
-IsTemplateRead (Some (command.Template spec)) (Ok template) =
-    (template_refusal spec ≡ None) × (template ≡ template_of spec)
-IsTemplateRead (Some (command.Template spec)) (Err Broken) = template_refusal spec ≢ None
-IsTemplateRead other (Ok template) = ⊥
-IsTemplateRead other (Err Broken) = Unit {0}
-IsTemplateRead other (Err Memory) = Unit {0}
+-- a command's template is read as that revision, if nothing refuses it
+abbrev pub IsRevisionRead : ℕ → Option Command → Result Template RowFault → Type 0
+IsRevisionRead revision (Some (command.Template spec)) (Ok template) =
+    (template_refusal spec ≡ None) × (template ≡ template_of spec revision)
+IsRevisionRead revision (Some (command.Template spec)) (Err Broken) = template_refusal spec ≢ None
+IsRevisionRead revision other (Ok template) = ⊥
+IsRevisionRead revision other (Err Broken) = Unit {0}
+IsRevisionRead revision other (Err Memory) = Unit {0}

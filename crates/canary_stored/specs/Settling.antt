@@ -2,7 +2,10 @@
 use Rattle.std.specs.Prelude.{◌≡◌, ◌==◌, ℕ, Bool, true, false, if◌then◌else◌, List, [], ◌∷◌, length, Some, None}
 use Rattle.std.specs.List.{AllByRecursion, list_any}
 use Rattle.canary_condition.specs.PhaseTexts.{phase_of_number}
+use Rattle.canary_plan.specs.declared.analysis_parts.Revision.{Revision}
 use Rattle.canary_plan.specs.declared.command.Command.{Command}
+use Rattle.canary_plan.specs.declared.command.Command.TheVariants.{Start, Retry}
+use Rattle.canary_plan.specs.Plans.{all_revisions, distinct}
 use Rattle.canary_canonical.specs.Texts.{command_text}
 use Rattle.canary_release.specs.declared.effect.Effect.{Effect}
 use Rattle.canary_release.specs.declared.effect.Effect.TheVariants.{Told, Opened, Measured, Closed}
@@ -11,10 +14,10 @@ use Rattle.canary_release.specs.declared.service.ServiceParts.{ServiceParts}
 use Rattle.canary_release.specs.declared.decide.DeskChange.{DeskChange}
 use Rattle.canary_release.specs.declared.decide.DeskChange.TheVariants.{Nothing, Template as AddsTemplate, Service as Updates}
 use Rattle.canary_once.specs.declared.book.Settlement.{Settlement}
-use Rattle.canary_rows.specs.Tables.{Tables, is_service}
-use Rattle.canary_rows.specs.Changes.{with_caller, with_settled, with_kept, with_template, with_service, with_standing, with_run, with_measurement, with_counted, with_ending, with_line, tallies_opened, HasCaller, HasService, HasRun, HasTally}
+use Rattle.canary_rows.specs.Tables.{Tables, is_service, is_binding_of}
+use Rattle.canary_rows.specs.Changes.{with_caller, with_settled, with_kept, with_revision, with_service, with_standing, with_binding, with_bound, with_run, with_measurement, with_counted, with_ending, with_line, tallies_opened, HasCaller, HasService, HasBinding, HasRun, HasTally}
 use Rattle.canary_stored.specs.Numbers.{phase_column}
-use Rattle.canary_stored.specs.Values.{caller_row, kept_row, standing_of, ending_of, measurement_row, history_row}
+use Rattle.canary_stored.specs.Values.{caller_row, kept_row, binding_row, standing_of, ending_of, measurement_row, history_row}
 use Rattle.canary_stored.specs.Tables.{IsReadableCommand, IsReadableMeasurement, IsReadableLine}
 
 -- so many requests of the caller are settled now
@@ -22,9 +25,22 @@ abbrev pub caller_settled : List ℕ → ℕ → Tables → Tables
 caller_settled name number t =
     if number == 1 then with_caller (caller_row name 1) t else with_settled name number t
 
+-- a run of a service is bound to these revisions, each by a row of its own
+abbrev pub all_bound : List ℕ → ℕ → List Revision → Tables → Tables
+all_bound name number [] t = t
+all_bound name number (r ∷ rs) t =
+    all_bound name number rs (with_binding (binding_row name number r) t)
+
+-- and is bound to these in place of others
+abbrev pub all_rebound : List ℕ → ℕ → List Revision → Tables → Tables
+all_rebound name number [] t = t
+all_rebound name number (r ∷ rs) t =
+    all_rebound name number rs (with_bound name number r.template r.number t)
+
 abbrev pub run_opened : List ℕ → Opening → Tables → Tables
 run_opened name x t =
-    tallies_opened name x.run 0 (length x.analysis.metrics)
+    all_bound name x.run (distinct x.analysis.revisions)
+    (tallies_opened name x.run 0 (length x.analysis.metrics)
     (with_run
     (record {
       service = name;
@@ -32,7 +48,7 @@ run_opened name x t =
       step = x.step;
       started = x.started;
       ending = ending_of None;
-    }) t)
+    }) t))
 
 -- one thing happens to the service of that name
 abbrev pub happened : List ℕ → Effect → Tables → Tables
@@ -57,13 +73,35 @@ service_put command s t =
     if has_service name t then with_standing name standing t
     else with_service (record { name = name; spec = command_text command; standing = standing }) t
 
+-- a command that begins an attempt binds it
+abbrev pub begins : Command → Bool
+begins (Start name version) = true
+begins (Retry name) = true
+begins other = false
+
+abbrev pub has_bindings : List ℕ → Tables → Bool
+has_bindings name t = list_any (is_binding_of name 0) t.bindings
+
+-- the present attempt is bound to these: it is bound to others, or to none
+abbrev pub attempt_bound : List ℕ → List Revision → Tables → Tables
+attempt_bound name revisions t =
+    if has_bindings name t then all_rebound name 0 revisions t else all_bound name 0 revisions t
+
+-- what a command that begins an attempt binds
+abbrev pub bindings_put : Command → ServiceParts → Tables → Tables
+bindings_put command s t =
+    if begins command then attempt_bound s.stand.name (distinct (all_revisions s.stand.bound)) t
+    else t
+
 -- what a command changes of the desk
 abbrev pub desk_changed : Command → DeskChange → Tables → Tables
 desk_changed command Nothing t = t
 desk_changed command (AddsTemplate template) t =
-    with_template (record { name = template.spec.name; spec = command_text command }) t
+    with_revision
+    (record
+    { name = template.spec.name; revision = template.revision; spec = command_text command }) t
 desk_changed command (Updates s effects) t =
-    all_happened s.stand.name effects (service_put command s t)
+    all_happened s.stand.name effects (bindings_put command s (service_put command s t))
 
 -- the tables after a settled request
 abbrev pub request_settled : Settlement → Tables → Tables
@@ -83,13 +121,26 @@ abbrev pub AllAsk : List ℕ → List Effect → Tables → Type 0
 AllAsk name [] t = Unit {0}
 AllAsk name (x ∷ xs) t = Asks name x t × AllAsk name xs (happened name x t)
 
+abbrev pub AllRebind : List ℕ → ℕ → List Revision → Tables → Type 0
+AllRebind name number [] t = Unit {0}
+AllRebind name number (r ∷ rs) t =
+    HasBinding name number r.template t
+    × AllRebind name number rs (with_bound name number r.template r.number t)
+
+-- if the present attempt is bound, it is bound to a revision of each of these templates
+abbrev pub BindingsAsk : Command → ServiceParts → Tables → Type 0
+BindingsAsk command s t =
+    begins command ≡ true → has_bindings s.stand.name t ≡ true
+    → AllRebind s.stand.name 0 (distinct (all_revisions s.stand.bound)) t
+
 abbrev pub CallerAsks : List ℕ → ℕ → Tables → Type 0
 CallerAsks name number t = (number == 1) ≡ false → HasCaller name t
 
 pub record ServiceAsks (command : Command) (s : ServiceParts) (effects : List Effect)
     (t : Tables) : Type 0 where
   pub service : has_service s.stand.name t ≡ true → HasService s.stand.name t
-  pub effects_ask : AllAsk s.stand.name effects (service_put command s t)
+  pub bindings : BindingsAsk command s (service_put command s t)
+  pub effects_ask : AllAsk s.stand.name effects (bindings_put command s (service_put command s t))
 
 abbrev pub DeskAsks : Command → DeskChange → Tables → Type 0
 DeskAsks command Nothing t = Unit {0}

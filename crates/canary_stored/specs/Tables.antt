@@ -1,12 +1,15 @@
 -- When tables hold just the rows of some contents.
-use Rattle.std.specs.Prelude.{◌≡◌, ℕ, zero, suc, List, [], ◌∷◌, length, map, filter, Option, Some, None, slice_get}
+use Rattle.std.specs.Prelude.{◌≡◌, ℕ, zero, suc, Bool, List, [], ◌∷◌, length, map, filter, find, Option, Some, None, slice_get}
 use Rattle.std.specs.List.{AllByRecursion}
 use Rattle.std.specs.FinMap.{get}
+use Rattle.std.specs.Str.{bytes_eq}
 use Rattle.canary_condition.specs.PhaseTexts.{phase_of_number}
 use Rattle.canary_plan.specs.declared.template.Template.{Template}
+use Rattle.canary_plan.specs.declared.analysis_parts.Revision.{Revision}
 use Rattle.canary_plan.specs.declared.command.Command.{Command}
 use Rattle.canary_plan.specs.declared.command.Command.TheVariants as command
 use Rattle.canary_plan.specs.declared.line.Line.{Line}
+use Rattle.canary_plan.specs.Plans.{all_revisions}
 use Rattle.canary_plan.specs.Lines.{words}
 use Rattle.canary_plan.specs.LineReading.{event_of}
 use Rattle.canary_canonical.specs.Texts.{command_text}
@@ -14,17 +17,19 @@ use Rattle.canary_canonical.specs.Readings.{canonical_in}
 use Rattle.canary_release.specs.declared.effect.Recorded.{Recorded}
 use Rattle.canary_release.specs.declared.effect.Closing.{Closing}
 use Rattle.canary_release.specs.Pasts.{Run, Past, counts_of}
-use Rattle.canary_release.specs.Desks.{ModelService}
+use Rattle.canary_release.specs.Desks.{ModelService, revisions_of}
 use Rattle.canary_once.specs.declared.book.Receipt.{Receipt}
 use Rattle.canary_once.specs.Contents.{Contents, receipts_of, receipt_at}
 use Rattle.canary_once.specs.Records.{past_of}
 use Rattle.canary_rows.specs.declared.rows.KeptRow.{KeptRow}
+use Rattle.canary_rows.specs.declared.rows.RevisionRow.{RevisionRow}
+use Rattle.canary_rows.specs.declared.rows.BindingRow.{BindingRow}
 use Rattle.canary_rows.specs.declared.rows.RunRow.{RunRow}
 use Rattle.canary_rows.specs.declared.rows.TallyRow.{TallyRow}
-use Rattle.canary_rows.specs.Tables.{Tables, is_caller, is_kept, is_template, is_service, is_run, is_tally, is_measurement_of, is_line_of}
+use Rattle.canary_rows.specs.Tables.{Tables, is_caller, is_kept, is_revision, is_service, is_binding, is_run, is_tally, is_measurement_of, is_line_of}
 use Rattle.canary_stored.specs.Numbers.{phase_column}
 use Rattle.canary_condition.specs.OutcomeTexts.{outcome_text, outcome_in}
-use Rattle.canary_stored.specs.Values.{caller_row, kept_row, template_row, service_row, run_row, tally_row, measurement_row, history_row}
+use Rattle.canary_stored.specs.Values.{caller_row, kept_row, revision_row, service_row, binding_row, run_row, tally_row, measurement_row, history_row}
 
 -- Which rows stand under a key: one or none, or a list in its order.
 
@@ -39,6 +44,12 @@ kept_rows caller zero receipts = []
 kept_rows caller (suc place) receipts =
     row_if (kept_row caller (suc place)) (slice_get receipts place)
 
+-- revisions are numbered from 1
+abbrev pub revision_rows : List ℕ → ℕ → List Template → List RevisionRow
+revision_rows name zero templates = []
+revision_rows name (suc place) templates =
+    row_if (revision_row name) (slice_get templates place)
+
 -- the run of that number, in a list in order of their numbers
 abbrev pub run_at : ℕ → List Run → Option Run
 run_at zero runs = None
@@ -46,6 +57,23 @@ run_at (suc place) runs = slice_get runs place
 
 abbrev pub run_rows : List ℕ → ℕ → List Run → List RunRow
 run_rows name number runs = row_if (run_row name) (run_at number runs)
+
+abbrev pub is_of_template : List ℕ → Revision → Bool
+is_of_template name r = bytes_eq name r.template
+
+abbrev pub revisions_of_run : Option Run → List Revision
+revisions_of_run None = []
+revisions_of_run (Some r) = r.analysis.revisions
+
+-- the revisions to which a run of a service is bound; run 0 stands for its present attempt
+abbrev pub revisions_bound : Option ModelService → ℕ → List Revision
+revisions_bound None number = []
+revisions_bound (Some m) zero = all_revisions m.stand.bound
+revisions_bound (Some m) (suc place) = revisions_of_run (slice_get m.past.runs place)
+
+abbrev pub binding_rows : List ℕ → ℕ → List ℕ → Option ModelService → List BindingRow
+binding_rows name number template m =
+    row_if (binding_row name number) (find (is_of_template template) (revisions_bound m number))
 
 abbrev pub tally_rows_of : List ℕ → ℕ → ℕ → Option Run → List TallyRow
 tally_rows_of name number metric None = []
@@ -63,11 +91,14 @@ pub record AreRows (t : Tables) (c : Contents) : Type 0 where
       ≡ row_if (λ receipts. caller_row name (length receipts)) (get c.callers name)
   pub kept : (caller : List ℕ) (number : ℕ)
       → filter (is_kept caller number) t.kept ≡ kept_rows caller number (receipts_of c caller)
-  pub templates : (name : List ℕ)
-      → filter (is_template name) t.templates
-      ≡ row_if (template_row name) (get c.desk.templates name)
+  pub revisions : (name : List ℕ) (number : ℕ)
+      → filter (is_revision name number) t.revisions
+      ≡ revision_rows name number (revisions_of c.desk.templates name)
   pub services : (name : List ℕ)
       → filter (is_service name) t.services ≡ row_if (service_row name) (get c.desk.services name)
+  pub bindings : (name : List ℕ) (number : ℕ) (template : List ℕ)
+      → filter (is_binding name number template) t.bindings
+      ≡ binding_rows name number template (get c.desk.services name)
   pub runs : (name : List ℕ) (number : ℕ)
       → filter (is_run name number) t.runs ≡ run_rows name number (past_of c name).runs
   pub tallies : (name : List ℕ) (number metric : ℕ)
@@ -109,8 +140,9 @@ pub record IsReadablePast (p : Past) : Type 0 where
 pub record IsReadable (c : Contents) : Type 0 where
   pub receipts : (caller : List ℕ) (number : ℕ) (receipt : Receipt)
       → receipt_at c caller number ≡ Some receipt → IsReadableCommand receipt.command
-  pub templates : (name : List ℕ) (t : Template) → get c.desk.templates name ≡ Some t
-      → IsReadableCommand (command.Template t.spec)
+  pub templates : (name : List ℕ)
+      → AllByRecursion (λ (t : Template). IsReadableCommand (command.Template t.spec))
+      (revisions_of c.desk.templates name)
   pub made : (name : List ℕ) (m : ModelService) → get c.desk.services name ≡ Some m
       → IsReadableCommand (command.Service m.made)
   pub pasts : (name : List ℕ) → IsReadablePast (past_of c name)

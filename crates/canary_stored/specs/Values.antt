@@ -6,6 +6,7 @@ use Rattle.canary_condition.specs.PhaseTexts.{phase_of_number}
 use Rattle.canary_metric.specs.Counts.{Counts}
 use Rattle.canary_plan.specs.declared.service.ServiceSpec.{ServiceSpec}
 use Rattle.canary_plan.specs.declared.template.Template.{Template}
+use Rattle.canary_plan.specs.declared.analysis_parts.Revision.{Revision}
 use Rattle.canary_plan.specs.declared.analysis_parts.AnalysisParts.{AnalysisParts}
 use Rattle.canary_plan.specs.declared.bound.BoundParts.{BoundParts}
 use Rattle.canary_plan.specs.declared.strategy.CheckedStrategy.{CheckedStrategy}
@@ -14,7 +15,7 @@ use Rattle.canary_plan.specs.declared.command.Command.TheVariants as command
 use Rattle.canary_plan.specs.declared.line.Line.{Line}
 use Rattle.canary_plan.specs.Lines.{words, line_at}
 use Rattle.canary_plan.specs.LineReading.{event_of}
-use Rattle.canary_plan.specs.Plans.{template_of, analysis_or_none}
+use Rattle.canary_plan.specs.Plans.{Templates, template_of, bound_of, analysis_or_none}
 use Rattle.canary_canonical.specs.Texts.{command_text}
 use Rattle.canary_canonical.specs.Readings.{canonical_in}
 use Rattle.canary_release.specs.declared.effect.Recorded.{Recorded}
@@ -29,7 +30,8 @@ use Rattle.canary_release.specs.Desks.{ModelService}
 use Rattle.canary_once.specs.declared.book.Receipt.{Receipt}
 use Rattle.canary_rows.specs.declared.rows.CallerRow.{CallerRow}
 use Rattle.canary_rows.specs.declared.rows.KeptRow.{KeptRow}
-use Rattle.canary_rows.specs.declared.rows.TemplateRow.{TemplateRow}
+use Rattle.canary_rows.specs.declared.rows.RevisionRow.{RevisionRow}
+use Rattle.canary_rows.specs.declared.rows.BindingRow.{BindingRow}
 use Rattle.canary_rows.specs.declared.rows.Standing.{Standing}
 use Rattle.canary_rows.specs.declared.rows.ServiceRow.{ServiceRow}
 use Rattle.canary_rows.specs.declared.rows.Ending.{Ending}
@@ -55,11 +57,20 @@ kept_row caller number receipt =
       body = receipt.reply.body;
     }
 
--- a template and a service are kept by the command that made them
+-- a revision of a template, and a service are kept by the command that made them
 
-abbrev pub template_row : List ℕ → Template → TemplateRow
-template_row name template =
-    record { name = name; spec = command_text (command.Template template.spec) }
+abbrev pub revision_row : List ℕ → Template → RevisionRow
+revision_row name template =
+    record {
+      name = name;
+      revision = template.revision;
+      spec = command_text (command.Template template.spec);
+    }
+
+-- a run of a service is bound to that revision; run 0 stands for its present attempt
+abbrev pub binding_row : List ℕ → ℕ → Revision → BindingRow
+binding_row service run r =
+    record { service = service; run = run; template = r.template; revision = r.number }
 
 abbrev pub standing_of : Stand → ℕ → Standing
 standing_of s runs = record {
@@ -126,12 +137,12 @@ receipt_from row command status = None
 abbrev pub receipt_of_row : KeptRow → Option Receipt
 receipt_of_row row = receipt_from row (canonical_in row.command) (status_of row.status)
 
-abbrev pub template_from : Option Command → Option Template
-template_from (Some (command.Template spec)) = Some (template_of spec)
-template_from command = None
+abbrev pub revision_from : ℕ → Option Command → Option Template
+revision_from revision (Some (command.Template spec)) = Some (template_of spec revision)
+revision_from revision command = None
 
-abbrev pub template_of_row : TemplateRow → Option Template
-template_of_row row = template_from (canonical_in row.spec)
+abbrev pub revision_of_row : RevisionRow → Option Template
+revision_of_row row = revision_from row.revision (canonical_in row.spec)
 
 abbrev pub made_from : Option Command → Option ServiceSpec
 made_from (Some (command.Service spec)) = Some spec
@@ -194,11 +205,11 @@ run_from measurements analysis row (Some closed) =
     })
 run_from measurements analysis row None = None
 
--- a run of a service that is bound so, which has had these measurements; its analysis is that which
--- is bound at its step
-abbrev pub run_of_row : BoundParts → List Recorded → RunRow → Option Run
-run_of_row bound measurements row =
-    run_from measurements (analysis_or_none bound row.step) row
+-- a run of a service with this strategy, which is bound to these templates and has had these
+-- measurements; its analysis is that at its step
+abbrev pub run_of_row : CheckedStrategy → Templates → List Recorded → RunRow → Option Run
+run_of_row strategy known measurements row =
+    run_from measurements (analysis_or_none (bound_of known strategy) row.step) row
     (closing_of row.number row.ending)
 
 abbrev pub measurement_from : MeasurementRow → Option Phase → Option Outcome → Option Recorded

@@ -1,6 +1,7 @@
 //! Laws over the definitions alone.
 ghost use Rattle.canary_stored.specs.Laws.{ReadsBack, CountsAreFound, ReceiptsAreFound};
-ghost use Rattle.canary_stored.specs.Laws.{KeptTextsAreCanonical, TemplatesAreFound};
+ghost use Rattle.canary_stored.specs.Laws.{KeptTextsAreCanonical, RevisionsAreFound};
+ghost use Rattle.canary_stored.specs.Laws.{NewestAreFound, RunsHaveServices};
 ghost use Rattle.canary_stored.specs.Laws.{HistoriesAreFound, MeasurementsAreFound};
 ghost use Rattle.canary_stored.specs.Laws.{TalliesAreFound, RunsAreFound, OpenRunsAreFound};
 ghost use Rattle.canary_stored.specs.Laws.{ServicesAreFound, KeysAreUnique};
@@ -52,9 +53,14 @@ pub fn receipts_found()
     ensures canonical { KeptTextsAreCanonical }
 {}
 
-/// The row of a template is this template.
-pub fn templates_found()
-    ensures { TemplatesAreFound }
+/// The row of a revision is this revision of its template.
+pub fn revisions_found()
+    ensures { RevisionsAreFound }
+{}
+
+/// Of the rows of a template, that with the greatest number is its newest revision.
+pub fn newest_found()
+    ensures { NewestAreFound }
 {}
 
 /// The rows of a service's history are its lines.
@@ -72,9 +78,15 @@ pub fn tallies_found()
     ensures { TalliesAreFound }
 {}
 
-/// The row of a run, with its tallies, is what is told of it.
+/// The row of a run is the record of that run, with its tallies, and with the analysis at its step
+/// of its service's strategy, bound to the run's own revisions.
 pub fn runs_found()
     ensures { RunsAreFound }
+{}
+
+/// If there is no row of a service, there is no run of it.
+pub fn runs_have_services()
+    ensures { RunsHaveServices }
 {}
 
 /// The rows of a service's open runs, in order of their numbers, are its open runs.
@@ -82,7 +94,8 @@ pub fn open_runs_found()
     ensures { OpenRunsAreFound }
 {}
 
-/// The row of a service, with the templates and its open runs, is what is kept of it.
+/// The row of a service, bound to the revisions of its present attempt, and with its open runs, is
+/// what is kept of it.
 pub fn services_found()
     ensures { ServicesAreFound }
 {}

@@ -8,7 +8,7 @@ ghost use Rattle.canary_canonical.specs.Readings.{canonical_in};
 ghost use Rattle.canary_stored.specs.Numbers.{state_of, truth_of, hold_of, status_of};
 ghost use Rattle.canary_stored.specs.Values.{receipt_of_row, made_from, stand_of, closing_of};
 ghost use Rattle.canary_stored.specs.Values.{measurement_of_row, line_of_row};
-ghost use Rattle.canary_stored.specs.Reads.{IsRowRead, IsTemplateRead};
+ghost use Rattle.canary_stored.specs.Reads.{IsRowRead, IsRevisionRead};
 
 use crate::fault::RowFault;
 use canary_base::lists::Text;
@@ -28,7 +28,7 @@ use canary_plan::template_spec::TemplateSpec;
 use canary_release::effect::{Closing, Recorded};
 use canary_release::reply::{Reply, ReplyStatus};
 use canary_release::stand::{Stand, State};
-use canary_rows::rows::{Ending, HistoryRow, KeptRow, MeasurementRow, Standing};
+use canary_rows::rows::{Ending, HistoryRow, KeptRow, MeasurementRow, RevisionRow, Standing};
 use std::alloc::Global;
 
 /// The receipt of a row, whose command's text it keeps.
@@ -60,24 +60,24 @@ fn status_of(number: u32) -> Result<ReplyStatus, RowFault>
     }
 }
 
-/// The template that is kept by this text.
+/// The revision of a template in a row.
 ///
 /// # Errors
-/// `Broken` where the text is not that of a command that adds a template, or where something
-/// refuses the template; `Memory` in place of any.
-pub fn template(alloc: Global, spec: &str) -> Result<Template, RowFault>
-    ensures { IsTemplateRead (canonical_in spec.now) result }
+/// `Broken` if the text is not that of a command that adds a template, or if something refuses the
+/// template; `Memory` in place of any.
+pub fn revision(alloc: Global, row: &RevisionRow) -> Result<Template, RowFault>
+    ensures { IsRevisionRead row.now.revision (canonical_in row.now.spec) result }
 {
-    match from_canonical(alloc, spec)? {
-        Command::Template(spec) => bound(alloc, &spec),
+    match from_canonical(alloc, row.spec.as_str())? {
+        Command::Template(spec) => bound(alloc, &spec, row.revision),
         _ => Err(RowFault::Broken),
     }
 }
 
-fn bound(alloc: Global, spec: &TemplateSpec) -> Result<Template, RowFault>
-    ensures { IsTemplateRead (Some (command.Template spec.now)) result }
+fn bound(alloc: Global, spec: &TemplateSpec, revision: u32) -> Result<Template, RowFault>
+    ensures { IsRevisionRead revision (Some (command.Template spec.now)) result }
 {
-    match Template::bind(alloc, spec) {
+    match Template::bind(alloc, spec, revision) {
         Ok(template) => Ok(template),
         Err(BindFault::Refused(_)) => Err(RowFault::Broken),
         Err(BindFault::Memory) => Err(RowFault::Memory),

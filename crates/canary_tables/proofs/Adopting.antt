@@ -1,20 +1,23 @@
 -- Rows of a database that is adopted.
-use Rattle.std.proofs.Common.{◌≡◌, ◌⊎◌, inl, ℕ, List, [], ◌∷◌, length, map, drop, refl, sym, ap, subst, ◌∙◌, arith}
+use Rattle.std.proofs.Common.{◌≡◌, ℕ, List, [], ◌∷◌, length, map, drop, refl, sym, ap, subst, ◌∙◌, arith}
 use Rattle.std.specs.List.{AllByRecursion}
 use Rattle.sqlite.specs.Effect.{Database}
 use Rattle.sqlite.specs.State.{State}
-use Rattle.sqlite.specs.Tree.{Trees}
 use Rattle.sqlite_value.specs.Order.{Row}
 use Rattle.canary_rows.specs.Tables.{Tables}
 use Rattle.canary_rows.specs.declared.rows.TallyRow.{TallyRow}
-use Rattle.canary_schema.specs.Cells.{cells_of, tally_cells}
-use Rattle.canary_schema.specs.Formed.{IsFormed, HasRows, HasWholeTallies}
+use Rattle.canary_schema.specs.Cells.{cells_of, meta_rows, tally_cells, tables_in, tally_tree}
+use Rattle.canary_schema.specs.Formed.{IsDeskSchema, IsRising, IsFormed, HasRows, AreWhole, HasWholeTallies}
+use Rattle.canary_schema.specs.Layout.{Layout, made, moved, packed, tally_at}
 use Rattle.canary_schema.specs.Numbered.{IsOpenedAnew}
 use Rattle.canary_schema.specs.Laws.{OneReading}
-use Rattle.canary_schema.specs.Schema.{desk_schema}
-use Rattle.canary_schema.specs.Stores.{IsUsable, Holds}
+use Rattle.canary_schema.specs.Schema.{schema_at}
+use Rattle.canary_schema.specs.Stores.{IsUsable, IsHeld, Stores}
+use Rattle.canary_judging.specs.Laws.{JudgingIsExact}
+use Rattle.canary_judging.specs.Services.{IsJudged}
+use Rattle.canary_reads.specs.Finds.{IsSame}
 use Rattle.canary_stored.specs.Reading.{contents_of, HoldsContents}
-use Rattle.canary_tables.specs.Adopts.{HaveSameRows, KeepsRows, HasSoundRowsWithin, IsBelieved, IsAdopted}
+use Rattle.canary_tables.specs.Adopts.{HasSoundRowsWithin, IsBelieved, IsAdopted}
 use Rattle.canary_tables.specs.Desk.{IsDesk}
 
 -- Rows of tallies have ten values.
@@ -41,45 +44,34 @@ whole_tallies [] ts e = tt
 whole_tallies (row ∷ rows) [] e = grind (arith, ap count e)
 whole_tallies (row ∷ rows) (t ∷ ts) e = (eleven row t (ap first_of e), whole_tallies rows ts (ap rest_of e))
 
-pub whole : (db : Database) → HasRows db → HasWholeTallies db.trees
-whole db h = whole_tallies (db.trees 11) (h.0).tallies (h.1).tallies
+tree_at : (at : Layout) → tally_tree (schema_at at) ≡ tally_at at
+tree_at made = refl
+tree_at moved = refl
+tree_at packed = refl
 
--- The same rows.
+pub whole : (db : Database) → HasRows db → HasWholeTallies db
+whole db h =
+    let holds = h.1.holds in
+    let at : Layout = h.1.layout in
+    let tree : tally_tree db.schema ≡ tally_at at = ap tally_tree holds.schema ∙ tree_at at in
+    subst (λ (k : ℕ). AreWhole k db.trees) (sym tree) (whole_tallies (db.trees (tally_at at)) (h.0).tallies holds.tallies)
 
--- rows stand in the trees alone
-stands : (old new : Database) (t : Tables) → old.trees ≡ new.trees → Holds old.schema old t → Holds new.schema new t
-stands old new t same h =
-    let moved : Holds old.schema (record { schema = old.schema; trees = new.trees }) t = subst (λ (trees : Trees). Holds old.schema (record { schema = old.schema; trees = trees }) t) same h in
+-- the tables are there, and meta has its one row
+pub formed : (db : Database) → IsDeskSchema db.schema → IsRising db → db.trees 0 ≡ meta_rows → IsFormed db
+formed db known rises meta = record { layout = known.0; schema = known.1; numbered = rises known.0 known.1; meta = meta }
+
+-- rows that are judged are believed
+pub believes : JudgingIsExact → (old mid new : State) → IsSame old mid → IsSame mid new → (IsUsable mid → IsFormed old.now) → (IsUsable mid → HasRows old.now) → (IsUsable new → (t : Tables) → Stores mid t → IsJudged t) → IsUsable new → IsBelieved old.now
+believes exact old mid new first second is_formed has judged usable =
+    let midway = (second usable).0 in
+    let rows : HasRows old.now = has midway in
+    let stored : Stores mid rows.0 = subst (λ (db : Database). IsHeld db rows.0) (sym (first midway).1) rows.1 in
     record {
-      schema = refl;
-      numbered = moved.numbered;
-      meta = moved.meta;
-      callers = moved.callers;
-      kept = moved.kept;
-      templates = moved.templates;
-      services = moved.services;
-      runs = moved.runs;
-      tallies = moved.tallies;
-      measurements = moved.measurements;
-      history = moved.history;
+      formed = is_formed midway;
+      rows = rows.0;
+      held = rows.1;
+      sound = (exact rows.0).0 (judged usable rows.0 stored);
     }
-
-pub same_rows : (old new : Database) → old.trees ≡ new.trees → HaveSameRows old new
-same_rows old new same t = (stands old new t same, stands new old t (sym same))
-
-pub rows_then : (old mid new : Database) → HaveSameRows old mid → HaveSameRows mid new → HaveSameRows old new
-rows_then old mid new first second t = (λ h. (second t).0 ((first t).0 h), λ h. (first t).1 ((second t).1 h))
-
--- under its own schema
-own : (db : Database) (t : Tables) → Holds desk_schema db t → Holds db.schema db t
-own db t h = subst (λ schema. Holds schema db t) (sym h.schema) h
-
--- one list of rows that stands in both
-pub shared_rows : OneReading → (old new : Database) (t : Tables) → Holds old.schema old t → Holds desk_schema new t → HaveSameRows old new
-shared_rows one old new t before after other = (
-  λ h. subst (Holds new.schema new) (sym (one old.schema old t before) ∙ one old.schema old other h) (own new t after),
-  λ h. subst (Holds old.schema old) (sym (one desk_schema new t after) ∙ one new.schema new other h) before,
-)
 
 -- no rows, no sound ones
 pub none_sound : (db : Database) → ¬ HasRows db → ¬ HasSoundRowsWithin db
@@ -87,32 +79,34 @@ none_sound db none h = none (h.0, h.1.0)
 
 -- From a connection over a store that is opened anew, and then over one that is believed.
 
-pub adopted : OneReading → (old mid new : State) → (IsUsable mid → IsOpenedAnew old mid) → (IsUsable new → IsUsable mid) → (IsUsable new → IsBelieved mid.now new) → IsUsable new → IsAdopted old new
-adopted one old mid new opened held believed usable =
-    let o = opened (held usable) in
-    let b = believed usable in
-    let before : Holds old.now.schema old.now b.rows = subst (λ (db : Database). Holds db.schema db b.rows) o.same b.held in
+pub adopted : OneReading → (old mid new : State) → (IsUsable mid → IsOpenedAnew old mid) → IsSame mid new → (IsUsable new → IsBelieved mid.now) → IsUsable new → IsAdopted old new
+adopted one old mid new opened same believed usable =
+    let o = opened (same usable).0 in
+    let b = subst IsBelieved o.same (believed usable) in
+    let stays : new.now ≡ old.now = (same usable).1 ∙ o.same in
     record {
       was = o.was;
-      formed = subst IsFormed o.same b.formed;
-      sound = (b.rows, (before, b.sound));
-      contents = ap contents_of (one desk_schema new.now b.rows b.stores ∙ sym (one old.now.schema old.now b.rows before));
+      formed = b.formed;
+      sound = (b.rows, (b.held, b.sound));
+      contents = ap (λ (db : Database). contents_of (tables_in db)) stays;
+      same = stays;
     }
 
-pub is_desk : OneReading → (old : Database) (new : State) → IsBelieved old new → IsDesk new
-is_desk one old new b =
-    let is = one desk_schema new.now b.rows b.stores in
+pub is_desk : OneReading → (mid new : State) → IsSame mid new → (IsUsable new → IsBelieved mid.now) → IsUsable new → IsDesk new
+is_desk one mid new same believed usable =
+    let b = subst IsBelieved (sym (same usable).1) (believed usable) in
+    let is = one new.now b.rows b.held in
     record {
-      stores = subst (Holds desk_schema new.now) (sym is) b.stores;
+      stores = subst (IsHeld new.now) (sym is) b.held;
       holds = subst HoldsContents (sym is) b.sound.0;
     }
 
-pub rows_left : (old mid new : State) → (IsUsable mid → IsOpenedAnew old mid) → (IsUsable new → IsUsable mid) → (IsUsable new → HaveSameRows mid.now new.now) → (IsUsable new → (new.now ≡ mid.now) ⊎ HasRows mid.now) → IsUsable new → IsUsable old × KeepsRows old.now new.now
-rows_left old mid new opened held rows kept usable =
-    let o = opened (held usable) in (o.was, subst (λ (db : Database). KeepsRows db new.now) o.same (rows usable, kept usable))
+pub left_as_it_was : (old mid new : State) → (IsUsable mid → IsOpenedAnew old mid) → IsSame mid new → IsUsable new → IsUsable old × (new.now ≡ old.now)
+left_as_it_was old mid new opened same usable =
+    let o = opened (same usable).0 in (o.was, (same usable).1 ∙ o.same)
 
-pub rows_anew : (old mid : State) → (IsUsable mid → IsOpenedAnew old mid) → IsUsable mid → IsUsable old × KeepsRows old.now mid.now
-rows_anew old mid opened = rows_left old mid mid opened (λ usable. usable) (λ _. same_rows mid.now mid.now refl) (λ _. inl refl)
+pub left_anew : (old mid : State) → (IsUsable mid → IsOpenedAnew old mid) → IsUsable mid → IsUsable old × (mid.now ≡ old.now)
+left_anew old mid opened usable = let o = opened usable in (o.was, o.same)
 
-pub broken_before : (old mid new : State) → (IsUsable mid → IsOpenedAnew old mid) → (IsUsable new → IsUsable mid) → (IsUsable new → IsFormed mid.now × ¬ HasSoundRowsWithin mid.now) → IsUsable new → IsFormed old.now × ¬ HasSoundRowsWithin old.now
-broken_before old mid new opened held broken usable = subst (λ (db : Database). IsFormed db × ¬ HasSoundRowsWithin db) (opened (held usable)).same (broken usable)
+pub broken_before : (old mid new : State) → (IsUsable mid → IsOpenedAnew old mid) → IsSame mid new → (IsUsable new → IsFormed mid.now × ¬ HasSoundRowsWithin mid.now) → IsUsable new → IsFormed old.now × ¬ HasSoundRowsWithin old.now
+broken_before old mid new opened same broken usable = subst (λ (db : Database). IsFormed db × ¬ HasSoundRowsWithin db) (opened (same usable).0).same (broken usable)

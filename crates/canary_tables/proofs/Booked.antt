@@ -12,9 +12,8 @@ use Rattle.canary_once.specs.Contents.{Contents, IsSettling, KeepsReceipts, with
 use Rattle.canary_once.specs.Sound.{AreContents, AreSoundContents}
 use Rattle.canary_once.specs.Books.{IsFault, Finds, Commits}
 use Rattle.canary_once.specs.Laws.{SettlementsKeep}
-use Rattle.canary_schema.specs.Schema.{desk_schema}
 use Rattle.canary_schema.specs.Cells.{tables_in}
-use Rattle.canary_schema.specs.Stores.{Holds, IsUsable}
+use Rattle.canary_schema.specs.Stores.{IsHeld, IsUsable}
 use Rattle.canary_stored.specs.Reading.{contents_of, HoldsContents}
 use Rattle.canary_reads.specs.Finds.{IsSame}
 use Rattle.canary_tables.specs.Desk.{contents_in, IsDesk, IsBook, book_state}
@@ -30,12 +29,12 @@ a_fault (Err fault) = any_fault fault
 
 module _ {S : Type 0} (g : Ghosts S) where
   contents_stay : (old new : Held S) → (state g new).now ≡ (state g old).now → contents_in (state g new) ≡ contents_in (state g old)
-  contents_stay old new same = ap (λ (db : Database). contents_of (tables_in db.trees)) same
+  contents_stay old new same = ap (λ (db : Database). contents_of (tables_in db)) same
 
   desk_stays : (old new : Held S) → (state g new).now ≡ (state g old).now → IsDesk (state g old) → IsDesk (state g new)
   desk_stays old new same desk = record {
-    stores = subst (λ (db : Database). Holds desk_schema db (tables_in db.trees)) (sym same) desk.stores;
-    holds = subst (λ (db : Database). HoldsContents (tables_in db.trees)) (sym same) desk.holds;
+    stores = subst (λ (db : Database). IsHeld db (tables_in db)) (sym same) desk.stores;
+    holds = subst (λ (db : Database). HoldsContents (tables_in db)) (sym same) desk.holds;
   }
 
   -- a read leaves a book

@@ -4,6 +4,6 @@ mod Booked
 mod Standing
 mod FoundRuns
 mod TemplateLemmas
-mod Strategies
+mod FoundPlans
 mod FoundServices
 mod Adopting

@@ -1,5 +1,5 @@
 -- What adopting a database comes to.
-use Rattle.std.specs.Prelude.{◌≡◌, ◌↔◌, ◌⊎◌, false}
+use Rattle.std.specs.Prelude.{◌≡◌, false}
 use Rattle.sqlite.specs.Effect.{Database}
 use Rattle.sqlite.specs.Held.{state}
 use Rattle.sqlite.specs.State.{State}
@@ -8,9 +8,9 @@ use Rattle.canary_rows.specs.Limits.{AreWithin}
 use Rattle.canary_rows.specs.Tables.{Tables}
 use Rattle.canary_schema.specs.Cells.{meta_rows}
 use Rattle.canary_schema.specs.declared.fault.StoreFault.{StoreFault}
-use Rattle.canary_schema.specs.Formed.{IsDeskSchema, IsFormed, HasRows}
+use Rattle.canary_schema.specs.Formed.{IsDeskSchema, IsFormed}
 use Rattle.canary_schema.specs.Numbered.{IsLeft}
-use Rattle.canary_schema.specs.Stores.{IsUsable, Holds, Stores}
+use Rattle.canary_schema.specs.Stores.{IsUsable, IsHeld}
 use Rattle.canary_judging.specs.Soundness.{AreSoundTables}
 use Rattle.canary_tables.specs.declared.fault.Left.{Left}
 use Rattle.canary_tables.specs.declared.fault.Left.TheVariants as left
@@ -18,41 +18,32 @@ use Rattle.canary_tables.specs.declared.fault.TableFault.{TableFault}
 use Rattle.canary_tables.specs.Desk.{contents_in}
 use Rattle.canary_tables.specs.Faults.{fault_of_store}
 
--- just a desk's tables are there, with the three indexes or without them, and meta has its one row
+-- just a desk's tables and indexes are there, and meta has its one row
 abbrev pub HasDeskTables : Database → Type 0
 HasDeskTables db = IsDeskSchema db.schema × (db.trees 0 ≡ meta_rows)
 
 -- the rows of tables of sound contents stand in it
 abbrev pub HasSoundRows : Database → Type 0
-HasSoundRows db = (t : Tables) × (Holds db.schema db t × AreSoundTables t)
+HasSoundRows db = (t : Tables) × (IsHeld db t × AreSoundTables t)
 
 -- and a program can hold each of them
 abbrev pub HasSoundRowsWithin : Database → Type 0
-HasSoundRowsWithin db = (t : Tables) × (Holds db.schema db t × (AreWithin t × AreSoundTables t))
+HasSoundRowsWithin db = (t : Tables) × (IsHeld db t × (AreWithin t × AreSoundTables t))
 
--- the same rows stand in both, and only the indexes may differ
-abbrev pub HaveSameRows : Database → Database → Type 0
-HaveSameRows old new = (t : Tables) → Holds old.schema old t ↔ Holds new.schema new t
-
--- so it is, and where no rows of tables stand in the first, nothing at all has changed
-abbrev pub KeepsRows : Database → Database → Type 0
-KeepsRows old new = HaveSameRows old new × ((new ≡ old) ⊎ HasRows old)
-
--- a desk's database, whose rows are those of sound contents, has been given the indexes that it
--- lacked
-pub record IsBelieved (old : Database) (new : State) : Type 0 where
-  pub formed : IsFormed old
+-- it is a desk's database, whose rows are those of sound contents
+pub record IsBelieved (db : Database) : Type 0 where
+  pub formed : IsFormed db
   pub rows : Tables
-  pub held : Holds old.schema old rows
+  pub held : IsHeld db rows
   pub sound : AreSoundTables rows
-  pub stores : Stores new rows
 
--- the database is a desk's with sound contents, which the book contains
+-- the database is a desk's with sound contents, which the book contains; nothing has changed
 pub record IsAdopted (old new : State) : Type 0 where
   pub was : IsUsable old
   pub formed : IsFormed old.now
   pub sound : HasSoundRows old.now
   pub contents : contents_in new ≡ contents_in old
+  pub same : new.now ≡ old.now
 
 -- What is left where there is no book.
 
@@ -61,11 +52,10 @@ abbrev pub TellsTables : {S : Type 0} → Ghosts S → Left S → Type 0
 TellsTables g (left.Connection conn) = IsUsable (state g conn)
 TellsTables g (left.Store store) = Unit {0}
 
--- the rows are as they were, and a database that has no rows of tables; so are all trees of a
--- store alone, which is clean and open
+-- the database is as it was; so are all trees of a store alone, which is clean and open
 abbrev pub LeavesRows : {S : Type 0} → Ghosts S → State → Left S → Type 0
 LeavesRows g old (left.Connection conn) =
-    IsUsable (state g conn) → IsUsable old × KeepsRows old.now (state g conn).now
+    IsUsable (state g conn) → IsUsable old × ((state g conn).now ≡ old.now)
 LeavesRows g old (left.Store store) = IsLeft old (g.view store)
 
 -- a store alone is left only where memory or the store failed

@@ -1,22 +1,32 @@
 -- When a database is a desk's, and what it contains.
-use Rattle.std.specs.Prelude.{◌≡◌, false}
+use Rattle.std.specs.Prelude.{◌≡◌, false, List, ℕ, filter, Some}
 use Rattle.sqlite.specs.Held.{Held, state}
 use Rattle.sqlite.specs.State.{State}
 use Rattle.sqlite_trees.specs.declared.store.Store.{Ghosts}
 use Rattle.canary_once.specs.Contents.{Contents}
 use Rattle.canary_once.specs.Books.{BookState}
+use Rattle.canary_plan.specs.declared.service.ServiceSpec.{ServiceSpec}
+use Rattle.canary_plan.specs.Plans.{strategy_of}
+use Rattle.canary_rows.specs.Tables.{is_service}
 use Rattle.canary_schema.specs.Cells.{tables_in}
 use Rattle.canary_schema.specs.Stores.{IsUsable, Stores}
-use Rattle.canary_stored.specs.Reading.{contents_of, HoldsContents}
+use Rattle.canary_stored.specs.Finding.{strategy_by}
+use Rattle.canary_stored.specs.Reading.{contents_of, first_row, HoldsContents}
 
 -- what a database contains, whatever it is
 abbrev pub contents_in : State → Contents
-contents_in s = contents_of (tables_in s.now.trees)
+contents_in s = contents_of (tables_in s.now)
 
 -- a database stores rows that hold contents
 pub record IsDesk (s : State) : Type 0 where
-  pub stores : Stores s (tables_in s.now.trees)
-  pub holds : HoldsContents (tables_in s.now.trees)
+  pub stores : Stores s (tables_in s.now)
+  pub holds : HoldsContents (tables_in s.now)
+
+-- the service of that name, by its row, has the strategy that was asked for so
+abbrev pub IsMadeBy : State → List ℕ → ServiceSpec → Type 0
+IsMadeBy s name made =
+    strategy_by (first_row (filter (is_service name) (tables_in s.now).services))
+    ≡ Some (strategy_of made)
 
 -- a kind of store in which nothing is ever lost or misread, as memory alone
 abbrev pub IsMemory : {S : Type 0} → Ghosts S → Type 0

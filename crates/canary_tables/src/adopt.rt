@@ -1,12 +1,11 @@
 //! A book over a database that has a desk's tables.
-ghost use Rattle.std.specs.Prelude.{◌≡◌, ◌≢◌, ◌↔◌, ◌⊎◌, false, IsTrue, IfOk, IfErr};
-ghost use Rattle.std.specs.Prelude.{OnOk, OnErr, Err};
+ghost use Rattle.std.specs.Prelude.{◌≡◌, ◌≢◌, ◌↔◌, false, IsTrue, IfOk, IfErr, OnOk, Err};
 ghost use Rattle.sqlite.specs.Held.{state};
-ghost use Rattle.canary_rows.specs.Tables.{Tables};
-ghost use Rattle.canary_schema.specs.Formed.{IsDeskSchema, IsFormed, HasRows, HasWholeTallies};
-ghost use Rattle.canary_schema.specs.Stores.{IsUsable, AreNumbered, Stores, Holds};
+ghost use Rattle.canary_schema.specs.Formed.{IsDeskSchema, IsRising, IsFormed, HasRows};
+ghost use Rattle.canary_schema.specs.Formed.{HasWholeTallies};
+ghost use Rattle.canary_schema.specs.Stores.{IsUsable};
 ghost use Rattle.canary_reads.specs.Finds.{IsSame};
-ghost use Rattle.canary_tables.specs.Adopts.{HasDeskTables, HasSoundRowsWithin, HaveSameRows};
+ghost use Rattle.canary_tables.specs.Adopts.{HasDeskTables, HasSoundRowsWithin};
 ghost use Rattle.canary_tables.specs.Adopts.{IsBelieved, IsAdopted, TellsTables, LeavesRows};
 ghost use Rattle.canary_tables.specs.Adopts.{IsLeftBy, IsOutside};
 ghost use Rattle.canary_tables.specs.declared.fault.TableFault.TheVariants as fault;
@@ -18,9 +17,7 @@ use canary_adopting::progress::Progress;
 use canary_judging::laws as judging_laws;
 use canary_reads::typed::{has_meta, typed};
 use canary_schema::anew::open_anew;
-use canary_schema::create::add_indexes;
-use canary_schema::fault::StoreFault;
-use canary_schema::known::{is_bare, is_known};
+use canary_schema::known::is_desk;
 use canary_schema::laws as schema_laws;
 use sqlite::{Alter, Connection};
 use std::alloc::Global;
@@ -30,9 +27,9 @@ fn has_rows<S: Alter>(conn: &mut Connection<S>, is_whole: bool) -> Result<(), Ta
     requires autocommit { conn.old.in_transaction ≡ false }
     requires known { IsDeskSchema (state S.Store conn.old).now.schema }
     requires numbered { IsUsable (state S.Store conn.old)
-        → AreNumbered (state S.Store conn.old).now.trees }
+        → IsRising (state S.Store conn.old).now }
     requires whole { IsUsable (state S.Store conn.old)
-        → (IsTrue is_whole ↔ HasWholeTallies (state S.Store conn.old).now.trees) }
+        → (IsTrue is_whole ↔ HasWholeTallies (state S.Store conn.old).now) }
     ensures mode { conn.new.in_transaction ≡ false }
     ensures same { IsSame (state S.Store conn.old) (state S.Store conn.new) }
     ensures formed { IsUsable (state S.Store conn.new)
@@ -55,26 +52,7 @@ fn has_rows<S: Alter>(conn: &mut Connection<S>, is_whole: bool) -> Result<(), Ta
     Ok(())
 }
 
-// Adds the three indexes where they are missing.
-fn index<S: Alter>(conn: &mut Connection<S>) -> Result<(), StoreFault>
-    requires autocommit { conn.old.in_transaction ≡ false }
-    requires known { IsUsable (state S.Store conn.old)
-        → IsDeskSchema (state S.Store conn.old).now.schema }
-    ensures mode { conn.new.in_transaction ≡ false }
-    ensures held { IsUsable (state S.Store conn.new) → IsUsable (state S.Store conn.old) }
-    ensures stores { IsUsable (state S.Store conn.new) → (t : Tables)
-        → Holds (state S.Store conn.old).now.schema (state S.Store conn.old).now t
-        → OnOk result (Stores (state S.Store conn.new) t) }
-    ensures failed { IsUsable (state S.Store conn.new)
-        → OnErr result ((state S.Store conn.new).now ≡ (state S.Store conn.old).now) }
-{
-    if is_bare(conn.schema()) {
-        add_indexes(conn)?;
-    }
-    Ok(())
-}
-
-// Believes rows that are those of tables of sound contents, and adds the indexes that are missing.
+// Believes rows that are those of tables of sound contents. Nothing is changed.
 fn believe<S: Alter, G: Progress>(
     conn: &mut Connection<S>,
     alloc: Global,
@@ -84,18 +62,13 @@ fn believe<S: Alter, G: Progress>(
     requires autocommit { conn.old.in_transaction ≡ false }
     requires known { IsDeskSchema (state S.Store conn.old).now.schema }
     requires numbered { IsUsable (state S.Store conn.old)
-        → AreNumbered (state S.Store conn.old).now.trees }
+        → IsRising (state S.Store conn.old).now }
     requires whole { IsUsable (state S.Store conn.old)
-        → (IsTrue is_whole ↔ HasWholeTallies (state S.Store conn.old).now.trees) }
+        → (IsTrue is_whole ↔ HasWholeTallies (state S.Store conn.old).now) }
     ensures mode { conn.new.in_transaction ≡ false }
-    ensures held { IsUsable (state S.Store conn.new) → IsUsable (state S.Store conn.old) }
-    ensures rows { IsUsable (state S.Store conn.new)
-        → HaveSameRows (state S.Store conn.old).now (state S.Store conn.new).now }
-    ensures kept { IsUsable (state S.Store conn.new)
-        → ((state S.Store conn.new).now ≡ (state S.Store conn.old).now)
-        ⊎ HasRows (state S.Store conn.old).now }
+    ensures same { IsSame (state S.Store conn.old) (state S.Store conn.new) }
     ensures believed { IsUsable (state S.Store conn.new)
-        → OnOk result (IsBelieved (state S.Store conn.old).now (state S.Store conn.new)) }
+        → OnOk result (IsBelieved (state S.Store conn.old).now) }
     ensures other { IsUsable (state S.Store conn.new) → result ≡ Err fault.OtherSchema
         → ¬ HasDeskTables (state S.Store conn.old).now }
     ensures broken { IsUsable (state S.Store conn.new) → result ≡ Err fault.BrokenRow
@@ -106,16 +79,14 @@ fn believe<S: Alter, G: Progress>(
     judging_laws::judging();
     schema_laws::one_reading();
     has_rows(conn, is_whole)?;
-    index(conn)?;
     judge(conn, alloc, progress)?;
     Ok(())
 }
 
 impl<S: Alter + Drop> TableBook<S> {
     /// Makes a book of a database that has a desk's tables, which contains what their rows stand
-    /// for. The store is opened anew, and each row is read and judged before it is believed. Where
-    /// the desk's three indexes are missing, they are added; no row is changed. `progress` is told
-    /// how many rows there are, and how many were judged.
+    /// for. The store is opened anew, and each row is read and judged before it is believed.
+    /// Nothing is changed. `progress` learns how many rows there are, and how many were judged.
     ///
     /// # Errors
     ///
@@ -123,7 +94,7 @@ impl<S: Alter + Drop> TableBook<S> {
     /// table meta has other rows; `BrokenRow` where the rows are not those that a desk leaves;
     /// `Memory` where an allocation was refused; `Storage` where the store failed, or the
     /// connection stands inside a transaction. What is left of the connection is handed back, with
-    /// the same rows.
+    /// the database as it was.
     pub fn adopt<G: Progress>(
         alloc: Global,
         conn: Connection<S>,
@@ -145,14 +116,14 @@ impl<S: Alter + Drop> TableBook<S> {
         if !conn.is_autocommit() {
             return Err((TableFault::Storage, Left::Connection(conn)));
         }
-        if !is_known(conn.schema()) {
+        if !is_desk(conn.schema()) {
             return Err((TableFault::OtherSchema, Left::Connection(conn)));
         }
         let (mut conn, is_whole) = match open_anew(alloc, conn) {
             Ok(opened) => opened,
             Err((fault, store)) => return Err((fault.into(), Left::Store(store))),
         };
-        if !is_known(conn.schema()) {
+        if !is_desk(conn.schema()) {
             return Err((TableFault::Storage, Left::Connection(conn)));
         }
         match believe(&mut conn, alloc, is_whole, progress) {

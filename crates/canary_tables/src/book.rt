@@ -5,7 +5,7 @@ ghost use Rattle.canary_schema.specs.declared.fault.StoreFault.TheVariants as st
 ghost use Rattle.canary_tables.specs.Faults.{book_fault_of};
 
 use crate::settle::settle;
-use crate::{found, found_runs, found_services, pages};
+use crate::{found, found_plans, found_runs, found_services, pages};
 use canary_base::lists::Listed;
 use canary_base::names::Name;
 use canary_base::numbers::Number;
@@ -21,7 +21,7 @@ use sqlite::{Alter, Connection};
 use std::alloc::Global;
 use std::marker::Model;
 
-/// The book whose contents are the rows of nine tables. Nobody else writes them meanwhile.
+/// The book whose contents are the rows of ten tables. Nobody else writes them meanwhile.
 #[derive(Drop)]
 pub struct TableBook<S: Alter> {
     pub(crate) alloc: Global,
@@ -73,7 +73,7 @@ impl<S: Alter> Book for TableBook<S> {
     }
 
     fn templates(&mut self, names: &[Name]) -> Result<Templates, BookFault> {
-        found_services::templates(&mut self.conn, self.alloc, names).map_err(book_fault)
+        found_plans::templates(&mut self.conn, self.alloc, names).map_err(book_fault)
     }
 
     fn service(&mut self, name: &Name) -> Result<Option<Service>, BookFault> {

@@ -1,24 +1,27 @@
 //! Runs, as the tables tell them.
 ghost use Rattle.std.specs.Prelude.{◌≡◌, false, map, Some, IfOk};
 ghost use Rattle.sqlite.specs.Held.{state};
-ghost use Rattle.canary_plan.specs.Plans.{analysis_or_none};
+ghost use Rattle.canary_plan.specs.Plans.{strategy_of, bound_of, analysis_or_none};
 ghost use Rattle.canary_once.specs.Records.{run_of};
 ghost use Rattle.canary_rows.specs.declared.rows.TallyRow.{TallyRow};
+ghost use Rattle.canary_schema.specs.Cells.{tables_in};
 ghost use Rattle.canary_schema.specs.Stores.{IsUsable};
+ghost use Rattle.canary_stored.specs.Reading.{known_in};
 ghost use Rattle.canary_stored.specs.Finding.{tallies_of, record_of_row};
 ghost use Rattle.canary_stored.specs.Finding.{open_run_of, open_runs_by};
 ghost use Rattle.canary_reads.specs.Finds.{IsSame};
-ghost use Rattle.canary_tables.specs.Desk.{IsDesk, contents_in};
+ghost use Rattle.canary_tables.specs.Desk.{IsDesk, IsMadeBy, contents_in};
 
 use crate::found::store_fault;
+use crate::found_plans::{made, plan};
 use canary_base::lists::Listed;
 use canary_base::names::Name;
 use canary_base::numbers::Number;
 use canary_metric::tally::Tally;
 use canary_once::record::RunRecord;
 use canary_plan::bound::Bound;
-use canary_plan::bound_analysis::BoundAnalysis;
-use canary_reads::runs;
+use canary_plan::service::ServiceSpec;
+use canary_reads::{runs, services};
 use canary_release::runs::OpenRun;
 use canary_rows::rows::{RunRow, TallyRow};
 use canary_schema::fault::StoreFault;
@@ -60,7 +63,8 @@ fn counts_of(alloc: Global, rows: &[TallyRow]) -> Result<Listed<Tally>, StoreFau
     Ok(found)
 }
 
-/// The run of a service under that number, if there is one.
+/// The run of a service under that number, if there is one, with the analysis to which it was bound
+/// when it was opened.
 ///
 /// # Errors
 /// `Memory` where there is not enough, `Storage` where the database fails or holds what no desk
@@ -78,21 +82,74 @@ pub(crate) fn run<S: Alter>(
     ensures found { IsUsable (state S.Store conn.new) → IfOk result (λ found.
         found ≡ run_of (contents_in (state S.Store conn.old)) name.now number) }
 {
-    laws::runs_found();
-    let Some(row) = runs::run(conn, name, number.get())? else {
+    laws::runs_have_services();
+    let Some(row) = services::service(conn, name)? else {
         return Ok(None);
     };
-    let tallies = tallies(conn, alloc, name, number.get())?;
-    Ok(Some(record_of(&row, tallies)?))
+    let made = made(alloc, row.spec.as_str())?;
+    run_of(conn, alloc, &made, name, number.get())
 }
 
-fn record_of(row: &RunRow, tallies: Listed<Tally>) -> Result<RunRecord, StoreFault>
-    ensures { IfOk result (λ told. record_of_row tallies row.now ≡ Some told) }
+// The run of a service that was asked for so.
+fn run_of<S: Alter>(
+    conn: &mut Connection<S>,
+    alloc: Global,
+    made: &ServiceSpec,
+    name: &Name,
+    number: u32,
+) -> Result<Option<RunRecord>, StoreFault>
+    requires autocommit { conn.old.in_transaction ≡ false }
+    requires desk { IsUsable (state S.Store conn.old) → IsDesk (state S.Store conn.old) }
+    ensures mode { conn.new.in_transaction ≡ false }
+    ensures same { IsSame (state S.Store conn.old) (state S.Store conn.new) }
+    ensures found { IsUsable (state S.Store conn.new)
+        → IsMadeBy (state S.Store conn.old) name.now made.now → IfOk result (λ found.
+        found ≡ run_of (contents_in (state S.Store conn.old)) name.now number) }
+{
+    laws::runs_found();
+    let Some(row) = runs::run(conn, name, number)? else {
+        return Ok(None);
+    };
+    let tallies = tallies(conn, alloc, name, number)?;
+    let bound = bound_at(conn, alloc, made, &row)?;
+    Ok(Some(record_of(alloc, &row, &bound, tallies)?))
+}
+
+// What the run of the row is bound to.
+fn bound_at<S: Alter>(
+    conn: &mut Connection<S>,
+    alloc: Global,
+    made: &ServiceSpec,
+    row: &RunRow,
+) -> Result<Bound, StoreFault>
+    requires autocommit { conn.old.in_transaction ≡ false }
+    requires desk { IsUsable (state S.Store conn.old) → IsDesk (state S.Store conn.old) }
+    ensures mode { conn.new.in_transaction ≡ false }
+    ensures same { IsSame (state S.Store conn.old) (state S.Store conn.new) }
+    ensures found { IsUsable (state S.Store conn.new) → IfOk result (λ bound. bound
+        ≡ bound_of
+        (known_in (tables_in (state S.Store conn.old).now) row.now.service row.now.number)
+        (strategy_of made.now)) }
+{
+    let (_strategy, bound) = plan(conn, alloc, made, &row.service, row.number)?;
+    Ok(bound)
+}
+
+fn record_of(
+    alloc: Global,
+    row: &RunRow,
+    bound: &Bound,
+    tallies: Listed<Tally>,
+) -> Result<RunRecord, StoreFault>
+    ensures { IfOk result (λ told. record_of_row
+        (analysis_or_none bound.now row.now.step) tallies row.now ≡ Some told) }
 {
     let closed = reading::closing(row.number, &row.ending).map_err(store_fault)?;
+    let analysis = bound.analysis_or_none(alloc, row.step)?;
     Ok(RunRecord {
         number: row.number,
         step: row.step,
+        analysis,
         started: row.started,
         closed,
         tallies,
@@ -163,18 +220,8 @@ fn open_run<S: Alter>(
     Ok(OpenRun {
         number: row.number,
         step: row.step,
-        analysis: analysis_at(bound, row.step)?,
+        analysis: bound.analysis_or_none(alloc, row.step)?,
         started: row.started,
         tallies: tallies(conn, alloc, name, row.number)?,
     })
-}
-
-// The analysis at that step, or the background. No desk has a run of none.
-fn analysis_at(bound: &Bound, step: Option<u32>) -> Result<BoundAnalysis, StoreFault>
-    ensures { IfOk result (λ analysis. analysis ≡ analysis_or_none bound.now step) }
-{
-    match bound.analysis(step) {
-        Some(analysis) => Ok(analysis.copy()?),
-        None => Err(StoreFault::Storage),
-    }
 }

@@ -1,10 +1,10 @@
-//! A book whose contents are the rows of nine tables of SQLite: over an empty database (`create`),
+//! A book whose contents are the rows of ten tables of SQLite: over an empty database (`create`),
 //! over one that has a desk's tables (`adopt`), or over a file (`open`).
 //!
 //! Callers may rest on this: the book is a `Book`, honest where its connection is usable, so all
 //! that is proved of one holds of it. `create` takes an empty database alone, and `adopt` one whose
 //! rows are those of sound contents alone; a fault hands back the connection or its store, with the
-//! same rows. What `open` opens no contract says.
+//! database as it was. What `open` opens no contract says.
 //!
 //! In use (canary_database, src/open.rt):
 //!
@@ -21,6 +21,7 @@ pub mod book;
 pub mod create;
 pub mod fault;
 mod found;
+mod found_plans;
 mod found_runs;
 mod found_services;
 mod names;

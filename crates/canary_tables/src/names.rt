@@ -23,7 +23,7 @@ impl<S: Alter> TableBook<S> {
     pub fn service_names(&mut self) -> Result<Listed<Name>, BookFault>
         ensures same { IsSame (state S.Store self.old) (state S.Store self.new) }
         ensures names { IsUsable (state S.Store self.new) → IfOk result (λ names.
-            names ≡ map (λ row. row.name) (tables_in (state S.Store self.old).now.trees).services) }
+            names ≡ map (λ row. row.name) (tables_in (state S.Store self.old).now).services) }
     {
         names(&mut self.conn, self.alloc).map_err(book_fault)
     }
@@ -35,7 +35,7 @@ fn names<S: Alter>(conn: &mut Connection<S>, alloc: Global) -> Result<Listed<Nam
     ensures mode { conn.new.in_transaction ≡ false }
     ensures same { IsSame (state S.Store conn.old) (state S.Store conn.new) }
     ensures found { IsUsable (state S.Store conn.new) → IfOk result (λ names.
-        names ≡ map (λ row. row.name) (tables_in (state S.Store conn.old).now.trees).services) }
+        names ≡ map (λ row. row.name) (tables_in (state S.Store conn.old).now).services) }
 {
     let names = lists::service_names(conn, alloc)?;
     Ok(names)

@@ -32,7 +32,8 @@ const TIMED: &str = "200 ops 1 0 template t m
 
 /// What is then asked of copies of its template and its service, and the body that is replied.
 const COPIED: &str = concat!(
-    r#"ops 4 0 template s m => {"code":"ok","template":"s"}
+    r#"ops 4 0 template s m => {"code":"ok","revision":1,"template":"s"}
+ops 4 0 template t m => {"code":"ok","revision":2,"template":"t"}
 ops 4 0 start v3 => {"code":"in-progress"}
 ops 4 300 tick => {"code":"ok","service":"web","status":"Progressing","step":2,"weight":20}
 ops 4 1 report 1 m:1:0:!down => {"code":"ok","phases":["Error"],"run":1,"service":"web","#,

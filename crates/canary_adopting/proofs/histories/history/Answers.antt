@@ -1,6 +1,12 @@
-use Rattle.std.proofs.Common.{◌∙◌}
+use Rattle.std.proofs.Common.{◌∙◌, ◌≡◌, Err, rules}
 use Rattle.canary_adopting.proofs.HistoryLemmas.{history_found, no_history}
+use Rattle.canary_reads.specs.declared.fault.ReadFault.TheVariants.{Broken}
 use Rattle.canary_adopting.proofs.histories.history.Goals as goal
+
+pub returns-in_err-rows-clause-broken : goal.returns-in_err-rows-clause-broken
+returns-in_err-rows-clause-broken g c usable t has is judged =
+    let broken : c.history.result ≡ Err Broken = search rules in
+    c.history.ensures.broken usable t has broken judged.0.history
 
 pub returns-clause-found : goal.returns-clause-found
 returns-clause-found g c usable t stores =

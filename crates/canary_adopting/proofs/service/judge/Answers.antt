@@ -1,9 +1,15 @@
-use Rattle.std.proofs.Common.{sym, ◌∙◌}
+use Rattle.std.proofs.Common.{sym, ◌∙◌, ◌≡◌, Err, rules}
 use Rattle.std.proofs.lemmas.Result.{IfOk-weaker}
 use Rattle.sqlite.specs.Held.{state}
 use Rattle.canary_adopting.proofs.JudgedServices.{service_found, no_service, service_there}
 use Rattle.canary_adopting.proofs.Standing.{stores_then}
+use Rattle.canary_reads.specs.declared.fault.ReadFault.TheVariants.{Broken}
 use Rattle.canary_adopting.proofs.service.judge.Goals as goal
+
+pub returns-in_err-rows-clause-refused : goal.returns-in_err-rows-clause-refused
+returns-in_err-rows-clause-refused g c usable t has judged is within under =
+    let broken : c.service_rows.result ≡ Err Broken = search rules in
+    c.service_rows.ensures.broken usable t has broken within.services
 
 pub returns-in_default-clause-refused : goal.returns-in_default-clause-refused
 returns-in_default-clause-refused g c usable t has judged is within =

@@ -6,6 +6,11 @@ use Rattle.canary_adopting.proofs.AllServices.{services_judged, totals_there, ea
 use Rattle.canary_adopting.proofs.Standing.{stores_then, same_then}
 use Rattle.canary_adopting.proofs.services.judge.Goals as goal
 
+pub returns-in_err-names-clause-refused : goal.returns-in_err-names-clause-refused
+returns-in_err-names-clause-refused g c usable t has judged is within services =
+    let broken : c.service_names.result ≡ Err Broken = search rules in
+    c.service_names.ensures.broken usable t has broken within.services
+
 pub returns-in_err-totals-clause-refused : goal.returns-in_err-totals-clause-refused
 returns-in_err-totals-clause-refused g c usable t has judged is within services =
     let broken : c.judge_each.result ≡ Err Broken = search rules in
@@ -18,7 +23,7 @@ returns-clause-judged g c usable t has judged =
     let after = (c.are_all.ensures.same usable).0 in
     let mid = (c.judge_each.ensures.same after).0 in
     IfOk-weaker c.are_all.result _ _
-    (λ done have. services_judged t c.as_slice.result.now c.in_ok-totals.totals c.totals.ensures (c.as_slice.ensures ∙ c.in_ok-names.ensures.found mid t has)
+    (λ done have. services_judged t c.as_slice.result.now c.in_ok-totals.totals c.totals.ensures.tallies c.totals.ensures.bindings (c.as_slice.ensures ∙ c.in_ok-names.ensures.found mid t has)
     (c.in_ok-totals.ensures.judged after t (stores_then (state g.S.Store c.args.conn.now) (state g.S.Store c.service_names.new.conn) t c.service_names.ensures.same mid has) judged) have)
     (c.are_all.ensures.judged usable t (stores_then (state g.S.Store c.args.conn.now) (state g.S.Store c.judge_each.new.conn) t (same_then (state g.S.Store c.args.conn.now) (state g.S.Store c.service_names.new.conn) (state g.S.Store c.judge_each.new.conn) c.service_names.ensures.same c.judge_each.ensures.same) after has))
 
@@ -27,4 +32,4 @@ returns-clause-refused g c usable t has judged is within services =
     let after = (c.are_all.ensures.same usable).0 in
     let mid = (c.judge_each.ensures.same after).0 in
     c.are_all.ensures.refused usable t (stores_then (state g.S.Store c.args.conn.now) (state g.S.Store c.judge_each.new.conn) t (same_then (state g.S.Store c.args.conn.now) (state g.S.Store c.service_names.new.conn) (state g.S.Store c.judge_each.new.conn) c.service_names.ensures.same c.judge_each.ensures.same) after has) is
-    (within, totals_there t c.as_slice.result.now c.in_ok-totals.totals c.totals.ensures (c.as_slice.ensures ∙ c.in_ok-names.ensures.found mid t has) (c.in_ok-totals.ensures.judged after t (stores_then (state g.S.Store c.args.conn.now) (state g.S.Store c.service_names.new.conn) t c.service_names.ensures.same mid has) judged) services)
+    (within, totals_there t c.as_slice.result.now c.in_ok-totals.totals c.totals.ensures.tallies c.totals.ensures.bindings (c.as_slice.ensures ∙ c.in_ok-names.ensures.found mid t has) (c.in_ok-totals.ensures.judged after t (stores_then (state g.S.Store c.args.conn.now) (state g.S.Store c.service_names.new.conn) t c.service_names.ensures.same mid has) judged) services)

@@ -1,6 +1,8 @@
-use Rattle.std.proofs.Common.{arith, sym, ◌∙◌}
+use Rattle.std.proofs.Common.{◌≡◌, Err, arith, rules, sym, ◌∙◌}
 use Rattle.sqlite.specs.Held.{state}
-use Rattle.canary_adopting.proofs.JudgedStrategies.{none_so_far, template_more, no_template_more}
+use Rattle.canary_reads.specs.declared.fault.ReadFault.TheVariants.{Broken}
+use Rattle.canary_adopting.proofs.Standing.{stores_then}
+use Rattle.canary_adopting.proofs.JudgedStrategies.{none_so_far, template_more, no_template_more, templates_done}
 use Rattle.canary_adopting.proofs.strategies.templates_of.Goals as goal
 use Rattle.canary_adopting.proofs.strategies.templates_of.Goals.{in-Some+in_ok-insert, in_default}
 
@@ -20,3 +22,13 @@ loop-name-preserved g c = elim c.match-branch-2.branch [
         (λ usable t has judged. sym w.in_default.is ∙ c.in_ok-template.ensures.found usable t has judged) w.found-is,
   )
 ]
+
+pub returns-in_err-template-clause-broken : goal.returns-in_err-template-clause-broken
+returns-in_err-template-clause-broken g c usable t has judged is =
+    let broken : c.template.result ≡ Err Broken = search rules in
+    let mid = (c.template.ensures.same usable).0 in
+    c.template.ensures.broken usable t (stores_then (state g.S.Store c.args.conn.now) (state g.S.Store c.loop-name.conn) t c.loop-name.invariant.1.same mid has) judged broken
+
+pub returns-clause-found : goal.returns-clause-found
+returns-clause-found g c usable t has judged =
+    templates_done c.args.names.now c.loop-name.name-index (state g.S.Store c.args.conn.now) (state g.S.Store c.loop-name.conn) c.loop-name.found c.loop-name.invariant.1 (omega arith) usable t has judged

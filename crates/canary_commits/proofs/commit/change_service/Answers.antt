@@ -5,5 +5,6 @@ use Rattle.canary_commits.proofs.commit.change_service.Goals as goal
 
 pub returns-clause-wrote : goal.returns-clause-wrote
 returns-clause-wrote g c =
-    changes c.args.command.now c.args.parts.now c.args.effects.now c.args.is_there (state g.S.Store c.args.tx.now.conn.now) (state g.S.Store c.put_service.new.tx.conn.now) (state g.S.Store c.happen_all.new.tx.conn.now) c.put_service.result c.happen_all.result c.in_ok-map_err.field-0 c.in_ok-happen_all.field-0
-    c.put_service.ensures.wrote c.happen_all.ensures.wrote c.happen_all.ensures.survives (search rules) (search rules)
+    changes c.args.command.now c.args.parts.now c.args.effects.now c.args.is_there c.args.is_bound (state g.S.Store c.args.tx.now.conn.now) (state g.S.Store c.put_service.new.tx.conn.now) (state g.S.Store c.put_bindings.new.tx.conn.now) (state g.S.Store c.happen_all.new.tx.conn.now)
+    c.put_service.result c.put_bindings.result c.happen_all.result c.in_ok-map_err.field-0 c.in_ok-put_bindings.field-0 c.in_ok-happen_all.field-0
+    c.put_service.ensures.wrote c.put_bindings.ensures.wrote c.happen_all.ensures.wrote c.put_bindings.ensures.survives c.happen_all.ensures.survives (search rules) (search rules) (search rules)

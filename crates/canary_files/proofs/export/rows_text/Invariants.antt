@@ -9,7 +9,7 @@ abbrev pub invariant-loop-i : goal.invariant-loop-i
 invariant-loop-i g l =
     let old = g.B.Book.state l.fn.book in
     let now = g.B.Book.state l.book in
-    let name = name_of l.source.bound (past_of old.contents l.source.service) in
+    let name = name_of (past_of old.contents l.source.service) in
     Stays old now
     × IsLatest now l.source.service l.latest
     × (now.is_honest

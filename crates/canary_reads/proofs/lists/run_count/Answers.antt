@@ -1,5 +1,6 @@
 use Rattle.std.proofs.lemmas.Result.{IfOk-weaker}
 use Rattle.sqlite.specs.Held.{state}
+use Rattle.canary_schema.specs.Layout.{run_at}
 use Rattle.canary_schema.specs.Cells.{run_cells}
 use Rattle.canary_reads.proofs.Counting.{count_found}
 use Rattle.canary_reads.proofs.CountTexts.{run_count_text, run_count_query, run_counts}
@@ -11,4 +12,4 @@ count_of-requires-clause-query g c = run_count_query
 pub returns-clause-found : goal.returns-clause-found
 returns-clause-found g c usable t has =
     IfOk-weaker c.count_of.result _ _
-    (λ n told. count_found run_count_text 9 run_counts run_cells t.runs (state g.S.Store c.args.conn.now) (state g.S.Store c.count_of.new.conn) _ told.0 n has.schema has.runs told.1 told.2) (c.count_of.ensures.shown usable)
+    (λ n told. count_found run_count_text run_at run_counts run_cells t.runs (state g.S.Store c.args.conn.now) (state g.S.Store c.count_of.new.conn) _ told.0 n has.layout has.holds.schema has.holds.runs told.1 told.2) (c.count_of.ensures.shown usable)

@@ -8,12 +8,12 @@ pub none_shown-requires-clause-query : goal.none_shown-requires-clause-query
 none_shown-requires-clause-query g c = kept_below_query
 
 pub returns-clause-typed : goal.returns-clause-typed
-returns-clause-typed g c usable formed =
+returns-clause-typed g c usable at schema =
     let was = (c.none_shown.ensures.same usable).0 in
     IfOk-weaker c.none_shown.result _ _
-    (λ _ shown. kept_assured (state g.S.Store c.args.conn.now) (state g.S.Store c.none_shown.new.conn) (c.schema.ensures.live was.is_open).0 formed shown) (c.none_shown.ensures.none usable)
+    (λ _ shown. kept_assured (state g.S.Store c.args.conn.now) (state g.S.Store c.none_shown.new.conn) (c.schema.ensures.live was.is_open).0 at schema shown) (c.none_shown.ensures.none usable)
 
 pub returns-clause-broken : goal.returns-clause-broken
-returns-clause-broken g c usable formed is has =
+returns-clause-broken g c usable at schema is has =
     let one = c.none_shown.ensures.some usable is in
-    kept_denied (state g.S.Store c.args.conn.now) (state g.S.Store c.none_shown.new.conn) formed one.0 one.1 one.2 has
+    kept_denied (state g.S.Store c.args.conn.now) (state g.S.Store c.none_shown.new.conn) at schema one.0 one.1 one.2 has

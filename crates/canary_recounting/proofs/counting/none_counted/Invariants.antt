@@ -5,4 +5,4 @@ use Rattle.canary_recounting.proofs.counting.none_counted.Given as goal
 
 -- those of the runs so far
 abbrev pub invariant-loop-run : goal.invariant-loop-run
-invariant-loop-run l = l.counts ≡ none_counted (metrics_of_runs l.bound (take l.run-index l.runs))
+invariant-loop-run l = l.counts ≡ none_counted (metrics_of_runs (take l.run-index l.runs))

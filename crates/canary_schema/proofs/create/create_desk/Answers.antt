@@ -10,8 +10,10 @@ use Rattle.canary_schema.proofs.create.create_desk.Goals as goal
 pub returns-clause-done : goal.returns-clause-done
 returns-clause-done g c usable schema =
     let before : IsAt no_schema (state g.S.Store c.transaction-tx.result.conn.now) = rw c.transaction-tx.ensures.begun (record { live = search rules; schema_is = schema; empty = tt }) in
-    let clean2 : HasCleanDisk (state g.S.Store c.add_all_indexes.new.tx.conn.now) = search rules in
+    let clean3 : HasCleanDisk (state g.S.Store c.write_meta.new.tx.conn.now) = search rules in
+    let clean2 : HasCleanDisk (state g.S.Store c.add_indexes.new.tx.conn.now) = search rules in
     let clean1 : HasCleanDisk (state g.S.Store c.add_tables.new.tx.conn.now) = search rules in
-    let filled = c.in_ok-add_tables.ensures.made clean1 before in
-    let indexed = c.in_ok-add_all_indexes.ensures.made clean2 no_tables filled in
-    committed (state g.S.Store c.add_all_indexes.new.tx.conn.now).now _ no_tables c.commit.result indexed.holds (search rules)
+    let made = c.in_ok-add_tables.ensures.made clean1 before in
+    let indexed = c.in_ok-add_indexes.ensures.made clean2 made in
+    let filled = c.in_ok-write_meta.ensures.made clean3 indexed in
+    committed (state g.S.Store c.write_meta.new.tx.conn.now).now _ no_tables c.commit.result filled.stores (search rules)

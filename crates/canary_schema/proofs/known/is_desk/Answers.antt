@@ -1,6 +1,5 @@
-use Rattle.std.proofs.Common.{rules}
-use Rattle.canary_schema.proofs.Wholes.{desk_known}
+use Rattle.canary_schema.proofs.Wholes.{in_layout, of_layout}
 use Rattle.canary_schema.proofs.known.is_desk.Goals as goal
 
 pub returns : goal.returns
-returns c = desk_known c.has_desk.result c.args.schema.now (search rules)
+returns c = (λ e. in_layout c.args.schema.now (c.is_in_layout.ensures.0 e), λ desk. c.is_in_layout.ensures.1 (of_layout c.args.schema.now desk))

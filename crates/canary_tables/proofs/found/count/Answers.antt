@@ -9,4 +9,4 @@ pub returns-clause-found : goal.returns-clause-found
 returns-clause-found g c usable =
     let old = state g.S.Store c.args.conn.now in
     let desk : IsDesk old = c.requires.desk (c.in_ok-settled.ensures.same usable).0 in
-    c.unwrap_or.ensures ∙ ap (λ (o : Option ℕ). unwrap_or o 0) (c.in_ok-settled.ensures.found usable (tables_in old.now.trees) desk.stores) ∙ c.counts_found.ensures (tables_in old.now.trees) desk.holds c.args.caller.now
+    c.unwrap_or.ensures ∙ ap (λ (o : Option ℕ). unwrap_or o 0) (c.in_ok-settled.ensures.found usable (tables_in old.now) desk.stores) ∙ c.counts_found.ensures (tables_in old.now) desk.holds c.args.caller.now

@@ -7,4 +7,4 @@ pub returns-clause-found : goal.returns-clause-found
 returns-clause-found g c usable =
     let old = state g.S.Store c.args.conn.now in
     let desk : IsDesk old = c.requires.desk (c.in_ok-names.ensures.same usable).0 in
-    c.in_ok-names.ensures.found usable (tables_in old.now.trees) desk.stores
+    c.in_ok-names.ensures.found usable (tables_in old.now) desk.stores

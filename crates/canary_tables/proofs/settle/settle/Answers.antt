@@ -6,11 +6,11 @@ use Rattle.canary_tables.proofs.settle.settle.Goals as goal
 pub returns-clause-desk : goal.returns-clause-desk
 returns-clause-desk g c = λ usable.
     is_desk c.args.settlement.now (state g.S.Store c.args.conn.now) (state g.S.Store c.commit.new.conn) c.commit.result
-    (settles c.one_reading.ensures c.requests.ensures.find c.requests.ensures.settle c.args.settlement.now c.in_ok-is_there.is_there (state g.S.Store c.args.conn.now) (state g.S.Store c.is_there.new.conn) (state g.S.Store c.commit.new.conn) c.commit.result
-    (search rules) c.requires.desk c.requires.settling c.is_there.ensures.same (search rules) c.commit.ensures.held c.commit.ensures.stored c.commit.ensures.readable usable)
+    (settles c.one_reading.ensures c.requests.ensures.find c.requests.ensures.settle c.args.settlement.now c.in_ok-is_there.is_there c.in_ok-is_bound.is_bound (state g.S.Store c.args.conn.now) (state g.S.Store c.is_there.new.conn) (state g.S.Store c.is_bound.new.conn) (state g.S.Store c.commit.new.conn) c.commit.result
+    (search rules) c.requires.desk c.requires.settling c.is_there.ensures.same c.is_bound.ensures.same (search rules) (search rules) c.commit.ensures.held c.commit.ensures.stored c.commit.ensures.readable usable)
 
 pub returns-clause-settled : goal.returns-clause-settled
 returns-clause-settled g c = λ usable.
     contents_are c.args.settlement.now (state g.S.Store c.args.conn.now) (state g.S.Store c.commit.new.conn) c.commit.result
-    (settles c.one_reading.ensures c.requests.ensures.find c.requests.ensures.settle c.args.settlement.now c.in_ok-is_there.is_there (state g.S.Store c.args.conn.now) (state g.S.Store c.is_there.new.conn) (state g.S.Store c.commit.new.conn) c.commit.result
-    (search rules) c.requires.desk c.requires.settling c.is_there.ensures.same (search rules) c.commit.ensures.held c.commit.ensures.stored c.commit.ensures.readable usable)
+    (settles c.one_reading.ensures c.requests.ensures.find c.requests.ensures.settle c.args.settlement.now c.in_ok-is_there.is_there c.in_ok-is_bound.is_bound (state g.S.Store c.args.conn.now) (state g.S.Store c.is_there.new.conn) (state g.S.Store c.is_bound.new.conn) (state g.S.Store c.commit.new.conn) c.commit.result
+    (search rules) c.requires.desk c.requires.settling c.is_there.ensures.same c.is_bound.ensures.same (search rules) (search rules) c.commit.ensures.held c.commit.ensures.stored c.commit.ensures.readable usable)

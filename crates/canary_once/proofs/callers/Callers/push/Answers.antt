@@ -1,6 +1,7 @@
 use Rattle.std.proofs.Common.{◌≡◌, Some, subst, sym, length, ◌≤◌, ◌+◌}
 use Rattle.canary_once.specs.Contents.{receipts_in}
-use Rattle.canary_once.proofs.CallerMaps.{written_with, updated_with, keep_receipts, few_listed, found_there, found_few, pushed_few, one_few, pushed_result, refused_result, first_there}
+use Rattle.canary_once.proofs.NameMaps.{written_with, updated_with, found_there, pushed_result, refused_result, first_there}
+use Rattle.canary_once.proofs.CallerMaps.{keep_receipts, few_listed, found_few, pushed_few, one_few}
 use Rattle.canary_once.proofs.callers.Callers.push.Goals as goal
 
 pub invariant_of-self : goal.invariant_of-self

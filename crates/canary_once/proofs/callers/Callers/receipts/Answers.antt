@@ -1,5 +1,6 @@
 use Rattle.std.proofs.Common.{◌∙◌}
-use Rattle.canary_once.proofs.CallerMaps.{found_there, found_none, found_few}
+use Rattle.canary_once.proofs.NameMaps.{found_there, found_none}
+use Rattle.canary_once.proofs.CallerMaps.{found_few}
 use Rattle.canary_once.proofs.callers.Callers.receipts.Goals as goal
 
 pub returns-in-Some-clause-value : goal.returns-in-Some-clause-value

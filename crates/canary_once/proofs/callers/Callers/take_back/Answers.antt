@@ -1,6 +1,7 @@
 use Rattle.std.proofs.Common.{◌≡◌, ◌≤◌, Some, None, subst}
 use Rattle.canary_once.specs.Contents.{receipts_in}
-use Rattle.canary_once.proofs.CallerMaps.{written_with, entries_with, keep_receipts, few_listed, none_listed, found_there, found_none, found_few, popped_few, long_there, not_alone, shorter_back, gone_back}
+use Rattle.canary_once.proofs.NameMaps.{written_with, entries_with, found_there, found_none}
+use Rattle.canary_once.proofs.CallerMaps.{keep_receipts, few_listed, none_listed, found_few, popped_few, long_there, not_alone, shorter_back, gone_back}
 use Rattle.canary_once.proofs.callers.Callers.take_back.Goals as goal
 
 pub invariant_of-self : goal.invariant_of-self

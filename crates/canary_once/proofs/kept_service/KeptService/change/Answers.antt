@@ -8,7 +8,7 @@ use Rattle.canary_once.proofs.kept_service.KeptService.change.Goals as goal
 use Rattle.canary_once.proofs.kept_service.KeptService.change.Goals.{After-happen_all}
 
 it_is : (c : After-happen_all) → AreThat (after (Some c.args.self.now) c.args.service.stand c.args.effects) c.self.inside.name c.self.inside.version c.args.service (kept_in c.happen_all.new.self)
-it_is c = changed c.watching.ensures c.args.self.now c.self.inside.name c.self.inside.version c.self.inside.service c.args.service (kept_in c.self.inside.past) (kept_in c.happen_all.new.self) c.args.effects c.self.view_is c.self.invariant.kept (c.happen_all.ensures ∙ ap (λ (k : Kept). keeps_all k c.args.effects) c.in_ok-reserve.ensures.same) c.requires.strategy c.requires.allowed c.requires.service
+it_is c = changed c.watching.ensures c.args.self.now c.self.inside.name c.self.inside.version c.self.inside.service c.args.service (kept_in c.self.inside.past) (kept_in c.happen_all.new.self) c.args.effects c.self.view_is c.self.invariant.kept (c.happen_all.ensures ∙ ap (λ (k : Kept). keeps_all k c.args.effects) c.in_ok-reserve.ensures.same) c.requires
 
 pub invariant_of-self-2 : goal.invariant_of-self-2
 invariant_of-self-2 c = let it = it_is (goal.at.invariant_of-self-2 c).After-happen_all in record { runs = it.runs; kept = it.kept }

@@ -8,7 +8,7 @@ use Rattle.canary_once.proofs.kept_service.KeptService.new.Goals as goal
 use Rattle.canary_once.proofs.kept_service.KeptService.new.Goals.{After-happen_all}
 
 it_is : (c : After-happen_all) → AreThat (after None c.args.service.stand c.args.effects) c.args.service.stand.name c.args.service.stand.version c.args.service (kept_in c.happen_all.new.self)
-it_is c = made c.watching.ensures c.args.service (kept_in c.reserve.new.self) (kept_in c.happen_all.new.self) c.args.effects (c.in_ok-reserve.ensures.same ∙ c.new-past.ensures) c.happen_all.ensures c.requires.allowed c.requires.service
+it_is c = made c.watching.ensures c.args.service (kept_in c.reserve.new.self) (kept_in c.happen_all.new.self) c.args.effects (c.in_ok-reserve.ensures.same ∙ c.new-past.ensures) c.happen_all.ensures c.requires
 
 pub invariant_of-result : goal.invariant_of-result
 invariant_of-result c = let it = it_is (goal.at.invariant_of-result c).After-happen_all in record { runs = it.runs; kept = it.kept }

@@ -3,13 +3,18 @@ use Rattle.canary_once.specs.declared.book.Settlement.{Settlement}
 use Rattle.canary_once.specs.Contents.{Contents, with_settlement, IsSettling, KeepsReceipts}
 use Rattle.canary_once.specs.Sound.{AreContents, AreSoundContents}
 use Rattle.canary_once.proofs.Events.{keep_keeps}
-use Rattle.canary_once.proofs.Keeping.{is_kept, keeps_contents, keeps_soundness, settled_is}
+use Rattle.canary_once.proofs.Keeping.{is_change, is_kept, keeps_contents, keeps_soundness, settled_is}
 use Rattle.canary_once.proofs.memory.MemoryBookBook.commit.Goals as goal
+
+pub settle-requires-clause-change : goal.settle-requires-clause-change
+settle-requires-clause-change c =
+    let old : Contents = record { callers = c.self.inside.callers; desk = c.self.inside.desk } in
+    is_change c.effects.ensures old c.args.settlement (subst (λ k. IsSettling k c.args.settlement) (sym c.self.view_is) (c.requires tt)) c.self.invariant
 
 pub settle-requires-clause-kept : goal.settle-requires-clause-kept
 settle-requires-clause-kept c =
     let old : Contents = record { callers = c.self.inside.callers; desk = c.self.inside.desk } in
-    is_kept c.changes.ensures old c.args.settlement (subst (λ k. IsSettling k c.args.settlement) (sym c.self.view_is) (c.requires tt))
+    is_kept c.effects.ensures c.changes.ensures old c.args.settlement (subst (λ k. IsSettling k c.args.settlement) (sym c.self.view_is) (c.requires tt)) c.self.invariant
 
 pub invariant_of-self-2 : goal.invariant_of-self-2
 invariant_of-self-2 c =

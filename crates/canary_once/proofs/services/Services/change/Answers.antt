@@ -3,10 +3,8 @@ use Rattle.std.proofs.lemmas.Result.{on_ok_weaker, on_err_weaker}
 use Rattle.std.proofs.lemmas.Map.Steps.{set_value_same}
 use Rattle.std.specs.Prelude.{Option, None}
 use Rattle.std.specs.FinMap as map
-use Rattle.canary_release.specs.Pasts.{watched}
-use Rattle.canary_release.specs.Desks.{ModelService, before, after}
-use Rattle.canary_release.specs.Shapes.{shape}
-use Rattle.canary_release.specs.Effects.{AreAllowed}
+use Rattle.canary_release.specs.Desks.{ModelService, after}
+use Rattle.canary_once.specs.InMemory.{IsKeptAs}
 use Rattle.canary_once.proofs.Named.{get_name, one_set}
 use Rattle.canary_once.proofs.services.Services.change.Goals as goal
 use Rattle.canary_once.proofs.services.Services.change.Goals.{In-Some, In_default}
@@ -17,28 +15,11 @@ there c = ap (λ m. map.get m c.args.name) (sym c.self.view_is) ∙ get_name c.s
 none_there : (c : In_default) → map.get c.args.self.now c.args.name ≡ None
 none_there c = ap (λ m. map.get m c.args.name) (sym c.self.view_is) ∙ get_name c.self.inside.services.entries c.args.name ∙ sym c.in_default.ensures.value
 
-pub change-requires-clause-strategy : goal.change-requires-clause-strategy
-change-requires-clause-strategy c = c.requires.changes.strategy ∙ ap (λ (o : Option ModelService). (before o c.args.service.stand).stand.strategy) (there (goal.at.change-requires-clause-strategy c).In-Some)
+pub change-requires : goal.change-requires
+change-requires c = subst (λ (o : Option ModelService). IsKeptAs o c.args.service c.args.effects) (there (goal.at.change-requires c).In-Some) c.requires
 
-pub change-requires-clause-allowed : goal.change-requires-clause-allowed
-change-requires-clause-allowed c =
-    subst
-    (λ (o : Option ModelService). AreAllowed c.args.service.stand.bound (watched (before o c.args.service.stand).past) c.args.effects)
-    (there (goal.at.change-requires-clause-allowed c).In-Some)
-    c.requires.changes.allowed
-
-pub change-requires-clause-service : goal.change-requires-clause-service
-change-requires-clause-service c = c.requires.service ∙ ap (λ (o : Option ModelService). shape (after o c.args.service.stand c.args.effects)) (there (goal.at.change-requires-clause-service c).In-Some)
-
-pub new-requires-clause-allowed : goal.new-requires-clause-allowed
-new-requires-clause-allowed c =
-    subst
-    (λ (o : Option ModelService). AreAllowed c.args.service.stand.bound (watched (before o c.args.service.stand).past) c.args.effects)
-    (none_there (goal.at.new-requires-clause-allowed c).In_default)
-    c.requires.changes.allowed
-
-pub new-requires-clause-service : goal.new-requires-clause-service
-new-requires-clause-service c = c.requires.service ∙ ap (λ (o : Option ModelService). shape (after o c.args.service.stand c.args.effects)) (none_there (goal.at.new-requires-clause-service c).In_default)
+pub new-requires : goal.new-requires
+new-requires c = subst (λ (o : Option ModelService). IsKeptAs o c.args.service c.args.effects) (none_there (goal.at.new-requires c).In_default) c.requires
 
 pub returns-in-Some-clause-ok : goal.returns-in-Some-clause-ok
 returns-in-Some-clause-ok c =

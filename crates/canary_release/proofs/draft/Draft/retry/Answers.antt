@@ -1,4 +1,5 @@
 use Rattle.std.proofs.Common.{◌∙◌}
+use Rattle.std.specs.FinMap.{get}
 use Rattle.std.proofs.lemmas.Result.{IfOk-weaker}
 use Rattle.canary_plan.specs.declared.line.LineEvent.TheVariants.{Retried}
 use Rattle.canary_release.specs.Courses.{tell}
@@ -8,4 +9,4 @@ use Rattle.canary_release.specs.Entering.{enter}
 use Rattle.canary_release.proofs.draft.Draft.retry.Goals as goal
 
 pub returns-clause-retried : goal.returns-clause-retried
-returns-clause-retried c = IfOk-weaker c.enter.result _ _ (λ draft e. e ∙ (λ i. enter ((c.in_ok-told.ensures.told ∙ (λ j. tell (c.begun.ensures.begun j) c.args.at (Retried c.version-version.result)) ∙ (λ j. tell (begun (whole c.args.self) (c.version-version.ensures j)) c.args.at (Retried (c.version-version.ensures j)))) i) 0 c.args.at)) c.enter.ensures.entered
+returns-clause-retried c = IfOk-weaker c.enter.result _ _ (λ draft e. e ∙ (λ i. enter ((c.in_ok-told.ensures.told ∙ (λ j. tell (c.begun.ensures.begun j) c.args.at (Retried c.version-version.result)) ∙ (λ j. tell (begun (get c.args.templates.now) (whole c.args.self) (c.version-version.ensures j)) c.args.at (Retried (c.version-version.ensures j)))) i) 0 c.args.at)) c.enter.ensures.entered

@@ -1,23 +1,34 @@
-use Rattle.std.proofs.Common.{rules}
+use Rattle.std.proofs.Common.{rules, subst}
 use Rattle.sqlite.specs.Held.{state}
-use Rattle.canary_tables.proofs.Adopting.{adopted, is_desk, rows_left, rows_anew, broken_before}
+use Rattle.canary_schema.specs.Formed.{IsDeskSchema}
+use Rattle.canary_schema.specs.Numbered.{IsOpenedAnew}
+use Rattle.canary_schema.specs.Stores.{IsUsable}
+use Rattle.canary_tables.proofs.Adopting.{adopted, is_desk, left_as_it_was, left_anew, broken_before}
 use Rattle.canary_tables.proofs.book.TableBook.adopt.Goals as goal
 
-pub returns-then-not-is_known-2-clause-left : goal.returns-then-not-is_known-2-clause-left
-returns-then-not-is_known-2-clause-left g c = rows_anew (state g.S.Store c.args.conn) (state g.S.Store c.in-Ok.opened.0) (search rules)
+pub believe-requires-clause-known : goal.believe-requires-clause-known
+believe-requires-clause-known g c = subst IsDeskSchema c.schema-2.ensures.value (c.is_desk-2.ensures.0 (search rules))
+
+pub believe-requires-clause-numbered : goal.believe-requires-clause-numbered
+believe-requires-clause-numbered g c =
+    let opened : IsUsable (state g.S.Store c.in-Ok.opened.0) → IsOpenedAnew (state g.S.Store c.args.conn) (state g.S.Store c.in-Ok.opened.0) = search rules in
+    λ usable. (opened usable).numbered
+
+pub returns-then-not-is_desk-2-clause-left : goal.returns-then-not-is_desk-2-clause-left
+returns-then-not-is_desk-2-clause-left g c = left_anew (state g.S.Store c.args.conn) (state g.S.Store c.in-Ok.opened.0) (search rules)
 
 pub invariant_of-result : goal.invariant_of-result
 invariant_of-result g c =
-    record { autocommit = search rules; desk = λ usable. is_desk c.one_reading.ensures (state g.S.Store c.in-Ok.opened.0).now (state g.S.Store c.believe.new.conn) (c.in-Ok-believe.ensures.believed usable) }
+    record { autocommit = search rules; desk = is_desk c.one_reading.ensures (state g.S.Store c.in-Ok.opened.0) (state g.S.Store c.believe.new.conn) c.believe.ensures.same c.in-Ok-believe.ensures.believed }
 
 pub returns-in-Ok-believe-clause-adopted : goal.returns-in-Ok-believe-clause-adopted
 returns-in-Ok-believe-clause-adopted g c =
-    adopted c.one_reading.ensures (state g.S.Store c.args.conn) (state g.S.Store c.in-Ok.opened.0) (state g.S.Store c.believe.new.conn) (search rules) c.believe.ensures.held c.in-Ok-believe.ensures.believed
+    adopted c.one_reading.ensures (state g.S.Store c.args.conn) (state g.S.Store c.in-Ok.opened.0) (state g.S.Store c.believe.new.conn) (search rules) c.believe.ensures.same c.in-Ok-believe.ensures.believed
 
 pub returns-in-Err-believe-clause-broken : goal.returns-in-Err-believe-clause-broken
 returns-in-Err-believe-clause-broken g c =
-    λ is. broken_before (state g.S.Store c.args.conn) (state g.S.Store c.in-Ok.opened.0) (state g.S.Store c.believe.new.conn) (search rules) c.believe.ensures.held (search rules)
+    λ is. broken_before (state g.S.Store c.args.conn) (state g.S.Store c.in-Ok.opened.0) (state g.S.Store c.believe.new.conn) (search rules) c.believe.ensures.same (search rules)
 
 pub returns-in-Err-believe-clause-left : goal.returns-in-Err-believe-clause-left
 returns-in-Err-believe-clause-left g c =
-    rows_left (state g.S.Store c.args.conn) (state g.S.Store c.in-Ok.opened.0) (state g.S.Store c.believe.new.conn) (search rules) c.believe.ensures.held c.believe.ensures.rows c.believe.ensures.kept
+    left_as_it_was (state g.S.Store c.args.conn) (state g.S.Store c.in-Ok.opened.0) (state g.S.Store c.believe.new.conn) (search rules) c.believe.ensures.same

@@ -1,0 +1,211 @@
+//! The templates to which the runs of a service are bound, by rows of binding. Run 0 stands for the
+//! service's present attempt.
+ghost use Rattle.std.specs.Prelude.{◌≡◌, ◌↔◌, false, ℕ, List, Option, IsTrue, IfOk, length};
+ghost use Rattle.std.specs.Prelude.{option_map};
+ghost use Rattle.std.specs.FinMap.{get};
+ghost use Rattle.sqlite.specs.Held.{state};
+ghost use Rattle.canary_plan.specs.Plans.{distinct};
+ghost use Rattle.canary_rows.specs.Limits.{AreWithin};
+ghost use Rattle.canary_reads.specs.Breaks.{BreaksUnless};
+ghost use Rattle.canary_reads.specs.Finds.{IsSame, FindsSuch};
+ghost use Rattle.canary_adopting.specs.OfService.{HasSuch};
+ghost use Rattle.canary_adopting.specs.OneService.{RefusesJudged};
+ghost use Rattle.canary_adopting.specs.Bindings.{IsTemplateOf, IsKnownBy, IsKnownIn, IsBindingOf};
+ghost use Rattle.canary_adopting.specs.Bindings.{IsBoundWhole, IsAttemptBound, IsRunBound};
+
+use canary_base::error::Memory;
+use canary_base::names::Name;
+use canary_judging::laws;
+use canary_plan::analysis_parts::{Revision, distinct};
+use canary_plan::bound::Bound;
+use canary_plan::bound_analysis::BoundAnalysis;
+use canary_plan::strategy::Strategy;
+use canary_plan::template::Template;
+use canary_plan::templates::Templates;
+use canary_reads::fault::ReadFault;
+use canary_reads::services;
+use canary_rows::rows::BindingRow;
+use canary_stored::fault::RowFault;
+use canary_stored::reading;
+use sqlite::{Alter, Connection};
+use std::alloc::Global;
+
+/// What a run's rows of binding make of its service's strategy, and how many there are.
+#[derive(Drop)]
+pub(crate) struct Binding {
+    pub bound: Bound,
+    pub rows: u64,
+}
+
+/// The templates to which a run of the service is bound, or its present attempt (0); none where one
+/// of its rows of binding names a revision that is not there, or that is read as no accepted
+/// template.
+///
+/// # Errors
+/// `Broken` where the tables hold what no program can, `Memory` where there is not enough,
+/// `Storage` where the database fails.
+pub fn known<S: Alter>(
+    conn: &mut Connection<S>,
+    alloc: Global,
+    service: &Name,
+    run: u32,
+) -> Result<Option<Templates>, ReadFault>
+    requires autocommit { conn.old.in_transaction ≡ false }
+    ensures mode { conn.new.in_transaction ≡ false }
+    ensures same { IsSame (state S.Store conn.old) (state S.Store conn.new) }
+    ensures found { FindsSuch (λ t found. IsKnownIn service.now run t (option_map get found))
+        (state S.Store conn.old) (state S.Store conn.new) result }
+    ensures broken { BreaksUnless AreWithin (state S.Store conn.old) (state S.Store conn.new)
+        result }
+{
+    let rows = services::bindings(conn, alloc, service, run)?;
+    known_by(conn, alloc, rows.as_slice())
+}
+
+// The templates that these rows name, each the first of its name.
+fn known_by<S: Alter>(
+    conn: &mut Connection<S>,
+    alloc: Global,
+    rows: &[BindingRow],
+) -> Result<Option<Templates>, ReadFault>
+    requires autocommit { conn.old.in_transaction ≡ false }
+    ensures mode { conn.new.in_transaction ≡ false }
+    ensures same { IsSame (state S.Store conn.old) (state S.Store conn.new) }
+    ensures found { FindsSuch (λ t found. IsKnownBy rows.now t (option_map get found))
+        (state S.Store conn.old) (state S.Store conn.new) result }
+    ensures broken { BreaksUnless AreWithin (state S.Store conn.old) (state S.Store conn.new)
+        result }
+{
+    let mut known = Templates::new(alloc);
+    for row in rows {
+        if known.get(row.template).is_none() {
+            let Some(template) = template_of(conn, alloc, row)? else {
+                return Ok(None);
+            };
+            known.insert(row.template, template)?;
+        }
+    }
+    Ok(Some(known))
+}
+
+// The template of the revision that the row names.
+fn template_of<S: Alter>(
+    conn: &mut Connection<S>,
+    alloc: Global,
+    row: &BindingRow,
+) -> Result<Option<Template>, ReadFault>
+    requires autocommit { conn.old.in_transaction ≡ false }
+    ensures mode { conn.new.in_transaction ≡ false }
+    ensures same { IsSame (state S.Store conn.old) (state S.Store conn.new) }
+    ensures found { FindsSuch (IsTemplateOf row.now)
+        (state S.Store conn.old) (state S.Store conn.new) result }
+    ensures broken { BreaksUnless AreWithin (state S.Store conn.old) (state S.Store conn.new)
+        result }
+{
+    let Some(found) = services::revision(conn, &row.template, row.revision)? else {
+        return Ok(None);
+    };
+    match reading::revision(alloc, &found) {
+        Ok(template) => Ok(Some(template)),
+        Err(RowFault::Broken) => Ok(None),
+        Err(RowFault::Memory) => Err(ReadFault::Memory),
+    }
+}
+
+/// What the present attempt of the service of that strategy is bound to, which has no rows of
+/// binding but for the templates of its analyses.
+///
+/// # Errors
+/// `Broken` where it has others, or the tables hold what no program can; `Memory` where there is
+/// not enough, `Storage` where the database fails.
+pub(crate) fn attempt<S: Alter>(
+    conn: &mut Connection<S>,
+    alloc: Global,
+    service: &Name,
+    strategy: &Strategy,
+) -> Result<Bound, ReadFault>
+    requires autocommit { conn.old.in_transaction ≡ false }
+    ensures mode { conn.new.in_transaction ≡ false }
+    ensures same { IsSame (state S.Store conn.old) (state S.Store conn.new) }
+    ensures found { FindsSuch (IsAttemptBound service.now strategy.now)
+        (state S.Store conn.old) (state S.Store conn.new) result }
+    ensures broken { RefusesJudged (HasSuch (IsAttemptBound service.now strategy.now))
+        (state S.Store conn.old) (state S.Store conn.new) result }
+{
+    laws::bindings();
+    let binding = bound(conn, alloc, service, 0, strategy)?;
+    let revisions = binding.bound.revisions(alloc)?;
+    if are_all(alloc, revisions.as_slice(), binding.rows)? {
+        Ok(binding.bound)
+    } else {
+        Err(ReadFault::Broken)
+    }
+}
+
+/// The analysis of a run of the service of that strategy, at that step or of the background, which
+/// has no rows of binding but for the templates of this analysis.
+///
+/// # Errors
+/// `Broken` where they bind no such analysis, or it has others, or the tables hold what no program
+/// can; `Memory` where there is not enough, `Storage` where the database fails.
+pub(crate) fn analysis<S: Alter>(
+    conn: &mut Connection<S>,
+    alloc: Global,
+    service: &Name,
+    run: u32,
+    strategy: &Strategy,
+    step: Option<u32>,
+) -> Result<BoundAnalysis, ReadFault>
+    requires autocommit { conn.old.in_transaction ≡ false }
+    ensures mode { conn.new.in_transaction ≡ false }
+    ensures same { IsSame (state S.Store conn.old) (state S.Store conn.new) }
+    ensures found { FindsSuch (IsRunBound service.now run strategy.now step)
+        (state S.Store conn.old) (state S.Store conn.new) result }
+    ensures broken { RefusesJudged (HasSuch (IsRunBound service.now run strategy.now step))
+        (state S.Store conn.old) (state S.Store conn.new) result }
+{
+    laws::bindings();
+    let binding = bound(conn, alloc, service, run, strategy)?;
+    let Some(analysis) = binding.bound.analysis(step) else {
+        return Err(ReadFault::Broken);
+    };
+    if are_all(alloc, analysis.revisions(), binding.rows)? {
+        Ok(analysis.copy()?)
+    } else {
+        Err(ReadFault::Broken)
+    }
+}
+
+// What a run's rows of binding make of the strategy.
+fn bound<S: Alter>(
+    conn: &mut Connection<S>,
+    alloc: Global,
+    service: &Name,
+    run: u32,
+    strategy: &Strategy,
+) -> Result<Binding, ReadFault>
+    requires autocommit { conn.old.in_transaction ≡ false }
+    ensures mode { conn.new.in_transaction ≡ false }
+    ensures same { IsSame (state S.Store conn.old) (state S.Store conn.new) }
+    ensures found { FindsSuch (IsBindingOf service.now run strategy.now)
+        (state S.Store conn.old) (state S.Store conn.new) result }
+    ensures broken { RefusesJudged (IsBoundWhole service.now run)
+        (state S.Store conn.old) (state S.Store conn.new) result }
+{
+    let rows = services::bindings(conn, alloc, service, run)?;
+    let Some(known) = known_by(conn, alloc, rows.as_slice())? else {
+        return Err(ReadFault::Broken);
+    };
+    Ok(Binding {
+        bound: strategy.bound_to(alloc, &known)?,
+        rows: rows.as_slice().len() as u64,
+    })
+}
+
+// Whether the templates of these revisions are so many.
+fn are_all(alloc: Global, revisions: &[Revision], rows: u64) -> Result<bool, Memory>
+    ensures { IfOk result (λ are. IsTrue are ↔ (rows ≡ length (distinct revisions.now))) }
+{
+    let templates = distinct(alloc, revisions)?;
+    Ok(rows == templates.as_slice().len() as u64)
+}

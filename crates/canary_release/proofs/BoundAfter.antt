@@ -1,0 +1,106 @@
+-- A Start and a Retry bind a service to the templates that are known, and no other command changes
+-- what it is bound to.
+use Rattle.std.proofs.Common.{◌≡◌, ℕ, ◌+◌, List, length, refl, ap, ◌∙◌, subst}
+use Rattle.std.specs.Prelude.{true, false, if◌then◌else◌, Option, Some, None, Result, Ok, Err}
+use Rattle.canary_condition.specs.declared.outcome.Phase.{Phase}
+use Rattle.canary_condition.specs.declared.outcome.Phase.TheVariants.{Pending, Running, Successful, Inconclusive, Error, Failed}
+use Rattle.canary_metric.specs.MetricPhases.{is_completed}
+use Rattle.canary_plan.specs.declared.report.Entry.{Entry}
+use Rattle.canary_plan.specs.declared.command.Command.{Command}
+use Rattle.canary_plan.specs.declared.command.Command.TheVariants.{Template as AddTemplate, Service as AddService, Start, Promote, PromoteFull, Abort, Retry, Tick, Report}
+use Rattle.canary_plan.specs.declared.line.LineEvent.TheVariants.{Started, Retried, Promoted, PromotedFull, Aborted as AbortLine, AbortedBy, BackgroundHeld, Completed}
+use Rattle.canary_plan.specs.declared.refusal.Refusal.{Refusal}
+use Rattle.canary_plan.specs.Plans.{Templates, bound_of}
+use Rattle.canary_release.specs.declared.runs.OpenRun.{OpenRun}
+use Rattle.canary_release.specs.declared.stand.Stand.{Stand}
+use Rattle.canary_release.specs.declared.stand.State.TheVariants.{Aborted}
+use Rattle.canary_release.specs.Courses.{Course, with_stand, tell, runs_now, run_verdict, open_run_now, close_run}
+use Rattle.canary_release.specs.Entering.{without_holds, abort}
+use Rattle.canary_release.specs.Passing.{pass, judged_at}
+use Rattle.canary_release.specs.Reports.{report_refusal, brought, record_all, hold_background, consequence, complete, assess, report_on}
+use Rattle.canary_release.specs.Commands.{start_refusal, retry_refusal, promote_refusal, progress_refusal, begun, started_at, start, retry, promoted_to, promote, promote_full, abort_by_command, Acted, leads, unless, reports_if, act}
+use Rattle.canary_release.specs.Desks.{ModelService, passed_on, act_passed}
+use Rattle.canary_release.specs.Effects.{bound_after}
+use Rattle.canary_release.proofs.Keeping.{ended_stand, recorded_stand, enter_keeps, passed_keeps}
+
+-- What aborts, holds and reports leave alone.
+
+aborted_keeps : (c : Course) (at : ℕ) → (abort c at).stand.bound ≡ c.stand.bound
+aborted_keeps c at =
+    let d : Course = with_stand c (record (without_holds c.stand) { state = Aborted }) in
+    ap (λ (s : Stand). s.bound) (ended_stand at d (runs_now d).open_runs)
+
+held_keeps : (c : Course) (t : ℕ) → (hold_background c t).stand.bound ≡ c.stand.bound
+held_keeps c t =
+    let d : Course = tell (with_stand c (record c.stand { background_hold = true })) t BackgroundHeld in
+    ap (λ (s : Stand). s.bound) (ended_stand t d (runs_now d).open_runs)
+
+brought_keeps : (c : Course) (run : ℕ) (step : Option ℕ) (v : Phase) (t : ℕ) → (consequence c run step v t).stand.bound ≡ c.stand.bound
+brought_keeps c run step Failed t = aborted_keeps (tell c t (AbortedBy run)) t
+brought_keeps c run step Error t = aborted_keeps (tell c t (AbortedBy run)) t
+brought_keeps c run (Some i) Inconclusive t = refl
+brought_keeps c run None Inconclusive t = held_keeps c t
+brought_keeps c run (Some i) Successful t = (enter_keeps c (c.stand.step + 1) t).3
+brought_keeps c run None Successful t = refl
+brought_keeps c run step Pending t = refl
+brought_keeps c run step Running t = refl
+
+assessed_keeps : (c : Course) (o : Option OpenRun) (t : ℕ) → (assess c o t).stand.bound ≡ c.stand.bound
+assessed_keeps c None t = refl
+assessed_keeps c (Some r) t =
+    let v : Phase = run_verdict false r in
+    elim (is_completed v)
+    as (λ b. (let d : Course = (if b then complete c r v t else c) in d).stand.bound ≡ c.stand.bound)
+    [ true ↦ brought_keeps (tell (close_run c r t false) t (Completed r.number v)) r.number r.step v t | false ↦ refl ]
+
+reported_keeps : (c : Course) (r : OpenRun) (es : List Entry) (t : ℕ) → (report_on c r es t).stand.bound ≡ c.stand.bound
+reported_keeps c r es t =
+    let all : Course = record_all c (brought r.analysis.metrics r es) in
+    assessed_keeps all (open_run_now all r.number) t ∙ ap (λ (s : Stand). s.bound) (recorded_stand c (brought r.analysis.metrics r es))
+
+reports_keep : (c : Course) (o : Option OpenRun) (es : List Entry) (t : ℕ) → (reports_if c o es t).course.stand.bound ≡ c.stand.bound
+reports_keep c None es t = refl
+reports_keep c (Some r) es t = reported_keeps c r es t
+
+-- What a command on a service binds.
+
+module _ (known : Templates) (m : ModelService) where
+  -- where a command leads, the service is bound as the command binds it
+  abbrev BindsIf : Command → Result Acted Refusal → Type 0
+  BindsIf command (Ok a) = a.course.stand.bound ≡ bound_after known command (Some m) m.stand.strategy
+  BindsIf command (Err refusal) = Unit {0}
+
+  unless_binds : (command : Command) (refusal : Option Refusal) (a : Acted) → a.course.stand.bound ≡ bound_after known command (Some m) m.stand.strategy → BindsIf command (unless refusal a)
+  unless_binds command None a e = e
+  unless_binds command (Some refusal) a e = tt
+
+  acted : (command : Command) (c : Course) (t : ℕ) → c.stand.strategy ≡ m.stand.strategy → c.stand.bound ≡ m.stand.bound → BindsIf command (act known command c t)
+  acted (Start name version) c t same bound =
+      unless_binds (Start name version) (start_refusal known c version) (leads (start known c t version))
+      ((enter_keeps (tell (begun known c version) t (Started version)) (started_at c.stand version) t).3 ∙ ap (bound_of known) same)
+  acted (Promote name) c t same bound =
+      unless_binds (Promote name) (promote_refusal c.stand) (leads (promote c t)) ((enter_keeps (tell (with_stand c (without_holds c.stand)) t Promoted) (promoted_to c.stand) t).3 ∙ bound)
+  acted (PromoteFull name) c t same bound =
+      unless_binds (PromoteFull name) (progress_refusal c.stand) (leads (promote_full c t)) ((enter_keeps (tell c t PromotedFull) (length c.stand.strategy.steps) t).3 ∙ bound)
+  acted (Abort name) c t same bound = unless_binds (Abort name) (progress_refusal c.stand) (leads (abort_by_command c t)) (aborted_keeps (tell c t AbortLine) t ∙ bound)
+  acted (Retry name) c t same bound =
+      unless_binds (Retry name) (retry_refusal known c) (leads (retry known c t)) ((enter_keeps (tell (begun known c c.stand.version) t (Retried c.stand.version)) 0 t).3 ∙ ap (bound_of known) same)
+  acted (Tick name) c t same bound = bound
+  acted (Report report) c t same bound =
+      let o : Option OpenRun = open_run_now c report.run in
+      unless_binds (Report report) (report_refusal c t report.run report.entries o) (reports_if c o report.entries t) (reports_keep c o report.entries t ∙ bound)
+  acted (AddService spec) c t same bound = tt
+  acted (AddTemplate spec) c t same bound = tt
+
+  passed_after : (command : Command) (r : Result Acted Refusal) (t : ℕ) → BindsIf command r → BindsIf command (passed_on r t)
+  passed_after command (Ok a) t e = (passed_keeps a.course t).1 ∙ e
+  passed_after command (Err refusal) t e = tt
+
+  acted_passed : (command : Command) (c : Course) (now : ℕ) → c.stand.strategy ≡ m.stand.strategy → c.stand.bound ≡ m.stand.bound → BindsIf command (act_passed known command c now)
+  acted_passed command c now same bound =
+      let t = judged_at c.stand now in
+      let h = passed_keeps c now in
+      passed_after command (act known command (pass c now) t) t (acted command (pass c now) t (h.0 ∙ same) (h.1 ∙ bound))
+
+  pub binds : (command : Command) (c : Course) (now : ℕ) (a : Acted) → c.stand.strategy ≡ m.stand.strategy → c.stand.bound ≡ m.stand.bound → act_passed known command c now ≡ Ok a → a.course.stand.bound ≡ bound_after known command (Some m) m.stand.strategy
+  binds command c now a same bound e = subst (BindsIf command) e (acted_passed command c now same bound)
