@@ -22,7 +22,7 @@ class Making:
         self.settled = {f"caller-{number}": 0 for number in range(callers)}
         self.callers, self.sent, self.last, self.made = list(self.settled), [], [], 0
         self.services, self.known, self.active = {}, [], []
-        self.templates, self.names, self.numbered = {}, [], 0
+        self.newest, self.names, self.numbered = {}, [], 0
         self.kinds = ((self.on_service, 70), (self.query, 8), (self.repeat, 3), (self.reworded, 3),
                       (self.reused, 2), (self.ahead, 2), (self.template, 2), (self.service, 3),
                       (self.wrong, wrong))
@@ -144,25 +144,46 @@ class Making:
     # Templates and services
 
     def template(self):
-        """A template, now and then one that is refused."""
+        """A template, or the next revision of one; now and then one that is refused."""
         self.numbered += 1
         plan = random_template(self.chance, self.numbered)
-        if self.templates and self.chance.random() < 0.4:
-            plan = wrong_template(self.chance, plan, self.templates)
-        if plan.accepted(self.templates):
-            self.templates[plan.name] = plan.marked()
-            self.names = [*self.names[-self.most:], plan.name]
-            self.templates = {name: self.templates[name] for name in self.names}
+        if self.names and self.chance.random() < 0.4:
+            plan.name = self.chance.choice(self.names)
+        if self.names and self.chance.random() < 0.35:
+            plan = wrong_template(self.chance, plan)
+        return self.revise(plan)
+
+    def revise(self, plan):
+        """A template as a request; if it is accepted, it is the newest revision of its name."""
+        if plan.accepted():
+            self.newest[plan.name] = plan.marked()
+            others = [name for name in self.names if name != plan.name]
+            self.names = [*others[-self.most:], plan.name]
         return self.settle(plan)
+
+    def better(self, service):
+        """A revision of a template because of which no attempt of the service is bound."""
+        names = [name for names, _ in service.analyses() for name in names]
+        for _ in range(9):
+            self.numbered += 1
+            plan = random_template(self.chance, self.numbered)
+            plan.name = self.chance.choice(names)
+            before = self.newest[plan.name]
+            self.newest[plan.name] = plan.marked()
+            if service.binds():
+                return self.revise(plan)
+            self.newest[plan.name] = before
+        return self.query()
 
     def service(self):
         """A service, which may be refused; the oldest one is left alone from then on."""
         self.numbered += 1
-        plan = random_service(self.chance, f"s{self.numbered}", self.templates)
+        recent = {name: self.newest[name] for name in self.names}
+        plan = random_service(self.chance, f"s{self.numbered}", recent)
         if self.services and self.chance.random() < (0.7 if len(self.active) == self.most else 0.2):
-            plan = wrong_service(self.chance, plan, self.active, self.templates)
-        if plan.accepted(self.services, self.templates):
-            self.services[plan.name] = plan.service(self.templates)
+            plan = wrong_service(self.chance, plan, self.active, recent)
+        if plan.accepted(self.services, self.newest):
+            self.services[plan.name] = plan.service(self.newest)
             self.known.append(plan.name)
             self.active = self.known[-self.most:]
             if len(self.known) > 3 * self.most:
@@ -210,6 +231,8 @@ class Making:
 
     def plausible(self, service):
         """A command that moves the service on."""
+        if service.state != "progress" and not service.binds() and self.chance.random() < 0.8:
+            return self.better(service)
         if service.state == "done":
             return self.act(service, "start")
         if service.state == "aborted":

@@ -1,8 +1,9 @@
 """A light model of releases, by which bench/streams knows what is plausible.
 
-It follows which runs are open, which metric waits for which ordinal and from when on, and where a
-release stands. Where it is wrong, a message is refused that was meant to be accepted, and nothing
-else comes of it: programs are compared with each other, and not with this model.
+It follows which runs are open, which metric waits for which ordinal and from when on, where a
+release stands, and to which revisions of its templates it is bound. Where it is wrong, a message is
+refused that was meant to be accepted, and nothing else comes of it: programs are compared with each
+other, and not with this model.
 """
 import operator
 from dataclasses import dataclass, field
@@ -157,19 +158,45 @@ class Run:
         return worst if closing else None
 
 
-class Service:
-    """A service: its steps are ("weight", n), ("pause", seconds or None), ("analysis", metrics)."""
+def metrics_of(names, templates):
+    """The metrics of these templates, together and in order."""
+    return [metric for name in names for metric in templates[name]]
 
-    def __init__(self, name, version, steps, background=None, starting=0):
+
+def binds(names, templates, step):
+    """Whether an attempt is bound to these templates, as an analysis of a step or another."""
+    metrics = metrics_of(names, templates)
+    if step and any(metric.effective() is None and not metric.pass_after for metric in metrics):
+        return False
+    return len(metrics) <= 32 and len({metric.name for metric in metrics}) == len(metrics)
+
+
+class Service:
+    """A service: its steps are ("weight", n), ("pause", seconds or None), ("analysis", names).
+
+    `newest` has the metrics of each template's newest revision, and changes as there are new ones;
+    `bound` has those of the revisions of the present attempt."""
+
+    def __init__(self, name, version, steps, background, starting, newest):
         self.name, self.version, self.stable = name, version, version
         self.steps, self.background, self.starting = steps, background, starting
+        self.newest, self.bound = newest, {}
         self.state, self.step, self.entered = "done", len(steps), 0
         self.holds, self.beside, self.made, self.open = set(), False, 0, []
 
-    def open_run(self, step, metrics, moment):
+    def analyses(self):
+        """The names of each analysis, and whether it is one of a step."""
+        found = [(value, True) for kind, value in self.steps if kind == "analysis"]
+        return found + ([(self.background, False)] if self.background else [])
+
+    def binds(self):
+        """Whether an attempt that begins now is bound to the newest revisions."""
+        return all(binds(names, self.newest, step) for names, step in self.analyses())
+
+    def open_run(self, step, names, moment):
         """Opens the next run."""
         self.made += 1
-        self.open.append(Run(self.made, step, moment, metrics))
+        self.open.append(Run(self.made, step, moment, metrics_of(names, self.bound)))
 
     def enter(self, index, moment):
         """Enters a step, or the end."""
@@ -208,7 +235,9 @@ class Service:
             bool(self.holds) or self.steps[self.step][0] == "pause")
 
     def begin(self, index, moment):
-        """Begins an attempt at a step."""
+        """Begins an attempt at a step, bound to the newest revisions."""
+        names = [name for names, _ in self.analyses() for name in names]
+        self.bound = {name: self.newest[name] for name in names}
         self.state, self.beside = "progress", False
         self.holds.clear()
         self.enter(index, moment)
@@ -217,6 +246,8 @@ class Service:
     def start(self, version, moment):
         """The command Start, without effect where it is refused."""
         if self.state == "progress" or self.state == "done" and version == self.stable:
+            return
+        if not self.binds():
             return
         back = self.state == "aborted" and version == self.stable
         self.version = version
@@ -238,7 +269,7 @@ class Service:
             self.enter(len(self.steps), moment)
         elif kind == "abort" and self.state == "progress":
             self.leave("aborted")
-        elif kind == "retry" and self.state == "aborted":
+        elif kind == "retry" and self.state == "aborted" and self.binds():
             self.begin(0, moment)
 
     def report(self, run, entries, moment):

@@ -1,7 +1,7 @@
 """Templates and services for bench/streams: what they say, and manifests that say it."""
 from dataclasses import dataclass, field
 
-from stream_model import Condition, Metric, Service
+from stream_model import Condition, Metric, Service, binds
 from stream_texts import WRONG_CONDITIONS, band, condition, duration, nested
 
 PROVIDER = {"prometheus": {"address": "http://prometheus.example:9090",
@@ -16,12 +16,12 @@ class TemplatePlan:
     metrics: list
     dry: list = field(default_factory=list)
 
-    def accepted(self, known):
-        """Whether a desk with these templates accepts it."""
+    def accepted(self):
+        """Whether a desk accepts it, whatever it has."""
         names = [metric.name for metric in self.metrics]
         conditions = [each for metric in self.metrics
                       for each in (metric.success, metric.failure) if each]
-        return (self.name not in known and all(each.tree for each in conditions)
+        return (all(each.tree for each in conditions)
                 and not any(m.count > 1 and m.interval is None for m in self.metrics)
                 and len(set(names)) == len(names)
                 and all(each in (".*", *names) for each in self.dry))
@@ -57,24 +57,20 @@ class ServicePlan:
     starting: int = None
 
     def analyses(self):
-        """The names of each analysis, and whether it is one of a step."""
-        found = [(value, True) for kind, value in self.steps if kind == "analysis"]
-        return found + ([(self.background, False)] if self.background is not None else [])
+        """The names of each analysis."""
+        found = [value for kind, value in self.steps if kind == "analysis"]
+        return found + ([self.background] if self.background is not None else [])
 
     def accepted(self, services, templates):
         """Whether a desk with these services and templates accepts it."""
         return (self.name not in services and len(self.steps) <= 64
                 and all(kind != "weight" or value <= 100 for kind, value in self.steps)
-                and all(fits(names, templates, step) for names, step in self.analyses()))
+                and all(are_named(names, templates) for names in self.analyses()))
 
     def service(self, templates):
         """The service as it stands when it is accepted."""
-        def bound(names):
-            return [metric for name in names for metric in templates[name]]
-        steps = [(kind, bound(value) if kind == "analysis" else value)
-                 for kind, value in self.steps]
-        background = None if self.background is None else bound(self.background)
-        return Service(self.name, self.version, steps, background, self.starting or 0)
+        return Service(self.name, self.version, self.steps, self.background, self.starting or 0,
+                       templates)
 
     def tree(self, chance):
         """A manifest that says it, in its command."""
@@ -93,14 +89,14 @@ class ServicePlan:
         return {"service": {"manifest": manifest, "version": self.version}}
 
 
+def are_named(names, templates):
+    """Whether a strategy may name these templates in an analysis."""
+    return 1 <= len(names) <= 8 and all(name in templates for name in names)
+
+
 def fits(names, templates, step):
-    """Whether templates of these names make an analysis that is accepted."""
-    if not 1 <= len(names) <= 8 or any(name not in templates for name in names):
-        return False
-    metrics = [metric for name in names for metric in templates[name]]
-    if step and any(metric.effective() is None and not metric.pass_after for metric in metrics):
-        return False
-    return len(metrics) <= 32 and len({metric.name for metric in metrics}) == len(metrics)
+    """Whether an attempt is bound to an analysis of these names, too."""
+    return are_named(names, templates) and binds(names, templates, step)
 
 
 def ignored(chance, tree, members):
@@ -188,7 +184,7 @@ def random_metric(chance, name, endless):
 
 
 def random_template(chance, number):
-    """A template that is accepted where its name is free."""
+    """A template that is accepted."""
     count = chance.choice((1, 1, 1, 1, 2, 2, 3, 4, 6, chance.randint(1, 32)))
     endless = chance.random() < 0.25
     names = [f"m{index}" if number % 5 == 0 else f"Rate_{number}.{index}" for index in range(count)]
@@ -201,17 +197,15 @@ def random_template(chance, number):
     return plan
 
 
-def wrong_template(chance, plan, known):
+def wrong_template(chance, plan):
     """A plan made one that is refused by the desk."""
     metric = chance.choice(plan.metrics)
-    turn = chance.randrange(6)
-    if turn == 0 and known:
-        plan.name = chance.choice(list(known))
-    elif turn == 1:
+    turn = chance.randrange(5)
+    if turn == 0:
         metric.count, metric.interval = chance.randint(2, 9), None
-    elif turn == 2:
+    elif turn == 1:
         plan.metrics = plan.metrics[:31] + [Metric(chance.choice(plan.metrics).name)]
-    elif turn == 3:
+    elif turn == 2:
         plan.dry = plan.dry + [chance.choice(("nothing", "M0", "*", "..*", metric.name + "x"))]
     else:
         wrong = Condition(chance.choice(WRONG_CONDITIONS))
@@ -220,7 +214,8 @@ def wrong_template(chance, plan, known):
 
 
 def some_templates(chance, templates, step):
-    """Names of one to three templates that make an analysis, or None where none were found."""
+    """Names of one to three templates to which an attempt is bound, or None where none were
+    found."""
     for _ in range(6):
         names = chance.sample(list(templates), min(len(templates), chance.choice((1, 1, 1, 2, 3))))
         if names and fits(names, templates, step):
@@ -229,7 +224,7 @@ def some_templates(chance, templates, step):
 
 
 def random_step(chance, templates):
-    """A step that is accepted."""
+    """A step that is accepted, and bound as long as its templates have no new revision."""
     draw = chance.random()
     if draw < 0.3:
         return ("weight", chance.randint(0, 100))
@@ -253,9 +248,9 @@ def random_service(chance, name, templates):
 
 
 def wrong_service(chance, plan, services, templates):
-    """A plan made one that is refused by the desk, mostly."""
-    names = [name for _ in range(4) for name in templates] or ["nothing"]
-    some = chance.sample(names, min(len(names), chance.randint(2, 10)))
+    """A plan made one that is refused by the desk, or whose attempts are, mostly."""
+    names = list(templates) * (4 if chance.random() < 0.1 else 1) or ["nothing"]
+    some = chance.sample(names, min(len(names), chance.choice((2, 2, 9, 10))))
     step = chance.choice((("analysis", some), ("analysis", some + ["nothing"]),
                           ("analysis", ["nothing"]), ("analysis", []), ("weight", 101),
                           ("weight", 1_000_000), ("analysis", [some[0], some[0]])))

@@ -14,12 +14,12 @@ CODES = {
     409: ("reused", "ahead"),
     411: ("length",),
     413: ("too-long",),
-    422: ("unknown-service", "service-exists", "template-exists", "bad-condition",
-          "interval-needed", "duplicate-metric", "bad-dry-run", "unknown-template",
-          "endless-metric", "bad-strategy", "in-progress", "already-stable", "not-in-progress",
-          "not-paused", "not-aborted", "runs-spent", "unknown-run", "run-closed", "unknown-metric",
-          "repeated-metric", "metric-closed", "recorded", "out-of-turn", "spent", "future",
-          "too-early"),
+    422: ("unknown-service", "service-exists", "bad-condition", "interval-needed",
+          "duplicate-metric", "bad-dry-run", "unknown-template", "endless-metric", "bad-strategy",
+          "in-progress", "already-stable", "not-in-progress", "not-paused", "not-aborted",
+          "runs-spent", "unknown-run", "run-closed", "unknown-metric", "repeated-metric",
+          "metric-closed", "recorded", "out-of-turn", "spent", "future", "too-early",
+          "revisions-spent"),
     503: ("no-memory", "storage"),
 }
 ENDING = {(400, "malformed"), (411, "length"), (413, "too-long")}

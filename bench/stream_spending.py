@@ -1,4 +1,5 @@
-"""Streams of bench/streams that spend what a service or a metric has of numbers: a million each."""
+"""Streams of bench/streams that spend what a service, a metric or a template has of numbers: a
+million each."""
 from stream_texts import compact
 
 RUNS_LEFT = 66
@@ -12,14 +13,19 @@ def put(caller, number, command):
             f"Content-Length: {len(body)}\r\n\r\n").encode() + body
 
 
+def template(name, metric):
+    """A template of one metric."""
+    return {"template": {"metadata": {"name": name}, "spec": {"metrics": [metric]}}}
+
+
 def registered(metric):
-    """A template of one metric, and a service that has it in its step and in the background."""
+    """Two templates of one metric, and a service that has the first in the background and the other
+    in its step."""
     analysis = {"templates": [{"templateName": "last"}]}
     once = {"templates": [{"templateName": "once"}]}
     canary = {"steps": [{"analysis": once}], "analysis": analysis}
     manifest = {"metadata": {"name": "web"}, "spec": {"strategy": {"canary": canary}}}
-    return [{"template": {"metadata": {"name": "last"}, "spec": {"metrics": [metric]}}},
-            {"template": {"metadata": {"name": "once"}, "spec": {"metrics": [{"name": "once"}]}}},
+    return [template("last", metric), template("once", {"name": "once"}),
             {"service": {"manifest": manifest, "version": "v1"}}]
 
 
@@ -47,9 +53,29 @@ def spending_measurements(at):
     yield {"promoteFull": {"service": "web"}}
 
 
+def spending_revisions(taken):
+    """Revisions of one template, until there may be no more of them; and a run of the last one,
+    for which 3 alone is a success."""
+    yield from registered({"name": "m"})
+    for _ in range(MOST - 2):
+        yield template("last", {"name": "m"})
+    for number in (3, 4):
+        yield template("last", {"name": "m", "successCondition": f"result == {number}"})
+    yield {"start": {"service": "web", "version": "v2"}}
+    entry = {"metric": "m", "ordinal": 1, "taken": taken, "result": 3}
+    yield {"report": {"service": "web", "run": 1, "entries": [entry]}}
+    yield template("once", {"name": "once", "count": 2})
+    yield template("last", {"name": "m", "successCondition": "result >"})
+
+
 def spending(what, at, step):
     """The messages of such a stream, with queries at its end."""
-    commands = spending_runs() if what == "runs" else spending_measurements(at + 3 * step)
+    if what == "runs":
+        commands = spending_runs()
+    elif what == "revisions":
+        commands = spending_revisions(at + (MOST + 3) * step)
+    else:
+        commands = spending_measurements(at + 3 * step)
     for number, command in enumerate(commands, 1):
         yield put("ops", number, command)
     for path in ("", "/runs/1", f"/runs/{MOST - RUNS_LEFT}", f"/runs/{MOST}"):

@@ -52,8 +52,8 @@ HISTORY = b"""2026-01-01T00:00:00Z created v1
 STATUS = b"""NAME  STATUS  STEP  WEIGHT          VERSION  STABLE
 web   Paused  1/2   ##-------- 20%  v2       v1
 
-RUN  SERVICE  ANALYSIS    METRIC  PHASE    COUNTED  PASSES  DUE
-1    web      background  m       Running  2        -       2026-01-01T00:03:00Z
+RUN  SERVICE  ANALYSIS    TEMPLATES  METRIC  PHASE    COUNTED  PASSES  DUE
+1    web      background  errs@1     m       Running  2        -       2026-01-01T00:03:00Z
 """
 
 

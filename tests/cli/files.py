@@ -11,7 +11,7 @@ from streams import FAR, connection, joined, read_some, reset
 HEADER = b"caller,number,service,run,metric,ordinal,taken,result,failure\n"
 # What begins a release of web that waits at a pause, whose background is measured every minute.
 RELEASE = [
-    ("template errs m,interval=60", "[errs]"),
+    ("template errs m,interval=60", "[errs 1]"),
     ("service v1 setWeight:20 pause background:errs", "[web Healthy 2 100]"),
     ("start v2", "[web Paused 1 20]"),
 ]

@@ -78,13 +78,18 @@ on_web() {
     printf '{"%s":{"service":"web"}}' "$1"
 }
 
+# The revision of `t` in which a result above $1 is a success.
+judging() {
+    local judged='"name":"a","successCondition":"result > '$1'","failureCondition":"result < 5"'
+    template t "{$judged},{\"name\":\"b\"}" ',"dryRun":[{"metricName":"b"}]'
+}
+
 # A story in which each table gets rows: runs that are open, closed and closed from outside, metrics
-# that are not measured yet, a template that no service has, and a service without runs. A message
-# comes every ten seconds.
+# that are not measured yet, two attempts that are bound to two revisions of `t`, revisions and a
+# template that nothing is bound to, and a service without runs. A message comes every ten seconds.
 story() {
-    local judged='"name":"a","successCondition":"result > 10","failureCondition":"result < 5"'
     put ops 1 "$(template errs '{"name":"m","interval":"60s"}' '')"
-    put ops 2 "$(template t "{$judged},{\"name\":\"b\"}" ',"dryRun":[{"metricName":"b"}]')"
+    put ops 2 "$(judging 10)"
     put ops 3 "$(on_web promote)"
     put ops 4 "$(service web '"steps":[{"setWeight":20},{"pause":{}},{"analysis":{"templates":[
         {"templateName":"t"}]}},{"pause":{}}],"analysis":{"templates":[{"templateName":"errs"}]}')"
@@ -94,12 +99,14 @@ story() {
     put agent 2 "$(report 2 "$(entry a 1 70 '"result":7'),$(entry b 1 70 '"result":[1,-2]')")"
     put ops 7 "$(on_web promote)"
     put ops 8 "$(on_web abort)"
-    put ops 9 "$(on_web retry)"
-    put agent 3 "$(report 3 "$(entry m 1 110 '"result":5')")"
-    put ops 10 "$(on_web promote)"
-    put agent 4 "$(report 4 "$(entry b 1 130 '"result":3')")"
-    put ops 11 "$(service api '')"
-    put ops 12 "$(template spare '{"name":"m"}' '')"
+    put ops 9 "$(judging 6)"
+    put ops 10 "$(on_web retry)"
+    put agent 3 "$(report 3 "$(entry m 1 120 '"result":5')")"
+    put ops 11 "$(on_web promote)"
+    put agent 4 "$(report 4 "$(entry b 1 140 '"result":3')")"
+    put ops 12 "$(service api '')"
+    put ops 13 "$(template spare '{"name":"m"}' '')"
+    put ops 14 "$(template errs '{"name":"m","interval":"30s"}' '')"
     get /services/web
     get /services/web/history
     get /services/web/runs/2
@@ -115,18 +122,22 @@ add() {
     ends+=("$((ends[-1] + ${#message}))")
 }
 
-# Writes the load to a file, $1 releases one after another, each started, reported to and promoted;
-# each request is accepted. Sets `ends` to where the first so many messages end.
+# Writes the load to a file, $1 releases one after another, each started, reported to and promoted,
+# and before each fourth a new revision of its template; each request is accepted. Sets `ends` to
+# where the first so many messages end.
 make_load() {
-    local cycle
+    local cycle taken
     ends=(0)
     : > "$work/load"
     add ops 1 "$(template t '{"name":"m"}' '')"
     add ops 2 "$(service web '"steps":[{"setWeight":20},{"analysis":{"templates":[
         {"templateName":"t"}]}},{"setWeight":60},{"pause":{}}]')"
     for ((cycle = 1; cycle <= $1; cycle++)); do
+        [ "$((cycle % 4))" -ne 0 ] \
+            || add dev "$((cycle / 4))" "$(template t '{"name":"m","failureLimit":'"$cycle"'}' '')"
         add ops "$((2 * cycle + 1))" '{"start":{"service":"web","version":"v'$((cycle + 1))'"}}'
-        add agent "$cycle" "$(report "$cycle" "$(entry m 1 "$((3 * cycle * step))" '"result":5')")"
+        taken=$(((3 * cycle + cycle / 4) * step))
+        add agent "$cycle" "$(report "$cycle" "$(entry m 1 "$taken" '"result":5')")"
         add ops "$((2 * cycle + 2))" '{"promote":{"service":"web"}}'
     done
 }

@@ -13,7 +13,7 @@ REASONS = {
 
 # The nine commands at one moment, by two callers, each with its short answer.
 STORY = [
-    ("ops 1 template errs m,interval=60", "[errs]"),
+    ("ops 1 template errs m,interval=60", "[errs 1]"),
     ("ops 2 service v1 setWeight:20 pause background:errs", "[web Healthy 2 100]"),
     ("ops 3 start v2", "[web Paused 1 20]"),
     ("agent 1 report 1 m:1:0:5", "[web Paused 1 20 | 1 Successful | Running]"),
@@ -195,12 +195,13 @@ def body(told):
     if not told.startswith("["):
         return f'{{"code":"{told}"}}'.encode()
     shown, *reported = told[1:-1].split(" | ")
-    made = {"code": "ok"}
-    if " " not in shown:
-        made["template"] = shown
+    name, *stands = shown.split(" ")
+    if len(stands) == 1:
+        made = {"code": "ok", "revision": int(stands[0]), "template": name}
     else:
-        name, status, step, weight = shown.split(" ")
-        made |= {"service": name, "status": status, "step": int(step), "weight": int(weight)}
+        status, step, weight = stands
+        made = {"code": "ok", "service": name, "status": status, "step": int(step),
+                "weight": int(weight)}
     if reported:
         run, *phases = reported[0].split(" ")
         made |= {"phases": phases, "run": int(run), "verdict": reported[1]}

@@ -1,4 +1,4 @@
-imports 94
+imports 104
 
 # Rows that are no request, all in one file.
 rows
@@ -97,8 +97,8 @@ x
 
 # Two runs at a time, and two more behind an abort, each with metrics of its own.
 export
-ops 1 0 template errs m,interval=60 => [errs]
-ops 2 0 template t a,interval=60,count=9 b => [t]
+ops 1 0 template errs m,interval=60 => [errs 1]
+ops 2 0 template t a,interval=60,count=9 b => [t 1]
 ops 3 0 service v1 analysis:t background:errs => [web Healthy 1 100]
 ops 4 0 start v2 => [web Progressing 0 0]
 agent 1 0 report 1 m:1:0:5 => [web Progressing 0 0 | 1 Successful | Running]
@@ -113,10 +113,24 @@ copy,1,web,1,m,1,1767225600,5,|copy,2,web,2,b,1,1767225600,[1;-2],|
 # The measurements of one report, in the order of its entries, and not in that of the run's metrics;
 # a refused report leaves no row.
 export
-ops 1 0 template errs m,interval=60 => [errs]
-ops 2 0 template t a b => [t]
+ops 1 0 template errs m,interval=60 => [errs 1]
+ops 2 0 template t a b => [t 1]
 ops 3 0 service v1 analysis:t background:errs => [web Healthy 1 100]
 ops 4 0 start v2 => [web Progressing 0 0]
 agent 1 0 report 2 a:1:0:9 x:1:0:9 => 422 {"at":1,"code":"unknown-metric"}
 agent 2 0 report 2 b:1:0:2 a:1:0:1 => [web Healthy 1 100 | 2 Successful Successful | Successful]
 copy,1,web,2,b,1,1767225600,2,|copy,2,web,2,a,1,1767225600,1,|
+
+# A run's metrics are those of the revision to which its attempt was bound.
+export
+ops 1 0 template t a,success=result==0 b => [t 1]
+ops 2 0 service v1 analysis:t => [web Healthy 1 100]
+ops 3 0 start v2 => [web Progressing 0 0]
+ops 4 0 template t b c,success=result==0,count=2,interval=10 => [t 2]
+agent 1 0 report 1 b:1:0:7 => [web Progressing 0 0 | 1 Successful | Running]
+agent 2 0 report 1 a:1:0:9 => [web Degraded 0 0 | 1 Failed | Failed]
+ops 5 0 retry => [web Progressing 0 0]
+ops 6 0 template t z => [t 3]
+agent 3 0 report 2 c:1:0:0 b:1:0:8 => [web Progressing 0 0 | 2 Successful Successful | Running]
+copy,1,web,1,b,1,1767225600,7,|copy,2,web,1,a,1,1767225600,9,|
+    copy,3,web,2,c,1,1767225600,0,|copy,4,web,2,b,1,1767225600,8,|

@@ -1,4 +1,4 @@
-manifests 126
+manifests 127
 
 # Texts.
 between ...
@@ -217,6 +217,9 @@ between {"kind":"Rollout","metadata":{"name":"web"},"spec":{"strategy":{"canary"
      expected a list of 1 to 8 objects with templateName
 {"analysis":{"templates":[{"templateName":"a"},{"templateName":"a"}]}} =>
      spec.strategy.canary.steps[0].analysis.templates: expected each template once
+{"analysis":{"templates":[<<8*{"templateName":"a"},>>{"templateName":"a"}]}} =>
+     spec.strategy.canary.steps[0].analysis.templates:
+     expected a list of 1 to 8 objects with templateName
 <<64*{"pause":{}},>>{"pause":{}} => spec.strategy.canary.steps: expected a list of at most 64 steps
 
 # A text that is no JSON, though the body that registers it would be a command's. Its JSON ends

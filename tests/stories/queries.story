@@ -76,7 +76,7 @@ ops 5 50 tick => 409 {"code":"ahead","expected":3}
 
 # A run of two metrics, before its first measurement, between the two and after the last; and one
 # in which a dry-run metric failed.
-ops 1 0 template t a b => [t]
+ops 1 0 template t a b => [t 1]
 analysis
 ? 0 service web => {"code":"ok","hold":"none","moment":1767225600,"open":[1],"runs":1,
     "service":"web","stable":"v1","status":"Progressing","step":1,"version":"v2","weight":10}
@@ -102,7 +102,7 @@ agent 2 0 report 1 b:1:0:1 => [web Paused 3 60 | 1 Successful | Successful]
     "inconclusive":0,"measurements":1,"name":"b","passes":1,"phase":"Successful"}
     ],"run":1,"service":"web","started":1767225600,"step":1,"verdict":"Successful"}
 
-ops 1 0 template t d,success=result==0 e dryRun:d => [t]
+ops 1 0 template t d,success=result==0 e dryRun:d => [t 1]
 analysis
 agent 1 0 report 1 d:1:0:1 e:1:0:1 => [web Paused 3 60 | 1 Failed Successful | Successful]
 ? 7 run web 1 => {"closed":1767225600,"code":"ok","metrics":[
@@ -114,7 +114,7 @@ agent 1 0 report 1 d:1:0:1 e:1:0:1 => [web Paused 3 60 | 1 Failed Successful | S
 
 
 # A background run that an abort closes from outside, and one that the end closes, by time.
-ops 1 0 template errs m,interval=60 => [errs]
+ops 1 0 template errs m,interval=60 => [errs 1]
 background
 agent 1 0 report 1 m:1:0:!down => [web Paused 1 20 | 1 Error | Running]
 ? 1 run web 1 => {"closed":null,"code":"ok","metrics":[
@@ -134,7 +134,7 @@ ops 4 5 abort => [web Degraded 1 0]
 ? 9 service web => {"code":"ok","hold":"none","moment":1767225609,"open":[],"runs":1,
     "service":"web","stable":"v1","status":"Degraded","step":1,"version":"v2","weight":0}
 
-ops 1 0 template errs m,interval=60 => [errs]
+ops 1 0 template errs m,interval=60 => [errs 1]
 ops 2 0 service v1 setWeight:20 pause:10 background:errs => [web Healthy 2 100]
 ops 3 0 start v2 => [web Paused 1 20]
 ? 9 run web 1 => {"closed":null,"code":"ok","metrics":[
@@ -152,7 +152,7 @@ ops 3 0 start v2 => [web Paused 1 20]
 
 
 # A run that opens as a pause ends: it is shown from then on, and no query opens it.
-ops 1 0 template t a b => [t]
+ops 1 0 template t a b => [t 1]
 ops 2 0 service v1 pause:10 analysis:t => [web Healthy 2 100]
 ops 3 0 start v2 => [web Paused 0 0]
 ? 9 run web 1 => 404 unknown-run
@@ -177,8 +177,8 @@ agent 2 10 report 1 a:1:10:1 => [web Progressing 1 0 | 1 Successful | Running]
 
 
 # The metrics of a run, in the order in which its templates are named.
-ops 1 0 template t a => [t]
-ops 2 0 template u b => [u]
+ops 1 0 template t a => [t 1]
+ops 2 0 template u b => [u 1]
 ops 3 0 service v1 analysis:u+t => [web Healthy 1 100]
 ops 4 0 start v2 => [web Progressing 0 0]
 ? 0 run web 1 => {"closed":null,"code":"ok","metrics":[
@@ -190,7 +190,7 @@ ops 4 0 start v2 => [web Progressing 0 0]
 
 
 # Holds: of a step, of the background, and of both, with the open runs that are left.
-ops 1 0 template t m,success=result>10,failure=result<5 => [t]
+ops 1 0 template t m,success=result>10,failure=result<5 => [t 1]
 ops 2 0 service v1 setWeight:10 analysis:t pause background:t => [web Healthy 3 100]
 ops 3 0 start v2 => [web Progressing 1 10]
 ? 0 service web => {"code":"ok","hold":"none","moment":1767225600,"open":[1,2],"runs":2,
@@ -209,7 +209,7 @@ ops 4 0 promote => [web Paused 2 10]
 ? 0 service web => {"code":"ok","hold":"none","moment":1767225600,"open":[],"runs":2,
     "service":"web","stable":"v1","status":"Paused","step":2,"version":"v2","weight":10}
 
-ops 1 0 template errs m,success=result>10,failure=result<5 => [errs]
+ops 1 0 template errs m,success=result>10,failure=result<5 => [errs 1]
 background
 agent 1 0 report 1 m:1:0:7 => [web Paused 1 20 | 1 Inconclusive | Inconclusive]
 ? 0 service web => {"code":"ok","hold":"background","moment":1767225600,"open":[],"runs":1,

@@ -1,4 +1,4 @@
-desk 474
+desk 524
 
 # A doubled promotion acts once, a number ahead and another command under an old number change
 # nothing, and each kept reply comes again.
@@ -18,7 +18,7 @@ ops 6 10 promote => 422 not-in-progress
 # Background runs: five errors abort, and those between which a result came do not; a run is
 # reported to in turn, in time, and once; an inconclusive run holds, and its promotion enters the
 # step anew.
-ops 1 0 template errs m,interval=60 => [errs]
+ops 1 0 template errs m,interval=60 => [errs 1]
 background
 agent 1 0 report 1 m:1:0:!down => [web Paused 1 20 | 1 Error | Running]
 agent 2 60 report 1 m:2:60:!down => [web Paused 1 20 | 1 Error | Running]
@@ -26,7 +26,7 @@ agent 3 120 report 1 m:3:120:!down => [web Paused 1 20 | 1 Error | Running]
 agent 4 180 report 1 m:4:180:!down => [web Paused 1 20 | 1 Error | Running]
 agent 5 240 report 1 m:5:240:!down => [web Degraded 1 0 | 1 Error | Error]
 
-ops 1 0 template errs m,interval=60 => [errs]
+ops 1 0 template errs m,interval=60 => [errs 1]
 background
 agent 1 0 report 1 m:1:0:5 => [web Paused 1 20 | 1 Successful | Running]
 agent 2 0 report 1 m:3:0:5 => 422 {"at":0,"code":"out-of-turn","expected":2}
@@ -36,7 +36,7 @@ agent 5 60 report 1 m:2:61:5 => 422 {"at":0,"code":"future"}
 agent 6 60 report 1 m:2:60:5 => [web Paused 1 20 | 1 Successful | Running]
 agent 2 60 report 1 m:3:0:5 => 422 {"at":0,"code":"out-of-turn","expected":2}
 
-ops 1 0 template errs m,success=result>10,failure=result<5 => [errs]
+ops 1 0 template errs m,success=result>10,failure=result<5 => [errs 1]
 background
 agent 1 0 report 1 m:1:0:7 => [web Paused 1 20 | 1 Inconclusive | Inconclusive]
 ops 4 0 promote => [web Paused 1 20]
@@ -44,7 +44,7 @@ ops 5 0 promote => [web Healthy 2 100]
 
 
 # Eight errors, and a result after four of them.
-ops 1 0 template errs m,interval=60 => [errs]
+ops 1 0 template errs m,interval=60 => [errs 1]
 background
 agent 1 0 report 1 m:1:0:!down => [web Paused 1 20 | 1 Error | Running]
 agent 2 60 report 1 m:2:60:!down => [web Paused 1 20 | 1 Error | Running]
@@ -62,7 +62,7 @@ agent 9 480 report 1 m:9:480:!down => [web Paused 1 20 | 1 Error | Running]
 
 
 # Two successes in a row complete a metric that asks for them, and an error between begins anew.
-ops 1 0 template errs m,success=result==0,interval=60,failureLimit=1,passAfter=2 => [errs]
+ops 1 0 template errs m,success=result==0,interval=60,failureLimit=1,passAfter=2 => [errs 1]
 background
 agent 1 0 report 1 m:1:0:0 => [web Paused 1 20 | 1 Successful | Running]
 agent 2 60 report 1 m:2:60:1 => [web Paused 1 20 | 1 Failed | Running]
@@ -70,7 +70,7 @@ agent 3 120 report 1 m:3:120:0 => [web Paused 1 20 | 1 Successful | Running]
 agent 4 180 report 1 m:4:180:0 => [web Paused 1 20 | 1 Successful | Successful]
 agent 5 240 report 1 m:5:240:0 => 422 run-closed
 
-ops 1 0 template errs m,success=result==0,interval=60,failureLimit=1,passAfter=2 => [errs]
+ops 1 0 template errs m,success=result==0,interval=60,failureLimit=1,passAfter=2 => [errs 1]
 background
 agent 1 0 report 1 m:1:0:0 => [web Paused 1 20 | 1 Successful | Running]
 agent 2 60 report 1 m:2:60:!down => [web Paused 1 20 | 1 Error | Running]
@@ -82,7 +82,7 @@ agent 3 120 report 1 m:3:120:0 => [web Paused 1 20 | 1 Successful | Running]
 
 # The same in one stream over a book in memory, and over a file that is opened anew for each report
 # with its query.
-ops 1 0 template errs m,success=result==0,interval=60,failureLimit=1,passAfter=2 => [errs]
+ops 1 0 template errs m,success=result==0,interval=60,failureLimit=1,passAfter=2 => [errs 1]
 ops 2 1 service v1 setWeight:20 pause background:errs => [web Healthy 2 100]
 ops 3 2 start v2 => [web Paused 1 20]
 agent 1 60 report 1 m:1:60:0 => [web Paused 1 20 | 1 Successful | Running]
@@ -91,7 +91,7 @@ agent 3 180 report 1 m:3:180:0 => [web Paused 1 20 | 1 Successful | Running]
 agent 4 240 report 1 m:4:240:0 => [web Paused 1 20 | 1 Successful | Successful]
 agent 5 300 report 1 m:5:300:0 => 422 run-closed
 
-ops 1 0 template errs m,success=result==0,interval=60,failureLimit=1,passAfter=2 => [errs]
+ops 1 0 template errs m,success=result==0,interval=60,failureLimit=1,passAfter=2 => [errs 1]
 background
 agent 1 0 report 1 m:1:0:0 => [web Paused 1 20 | 1 Successful | Running]
 agent 2 60 report 1 m:2:60:1 => [web Paused 1 20 | 1 Failed | Running]
@@ -113,63 +113,65 @@ agent 5 240 report 1 m:5:240:0 => 422 run-closed
 
 # The limits come first: with no failure allowed the first one completes the metric. An Inconclusive
 # one begins the successes anew, too. A step's run ends early, and so may one without a count.
-ops 1 0 template errs m,success=result==0,interval=60,passAfter=2 => [errs]
+ops 1 0 template errs m,success=result==0,interval=60,passAfter=2 => [errs 1]
 background
 agent 1 0 report 1 m:1:0:1 => [web Degraded 1 0 | 1 Failed | Failed]
 
-ops 1 0 template errs m,success=result>10,failure=result<5,interval=60,inconclusiveLimit=1,passAfter=2 => [errs]
+ops 1 0 template errs m,success=result>10,failure=result<5,interval=60,
+    inconclusiveLimit=1,passAfter=2 => [errs 1]
 background
 agent 1 0 report 1 m:1:0:11 => [web Paused 1 20 | 1 Successful | Running]
 agent 2 60 report 1 m:2:60:7 => [web Paused 1 20 | 1 Inconclusive | Running]
 agent 3 120 report 1 m:3:120:11 => [web Paused 1 20 | 1 Successful | Running]
 agent 4 180 report 1 m:4:180:11 => [web Paused 1 20 | 1 Successful | Successful]
 
-ops 1 0 template t m,interval=60,count=9,passAfter=2 n,interval=60,passAfter=1 => [t]
+ops 1 0 template t m,interval=60,count=9,passAfter=2 n,interval=60,passAfter=1 => [t 1]
 analysis
 agent 1 0 report 1 m:1:0:1 => [web Progressing 1 10 | 1 Successful | Running]
 agent 2 60 report 1 m:2:60:1 n:1:60:1 => [web Paused 3 60 | 1 Successful Successful | Successful]
 
-ops 1 0 template t m,interval=60 => [t]
-ops 2 0 service v1 setWeight:10 analysis:t => 422 endless-metric
+ops 1 0 template t m,interval=60 => [t 1]
+ops 2 0 service v1 setWeight:10 analysis:t => [web Healthy 2 100]
+ops 3 0 start v2 => 422 endless-metric
 
 
 # Runs of a step.
-ops 1 0 template t m,success=result>10,failure=result<5 => [t]
+ops 1 0 template t m,success=result>10,failure=result<5 => [t 1]
 analysis
 agent 1 0 report 1 m:1:0:7 => [web Paused 1 10 | 1 Inconclusive | Inconclusive]
 ops 4 0 promote => [web Paused 3 60]
 
-ops 1 0 template t m,success=result>1,failure=result<9 => [t]
+ops 1 0 template t m,success=result>1,failure=result<9 => [t 1]
 analysis
 agent 1 0 report 1 m:1:0:5 => [web Degraded 1 0 | 1 Failed | Failed]
 ops 4 0 retry => [web Progressing 1 10]
 agent 2 0 report 2 m:1:0:5 => [web Degraded 1 0 | 2 Failed | Failed]
 
-ops 1 0 template t m,success=result==0,count=3,interval=10,failureLimit=1 => [t]
+ops 1 0 template t m,success=result==0,count=3,interval=10,failureLimit=1 => [t 1]
 analysis
 agent 1 0 report 1 m:1:0:0 => [web Progressing 1 10 | 1 Successful | Running]
 agent 2 10 report 1 m:2:10:1 => [web Progressing 1 10 | 1 Failed | Running]
 agent 3 20 report 1 m:3:20:0 => [web Paused 3 60 | 1 Successful | Successful]
 
-ops 1 0 template t m,success=result==0,count=3,interval=10,failureLimit=1 => [t]
+ops 1 0 template t m,success=result==0,count=3,interval=10,failureLimit=1 => [t 1]
 analysis
 agent 1 0 report 1 m:1:0:1 => [web Progressing 1 10 | 1 Failed | Running]
 agent 2 10 report 1 m:2:10:1 => [web Degraded 1 0 | 1 Failed | Failed]
 
-ops 1 0 template t a,success=result>10,failure=result<5 b,success=result==0 => [t]
+ops 1 0 template t a,success=result>10,failure=result<5 b,success=result==0 => [t 1]
 analysis
 agent 1 0 report 1 a:1:0:7 c:1:0:1 => 422 {"at":1,"code":"unknown-metric"}
 agent 2 0 report 1 a:1:0:7 b:1:0:1 => [web Degraded 1 0 | 1 Inconclusive Failed | Failed]
 
-ops 1 0 template t d,success=result==0 e dryRun:d => [t]
+ops 1 0 template t d,success=result==0 e dryRun:d => [t 1]
 analysis
 agent 1 0 report 1 d:1:0:1 e:1:0:1 => [web Paused 3 60 | 1 Failed Successful | Successful]
 
-ops 1 0 template t d,success=result==0 dryRun:d => [t]
+ops 1 0 template t d,success=result==0 dryRun:d => [t 1]
 analysis
 agent 1 0 report 1 d:1:0:1 => [web Paused 3 60 | 1 Failed | Successful]
 
-ops 1 0 template t m,success=result>10,failure=result<5 => [t]
+ops 1 0 template t m,success=result>10,failure=result<5 => [t 1]
 analysis
 ops 4 0 promote => 422 not-paused
 ops 5 0 promoteFull => [web Healthy 4 100]
@@ -178,16 +180,18 @@ agent 2 0 report 2 m:1:0:7 => 422 unknown-run
 
 
 # Inconclusive measurements have a limit of their own, and are counted.
-ops 1 0 template t m,success=result>10,failure=result<5,count=3,interval=10,inconclusiveLimit=1 => [t]
+ops 1 0 template t m,success=result>10,failure=result<5,count=3,interval=10,
+    inconclusiveLimit=1 => [t 1]
 analysis
 agent 1 0 report 1 m:1:0:7 => [web Progressing 1 10 | 1 Inconclusive | Running]
 agent 2 10 report 1 m:2:10:7 => [web Paused 1 10 | 1 Inconclusive | Inconclusive]
 
-ops 1 0 template t m,success=result>10,failure=result<5,count=3,interval=10,failureLimit=1 => [t]
+ops 1 0 template t m,success=result>10,failure=result<5,count=3,interval=10,failureLimit=1 => [t 1]
 analysis
 agent 1 0 report 1 m:1:0:7 => [web Paused 1 10 | 1 Inconclusive | Inconclusive]
 
-ops 1 0 template t m,success=result>10,failure=result<5,count=2,interval=10,inconclusiveLimit=2 => [t]
+ops 1 0 template t m,success=result>10,failure=result<5,count=2,interval=10,
+    inconclusiveLimit=2 => [t 1]
 analysis
 agent 1 0 report 1 m:1:0:7 => [web Progressing 1 10 | 1 Inconclusive | Running]
 agent 2 10 report 1 m:2:10:11 => [web Paused 3 60 | 1 Successful | Successful]
@@ -195,20 +199,21 @@ agent 2 10 report 1 m:2:10:11 => [web Paused 3 60 | 1 Successful | Successful]
 
 # Failed and inconclusive measurements are counted over the whole run, in a row or not, each kind
 # against its own limit.
-ops 1 0 template t m,success=result==0,count=4,interval=10,failureLimit=1 => [t]
+ops 1 0 template t m,success=result==0,count=4,interval=10,failureLimit=1 => [t 1]
 analysis
 agent 1 0 report 1 m:1:0:1 => [web Progressing 1 10 | 1 Failed | Running]
 agent 2 10 report 1 m:2:10:0 => [web Progressing 1 10 | 1 Successful | Running]
 agent 3 20 report 1 m:3:20:1 => [web Degraded 1 0 | 1 Failed | Failed]
 
-ops 1 0 template t m,success=result>10,failure=result<5,count=4,interval=10,inconclusiveLimit=1 => [t]
+ops 1 0 template t m,success=result>10,failure=result<5,count=4,interval=10,
+    inconclusiveLimit=1 => [t 1]
 analysis
 agent 1 0 report 1 m:1:0:7 => [web Progressing 1 10 | 1 Inconclusive | Running]
 agent 2 10 report 1 m:2:10:11 => [web Progressing 1 10 | 1 Successful | Running]
 agent 3 20 report 1 m:3:20:7 => [web Paused 1 10 | 1 Inconclusive | Inconclusive]
 
 ops 1 0 template t m,success=result>10,failure=result<5,count=3,interval=10,
-    failureLimit=1,inconclusiveLimit=1 => [t]
+    failureLimit=1,inconclusiveLimit=1 => [t 1]
 analysis
 agent 1 0 report 1 m:1:0:7 => [web Progressing 1 10 | 1 Inconclusive | Running]
 agent 2 10 report 1 m:2:10:3 => [web Progressing 1 10 | 1 Failed | Running]
@@ -216,7 +221,7 @@ agent 3 20 report 1 m:3:20:11 => [web Paused 3 60 | 1 Successful | Successful]
 
 
 # One bad metric closes a run, whatever the others wait for.
-ops 1 0 template t a,success=result>10,failure=result<5 b => [t]
+ops 1 0 template t a,success=result>10,failure=result<5 b => [t 1]
 analysis
 agent 1 5 report 1 a:1:5:7 => [web Paused 1 10 | 1 Inconclusive | Inconclusive]
 ? 5 run web 1 => {"closed":1767225605,"code":"ok","metrics":[
@@ -226,74 +231,77 @@ agent 1 5 report 1 a:1:5:7 => [web Paused 1 10 | 1 Inconclusive | Inconclusive]
     "inconclusive":0,"measurements":0,"name":"b","passes":0,"phase":"Successful"}
     ],"run":1,"service":"web","started":1767225600,"step":1,"verdict":"Inconclusive"}
 
-ops 1 0 template t a,consecutiveErrorLimit=0 b => [t]
+ops 1 0 template t a,consecutiveErrorLimit=0 b => [t 1]
 analysis
 agent 1 0 report 1 a:1:0:!down => [web Degraded 1 0 | 1 Error | Error]
 agent 2 0 report 1 b:1:0:5 => 422 run-closed
 
 
 # An interval of no seconds is one.
-ops 1 0 template t m,interval=0,count=2 => [t]
+ops 1 0 template t m,interval=0,count=2 => [t 1]
 analysis
 agent 1 0 report 1 m:1:0:5 => [web Progressing 1 10 | 1 Successful | Running]
 agent 2 0 report 1 m:2:0:5 => [web Paused 3 60 | 1 Successful | Successful]
 
-ops 1 0 template t m,interval=0 => [t]
-ops 2 0 service v1 analysis:t => 422 endless-metric
-ops 3 0 service v1 background:t => [web Healthy 0 100]
+ops 1 0 template t m,interval=0 => [t 1]
+ops 2 0 service v1 analysis:t => [web Healthy 1 100]
+ops 3 0 start v2 => 422 endless-metric
+ops 4 0 on api service v1 pause background:t => [api Healthy 1 100]
+ops 5 0 on api start v2 => [api Paused 0 0]
 
 
 # A count of 0 is as if none were given.
-ops 1 0 template t m,count=0 => [t]
+ops 1 0 template t m,count=0 => [t 1]
 analysis
 agent 1 0 report 1 m:1:0:5 => [web Paused 3 60 | 1 Successful | Successful]
 
-ops 1 0 template t m,count=0,interval=60 => [t]
-ops 2 0 service v1 analysis:t => 422 endless-metric
+ops 1 0 template t m,count=0,interval=60 => [t 1]
+ops 2 0 service v1 analysis:t => [web Healthy 1 100]
+ops 3 0 start v2 => 422 endless-metric
 
 
 # `.*` marks the metrics of its own template alone.
-ops 1 0 template t m,success=result==0 => [t]
-ops 2 0 template u n dryRun:.* => [u]
+ops 1 0 template t m,success=result==0 => [t 1]
+ops 2 0 template u n dryRun:.* => [u 1]
 ops 3 0 service v1 analysis:t+u => [web Healthy 1 100]
 ops 4 0 start v2 => [web Progressing 0 0]
 agent 1 0 report 1 m:1:0:1 => [web Degraded 0 0 | 1 Failed | Failed]
 
 
 # A name marks the metric of exactly that name; each name counts, and `.*` wherever it stands.
-ops 1 0 template t m,success=result==0 mm,success=result==0 dryRun:m => [t]
+ops 1 0 template t m,success=result==0 mm,success=result==0 dryRun:m => [t 1]
 analysis
 agent 1 0 report 1 m:1:0:1 mm:1:0:1 => [web Degraded 1 0 | 1 Failed Failed | Failed]
 
-ops 1 0 template t a,success=result==0 b,success=result==0 c dryRun:a dryRun:b => [t]
+ops 1 0 template t a,success=result==0 b,success=result==0 c dryRun:a dryRun:b => [t 1]
 analysis
 agent 1 0 report 1 a:1:0:1 b:1:0:1 c:1:0:1 =>
      [web Paused 3 60 | 1 Failed Failed Successful | Successful]
 
-ops 1 0 template t a,success=result==0 b,success=result==0 dryRun:a dryRun:.* dryRun:a => [t]
+ops 1 0 template t a,success=result==0 b,success=result==0 dryRun:a dryRun:.* dryRun:a => [t 1]
 analysis
 agent 1 0 report 1 a:1:0:1 b:1:0:1 => [web Paused 3 60 | 1 Failed Failed | Successful]
 
 ops 1 0 template t m dryRun:m.* => 422 bad-dry-run
 ops 2 0 template t m dryRun:M => 422 bad-dry-run
-ops 3 0 template t m M => [t]
+ops 3 0 template t m M => [t 1]
 
 
 # A dry-run metric that is Inconclusive or Error closes no run, and is completed: it takes no more
 # measurements. The verdict of a run that is ended from outside passes over it, too.
-ops 1 0 template t d,success=result>10,failure=result<5 e,count=2,interval=10 dryRun:d => [t]
+ops 1 0 template t d,success=result>10,failure=result<5 e,count=2,interval=10 dryRun:d => [t 1]
 analysis
 agent 1 0 report 1 d:1:0:7 e:1:0:1 => [web Progressing 1 10 | 1 Inconclusive Successful | Running]
 agent 2 10 report 1 d:2:10:7 => 422 {"at":0,"code":"metric-closed"}
 agent 3 10 report 1 e:2:10:1 => [web Paused 3 60 | 1 Successful | Successful]
 
-ops 1 0 template t d,consecutiveErrorLimit=0 e,count=2,interval=10 dryRun:d => [t]
+ops 1 0 template t d,consecutiveErrorLimit=0 e,count=2,interval=10 dryRun:d => [t 1]
 analysis
 agent 1 0 report 1 d:1:0:!down e:1:0:1 => [web Progressing 1 10 | 1 Error Successful | Running]
 agent 2 10 report 1 d:2:10:5 => 422 {"at":0,"code":"metric-closed"}
 agent 3 10 report 1 e:2:10:1 => [web Paused 3 60 | 1 Successful | Successful]
 
-ops 1 0 template t d,success=result==0 e,count=2,interval=10 dryRun:d => [t]
+ops 1 0 template t d,success=result==0 e,count=2,interval=10 dryRun:d => [t 1]
 analysis
 agent 1 0 report 1 d:1:0:1 e:1:0:1 => [web Progressing 1 10 | 1 Failed Successful | Running]
 ops 4 5 promoteFull => [web Healthy 4 100]
@@ -351,14 +359,13 @@ ops 2 0 template t m n,success=result>1,failure=result> => 422 bad-condition
 ops 3 0 template t m,count=2 => 422 interval-needed
 ops 4 0 template t m m => 422 duplicate-metric
 ops 5 0 template t m dryRun:n => 422 bad-dry-run
-ops 6 0 template t m,interval=60 => [t]
-ops 7 0 template t m => 422 template-exists
+ops 6 0 template t m,interval=60 => [t 1]
+ops 7 0 template t m => [t 2]
 ops 8 0 service v1 analysis:u => 422 unknown-template
-ops 9 0 service v1 analysis:t => 422 endless-metric
-ops 10 0 service v1 pause background:u => 422 unknown-template
-ops 11 0 service v1 pause background:t => [web Healthy 1 100]
+ops 9 0 service v1 pause background:u => 422 unknown-template
+ops 10 0 service v1 pause background:t => [web Healthy 1 100]
 
-ops 1 0 template t a b,count=2,interval=10 => [t]
+ops 1 0 template t a b,count=2,interval=10 => [t 1]
 analysis
 agent 1 0 report 1 a:1:0:5 => [web Progressing 1 10 | 1 Successful | Running]
 agent 2 0 report 1 b:1:0:5 b:2:0:5 => 422 {"at":1,"code":"repeated-metric"}
@@ -367,7 +374,7 @@ agent 4 10 report 1 b:1:0:5 => [web Progressing 1 10 | 1 Successful | Running]
 
 
 # The place of a bad entry, whatever it is refused for; none of its report is recorded.
-ops 1 0 template t a,interval=10,count=3 b,interval=10,count=3 c => [t]
+ops 1 0 template t a,interval=10,count=3 b,interval=10,count=3 c => [t 1]
 analysis
 agent 1 0 report 1 a:1:0:1 b:1:0:1 c:1:0:1 =>
      [web Progressing 1 10 | 1 Successful Successful Successful | Running]
@@ -380,13 +387,13 @@ agent 7 10 report 1 a:2:10:1 b:2:10:1 => [web Progressing 1 10 | 1 Successful Su
 
 
 # Phases stand in the order of the report's entries, and not in that of the run's metrics.
-ops 1 0 template t a,success=result>10,failure=result<5 b,success=result==0 => [t]
+ops 1 0 template t a,success=result>10,failure=result<5 b,success=result==0 => [t 1]
 analysis
 agent 1 0 report 1 b:1:0:1 a:1:0:7 => [web Degraded 1 0 | 1 Failed Inconclusive | Failed]
 
 
 # A run of an attempt before this one is closed, and not unknown.
-ops 1 0 template t m => [t]
+ops 1 0 template t m => [t 1]
 analysis
 ops 4 0 abort => [web Degraded 1 0]
 ops 5 0 retry => [web Progressing 1 10]
@@ -396,19 +403,19 @@ agent 2 0 report 2 m:1:0:5 => [web Paused 3 60 | 2 Successful | Successful]
 
 # Conditions on lists, errors that abort from a step, a background run that ends well, and a pause
 # of no seconds.
-ops 1 0 template t m,success=result[2]>0 => [t]
+ops 1 0 template t m,success=result[2]>0 => [t 1]
 analysis
 agent 1 0 report 1 m:1:0:[1;2] => [web Progressing 1 10 | 1 Error | Running]
 
-ops 1 0 template t m,success=result[0]>0||result[9]>0 => [t]
+ops 1 0 template t m,success=result[0]>0||result[9]>0 => [t 1]
 analysis
 agent 1 0 report 1 m:1:0:[1] => [web Paused 3 60 | 1 Successful | Successful]
 
-ops 1 0 template t m,success=result[9]>0||result[0]>0 => [t]
+ops 1 0 template t m,success=result[9]>0||result[0]>0 => [t 1]
 analysis
 agent 1 0 report 1 m:1:0:[1] => [web Progressing 1 10 | 1 Error | Running]
 
-ops 1 0 template t m,count=9,interval=10 => [t]
+ops 1 0 template t m,count=9,interval=10 => [t 1]
 analysis
 agent 1 0 report 1 m:1:0:!down => [web Progressing 1 10 | 1 Error | Running]
 agent 2 10 report 1 m:2:10:!down => [web Progressing 1 10 | 1 Error | Running]
@@ -416,7 +423,7 @@ agent 3 20 report 1 m:3:20:!down => [web Progressing 1 10 | 1 Error | Running]
 agent 4 30 report 1 m:4:30:!down => [web Progressing 1 10 | 1 Error | Running]
 agent 5 40 report 1 m:5:40:!down => [web Degraded 1 0 | 1 Error | Error]
 
-ops 1 0 template errs m => [errs]
+ops 1 0 template errs m => [errs 1]
 background
 agent 1 0 report 1 m:1:0:5 => [web Paused 1 20 | 1 Successful | Successful]
 agent 2 10 report 1 m:2:10:5 => 422 run-closed
@@ -451,31 +458,89 @@ ops 6 150 retry => [web Paused 0 0]
     "2026-01-01T00:03:20Z retry v2","2026-01-01T00:03:20Z step 0 pause"],"service":"web"}
 
 
-# A service is refused for the first cause that one of its analyses has: a metric twice, then a
-# template that is not there, then a metric without end, in a dry run too, then what else is wrong
-# with its steps. A metric of the background may have no end.
-ops 1 0 template t m => [t]
-ops 2 0 template endless m,interval=60 => [endless]
-ops 3 0 template dry m,interval=60 dryRun:m => [dry]
-ops 4 0 service v1 analysis:t+t => 422 duplicate-metric
-ops 5 0 service v1 analysis:nope analysis:t+t => 422 duplicate-metric
-ops 6 0 service v1 analysis:endless background:t+dry => 422 duplicate-metric
-ops 7 0 service v1 analysis:endless analysis:nope => 422 unknown-template
-ops 8 0 service v1 analysis:dry setWeight:101 => 422 endless-metric
-ops 9 0 service v1 analysis:t setWeight:101 => 422 bad-strategy
-ops 10 0 service v1 analysis:t background:dry => [web Healthy 1 100]
+# A service is refused for a template that is not there, and then for what is wrong with its steps.
+# What the metrics of its templates are is looked at when an attempt begins.
+ops 1 0 template t m => [t 1]
+ops 2 0 template endless m,interval=60 => [endless 1]
+ops 3 0 service v1 analysis:nope => 422 unknown-template
+ops 4 0 service v1 analysis:nope analysis:t+t => 422 unknown-template
+ops 5 0 service v1 analysis:endless analysis:nope => 422 unknown-template
+ops 6 0 service v1 setWeight:101 analysis:nope => 422 unknown-template
+ops 7 0 service v1 analysis:t+t setWeight:101 => 422 bad-strategy
+ops 8 0 service v1 analysis:endless setWeight:101 => 422 bad-strategy
+ops 9 0 service v1 analysis:t+t+t+t+t+t+t+t+t => 422 bad-strategy
+ops 10 0 service v1 pause background:t+t+t+t+t+t+t+t+t => 422 bad-strategy
+ops 11 0 service v1 analysis:t+t+t+t+t+t+t+t background:endless+t => [web Healthy 1 100]
+ops 12 0 service v1 analysis:nope => 422 service-exists
 
 
-# Templates and services have names of their own. A template that is not there goes before all that
-# is wrong with the steps, and before too many templates.
+# A start is refused for the first cause that one of the analyses has: a metric twice, then a metric
+# without end in a step, in a dry run too, then more than 32 metrics. A metric of the background may
+# have no end.
+ops 1 0 template t m => [t 1]
+ops 2 0 template dry m,interval=60 dryRun:m => [dry 1]
+ops 3 0 template w w1 w2 w3 w4 w5 w6 w7 w8 w9 w10 w11 w12 w13 w14 w15 w16 w17 => [w 1]
+ops 4 0 template x x1 x2 x3 x4 x5 x6 x7 x8 x9 x10 x11 x12 x13 x14 x15 x16 => [x 1]
+ops 5 0 template z z,interval=60 => [z 1]
+ops 6 0 on a service v1 analysis:t+t => [a Healthy 1 100]
+ops 7 0 on a start v2 => 422 duplicate-metric
+ops 8 0 on b service v1 analysis:dry background:t+dry => [b Healthy 1 100]
+ops 9 0 on b start v2 => 422 duplicate-metric
+ops 10 0 on c service v1 pause analysis:dry background:w+x => [c Healthy 2 100]
+ops 11 0 on c start v2 => 422 endless-metric
+ops 12 0 on d service v1 pause analysis:w+x => [d Healthy 2 100]
+ops 13 0 on d start v2 => 422 bad-strategy
+ops 14 0 on e service v1 pause background:w+x => [e Healthy 1 100]
+ops 15 0 on e start v2 => 422 bad-strategy
+ops 16 0 on f service v1 pause analysis:t background:dry => [f Healthy 2 100]
+ops 17 0 on f start v2 => [f Paused 0 0]
+ops 18 0 on g service v1 analysis:w+z => [g Healthy 1 100]
+ops 19 0 on g start v2 => 422 endless-metric
+ops 20 0 template x x1 x2 x3 x4 x5 x6 x7 x8 x9 x10 x11 x12 x13 x14 x15 => [x 2]
+ops 21 0 on d start v2 => [d Paused 0 0]
+ops 22 0 on e start v2 => [e Paused 0 0]
+ops 23 0 on nobody start v2 => 422 unknown-service
+
+
+# All of these go before what the standing of the release refuses, and a refusal changes nothing: a
+# release goes on as it was bound. A start that ends an aborted release is bound, too.
+ops 1 0 template t m => [t 1]
+ops 2 0 template u n => [u 1]
+ops 3 0 service v1 pause analysis:t+u => [web Healthy 2 100]
+ops 4 0 start v2 => [web Paused 0 0]
+ops 5 0 start v3 => 422 in-progress
+ops 6 0 retry => 422 not-aborted
+ops 7 0 template u m => [u 2]
+ops 8 0 start v3 => 422 duplicate-metric
+ops 9 0 retry => 422 duplicate-metric
+ops 10 0 template u n,interval=60 => [u 3]
+ops 11 0 start v3 => 422 endless-metric
+ops 12 0 retry => 422 endless-metric
+ops 13 0 abort => [web Degraded 0 0]
+ops 14 0 retry => 422 endless-metric
+ops 15 0 start v1 => 422 endless-metric
+? 0 service web => {"code":"ok","hold":"none","moment":1767225600,"open":[],"runs":0,
+    "service":"web","stable":"v1","status":"Degraded","step":0,"version":"v2","weight":0}
+? 0 history web => {"code":"ok","lines":[
+    "2026-01-01T00:00:00Z created v1","2026-01-01T00:00:00Z start v2",
+    "2026-01-01T00:00:00Z step 0 pause","2026-01-01T00:00:00Z abort"],"service":"web"}
+ops 16 0 template u n => [u 4]
+ops 17 0 start v1 => [web Healthy 2 100]
+ops 18 0 start v1 => 422 already-stable
+ops 19 0 template u m => [u 5]
+ops 20 0 start v1 => 422 duplicate-metric
+
+
+# Templates and services have names of their own. A template that is not there goes before too many
+# steps and too many templates.
 ops 1 0 service v1 => [web Healthy 0 100]
-ops 2 0 template web m => [web]
+ops 2 0 template web m => [web 1]
 ops 3 0 on api service v1 analysis:a+b+c+d+e+f+g+h+i => 422 unknown-template
 ops 4 0 on api service v1 65*pause background:a => 422 unknown-template
 
 
 # A request is judged at the service's last moment where its own is earlier.
-ops 1 0 template errs m,interval=60 => [errs]
+ops 1 0 template errs m,interval=60 => [errs 1]
 background
 ops 4 100 tick => [web Paused 1 20]
 agent 1 50 report 1 m:1:90:5 => [web Paused 1 20 | 1 Successful | Running]
@@ -497,7 +562,7 @@ ops 8 10 start v3 => [web Paused 0 0]
 
 
 # A run that time ends takes no report from that moment on, and a refused report leaves it open.
-ops 1 0 template errs m,interval=5 => [errs]
+ops 1 0 template errs m,interval=5 => [errs 1]
 ops 2 0 service v1 pause:10 background:errs => [web Healthy 1 100]
 ops 3 0 start v2 => [web Paused 0 0]
 agent 1 10 report 1 m:1:5:5 => 422 run-closed
@@ -518,19 +583,19 @@ ops 2 50 abort => 409 reused
 
 
 # A background run opens where its step is entered, and never behind the last step.
-ops 1 0 template errs m => [errs]
+ops 1 0 template errs m => [errs 1]
 ops 2 0 service v1 background:errs => [web Healthy 0 100]
 ops 3 0 start v2 => [web Healthy 0 100]
 agent 1 0 report 1 m:1:0:5 => 422 unknown-run
 
-ops 1 0 template errs m => [errs]
+ops 1 0 template errs m => [errs 1]
 ops 2 0 service v1 pause pause background:errs@1 => [web Healthy 2 100]
 ops 3 0 start v2 => [web Paused 0 0]
 agent 1 0 report 1 m:1:0:5 => 422 unknown-run
 ops 4 0 promote => [web Paused 1 0]
 agent 2 0 report 1 m:1:0:5 => [web Paused 1 0 | 1 Successful | Successful]
 
-ops 1 0 template errs m => [errs]
+ops 1 0 template errs m => [errs 1]
 ops 2 0 service v1 pause background:errs@1 => [web Healthy 1 100]
 ops 3 0 start v2 => [web Paused 0 0]
 ops 4 0 promote => [web Healthy 1 100]
@@ -538,7 +603,7 @@ agent 1 0 report 1 m:1:0:5 => 422 unknown-run
 
 
 # A background run that opens as time passes starts at the moment at which its step is entered.
-ops 1 0 template errs m,interval=60 => [errs]
+ops 1 0 template errs m,interval=60 => [errs 1]
 ops 2 0 service v1 pause:10 pause background:errs@1 => [web Healthy 2 100]
 ops 3 0 start v2 => [web Paused 0 0]
 ops 4 25 tick => [web Paused 1 0]
@@ -552,8 +617,8 @@ agent 2 25 report 1 m:1:10:5 => [web Paused 1 0 | 1 Successful | Running]
 
 # While a step is held, a background run that ends well changes nothing, and one that fails aborts.
 # Where the step alone is held, its promotion leaves the background run open.
-ops 1 0 template t m,success=result>10,failure=result<5 => [t]
-ops 2 0 template bg g,success=result>10,failure=result<5 => [bg]
+ops 1 0 template t m,success=result>10,failure=result<5 => [t 1]
+ops 2 0 template bg g,success=result>10,failure=result<5 => [bg 1]
 ops 3 0 service v1 setWeight:10 analysis:t pause background:bg => [web Healthy 3 100]
 ops 4 0 start v2 => [web Progressing 1 10]
 agent 1 0 report 2 m:1:0:7 => [web Paused 1 10 | 2 Inconclusive | Inconclusive]
@@ -562,8 +627,8 @@ agent 2 0 report 1 g:1:0:11 => [web Paused 1 10 | 1 Successful | Successful]
     "service":"web","stable":"v1","status":"Paused","step":1,"version":"v2","weight":10}
 ops 5 0 promote => [web Paused 2 10]
 
-ops 1 0 template t m,success=result>10,failure=result<5 => [t]
-ops 2 0 template bg g,success=result>10,failure=result<5 => [bg]
+ops 1 0 template t m,success=result>10,failure=result<5 => [t 1]
+ops 2 0 template bg g,success=result>10,failure=result<5 => [bg 1]
 ops 3 0 service v1 setWeight:10 analysis:t pause background:bg => [web Healthy 3 100]
 ops 4 0 start v2 => [web Progressing 1 10]
 agent 1 0 report 2 m:1:0:7 => [web Paused 1 10 | 2 Inconclusive | Inconclusive]
@@ -571,8 +636,8 @@ agent 2 0 report 1 g:1:0:3 => [web Degraded 1 0 | 1 Failed | Failed]
 ? 0 service web => {"code":"ok","hold":"none","moment":1767225600,"open":[],"runs":2,
     "service":"web","stable":"v1","status":"Degraded","step":1,"version":"v2","weight":0}
 
-ops 1 0 template t m,success=result>10,failure=result<5 => [t]
-ops 2 0 template bg g,interval=60 => [bg]
+ops 1 0 template t m,success=result>10,failure=result<5 => [t 1]
+ops 2 0 template bg g,interval=60 => [bg 1]
 ops 3 0 service v1 analysis:t pause background:bg => [web Healthy 2 100]
 ops 4 0 start v2 => [web Progressing 0 0]
 agent 1 0 report 2 m:1:0:7 => [web Paused 0 0 | 2 Inconclusive | Inconclusive]
@@ -590,10 +655,10 @@ ops 1 0 promote => 422 unknown-service
 
 
 # Commands that differ in an order, in how a condition is written, or in one value are others.
-ops 1 0 template t a b dryRun:a dryRun:b => [t]
+ops 1 0 template t a b dryRun:a dryRun:b => [t 1]
 ops 1 0 template t a b dryRun:b dryRun:a => 409 reused
 ops 1 0 template t b a dryRun:a dryRun:b => 409 reused
-ops 2 0 template u m,success=result>1 => [u]
+ops 2 0 template u m,success=result>1 => [u 1]
 ops 2 0 template u m,success=result>01 => 409 reused
 ops 2 0 template u m,success=(result>1) => 409 reused
 agent 1 0 report 1 m:1:0:5 => 422 unknown-service
@@ -608,7 +673,7 @@ ops 3 0 service v2 => 409 reused
 
 # Each kind of command, and then each again, and others under the same numbers: the moments fall, so
 # that a book in a file is opened anew between them.
-ops 1 0 template t m,interval=60,success=result==0 n dryRun:n => [t]
+ops 1 0 template t m,interval=60,success=result==0 n dryRun:n => [t 1]
 ops 2 1 service v1 setWeight:20 pause:300 pause background:t => [web Healthy 3 100]
 ops 3 2 start v2 => [web Paused 1 20]
 ops 4 3 report 1 m:1:2:[1;-2] n:1:2:!no"news => [web Paused 1 20 | 1 Error Error | Running]
@@ -617,7 +682,7 @@ ops 6 5 abort => [web Degraded 2 0]
 ops 7 6 retry => [web Paused 1 20]
 ops 8 7 tick => [web Paused 1 20]
 ops 9 8 promoteFull => [web Healthy 3 100]
-ops 1 0 template t m,interval=60,success=result==0 n dryRun:n => [t]
+ops 1 0 template t m,interval=60,success=result==0 n dryRun:n => [t 1]
 ops 2 0 service v1 setWeight:20 pause:300 pause background:t => [web Healthy 3 100]
 ops 3 0 start v2 => [web Paused 1 20]
 ops 4 0 report 1 m:1:2:[1;-2] n:1:2:!no"news => [web Paused 1 20 | 1 Error Error | Running]

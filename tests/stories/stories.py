@@ -179,7 +179,7 @@ def told_readings(program, rows, texts, is_accepted):
     asked = [by_condition(number, text) for number, text in enumerate(texts)]
     told = answered_alone(program, asked)
     for number, (row, found) in enumerate(zip(rows, told, strict=True)):
-        expect(row, found[2], answer(f"[t{number}]" if is_accepted else "422 bad-condition"))
+        expect(row, found[2], answer(f"[t{number} 1]" if is_accepted else "422 bad-condition"))
     return len(rows)
 
 
@@ -248,8 +248,8 @@ def told_instead(program, rows, what):
 
 
 def told_conditions(program, block):
-    """Conditions: valid ones, the places at which other texts stop being one, what to write in their
-    place, and the phases of results."""
+    """Conditions: valid ones, the places at which other texts stop being one, what to write in
+    their place, and the phases of results."""
     head, *rows = block
     if head == "phases":
         return told_phases(program, rows)
@@ -361,7 +361,7 @@ def told_manifests(program, block):
 HEADER = "caller,number,service,run,metric,ordinal,taken,result,failure"
 
 # Behind these run 1 of web is open: that of its background, with a metric due every minute.
-WATCHED = ["ops 1 0 template errs m,interval=60 => [errs]", *LINES["background"]]
+WATCHED = ["ops 1 0 template errs m,interval=60 => [errs 1]", *LINES["background"]]
 
 
 def book_of(program, rows):

@@ -1,4 +1,4 @@
-streams 130
+streams 132
 
 # A doubled promotion, a number ahead, another command under an old number, the start in other
 # words, and on to the end.
@@ -48,7 +48,7 @@ each behind 3 of the release
 messages
 ops/1 => {"template":{"kind":"AnalysisTemplate","metadata":{"name":"t"},"spec":{"metrics":[
     {"name":"m","successCondition":"result > 10","failureCondition":"result < 5"}]}}}
-     => 200 OK => {"code":"ok","template":"t"}
+     => 200 OK => {"code":"ok","revision":1,"template":"t"}
 ops/2 => {"service":{"manifest":{"kind":"Rollout","metadata":{"name":"web"},"spec":{"strategy":{
     "canary":{"steps":[{"setWeight":10},{"analysis":{"templates":[{"templateName":"t"}]}},
     {"setWeight":60},{"pause":{}}]}}}},"version":"v1"}}
@@ -62,17 +62,23 @@ agent/1 => {"report":{"service":"web","run":1,"entries":[
 ops/4 => {"promote":{"service":"web"}}
      => 200 OK => {"code":"ok","service":"web","status":"Paused","step":3,"weight":60}
 
-# Templates that are one command, and one that is another.
+# Templates that are one command, and one that is another; under a new number it is the next
+# revision of its name.
 messages
 ops/1 => {"template":{"metadata":{"name":"t"},"spec":{"args":[{"name":"host"}],"metrics":[
     {"name":"m","interval":"1m","provider":{"web":{"url":"https://a"}}}]}}}
-     => 200 OK => {"code":"ok","template":"t"}
+     => 200 OK => {"code":"ok","revision":1,"template":"t"}
 ops/1 => {"template": {"spec": { "metrics": [ {"provider":{"job":{}}, "interval":"1m",
      "name":"m"} ], "args":[] }, "metadata": {"name":"t"}} }
-     => 200 OK => {"code":"ok","template":"t"}
+     => 200 OK => {"code":"ok","revision":1,"template":"t"}
 ops/1 => {"template":{"metadata":{"name":"t"},"spec":{"args":[{"name":"host"}],"metrics":[
     {"name":"m","interval":"2m","provider":{"web":{"url":"https://a"}}}]}}}
      => 409 Conflict => {"code":"reused"}
+ops/2 => {"template":{"metadata":{"name":"t"},"spec":{"args":[{"name":"host"}],"metrics":[
+    {"name":"m","interval":"2m","provider":{"web":{"url":"https://a"}}}]}}}
+     => 200 OK => {"code":"ok","revision":2,"template":"t"}
+ops/1 => {"template":{"metadata":{"name":"t"},"spec":{"metrics":[{"name":"m","interval":"60s"}]}}}
+     => 200 OK => {"code":"ok","revision":1,"template":"t"}
 
 # A body that is no command is rejected under a settled number, too.
 messages
