@@ -11,9 +11,9 @@ from story_words import Wrong, expect
 
 ERASED = b"\r\x1b[K"
 CLEARED = b"\x1b[H\x1b[2J"
-# The rows of the desk that cli.py makes: five receipts; a run, its tally and its measurement;
-# five lines of web, one of them on the run, and one of help.
-DESK_ROWS = 14
+# The rows of the desk that cli.py makes: five receipts; the bindings of the attempt and of its run;
+# a run, its tally and its measurement; five lines of web, one of them on the run, and one of help.
+DESK_ROWS = 16
 HEADER = b"caller,number,service,run,metric,ordinal,taken,result,failure\n"
 MADE = b"canary: made new.db, since there was no such file\n"
 
