@@ -13,8 +13,8 @@ use sqlite::{Alter, Connection};
 use std::alloc::Global;
 
 /// That the tables are those of sound contents: their callers, their templates and their services,
-/// row by row. Nothing is changed. `progress` is told how many rows there are of receipts, runs,
-/// bindings, tallies, measurements and histories, then of each receipt as it is judged, and of a
+/// row by row. Nothing is changed. It reports to `progress` how many rows there are of receipts,
+/// runs, bindings, tallies, measurements and histories, then each receipt as it is judged, and a
 /// service's rows all at once.
 ///
 /// # Errors

@@ -3,8 +3,8 @@
 //! Callers may rest on this: `judge` is Ok only where the rows are judged, which by canary_judging
 //! are those of sound contents, and `Broken` only where they are not, or a program cannot hold one
 //! of them, and it changes nothing, where the connection is usable then (canary_schema). `known`
-//! finds the templates to which a run is bound. `Progress` is told how many rows there are, and how
-//! many were judged; of that no contract speaks.
+//! finds the templates to which a run is bound. `judge` reports to a `Progress` how many rows there
+//! are, and how many it has judged; no contract mentions that.
 //!
 //! In use (canary_tables, src/adopt.rt):
 //!

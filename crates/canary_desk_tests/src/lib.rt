@@ -1,6 +1,6 @@
 //! The tests of the wire and of the listener that no program can show: conversations whose readers
 //! and writers would block at each piece, a store that fails once, and a machine's clock that
-//! falls. The rest is told to the program (tests/cli, tests/stories, tests/listener).
+//! falls. Scripts try the rest with the program (tests/cli, tests/stories, tests/listener).
 #![tactic(auto)]
 
 #[cfg(test)]

@@ -86,7 +86,7 @@ fn believe<S: Alter, G: Progress>(
 impl<S: Alter + Drop> TableBook<S> {
     /// Makes a book of a database that has a desk's tables, which contains what their rows stand
     /// for. The store is opened anew, and each row is read and judged before it is believed.
-    /// Nothing is changed. `progress` learns how many rows there are, and how many were judged.
+    /// Nothing is changed. It reports to `progress` how many rows there are and were judged.
     ///
     /// # Errors
     ///
