@@ -1,6 +1,7 @@
 mod Standing
 mod Each
 mod Names
+mod ReceiptLemmas
 mod JudgedCallers
 mod JudgedTemplates
 mod KnownAmong

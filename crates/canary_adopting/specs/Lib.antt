@@ -1,5 +1,6 @@
 pub mod Judges
 pub mod Alone
+pub mod Receipts
 pub mod Templates
 pub mod Strategies
 pub mod Bindings

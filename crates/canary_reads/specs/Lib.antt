@@ -3,6 +3,7 @@ pub mod Finds
 pub mod Parts
 pub mod Keys
 pub mod Sorts
+pub mod Pages
 pub mod Readable
 pub mod Breaks
 pub mod Faults

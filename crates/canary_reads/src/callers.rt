@@ -99,29 +99,6 @@ pub fn kept<Q: Reader>(
     shown::first(caller, rows.as_slice())
 }
 
-/// All that is kept of the caller's request of that number, of which a desk writes one row at most.
-/// `Memory` where there is not enough, `Storage` where the database fails, `Broken` where a row is
-/// none that a program can hold.
-pub fn kept_rows<Q: Reader>(
-    conn: &mut Q,
-    alloc: Global,
-    caller: &Name,
-    number: u32,
-) -> Result<Listed<KeptRow>, ReadFault>
-    requires ready { Q.IsReady conn.old }
-    ensures mode { Q.IsReady conn.new }
-    ensures place { Q.place conn.new ≡ Q.place conn.old }
-    ensures kept { IsKept (Q.below conn.old) (Q.below conn.new) }
-    ensures same { IsSame (Q.shows conn.old) (Q.shows conn.new) }
-    ensures found { FindsRows (λ t. filter (is_kept caller.now number) t.kept)
-        (Q.shows conn.old) (Q.shows conn.new) result }
-    ensures broken { BreaksUnless (λ t. AllByRecursion IsKeptWithin t.kept)
-        (Q.shows conn.old) (Q.shows conn.new) result }
-{
-    let rows = kept_shown(conn, caller, number)?;
-    shown::all(alloc, caller, rows.as_slice())
-}
-
 // What is shown of the request's rows, behind the caller.
 fn kept_shown<Q: Reader>(conn: &mut Q, caller: &Name, number: u32) -> Result<Vec<Row>, StoreFault>
     requires ready { Q.IsReady conn.old }

@@ -18,6 +18,7 @@ pub mod fault;
 mod held;
 pub mod histories;
 pub mod lists;
+pub mod pages;
 pub mod reader;
 pub mod runs;
 pub mod services;
