@@ -193,9 +193,9 @@ flag_passed (Some t) passed =
     subst IsTrueOrFalse (sym passed.1) (go (bytes_eq passed.0 (codes "true")) (bytes_eq passed.0 (codes "false")) (bytes_eq-Decides passed.0 (codes "true")).0 (bytes_eq-Decides passed.0 (codes "false")).0 passed.2)
   where
     go : (is_true is_false : Bool) → (is_true ≡ true → passed.0 ≡ codes "true") → (is_false ≡ true → passed.0 ≡ codes "false") → (is_true || is_false) ≡ true → IsTrueOrFalse passed.0
-    go true is_false yes no test = inl (yes refl)
-    go false true yes no test = inr (no refl)
-    go false false yes no test = cc
+    go true is_false when_true when_false test = inl (when_true refl)
+    go false true when_true when_false test = inr (when_false refl)
+    go false false when_true when_false test = cc
 
 -- the rows of `status`
 status_rows : (words : List Text) → level_fault status [] nothing_held words false [] ≡ [] → HasStatus (rows_after status.rules [] words)
@@ -318,7 +318,7 @@ text_or_none f name r got = got ∙ first_value-rows f name
 -- whether a flag was given, as it is got
 pub flag_read : (f : Found) (name : Text) (r : Bool) → MayHaveFlag name (rows_of f) → (one_text f name ≡ None → r ≡ false) → (one_text f name ≡ Some (codes "true") → r ≡ true)
     → (one_text f name ≡ Some (codes "false") → r ≡ false) → r ≡ flag_given name (rows_of f)
-flag_read f name r may none yes no = go (one_of name (rows_of f)) refl may
+flag_read f name r may none when_true when_false = go (one_of name (rows_of f)) refl may
   where
     given : (o : Option Text) → one_of name (rows_of f) ≡ o → option_map_or (bytes_eq (codes "true")) o false ≡ flag_given name (rows_of f)
     given o is = ap (λ o. option_map_or (bytes_eq (codes "true")) o false) (sym is)
@@ -327,10 +327,10 @@ flag_read f name r may none yes no = go (one_of name (rows_of f)) refl may
     go None is fits = none (one_text-rows f name ∙ is) ∙ given None is
     go (Some text) is (inl fits) =
         let so : one_of name (rows_of f) ≡ Some (codes "true") = is ∙ ap (λ t. Some t) fits in
-        yes (one_text-rows f name ∙ so) ∙ given (Some (codes "true")) so
+        when_true (one_text-rows f name ∙ so) ∙ given (Some (codes "true")) so
     go (Some text) is (inr fits) =
         let so : one_of name (rows_of f) ≡ Some (codes "false") = is ∙ ap (λ t. Some t) fits in
-        no (one_text-rows f name ∙ so) ∙ given (Some (codes "false")) so
+        when_false (one_text-rows f name ∙ so) ∙ given (Some (codes "false")) so
 
 -- a moment is made of such a number
 pub moment_made : (n : ℕ) (r : Option ℕ) → SomeIff r (n ≤ 253370764799) n → n ≤ 253370764799 → r ≡ Some n
