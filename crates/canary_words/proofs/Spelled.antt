@@ -212,8 +212,7 @@ status_rows words none =
 page_rows : (words : List Text) → level_fault page [] nothing_held words false [] ≡ [] → HasPage (rows_after page.rules [] words)
 page_rows words none =
     let level = read-level page [] words false [] page_options none in
-    let rows : List Row = rows_after page.rules [] words in
-    (
+    let rows : List Row = rows_after page.rules [] words in (
       two_texts page (codes "out") _ _ words page_options refl refl (both_given (is_given (codes "db") rows) (is_given (codes "out") rows)) none,
       number_passed 86400 (one_of (codes "watch") rows) (optional_text page.rules (codes "watch") _ rows refl level.0),
     )

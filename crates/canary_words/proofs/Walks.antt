@@ -25,12 +25,12 @@ use Rattle.clap.specs.declared.parser.matches.ValueSource.TheVariants.{CommandLi
 abbrev pub IsSingle : Rule → Type 0
 IsSingle a = (action_of a ≡ Set) × ((unwrap_or_range a.range).start_inclusive ≡ 1)
 
--- a use has a value, though none stands in the words
+-- there is a first value
 abbrev pub HasFirst : List Text → Type 0
 HasFirst [] = ⊥
 HasFirst (v ∷ vs) = Unit {0}
 
--- true where it is used
+-- a flag, for which a value stands where it is used
 abbrev pub IsFlag : Rule → Type 0
 IsFlag a = (action_of a ≡ SetTrue) × HasFirst a.missing
 
@@ -163,12 +163,12 @@ read-acted c again act a values rows is none so =
     subst (λ (x : ArgAction). AreRead c (used_as x a.id (reading_by a) values rows)) (sym is)
     (so (subst (λ (x : ArgAction). action_fault x again a values rows ≡ []) is none))
 
--- one value, if the range of one value has no fault
+-- a use of one value that meets no fault has a first value
 one_value : (a : Rule) (values : List Text) → range_kinds 1 (most_values a) (length values) ≡ [] → HasFirst (values_or_missing a values)
 one_value a [] none = cc
 one_value a (v ∷ vs) none = tt
 
--- the value that stands for a use with none, or one that was given
+-- and so has a use for which a value stands
 value_or_missing : (a : Rule) (values : List Text) → HasFirst a.missing → HasFirst (values_or_missing a values)
 value_or_missing a [] has = has
 value_or_missing a (v ∷ vs) has = tt
