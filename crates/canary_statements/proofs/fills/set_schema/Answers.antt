@@ -1,0 +1,7 @@
+use Rattle.sqlite.specs.Held.{state}
+use Rattle.canary_statements.proofs.SchemaSet.{schema_set}
+use Rattle.canary_statements.proofs.fills.set_schema.Goals as goal
+
+pub returns-clause-set : goal.returns-clause-set
+returns-clause-set g c clean live is before =
+    schema_set (state g.S.Store c.args.tx.now.conn.now) (state g.S.Store c.execute.new.self.conn.now) c.execute.result is before (c.execute.ensures.runs clean live)
