@@ -1,7 +1,6 @@
 //! Callers, and what is kept of their requests.
 ghost use Rattle.std.specs.Prelude.{◌≡◌, ◌≤◌, ◌↔◌, false, ℕ, Some, IsTrue, OnOk, Err};
 ghost use Rattle.std.specs.List.{AllByRecursion, sum_by};
-ghost use Rattle.sqlite.specs.Held.{state};
 ghost use Rattle.canary_rows.specs.Tables.{is_kept};
 ghost use Rattle.canary_stored.specs.Values.{receipt_of_row};
 ghost use Rattle.canary_judging.specs.Judged.{AreCallersJudged, IsCallerJudged, IsOneRead};
@@ -9,6 +8,7 @@ ghost use Rattle.canary_reads.specs.declared.fault.ReadFault.TheVariants.{Broken
 ghost use Rattle.canary_reads.specs.Finds.{IsSame, FindsSuch};
 ghost use Rattle.canary_adopting.specs.Alone.{IsAlone, HasValue, only};
 ghost use Rattle.canary_adopting.specs.Judges.{FindsThat, RefusesUnless};
+ghost use Rattle.canary_reads.specs.Reader.{IsKept};
 
 use crate::fault::read_fault;
 use crate::progress::Progress;
@@ -17,10 +17,10 @@ use canary_base::lists::Listed;
 use canary_base::names::Name;
 use canary_base::numbers::LAST_NUMBER;
 use canary_reads::fault::ReadFault;
+use canary_reads::reader::Reader;
 use canary_reads::{callers, lists};
 use canary_rows::rows::{CallerRow, KeptRow};
 use canary_stored::reading;
-use sqlite::{Alter, Connection};
 use std::alloc::Global;
 
 /// That each caller stands once, that each of its numbers has one row, which is read, and that
@@ -29,18 +29,20 @@ use std::alloc::Global;
 /// # Errors
 /// `Broken` where that is not so, `Memory` where there is not enough, `Storage` where the database
 /// fails or has more rows than are counted.
-pub(crate) fn judge<S: Alter, G: Progress>(
-    conn: &mut Connection<S>,
+pub(crate) fn judge<Q: Reader, G: Progress>(
+    conn: &mut Q,
     alloc: Global,
     progress: &mut G,
 ) -> Result<(), ReadFault>
-    requires autocommit { conn.old.in_transaction ≡ false }
-    ensures mode { conn.new.in_transaction ≡ false }
-    ensures same { IsSame (state S.Store conn.old) (state S.Store conn.new) }
+    requires ready { Q.IsReady conn.old }
+    ensures mode { Q.IsReady conn.new }
+    ensures place { Q.place conn.new ≡ Q.place conn.old }
+    ensures kept { IsKept (Q.below conn.old) (Q.below conn.new) }
+    ensures same { IsSame (Q.shows conn.old) (Q.shows conn.new) }
     ensures judged { FindsThat AreCallersJudged
-        (state S.Store conn.old) (state S.Store conn.new) result }
+        (Q.shows conn.old) (Q.shows conn.new) result }
     ensures refused { RefusesUnless AreCallersJudged
-        (state S.Store conn.old) (state S.Store conn.new) result }
+        (Q.shows conn.old) (Q.shows conn.new) result }
 {
     let callers = lists::callers(conn, alloc)?;
     let settled = judge_each(conn, alloc, callers.as_slice(), progress)?;
@@ -49,20 +51,22 @@ pub(crate) fn judge<S: Alter, G: Progress>(
 }
 
 // How many requests of these callers are settled, where each is as it is to be.
-fn judge_each<S: Alter, G: Progress>(
-    conn: &mut Connection<S>,
+fn judge_each<Q: Reader, G: Progress>(
+    conn: &mut Q,
     alloc: Global,
     callers: &[CallerRow],
     progress: &mut G,
 ) -> Result<u64, ReadFault>
-    requires autocommit { conn.old.in_transaction ≡ false }
-    ensures mode { conn.new.in_transaction ≡ false }
-    ensures same { IsSame (state S.Store conn.old) (state S.Store conn.new) }
+    requires ready { Q.IsReady conn.old }
+    ensures mode { Q.IsReady conn.new }
+    ensures place { Q.place conn.new ≡ Q.place conn.old }
+    ensures kept { IsKept (Q.below conn.old) (Q.below conn.new) }
+    ensures same { IsSame (Q.shows conn.old) (Q.shows conn.new) }
     ensures judged { FindsSuch (λ t settled. AllByRecursion (IsCallerJudged t) callers.now
         × (settled ≡ sum_by (λ (row : _). row.settled) callers.now))
-        (state S.Store conn.old) (state S.Store conn.new) result }
+        (Q.shows conn.old) (Q.shows conn.new) result }
     ensures refused { RefusesUnless (λ t. AllByRecursion (IsCallerJudged t) callers.now)
-        (state S.Store conn.old) (state S.Store conn.new) result }
+        (Q.shows conn.old) (Q.shows conn.new) result }
 {
     let mut settled = 0;
     for caller in callers {
@@ -72,19 +76,21 @@ fn judge_each<S: Alter, G: Progress>(
     Ok(settled)
 }
 
-fn judge_one<S: Alter, G: Progress>(
-    conn: &mut Connection<S>,
+fn judge_one<Q: Reader, G: Progress>(
+    conn: &mut Q,
     alloc: Global,
     caller: &CallerRow,
     progress: &mut G,
 ) -> Result<(), ReadFault>
-    requires autocommit { conn.old.in_transaction ≡ false }
-    ensures mode { conn.new.in_transaction ≡ false }
-    ensures same { IsSame (state S.Store conn.old) (state S.Store conn.new) }
+    requires ready { Q.IsReady conn.old }
+    ensures mode { Q.IsReady conn.new }
+    ensures place { Q.place conn.new ≡ Q.place conn.old }
+    ensures kept { IsKept (Q.below conn.old) (Q.below conn.new) }
+    ensures same { IsSame (Q.shows conn.old) (Q.shows conn.new) }
     ensures judged { FindsThat (λ t. IsCallerJudged t caller.now)
-        (state S.Store conn.old) (state S.Store conn.new) result }
+        (Q.shows conn.old) (Q.shows conn.new) result }
     ensures refused { RefusesUnless (λ t. IsCallerJudged t caller.now)
-        (state S.Store conn.old) (state S.Store conn.new) result }
+        (Q.shows conn.old) (Q.shows conn.new) result }
 {
     let rows = callers::caller_rows(conn, alloc, &caller.name)?;
     if !is_alone(rows, caller) || !is_number(caller.settled) {
@@ -116,22 +122,24 @@ fn is_number(number: u32) -> bool
 }
 
 // That each of the caller's numbers from 1 to that one has one receipt.
-fn judge_receipts<S: Alter, G: Progress>(
-    conn: &mut Connection<S>,
+fn judge_receipts<Q: Reader, G: Progress>(
+    conn: &mut Q,
     alloc: Global,
     caller: &Name,
     settled: u32,
     progress: &mut G,
 ) -> Result<(), ReadFault>
-    requires autocommit { conn.old.in_transaction ≡ false }
-    ensures mode { conn.new.in_transaction ≡ false }
-    ensures same { IsSame (state S.Store conn.old) (state S.Store conn.new) }
+    requires ready { Q.IsReady conn.old }
+    ensures mode { Q.IsReady conn.new }
+    ensures place { Q.place conn.new ≡ Q.place conn.old }
+    ensures kept { IsKept (Q.below conn.old) (Q.below conn.new) }
+    ensures same { IsSame (Q.shows conn.old) (Q.shows conn.new) }
     ensures judged { FindsThat (λ t. (number : ℕ) → 1 ≤ number → number ≤ settled
         → IsOneRead (is_kept caller.now number) receipt_of_row t.kept)
-        (state S.Store conn.old) (state S.Store conn.new) result }
+        (Q.shows conn.old) (Q.shows conn.new) result }
     ensures refused { RefusesUnless (λ t. (number : ℕ) → 1 ≤ number → number ≤ settled
         → IsOneRead (is_kept caller.now number) receipt_of_row t.kept)
-        (state S.Store conn.old) (state S.Store conn.new) result }
+        (Q.shows conn.old) (Q.shows conn.new) result }
 {
     for before in 0..settled {
         judge_receipt(conn, alloc, caller, before + 1)?;
@@ -140,20 +148,22 @@ fn judge_receipts<S: Alter, G: Progress>(
     Ok(())
 }
 
-fn judge_receipt<S: Alter>(
-    conn: &mut Connection<S>,
+fn judge_receipt<Q: Reader>(
+    conn: &mut Q,
     alloc: Global,
     caller: &Name,
     number: u32,
 ) -> Result<(), ReadFault>
-    requires autocommit { conn.old.in_transaction ≡ false }
-    ensures mode { conn.new.in_transaction ≡ false }
-    ensures same { IsSame (state S.Store conn.old) (state S.Store conn.new) }
+    requires ready { Q.IsReady conn.old }
+    ensures mode { Q.IsReady conn.new }
+    ensures place { Q.place conn.new ≡ Q.place conn.old }
+    ensures kept { IsKept (Q.below conn.old) (Q.below conn.new) }
+    ensures same { IsSame (Q.shows conn.old) (Q.shows conn.new) }
     ensures judged { FindsThat (λ t. IsOneRead (is_kept caller.now number) receipt_of_row t.kept)
-        (state S.Store conn.old) (state S.Store conn.new) result }
+        (Q.shows conn.old) (Q.shows conn.new) result }
     ensures refused { RefusesUnless
         (λ t. IsOneRead (is_kept caller.now number) receipt_of_row t.kept)
-        (state S.Store conn.old) (state S.Store conn.new) result }
+        (Q.shows conn.old) (Q.shows conn.new) result }
 {
     let rows = callers::kept_rows(conn, alloc, caller, number)?;
     read_receipt(alloc, rows)

@@ -7,3 +7,4 @@ pub mod Readable
 pub mod Breaks
 pub mod Faults
 pub mod Told
+pub mod Reader

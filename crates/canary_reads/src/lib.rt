@@ -18,7 +18,7 @@ pub mod fault;
 mod held;
 pub mod histories;
 pub mod lists;
-mod query;
+pub mod reader;
 pub mod runs;
 pub mod services;
 mod shown;
