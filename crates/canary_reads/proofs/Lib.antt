@@ -25,3 +25,5 @@ pub mod TableRows
 pub mod DeskRows
 pub mod Sequence
 pub mod Meta
+mod FirstTexts
+mod FoundMetrics

@@ -26,9 +26,8 @@ use Rattle.sqlite_tied.specs.Compute.{everything}
 use Rattle.canary_schema.specs.Layout.{moved}
 use Rattle.canary_schema.specs.Schema.{meta, schema_at}
 use Rattle.canary_schema.specs.Cells.{meta_rows, whole}
-use Rattle.canary_schema.specs.First.{meta_shown, HasFirstMeta}
 use Rattle.canary_schema.specs.Remakes.{are_among, AreKept}
-use Rattle.canary_statements.specs.Fills.{IsNumberedAnew, trees_but_meta}
+use Rattle.canary_statements.specs.Fills.{IsNumberedAnew, trees_but_meta, HasOneId}
 use Rattle.canary_statements.proofs.Idle.{idle}
 use Rattle.canary_statements.proofs.Inserted.{cast_null, cast_whole, idle_desk}
 use Rattle.canary_statements.proofs.UpdateAnswer.{plain_query, passes, shows}
@@ -112,12 +111,12 @@ as_given v is = rw (is, cast_null, cast_whole (pos 1), cast_whole (pos 2)) refl
 put : (row : Row) → column row 0 ≡ whole 1 → put_row second_row (without_rowid (id_in (column row 0)) (row ∷ [])) ≡ meta_rows
 put row is = rw (is, value_cmp-Int (pos 1) (pos 1)) refl
 
-one_row : (rows : List Row) → HasFirstMeta rows → (row : Row) × (rows ≡ row ∷ []) × (column row 0 ≡ whole 1)
+one_row : (rows : List Row) → HasOneId rows → (row : Row) × (rows ≡ row ∷ []) × (column row 0 ≡ whole 1)
 one_row [] h = absurd (cc)
-one_row (row ∷ []) h = let shown_is : meta_shown row ≡ whole 1 ∷ whole 1 ∷ [] = cc in let id : column row 0 ≡ whole 1 = cc in (row, refl, id)
+one_row (row ∷ []) h = let id : column row 0 ≡ whole 1 = cc in (row, refl, id)
 one_row (row ∷ other ∷ rows) h = absurd (cc)
 
-set : (old new : State) (count : ℕ) → old.now.schema ≡ schema_at moved → HasFirstMeta (old.now.trees 0) → ExecutesInside 0 text [] old new (Ok count) → IsNumberedAnew old new
+set : (old new : State) (count : ℕ) → old.now.schema ≡ schema_at moved → HasOneId (old.now.trees 0) → ExecutesInside 0 text [] old new (Ok count) → IsNumberedAnew old new
 set old new count is before h =
     let m = one_row (old.now.trees 0) before in
     let row = m.0 in
@@ -134,6 +133,6 @@ set old new count is before h =
       kept = spared trees_but_meta 0 (schema_at moved).tables old.now.trees new.now.trees among refl (subst (λ (s : Schema). SameBut 0 s.tables old.now.trees new.now.trees) is u.2);
     }
 
-pub schema_set : (old new : State) (r : Result ℕ Error) → old.now.schema ≡ schema_at moved → HasFirstMeta (old.now.trees 0) → ExecutesInside 0 text [] old new r → OnOk r (IsNumberedAnew old new)
+pub schema_set : (old new : State) (r : Result ℕ Error) → old.now.schema ≡ schema_at moved → HasOneId (old.now.trees 0) → ExecutesInside 0 text [] old new r → OnOk r (IsNumberedAnew old new)
 schema_set old new (Err e) is before h = tt
 schema_set old new (Ok count) is before h = set old new count is before h

@@ -1,5 +1,6 @@
 -- What is written where the first schema's rows become a desk's.
-use Rattle.std.specs.Prelude.{◌≡◌, ◌++◌, ℕ, List, [], ◌∷◌, IsTrue, Result, OnOk}
+use Rattle.std.specs.Prelude.{◌≡◌, ◌++◌, ℕ, List, [], ◌∷◌, map, IsTrue, Result, OnOk}
+use Rattle.sqlite.specs.Order.{Row, column}
 use Rattle.sqlite.specs.State.{State, HasCleanDisk}
 use Rattle.sqlite.specs.Effect.{IsDatabase}
 use Rattle.sqlite.specs.declared.error.Error.{Error}
@@ -7,8 +8,7 @@ use Rattle.canary_rows.specs.declared.rows.RevisionRow.{RevisionRow}
 use Rattle.canary_rows.specs.declared.rows.BindingRow.{BindingRow}
 use Rattle.canary_rows.specs.declared.rows.TallyRow.{TallyRow}
 use Rattle.canary_rows.specs.Tables.{Tables}
-use Rattle.canary_schema.specs.Cells.{meta_rows}
-use Rattle.canary_schema.specs.First.{HasFirstMeta}
+use Rattle.canary_schema.specs.Cells.{meta_rows, whole}
 use Rattle.canary_schema.specs.Layout.{moved}
 use Rattle.canary_schema.specs.Remakes.{AreKept}
 use Rattle.canary_schema.specs.Schema.{schema_at}
@@ -43,8 +43,12 @@ pub record IsNumberedAnew (old new : State) : Type 0 where
   pub meta : new.now.trees 0 ≡ meta_rows
   pub kept : AreKept trees_but_meta old.now.trees new.now.trees
 
--- so inside a transaction, over a desk's tables with the first schema's row of meta
+-- there is one row of meta, whose id is 1
+abbrev pub HasOneId : List Row → Type 0
+HasOneId rows = map (λ (row : Row). column row 0) rows ≡ whole 1 ∷ []
+
+-- so inside a transaction, over a desk's tables, whichever number meta has
 abbrev pub NumbersAnew : {A : Type 0} → State → State → Result A Error → Type 0
 NumbersAnew old new result =
     HasCleanDisk new → IsTrue old.in_transaction → old.now.schema ≡ schema_at moved
-    → HasFirstMeta (old.now.trees 0) → OnOk result (IsNumberedAnew old new)
+    → HasOneId (old.now.trees 0) → OnOk result (IsNumberedAnew old new)

@@ -1,7 +1,7 @@
 //! What is written where the first schema's rows become a desk's: rows that are given whole, each
 //! behind the others, and the number of the schema. After an error nothing is said of the tables in
 //! the transaction, and what was committed stays.
-ghost use Rattle.std.specs.Prelude.{◌≡◌, pos, option_map};
+ghost use Rattle.std.specs.Prelude.{◌≡◌, false, IsTrue, OnOk, pos, option_map};
 ghost use Rattle.sqlite.specs.Held.{state};
 ghost use Rattle.canary_rows.specs.Changes.{with_revision, with_binding, with_tally};
 ghost use Rattle.canary_schema.specs.Stores.{Wrote, StaysLive, StaysCommitted, SurvivesCut};
@@ -14,12 +14,15 @@ use canary_base::moments::Moment;
 use canary_rows::rows::{BindingRow, RevisionRow, TallyRow};
 use sqlite::{Alter, Error, Transaction, params};
 
-/// Makes the row of `meta` of the first schema, which is 1, 1, that of a desk, which is 1, 2. An
-/// error is the database's, as where memory is refused.
+/// Makes the one row of `meta`, whose id is 1, that of a desk, which is 1, 2. An error is the
+/// database's, as where memory is refused, or that a failure has ended the transaction.
 pub fn set_schema<S: Alter>(tx: &mut Transaction<'_, S>) -> Result<usize, Error>
     ensures same_reference { tx.new.conn.ghost_name ≡ tx.old.conn.ghost_name }
     ensures set { NumbersAnew
         (state S.Store tx.old.conn.now) (state S.Store tx.new.conn.now) result }
+    ensures began { OnOk result (IsTrue (state S.Store tx.old.conn.now).in_transaction) }
+    ensures ended { (state S.Store tx.old.conn.now).in_transaction ≡ false
+        → tx.new.conn.now ≡ tx.old.conn.now }
     ensures live { StaysLive
         (state S.Store tx.old.conn.now) (state S.Store tx.new.conn.now) result }
     ensures kept { StaysCommitted (state S.Store tx.old.conn.now) (state S.Store tx.new.conn.now) }
