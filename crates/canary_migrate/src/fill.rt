@@ -5,8 +5,9 @@ ghost use Rattle.sqlite.specs.Effect.{IsDatabase};
 ghost use Rattle.sqlite.specs.State.{HasCleanDisk};
 ghost use Rattle.canary_rows.specs.Limits.{AreWithin};
 ghost use Rattle.canary_rows.specs.Tables.{Tables};
-ghost use Rattle.canary_schema.specs.Stores.{IsUsable, Stores};
-ghost use Rattle.canary_schema.specs.Stores.{Wrote, StaysLive, StaysCommitted, SurvivesCut};
+ghost use Rattle.canary_schema.specs.Layout.{moved};
+ghost use Rattle.canary_schema.specs.Stores.{IsUsable, Holds, Stores, IsReady};
+ghost use Rattle.canary_schema.specs.Stores.{Wrote, StaysCommitted, SurvivesCut};
 ghost use Rattle.canary_statements.specs.Fills.{with_revisions, with_bindings, with_tallies};
 ghost use Rattle.canary_statements.specs.Fills.{StaysSound};
 ghost use Rattle.canary_reads.specs.Reader.{IsKept, seen_inside};
@@ -75,12 +76,12 @@ pub(crate) fn fill<S: Alter>(
         → IsDatabase (state S.Store tx.old.conn.now).now }
     ensures same_reference { tx.new.conn.ghost_name ≡ tx.old.conn.ghost_name }
     ensures was { IsUsable (seen_inside (state S.Store tx.new.conn.now))
-        → IsUsable (seen_inside (state S.Store tx.old.conn.now)) }
+        → OnOk result (IsUsable (seen_inside (state S.Store tx.old.conn.now))) }
     ensures wrote { IsUsable (seen_inside (state S.Store tx.new.conn.now)) → (t : Tables)
-        → Stores (state S.Store tx.old.conn.now) t
+        → Holds moved (state S.Store tx.old.conn.now).now t
         → OnOk result (Stores (state S.Store tx.new.conn.now) (filled templates.now old.now t)) }
     ensures sound { IsUsable (seen_inside (state S.Store tx.new.conn.now)) → (t : Tables)
-        → Stores (state S.Store tx.old.conn.now) t
+        → Holds moved (state S.Store tx.old.conn.now).now t
         → OnOk result (IsDatabase (state S.Store tx.new.conn.now).now) }
     ensures broken { IsUsable (seen_inside (state S.Store tx.new.conn.now)) → (t : Tables)
         → Stores (state S.Store tx.old.conn.now) t
@@ -124,22 +125,43 @@ fn write<S: Alter>(
 ) -> Result<(), StoreFault>
     ensures same_reference { tx.new.conn.ghost_name ≡ tx.old.conn.ghost_name }
     ensures began { OnOk result (IsTrue (state S.Store tx.old.conn.now).in_transaction) }
-    ensures wrote { Wrote (λ t. with_tallies counted.now
-        (with_bindings bindings.now (with_revisions revisions.now t)))
-        (state S.Store tx.old.conn.now) (state S.Store tx.new.conn.now) result }
+    ensures wrote { HasCleanDisk (state S.Store tx.new.conn.now) → (t : Tables)
+        → Holds moved (state S.Store tx.old.conn.now).now t
+        → OnOk result (IsReady (state S.Store tx.new.conn.now) (with_tallies counted.now
+        (with_bindings bindings.now (with_revisions revisions.now t)))) }
     ensures sound { HasCleanDisk (state S.Store tx.new.conn.now) → (t : Tables)
-        → Stores (state S.Store tx.old.conn.now) t
+        → Holds moved (state S.Store tx.old.conn.now).now t
         → OnOk result (IsDatabase (state S.Store tx.new.conn.now).now) }
     ensures kept { IsKept (state S.Store tx.old.conn.now) (state S.Store tx.new.conn.now) }
     ensures survives { SurvivesCut (state S.Store tx.old.conn.now) (state S.Store tx.new.conn.now) }
 {
-    if let Err(error) = set_schema(tx) {
-        return Err(fault_of(error));
-    }
-    match insert(tx, revisions, bindings, counted) {
+    match go_on(tx, revisions, bindings, counted) {
         Ok(()) => Ok(()),
         Err(error) => Err(fault_of(error)),
     }
+}
+
+// The row of meta is written once more, which fails if the transaction has ended.
+fn go_on<S: Alter>(
+    tx: &mut Transaction<'_, S>,
+    revisions: &[RevisionRow],
+    bindings: &[BindingRow],
+    counted: &[TallyRow],
+) -> Result<(), Error>
+    ensures same_reference { tx.new.conn.ghost_name ≡ tx.old.conn.ghost_name }
+    ensures began { OnOk result (IsTrue (state S.Store tx.old.conn.now).in_transaction) }
+    ensures wrote { HasCleanDisk (state S.Store tx.new.conn.now) → (t : Tables)
+        → Holds moved (state S.Store tx.old.conn.now).now t
+        → OnOk result (IsReady (state S.Store tx.new.conn.now) (with_tallies counted.now
+        (with_bindings bindings.now (with_revisions revisions.now t)))) }
+    ensures sound { HasCleanDisk (state S.Store tx.new.conn.now) → (t : Tables)
+        → Holds moved (state S.Store tx.old.conn.now).now t
+        → OnOk result (IsDatabase (state S.Store tx.new.conn.now).now) }
+    ensures kept { IsKept (state S.Store tx.old.conn.now) (state S.Store tx.new.conn.now) }
+    ensures survives { SurvivesCut (state S.Store tx.old.conn.now) (state S.Store tx.new.conn.now) }
+{
+    set_schema(tx)?;
+    insert(tx, revisions, bindings, counted)
 }
 
 fn insert<S: Alter>(
@@ -153,8 +175,6 @@ fn insert<S: Alter>(
         (with_bindings bindings.now (with_revisions revisions.now t)))
         (state S.Store tx.old.conn.now) (state S.Store tx.new.conn.now) result }
     ensures sound { StaysSound
-        (state S.Store tx.old.conn.now) (state S.Store tx.new.conn.now) result }
-    ensures live { StaysLive
         (state S.Store tx.old.conn.now) (state S.Store tx.new.conn.now) result }
     ensures kept { StaysCommitted (state S.Store tx.old.conn.now) (state S.Store tx.new.conn.now) }
     ensures survives { SurvivesCut (state S.Store tx.old.conn.now) (state S.Store tx.new.conn.now) }

@@ -1,5 +1,5 @@
 //! The rows of binding of all services and their runs, by reads of a desk's tables.
-ghost use Rattle.std.specs.Prelude.{◌≡◌, ◌++◌, IfOk, filter};
+ghost use Rattle.std.specs.Prelude.{◌≡◌, ◌++◌, IfOk, filter, flat_map};
 ghost use Rattle.std.specs.List.{AllByRecursion};
 ghost use Rattle.canary_canonical.specs.Readings.{canonical_in};
 ghost use Rattle.canary_rows.specs.Limits.{IsServiceWithin, IsRunWithin};
@@ -45,12 +45,41 @@ pub(crate) fn bindings<Q: Reader>(
         (Q.shows conn.old) (Q.shows conn.new) result }
 {
     let names = lists::service_names(conn, alloc)?;
-    let mut found = Vec::new(alloc);
-    for name in names.as_slice() {
+    bindings_of_all(conn, alloc, names.as_slice())
+}
+
+// Those of the services of these names.
+fn bindings_of_all<Q: Reader>(
+    conn: &mut Q,
+    alloc: Global,
+    names: &[Name],
+) -> Result<Listed<BindingRow>, ReadFault>
+    requires ready { Q.IsReady conn.old }
+    ensures mode { Q.IsReady conn.new }
+    ensures place { Q.place conn.new ≡ Q.place conn.old }
+    ensures kept { IsKept (Q.below conn.old) (Q.below conn.new) }
+    ensures same { IsSame (Q.shows conn.old) (Q.shows conn.new) }
+    ensures found { FindsRows (λ t. flat_map (bindings_named t.services t.runs) names.now)
+        (Q.shows conn.old) (Q.shows conn.new) result }
+    ensures broken { BreaksUnless (λ t. AllByRecursion IsServiceWithin t.services
+        × AllByRecursion IsRunWithin t.runs)
+        (Q.shows conn.old) (Q.shows conn.new) result }
+{
+    let mut found = Listed::of(Vec::new(alloc));
+    for name in names {
         let more = bindings_of(conn, alloc, name)?;
-        found.extend_from_slice(more.as_slice())?;
+        found = joined(found, more.as_slice())?;
     }
-    Ok(Listed::of(found))
+    Ok(found)
+}
+
+// Rows, with others behind them.
+fn joined(found: Listed<BindingRow>, more: &[BindingRow]) -> Result<Listed<BindingRow>, Memory>
+    ensures { IfOk result (λ all. all ≡ found ++ more.now) }
+{
+    let mut rows = found.into_vec();
+    rows.extend_from_slice(more)?;
+    Ok(Listed::of(rows))
 }
 
 // Those of the service of that name.
@@ -133,12 +162,12 @@ fn with_runs<Q: Reader>(
     ensures broken { BreaksUnless (λ t. AllByRecursion IsRunWithin t.runs)
         (Q.shows conn.old) (Q.shows conn.new) result }
 {
-    let mut found = attempt.into_vec();
+    let mut found = attempt;
     for place in 0..row.standing.runs {
         let more = bindings_of_run(conn, alloc, &row.name, place + 1, made)?;
-        found.extend_from_slice(more.as_slice())?;
+        found = joined(found, more.as_slice())?;
     }
-    Ok(Listed::of(found))
+    Ok(found)
 }
 
 // Those of the run of that number, if there is one.

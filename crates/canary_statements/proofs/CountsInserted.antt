@@ -4,7 +4,7 @@ use Rattle.sqlite.specs.declared.types.Value.{Value}
 use Rattle.sqlite.specs.declared.types.Value.TheVariants.{Null, Int, Text as Words}
 use Rattle.sqlite.specs.declared.error.Error.{Error}
 use Rattle.sqlite.specs.Order.{Row}
-use Rattle.sqlite.specs.Values.{or_null}
+use Rattle.sqlite.specs.Values.{or_null, bound_value}
 use Rattle.sqlite.specs.Term.{lit, col}
 use Rattle.sqlite.specs.Table.{Table}
 use Rattle.sqlite.specs.Cast.{cast_row}
@@ -49,7 +49,7 @@ kept_as_given : (at : Layout) (row : TallyRow) → cast_row (table at) (Null ∷
 kept_as_given at row = rw (cast_null, cast_whole (pos row.run), cast_whole (pos row.metric), cast_whole (pos row.counts.counted), cast_whole (pos row.counts.failed), cast_whole (pos row.counts.inconclusive), cast_whole (pos row.counts.errors), cast_whole (pos row.counts.consecutive), cast_whole (pos row.counts.passes), cast_maybe row.counts.last) refl
 
 -- a moment or none, as a parameter
-pub moment_given : (n : Option ℕ) → or_null Int (option_map pos n) ≡ whole_or_null n
+pub moment_given : (n : Option ℕ) → bound_value (or_null Int (option_map pos n)) ≡ whole_or_null n
 moment_given None = refl
 moment_given (Some n) = refl
 

@@ -1,0 +1,5 @@
+mod Standing
+mod Each
+mod Passes
+mod Moved
+mod Written
