@@ -3,3 +3,5 @@ mod Each
 mod Passes
 mod Moved
 mod Written
+mod Filling
+mod Rewriting

@@ -83,9 +83,10 @@ pub(crate) fn fill<S: Alter>(
     ensures sound { IsUsable (seen_inside (state S.Store tx.new.conn.now)) → (t : Tables)
         → Holds moved (state S.Store tx.old.conn.now).now t
         → OnOk result (IsDatabase (state S.Store tx.new.conn.now).now) }
-    ensures broken { IsUsable (seen_inside (state S.Store tx.new.conn.now)) → (t : Tables)
-        → Stores (state S.Store tx.old.conn.now) t
-        → result ≡ Err ReadFault.Broken → ¬ AreWithin (filled templates.now old.now t) }
+    ensures broken { IsUsable (seen_inside (state S.Store tx.new.conn.now))
+        → result ≡ Err ReadFault.Broken → IsUsable (seen_inside (state S.Store tx.old.conn.now))
+        × ((t : Tables) → Holds moved (state S.Store tx.old.conn.now).now t
+        → ¬ AreWithin (filled templates.now old.now t)) }
     ensures kept { IsKept (state S.Store tx.old.conn.now) (state S.Store tx.new.conn.now) }
 {
     let bindings = plan::bindings(tx, alloc)?;
