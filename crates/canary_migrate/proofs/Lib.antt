@@ -5,3 +5,6 @@ mod Moved
 mod Written
 mod Filling
 mod Rewriting
+mod Beyond
+mod Migrating
+mod Committing

@@ -1,11 +1,13 @@
 -- From the rows of the first schema to those that are judged.
 use Rattle.std.proofs.Common.{◌≡◌, [], ◌∷◌, ◌++◌, List, map, IsTrue, Ok, Err, Result, OnOk, refl, sym, ap, subst, ◌∙◌, arith}
+use Rattle.std.specs.List.{AllByRecursion}
 use Rattle.sqlite.specs.Order.{Row}
 use Rattle.sqlite.specs.State.{State, HasCleanDisk, Survives}
 use Rattle.sqlite.specs.Effect.{Database, IsDatabase}
 use Rattle.canary_rows.specs.Limits.{AreWithin}
 use Rattle.canary_rows.specs.Tables.{Tables}
 use Rattle.canary_schema.specs.Cells.{cells_of, revision_cells, binding_cells, tally_cells}
+use Rattle.canary_schema.specs.First.{HasFirstMeta}
 use Rattle.canary_schema.specs.Formed.{IsFormed, HasRows, HasWholeTallies}
 use Rattle.canary_schema.specs.Layout.{moved}
 use Rattle.canary_schema.specs.Stores.{IsUsable, IsHeld, Holds, Stores, StaysCommitted}
@@ -13,10 +15,12 @@ use Rattle.canary_judging.specs.Services.{IsJudged}
 use Rattle.canary_reads.specs.declared.first.TemplateRow.{TemplateRow}
 use Rattle.canary_reads.specs.declared.first.FirstTally.{FirstTally}
 use Rattle.canary_reads.specs.Finds.{IsSame}
+use Rattle.canary_reads.specs.First.{IsFirst, AreTemplatesIn, AreTalliesIn, IsTemplateWithin, IsFirstTallyWithin}
 use Rattle.canary_reads.specs.Reader.{IsKept, seen_inside}
 use Rattle.canary_migrate.specs.Migrated.{FirstTables, HoldsFirst, migrated}
 use Rattle.canary_migrate.specs.Fills.{IsMade, filled}
 use Rattle.canary_migrate.specs.Migrates.{IsOfFirst, IsRead, IsRewritten, HasJudgedFirstRows}
+use Rattle.canary_migrate.proofs.Beyond.{templates_within, tallies_within}
 use Rattle.canary_migrate.proofs.Moved.{emptied, first_of, usable_inside, formed_made, whole_made, held_made, held_moved, first_held}
 use Rattle.canary_migrate.proofs.Written.{kept_live}
 
@@ -113,3 +117,31 @@ module _ (templates : List TemplateRow) (tallies : List FirstTally) (old one two
         let m = one_is usable in
         let only = m.0.only f.0 f.1.0 in
         refused (emptied f.0) (held_two f.0 f.1.0 usable) (subst AreWithin (sym (filled_first f.0 templates tallies only.0 only.1)) f.1.1.0)
+
+-- The templates and the tallies are read, one after the other.
+
+module _ (templates : List TemplateRow) (tallies : List FirstTally) (old one two : State) (first : IsUsable old → IsFirst old.now) (meta : IsUsable old → HasFirstMeta (old.now.trees 0)) (same_one : IsSame old one) (same_two : IsSame one two)
+    (templates_found : IsUsable one → IsFirst old.now → AreTemplatesIn old.now templates) (templates_only : IsUsable one → IsFirst old.now → (all : List TemplateRow) → AreTemplatesIn old.now all → templates ≡ all)
+    (tallies_found : IsUsable two → IsFirst one.now → AreTalliesIn one.now tallies) (tallies_only : IsUsable two → IsFirst one.now → (all : List FirstTally) → AreTalliesIn one.now all → tallies ≡ all) where
+  pub read_so : IsUsable two → IsRead two.now templates tallies
+  read_so usable =
+      let later = same_two usable in
+      let before = same_one later.0 in
+      let all : two.now ≡ old.now = later.1 ∙ before.1 in
+      let here = first before.0 in
+      let there : IsFirst one.now = subst IsFirst (sym before.1) here in
+      let told = templates_found later.0 here in
+      let counts : AreTalliesIn old.now tallies = subst (λ (db : Database). AreTalliesIn db tallies) before.1 (tallies_found usable there) in
+      subst (λ (db : Database). IsRead db templates tallies) (sym all) (record {
+        first = here;
+        meta = meta before.0;
+        templates_are = told;
+        tallies_are = counts;
+        only = λ f holds. (templates_only later.0 here f.templates holds.templates, tallies_only usable there f.tallies (subst (λ (db : Database). AreTalliesIn db f.tallies) (sym before.1) holds.tallies));
+      })
+
+pub templates_broken : (db : Database) → ((all : List TemplateRow) → AreTemplatesIn db all → ¬ AllByRecursion IsTemplateWithin all) → ¬ HasJudgedFirstRows db
+templates_broken db broken f = broken f.0.templates f.1.0.templates (templates_within f.0.templates f.1.1.0.revisions)
+
+pub tallies_broken : (db : Database) → ((all : List FirstTally) → AreTalliesIn db all → ¬ AllByRecursion IsFirstTallyWithin all) → ¬ HasJudgedFirstRows db
+tallies_broken db broken f = broken f.0.tallies f.1.0.tallies (tallies_within f.0.measurements f.0.tallies f.1.1.0.tallies)
