@@ -20,10 +20,15 @@ first_tally = keyed (codes "tally")
     (1 ∷ 2 ∷ 3 ∷ []) []
 
 -- the tables, in the order in which they were made
-abbrev pub first_tables : List Table
-first_tables =
+
+abbrev pub first_early_tables : List Table
+first_early_tables =
     meta ∷ record caller { tree = 1 } ∷ record kept { tree = 3 } ∷ record template { tree = 5 }
-    ∷ record service { tree = 7 } ∷ record run { tree = 9 } ∷ record first_tally { tree = 11 }
+    ∷ record service { tree = 7 } ∷ []
+
+abbrev pub first_late_tables : List Table
+first_late_tables =
+    record run { tree = 9 } ∷ record first_tally { tree = 11 }
     ∷ record (measurement false) { tree = 13 } ∷ record sequence { tree = 15 }
     ∷ record (history false) { tree = 16 } ∷ []
 
@@ -48,7 +53,7 @@ first_added_indexes =
 abbrev pub first_schema : Schema
 first_schema =
     record {
-      tables = first_tables;
+      tables = first_early_tables ++ first_late_tables;
       indexes = first_key_indexes ++ first_added_indexes;
       views = [];
     }

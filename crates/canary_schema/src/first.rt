@@ -1,6 +1,7 @@
 //! The first schema, which a desk's files had before templates had revisions.
 ghost use Rattle.std.specs.Prelude.{◌≡◌, ◌↔◌, IsTrue, ◌++◌};
-ghost use Rattle.canary_schema.specs.First.{template, first_tally, first_tables};
+ghost use Rattle.canary_schema.specs.First.{template, first_tally};
+ghost use Rattle.canary_schema.specs.First.{first_early_tables, first_late_tables};
 ghost use Rattle.canary_schema.specs.First.{first_key_indexes, first_added_indexes, first_schema};
 
 use crate::columns::{ColumnLayout, IndexLayout, are_columns, are_indexes};
@@ -40,17 +41,29 @@ fn is_first_tally(table: &Table) -> bool
         && table.references.is_empty()
 }
 
-fn are_first_tables(tables: &[Table]) -> bool
-    ensures { IsTrue result ↔ tables.now ≡ first_tables }
+// The first five tables, in the order in which they were made.
+fn are_first_early(tables: &[Table]) -> bool
+    ensures { IsTrue result ↔ tables.now ≡ first_early_tables }
 {
     match tables {
-        [meta, caller, kept, template, service, run, tally, measurement, sequence, history] => {
+        [meta, caller, kept, template, service] => {
             tables::is_meta(meta)
                 && tables::is_caller(caller)
                 && tables::is_kept(kept)
                 && is_template(template)
                 && tables::is_service(service, 7)
-                && tables::is_run(run, 9)
+        }
+        _ => false,
+    }
+}
+
+// The other five.
+fn are_first_late(tables: &[Table]) -> bool
+    ensures { IsTrue result ↔ tables.now ≡ first_late_tables }
+{
+    match tables {
+        [run, tally, measurement, sequence, history] => {
+            tables::is_run(run, 9)
                 && is_first_tally(tally)
                 && tables::is_measurement(measurement, 13, false)
                 && tables::is_sequence(sequence, 15)
@@ -58,6 +71,16 @@ fn are_first_tables(tables: &[Table]) -> bool
         }
         _ => false,
     }
+}
+
+// All tables.
+fn are_first_tables(tables: &[Table]) -> bool
+    ensures { IsTrue result ↔ tables.now ≡ first_early_tables ++ first_late_tables }
+{
+    if tables.len() != 10 {
+        return false;
+    }
+    are_first_early(&tables[..5]) && are_first_late(&tables[5..])
 }
 
 fn are_first_keys(indexes: &[Index]) -> bool
