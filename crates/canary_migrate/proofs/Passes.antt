@@ -1,5 +1,5 @@
 -- The last measurements that are successes, counted one after another.
-use Rattle.std.proofs.Common.{◌≡◌, ℕ, zero, suc, ◌+◌, ◌-◌, ◌<◌, ◌≤◌, List, [], ◌∷◌, length, map, take, get_or, Bool, true, false, sym, ap, subst, ◌∙◌, arith}
+use Rattle.std.proofs.Common.{◌≡◌, ℕ, zero, suc, ◌+◌, ◌-◌, ◌<◌, ◌≤◌, List, [], ◌∷◌, length, map, take, get_or, Bool, true, false, if◌then◌else◌, refl, sym, ap, subst, ◌∙◌, arith}
 use Rattle.std.specs.List.{AllByRecursion, suffix_len}
 use Rattle.std.proofs.lemmas.List.{take_all}
 use Rattle.std.proofs.lemmas.List.Sums.{suffix_len-take_no, suffix_len-take_yes}
@@ -27,6 +27,13 @@ module _ {X : Type 0} (test : X → Bool) (xs : List X) (i : ℕ) (x : X) (low :
   failed_more fails =
       let last : test (get_or xs ((i + 1) - 1) x) ≡ false = ap test (here (i + 1) (omega arith)) ∙ fails in
       sym (suffix_len-take_no test xs (i + 1) x (omega arith) (omega (arith, low)) last)
+
+  pub one_counted : (passes more : ℕ) → passes ≡ suffix_len test (take i xs) → more ≡ (if test x then passes + 1 else 0) → more ≡ suffix_len test (take (i + 1) xs)
+  one_counted passes more so is = is ∙ by_cases (test x) refl
+    where
+      by_cases : (b : Bool) → test x ≡ b → (if b then passes + 1 else 0) ≡ suffix_len test (take (i + 1) xs)
+      by_cases true yes = passed_more passes so yes
+      by_cases false fails = failed_more fails
 
 pub all_passed : {X : Type 0} (test : X → Bool) (xs : List X) (i passes : ℕ) → length xs ≤ i → passes ≡ suffix_len test (take i xs) → passes ≡ suffix_len test xs
 all_passed test xs i passes all so = so ∙ ap (suffix_len test) (take_all i xs all)

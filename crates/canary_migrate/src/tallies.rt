@@ -1,5 +1,5 @@
 //! Tallies of the first schema, with their passes counted.
-ghost use Rattle.std.specs.Prelude.{◌≡◌, ◌≢◌, ◌+◌, IfOk, Err, map};
+ghost use Rattle.std.specs.Prelude.{◌≡◌, ◌≢◌, ◌+◌, if◌then◌else◌, IfOk, Err, map};
 ghost use Rattle.std.specs.List.{AllByRecursion, suffix_len};
 ghost use Rattle.canary_rows.specs.Limits.{IsMeasurementWithin, IsTallyWithin};
 ghost use Rattle.canary_reads.specs.Breaks.{BreaksUnless};
@@ -70,16 +70,20 @@ fn passes_in(rows: &[MeasurementRow]) -> Result<u32, ReadFault>
 {
     let mut passes = 0_u32;
     for row in rows {
-        passes = if row.phase == 1 { one_more(passes)? } else { 0 };
+        passes = passes_with(passes, row)?;
     }
     Ok(passes)
 }
 
-fn one_more(number: u32) -> Result<u32, ReadFault>
-    ensures value { IfOk result (λ more. more ≡ number + 1) }
+// The same with one measurement more.
+fn passes_with(passes: u32, row: &MeasurementRow) -> Result<u32, ReadFault>
+    ensures value { IfOk result (λ more. more ≡ (if is_passed row.now then passes + 1 else 0)) }
     ensures whole { result ≢ Err ReadFault.Broken }
 {
-    match number.checked_add(1) {
+    if row.phase != 1 {
+        return Ok(0);
+    }
+    match passes.checked_add(1) {
         Some(more) => Ok(more),
         None => Err(ReadFault::Storage),
     }
