@@ -92,7 +92,12 @@ pub(crate) fn fill<S: Alter>(
     let bindings = plan::bindings(tx, alloc)?;
     let counted = tallies::with_passes(tx, alloc, old)?;
     let revisions = revisions_of(alloc, templates)?;
-    write(tx, revisions.as_slice(), bindings.as_slice(), counted.as_slice())?;
+    write(
+        tx,
+        revisions.as_slice(),
+        bindings.as_slice(),
+        counted.as_slice(),
+    )?;
     Ok(())
 }
 

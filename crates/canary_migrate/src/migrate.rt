@@ -123,7 +123,13 @@ fn rewrite<S: Alter, G: Progress>(
 {
     let templates = first::templates(conn, alloc)?;
     let tallies = first::tallies(conn, alloc)?;
-    transact(conn, alloc, templates.as_slice(), tallies.as_slice(), progress)
+    transact(
+        conn,
+        alloc,
+        templates.as_slice(),
+        tallies.as_slice(),
+        progress,
+    )
 }
 
 fn transact<S: Alter, G: Progress>(

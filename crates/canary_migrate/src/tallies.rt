@@ -7,9 +7,9 @@ ghost use Rattle.canary_reads.specs.Finds.{IsSame, FindsRows};
 ghost use Rattle.canary_reads.specs.Reader.{IsKept};
 ghost use Rattle.canary_migrate.specs.Migrated.{is_passed, counted_with, tally_of};
 
+use canary_base::lists::Listed;
 use canary_metric::laws;
 use canary_metric::tally::Tally;
-use canary_base::lists::Listed;
 use canary_reads::fault::ReadFault;
 use canary_reads::first::FirstTally;
 use canary_reads::metrics;

@@ -147,7 +147,10 @@ fn index<S: Alter>(tx: &mut Transaction<'_, S>) -> Result<usize, Error>
         (state S.Store tx.old.conn.now) (state S.Store tx.new.conn.now) }
 {
     add_index(tx, "CREATE INDEX run_closed ON run (service, closed)")?;
-    add_index(tx, "CREATE INDEX measurement_service ON measurement (service)")?;
+    add_index(
+        tx,
+        "CREATE INDEX measurement_service ON measurement (service)",
+    )?;
     add_index(tx, "CREATE INDEX history_service ON history (service)")
 }
 

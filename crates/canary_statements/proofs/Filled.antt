@@ -34,7 +34,7 @@ module _ {R : Type 0} (have : Tables → List R) (put : List R → Tables → Ta
   row_more have_of twice i row old mid new low is h wrote live kept survives =
       let more : take i rows ++ row ∷ [] ≡ take (i + 1) rows = sym (take_more rows i row low ∙ ap (λ y. take i rows ++ y ∷ []) (sym is)) in
       let same : (t : Tables) → put (have (behind (take i rows) t) ++ row ∷ []) (behind (take i rows) t) ≡ behind (take (i + 1) rows) t = λ t.
-          twice _ _ t ∙ ap (λ all. put all t) (ap (λ all. all ++ row ∷ []) (have_of _ t) ∙ append_both (have t) (take i rows) (row ∷ []) ∙ ap (λ all. have t ++ all) more) in
+      twice _ _ t ∙ ap (λ all. put all t) (ap (λ all. all ++ row ∷ []) (have_of _ t) ∙ append_both (have t) (take i rows) (row ∷ []) ∙ ap (λ all. have t ++ all) more) in
       subst (λ change. SoFar change old new) (λ j t. same t j) (then (behind (take i rows)) (λ t. put (have t ++ row ∷ []) t) old mid new h wrote live kept survives)
 
   pub all_done : (i : ℕ) (old new : State) → length rows ≤ i → SoFar (behind (take i rows)) old new → HasCleanDisk new → (t : Tables) → IsReady old t → IsReady new (behind rows t)

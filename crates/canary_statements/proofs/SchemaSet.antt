@@ -123,7 +123,7 @@ set old new count is before h =
     let ran = runs_as text [] old new (schema_at moved) is (Update 0 (record { lets = []; body = plain_query 0 [] shown [] })) is_update is_plain count h.0 in
     let found : filter (passes [] []) (old.now.trees 0) ≡ row ∷ [] = ap (filter (passes [] [])) m.1 in
     let quiet = subst (λ s. works s Enforced 0 0 (taken_by old.now.trees (edit_of old.now.trees meta (ids_of (shows shown [] row ∷ [])) Given 1 (shows shown [] row ∷ []))) (second_row ∷ []) ≡ []) (sym is)
-        (idle (schema_at moved) (idle_desk moved) 0 (taken_by old.now.trees (edit_of old.now.trees meta (ids_of (shows shown [] row ∷ [])) Given 1 (shows shown [] row ∷ []))) (second_row ∷ [])) in
+    (idle (schema_at moved) (idle_desk moved) 0 (taken_by old.now.trees (edit_of old.now.trees meta (ids_of (shows shown [] row ∷ [])) Given 1 (shows shown [] row ∷ []))) (second_row ∷ [])) in
     let u = updates old.step_limit (mode_of old) [] old.now (statement_of text (understood (schema_at moved) text)) 0 [] shown meta row second_row (ap (λ (s : Schema). slice_get s.tables 0) is ∙ stands) found (as_given (column row 0) m.2) quiet ran.tally new.now ran.changed in
     record {
       live = h.1.mode;

@@ -104,10 +104,7 @@ fn binding_row<S: Alter>(tx: &mut Transaction<'_, S>, row: &BindingRow) -> Resul
 
 /// Inserts these tallies, with their counts, in order. An error is the database's, as where one is
 /// there already.
-pub fn insert_counts<S: Alter>(
-    tx: &mut Transaction<'_, S>,
-    rows: &[TallyRow],
-) -> Result<(), Error>
+pub fn insert_counts<S: Alter>(tx: &mut Transaction<'_, S>, rows: &[TallyRow]) -> Result<(), Error>
     ensures same_reference { tx.new.conn.ghost_name ≡ tx.old.conn.ghost_name }
     ensures wrote { Wrote (with_tallies rows.now)
         (state S.Store tx.old.conn.now) (state S.Store tx.new.conn.now) result }

@@ -36,6 +36,7 @@ returns-in_err-bindings-clause-broken g c usable is =
 pub returns-in_err-counted-clause-broken : goal.returns-in_err-counted-clause-broken
 returns-in_err-counted-clause-broken g c usable is =
     let broken : c.with_passes.result ≡ Err Broken = search rules in
-    let mid = (c.with_passes.ensures.same usable).0 in
-    ((c.bindings.ensures.same mid).0,
-        λ t holds within. tallies_broken c.args.templates.now c.args.old.now t within (c.with_passes.ensures.broken usable t (subst (λ db. IsHeld db t) (sym (c.bindings.ensures.same mid).1) (record { layout = moved; holds = holds })) broken))
+    let mid = (c.with_passes.ensures.same usable).0 in (
+      (c.bindings.ensures.same mid).0,
+      λ t holds within. tallies_broken c.args.templates.now c.args.old.now t within (c.with_passes.ensures.broken usable t (subst (λ db. IsHeld db t) (sym (c.bindings.ensures.same mid).1) (record { layout = moved; holds = holds })) broken),
+    )
