@@ -17,6 +17,7 @@ use canary_database::backup::backup;
 use canary_database::export::export;
 use canary_database::history::history;
 use canary_database::import::import;
+use canary_database::migrate::migrate;
 use canary_database::status::status;
 use canary_database::{pipe, serve};
 use canary_listen::limits::Limits;
@@ -157,7 +158,7 @@ fn run_placed<R: Read, W: Write, F: Write>(
 {
     let place = Place::of(rt.alloc(), &program, terminals.errors);
     let done = run(rt, program, input, output, errors, terminals);
-    finish(rt.alloc(), done, &place, errors)
+    finish(rt, done, &place, errors)
 }
 
 fn run<R: Read, W: Write, F: Write>(
@@ -193,6 +194,10 @@ fn run<R: Read, W: Write, F: Write>(
         }
         Program::Check { file, request } => check(rt, &file, &request, output, errors),
         Program::Backup { db, copy } => done(backup(rt, db.as_str(), copy.as_str())),
+        Program::Migrate { db, dry_run } => {
+            let db = db.as_str();
+            done(migrate(rt, db, dry_run, output, errors, shows))
+        }
         Program::History { db, service } => {
             let (db, service) = (db.as_str(), service.as_str());
             done(history(rt, db, service, output, errors, shows))
@@ -314,7 +319,7 @@ fn pipe<R: Read, W: Write>(
 
 // The status of what was done, with the line of a fault on `errors`, and what it is about.
 fn finish<F: Write>(
-    alloc: Global,
+    rt: &HostRuntime,
     done: Result<Outcome, Fault>,
     place: &Place,
     errors: &mut F,
@@ -331,7 +336,7 @@ fn finish<F: Write>(
         }
         Err(fault) => {
             let status = fail(fault, errors);
-            place.tell(alloc, fault, errors);
+            place.tell(rt, fault, errors);
             status
         }
     }

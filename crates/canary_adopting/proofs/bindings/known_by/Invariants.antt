@@ -5,4 +5,4 @@ use Rattle.canary_adopting.proofs.bindings.known_by.Given as goal
 
 -- the templates of the rows so far
 abbrev pub invariant-loop-row : goal.invariant-loop-row
-invariant-loop-row g l = Goes g.Q.IsReady g.Q.place g.Q.below l.initial.conn l.conn × KnownSoFar l.rows l.row-index (g.Q.shows l.initial.conn) (g.Q.shows l.conn) l.known
+invariant-loop-row g l = Goes g.Q.Reader.IsReady g.Q.Reader.place g.Q.Reader.below l.initial.conn l.conn × KnownSoFar l.rows l.row-index (g.Q.Reader.shows l.initial.conn) (g.Q.Reader.shows l.conn) l.known

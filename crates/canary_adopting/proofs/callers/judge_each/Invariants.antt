@@ -8,4 +8,4 @@ use Rattle.canary_adopting.proofs.callers.judge_each.Given as goal
 
 abbrev pub invariant-loop-caller : goal.invariant-loop-caller
 invariant-loop-caller g l =
-    Goes g.Q.IsReady g.Q.place g.Q.below l.initial.conn l.conn × EachSoFar IsCallerJudged l.callers l.caller-index (g.Q.shows l.initial.conn) (g.Q.shows l.conn) × (l.settled ≡ sum_by (λ (row : CallerRow). row.settled) (take l.caller-index l.callers))
+    Goes g.Q.Reader.IsReady g.Q.Reader.place g.Q.Reader.below l.initial.conn l.conn × EachSoFar IsCallerJudged l.callers l.caller-index (g.Q.Reader.shows l.initial.conn) (g.Q.Reader.shows l.conn) × (l.settled ≡ sum_by (λ (row : CallerRow). row.settled) (take l.caller-index l.callers))

@@ -8,22 +8,22 @@ use Rattle.canary_adopting.proofs.Standing.{same_then, goes_first, goes_more}
 use Rattle.canary_adopting.proofs.callers.judge_receipts.Goals as goal
 
 pub loop-before-init : goal.loop-before-init
-loop-before-init g c = (goes_first g.Q.IsReady g.Q.place g.Q.below c.args.conn.now c.requires.ready, no_number (λ t number. IsOneRead (is_kept c.args.caller.now number) receipt_of_row t.kept) (g.Q.shows c.args.conn.now))
+loop-before-init g c = (goes_first g.Q.Reader.IsReady g.Q.Reader.place g.Q.Reader.below c.args.conn.now c.requires.ready, no_number (λ t number. IsOneRead (is_kept c.args.caller.now number) receipt_of_row t.kept) (g.Q.Reader.shows c.args.conn.now))
 
 pub returns-in_err-judge_receipt-clause-same : goal.returns-in_err-judge_receipt-clause-same
 returns-in_err-judge_receipt-clause-same g c =
-    same_then (g.Q.shows c.args.conn.now) (g.Q.shows c.loop-before.conn) (g.Q.shows c.judge_receipt.new.conn) c.loop-before.invariant.1.same c.judge_receipt.ensures.same
+    same_then (g.Q.Reader.shows c.args.conn.now) (g.Q.Reader.shows c.loop-before.conn) (g.Q.Reader.shows c.judge_receipt.new.conn) c.loop-before.invariant.1.same c.judge_receipt.ensures.same
 
 pub returns-in_err-judge_receipt-clause-refused : goal.returns-in_err-judge_receipt-clause-refused
 returns-in_err-judge_receipt-clause-refused g c usable t has is =
     let broken : c.judge_receipt.result ≡ Err Broken = search rules in
-    number_refused (λ t number. IsOneRead (is_kept c.args.caller.now number) receipt_of_row t.kept) c.loop-before.before c.args.settled (g.Q.shows c.args.conn.now) (g.Q.shows c.loop-before.conn) (g.Q.shows c.judge_receipt.new.conn) (omega arith) c.loop-before.invariant.1.same c.judge_receipt.ensures.same usable
+    number_refused (λ t number. IsOneRead (is_kept c.args.caller.now number) receipt_of_row t.kept) c.loop-before.before c.args.settled (g.Q.Reader.shows c.args.conn.now) (g.Q.Reader.shows c.loop-before.conn) (g.Q.Reader.shows c.judge_receipt.new.conn) (omega arith) c.loop-before.invariant.1.same c.judge_receipt.ensures.same usable
     (λ other there. c.judge_receipt.ensures.refused usable other there broken) t has
 
 pub loop-before-preserved : goal.loop-before-preserved
 loop-before-preserved g c = (
-  goes_more g.Q.IsReady g.Q.place g.Q.below _ _ _ c.loop-before.invariant.0 c.judge_receipt.ensures.mode c.judge_receipt.ensures.place c.judge_receipt.ensures.kept,
-  number_more (λ t number. IsOneRead (is_kept c.args.caller.now number) receipt_of_row t.kept) c.loop-before.before (g.Q.shows c.args.conn.now) (g.Q.shows c.loop-before.conn) (g.Q.shows c.judge_receipt.new.conn) c.loop-before.invariant.1 c.judge_receipt.ensures.same
+  goes_more g.Q.Reader.IsReady g.Q.Reader.place g.Q.Reader.below _ _ _ c.loop-before.invariant.0 c.judge_receipt.ensures.mode c.judge_receipt.ensures.place c.judge_receipt.ensures.kept,
+  number_more (λ t number. IsOneRead (is_kept c.args.caller.now number) receipt_of_row t.kept) c.loop-before.before (g.Q.Reader.shows c.args.conn.now) (g.Q.Reader.shows c.loop-before.conn) (g.Q.Reader.shows c.judge_receipt.new.conn) c.loop-before.invariant.1 c.judge_receipt.ensures.same
       (λ usable t has. c.in_ok-judge_receipt.ensures.judged usable t has),
 )
 

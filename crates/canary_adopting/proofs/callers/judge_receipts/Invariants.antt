@@ -8,4 +8,4 @@ use Rattle.canary_adopting.proofs.callers.judge_receipts.Given as goal
 
 abbrev pub invariant-loop-before : goal.invariant-loop-before
 invariant-loop-before g l =
-    Goes g.Q.IsReady g.Q.place g.Q.below l.initial.conn l.conn × NumbersSoFar (λ t number. IsOneRead (is_kept l.caller number) receipt_of_row t.kept) l.before (g.Q.shows l.initial.conn) (g.Q.shows l.conn)
+    Goes g.Q.Reader.IsReady g.Q.Reader.place g.Q.Reader.below l.initial.conn l.conn × NumbersSoFar (λ t number. IsOneRead (is_kept l.caller number) receipt_of_row t.kept) l.before (g.Q.Reader.shows l.initial.conn) (g.Q.Reader.shows l.conn)

@@ -5,4 +5,4 @@ use Rattle.canary_adopting.proofs.runs.runs.Given as goal
 
 -- the runs so far are found
 abbrev pub invariant-loop-place : goal.invariant-loop-place
-invariant-loop-place g l = Goes g.Q.IsReady g.Q.place g.Q.below l.initial.conn l.conn × RunsSoFar l.strategy l.name l.place (g.Q.shows l.initial.conn) (g.Q.shows l.conn) l.found
+invariant-loop-place g l = Goes g.Q.Reader.IsReady g.Q.Reader.place g.Q.Reader.below l.initial.conn l.conn × RunsSoFar l.strategy l.name l.place (g.Q.Reader.shows l.initial.conn) (g.Q.Reader.shows l.conn) l.found

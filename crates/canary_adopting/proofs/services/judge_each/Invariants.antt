@@ -4,4 +4,4 @@ use Rattle.canary_adopting.proofs.Standing.{Goes}
 use Rattle.canary_adopting.proofs.services.judge_each.Given as goal
 
 abbrev pub invariant-loop-name : goal.invariant-loop-name
-invariant-loop-name g l = Goes g.Q.IsReady g.Q.place g.Q.below l.initial.conn l.conn × ServicesSoFar l.names l.name-index (g.Q.shows l.initial.conn) (g.Q.shows l.conn) l.totals
+invariant-loop-name g l = Goes g.Q.Reader.IsReady g.Q.Reader.place g.Q.Reader.below l.initial.conn l.conn × ServicesSoFar l.names l.name-index (g.Q.Reader.shows l.initial.conn) (g.Q.Reader.shows l.conn) l.totals

@@ -9,8 +9,8 @@ ask-requires-clause-query g c = service_names_query
 pub returns-clause-found : goal.returns-clause-found
 returns-clause-found g c usable t has =
     IfOk-weaker c.all.result _ _
-    (λ found read. services_found (g.Q.shows c.args.conn.now) (g.Q.shows c.ask.new.self) t _ c.in_ok-rows.rows.items has found (c.in_ok-rows.ensures.shown usable) (rw c.as_slice.ensures.value at read)) c.all.ensures.found
+    (λ found read. services_found (g.Q.Reader.shows c.args.conn.now) (g.Q.Reader.shows c.ask.new.self) t _ c.in_ok-rows.rows.items has found (c.in_ok-rows.ensures.shown usable) (rw c.as_slice.ensures.value at read)) c.all.ensures.found
 
 pub returns-clause-broken : goal.returns-clause-broken
 returns-clause-broken g c usable t has is within =
-    services_whole (g.Q.shows c.args.conn.now) (g.Q.shows c.ask.new.self) t _ c.in_ok-rows.rows.items has (c.in_ok-rows.ensures.shown usable) (rw c.as_slice.ensures.value at (c.all.ensures.broken is)) within
+    services_whole (g.Q.Reader.shows c.args.conn.now) (g.Q.Reader.shows c.ask.new.self) t _ c.in_ok-rows.rows.items has (c.in_ok-rows.ensures.shown usable) (rw c.as_slice.ensures.value at (c.all.ensures.broken is)) within

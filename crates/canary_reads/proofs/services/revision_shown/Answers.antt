@@ -10,4 +10,4 @@ ask-requires-clause-query g c = revision_query
 pub returns-clause-found : goal.returns-clause-found
 returns-clause-found g c usable t has =
     IfOk-weaker c.ask.result _ _
-    (λ rows shown. revision_rows (g.Q.shows c.args.conn.now) (g.Q.shows c.ask.new.self) t c.args.name.now c.args.number _ rows.items has (search rules) shown) (c.ask.ensures.shown usable)
+    (λ rows shown. revision_rows (g.Q.Reader.shows c.args.conn.now) (g.Q.Reader.shows c.ask.new.self) t c.args.name.now c.args.number _ rows.items has (search rules) shown) (c.ask.ensures.shown usable)

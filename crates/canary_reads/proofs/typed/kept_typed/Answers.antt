@@ -10,9 +10,9 @@ pub returns-clause-typed : goal.returns-clause-typed
 returns-clause-typed g c usable at schema =
     let was = (c.none_shown.ensures.same usable).0 in
     IfOk-weaker c.none_shown.result _ _
-    (λ _ shown. kept_assured (g.Q.shows c.args.conn.now) (g.Q.shows c.none_shown.new.conn) (c.look.ensures.live was) at schema shown) (c.none_shown.ensures.none usable)
+    (λ _ shown. kept_assured (g.Q.Reader.shows c.args.conn.now) (g.Q.Reader.shows c.none_shown.new.conn) (c.look.ensures.live was) at schema shown) (c.none_shown.ensures.none usable)
 
 pub returns-clause-broken : goal.returns-clause-broken
 returns-clause-broken g c usable at schema is has =
     let one = c.none_shown.ensures.some usable is in
-    kept_denied (g.Q.shows c.args.conn.now) (g.Q.shows c.none_shown.new.conn) at schema one.0 one.1 one.2 has
+    kept_denied (g.Q.Reader.shows c.args.conn.now) (g.Q.Reader.shows c.none_shown.new.conn) at schema one.0 one.1 one.2 has
