@@ -108,7 +108,8 @@ service_bindings runs (Some row) = bindings_made runs row (made_from (canonical_
 
 -- those of the service of that name
 abbrev pub bindings_named : List ServiceRow → List RunRow → List ℕ → List BindingRow
-bindings_named services runs name = service_bindings runs (first (filter (is_service name) services))
+bindings_named services runs name =
+    service_bindings runs (first (filter (is_service name) services))
 
 abbrev pub all_bindings : List ServiceRow → List RunRow → List BindingRow
 all_bindings services runs =

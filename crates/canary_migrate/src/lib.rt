@@ -18,3 +18,4 @@ pub mod migrate;
 mod named;
 mod plan;
 mod tallies;
+pub mod upgrade;

@@ -34,9 +34,10 @@ use std::alloc::Global;
 /// # Errors
 ///
 /// `OtherSchema` where the database has other tables, indexes or views than the first schema, or
-/// its table meta has other rows; `BrokenRow` where the rows do not become those of a desk; `Memory`
-/// where an allocation was refused; `Storage` where the store failed, or the connection stands
-/// inside a transaction. What is left of the connection is handed back, with the database as it was.
+/// its table meta has other rows; `BrokenRow` where the rows do not become those of a desk;
+/// `Memory` where an allocation was refused; `Storage` where the store failed, or the connection
+/// stands inside a transaction. What is left of the connection is handed back, with the database as
+/// it was.
 pub fn migrate<S: Alter + Drop, G: Progress>(
     alloc: Global,
     conn: Connection<S>,
@@ -188,8 +189,8 @@ fn write<S: Alter, G: Progress>(
     judge(tx, alloc, progress)
 }
 
-// The fault, but that of a row only where the transaction goes on: once it has ended, it shows other
-// rows.
+// The fault, but that of a row only where the transaction goes on: once it has ended, it shows
+// other rows.
 fn if_live<S: Alter>(tx: &mut Transaction<'_, S>, fault: ReadFault) -> ReadFault
     ensures same_reference { tx.new.conn.ghost_name ≡ tx.old.conn.ghost_name }
     ensures broken { result ≡ ReadFault.Broken → (fault ≡ ReadFault.Broken)

@@ -99,8 +99,8 @@ impl Told for FirstTally {
     }
 }
 
-// All rows, in their order. `Memory` where there is not enough, `Broken` where a program cannot hold
-// one of them.
+// All rows, in their order. `Memory` where there is not enough, `Broken` where a program cannot
+// hold one of them.
 fn all<R: Told>(alloc: Global, rows: &[Row]) -> Result<Listed<R>, ReadFault>
     ensures found { IfOk result (λ all. map R.cells all ≡ rows.now) }
     ensures broken { result ≡ Err ReadFault.Broken → (all : List R)

@@ -6,4 +6,4 @@ use Rattle.canary_migrate.proofs.Standing.{Goes}
 use Rattle.canary_migrate.proofs.plan.bindings_of_all.Given as goal
 
 abbrev pub invariant-loop-name : goal.invariant-loop-name
-invariant-loop-name g l = Goes g.Q.IsReady g.Q.place g.Q.below l.initial.conn l.conn × SoFar (λ (t : Tables). bindings_named t.services t.runs) l.names l.name-index (g.Q.shows l.initial.conn) (g.Q.shows l.conn) l.found
+invariant-loop-name g l = Goes g.Q.Reader.IsReady g.Q.Reader.place g.Q.Reader.below l.initial.conn l.conn × SoFar (λ (t : Tables). bindings_named t.services t.runs) l.names l.name-index (g.Q.Reader.shows l.initial.conn) (g.Q.Reader.shows l.conn) l.found

@@ -8,4 +8,4 @@ use Rattle.canary_migrate.proofs.tallies.with_passes.Given as goal
 
 abbrev pub invariant-loop-row : goal.invariant-loop-row
 invariant-loop-row g l =
-    Goes g.Q.IsReady g.Q.place g.Q.below l.initial.conn l.conn × SoFar (λ (t : Tables) (x : FirstTally). tally_of t.measurements x ∷ []) l.rows l.row-index (g.Q.shows l.initial.conn) (g.Q.shows l.conn) l.found
+    Goes g.Q.Reader.IsReady g.Q.Reader.place g.Q.Reader.below l.initial.conn l.conn × SoFar (λ (t : Tables) (x : FirstTally). tally_of t.measurements x ∷ []) l.rows l.row-index (g.Q.Reader.shows l.initial.conn) (g.Q.Reader.shows l.conn) l.found

@@ -15,12 +15,12 @@ ask-requires-clause-query g c = metric_query
 
 pub returns-clause-found : goal.returns-clause-found
 returns-clause-found g c usable t has =
-    let told = metric_rows (g.Q.shows c.args.conn.now) (g.Q.shows c.ask.new.self) t c.args.service.now c.args.run c.args.metric _ c.in_ok-rows.rows.items has (search rules) (c.in_ok-rows.ensures.shown usable) in
+    let told = metric_rows (g.Q.Reader.shows c.args.conn.now) (g.Q.Reader.shows c.ask.new.self) t c.args.service.now c.args.run c.args.metric _ c.in_ok-rows.rows.items has (search rules) (c.in_ok-rows.ensures.shown usable) in
     IfOk-weaker c.all.result _ _
     (λ found read. told_all measurement_cells measurement_in (λ x. refl) (λ row. Null ∷ Words c.args.service.now ∷ row) c.in_ok-rows.rows.items _ found told (rw c.as_slice.ensures.value at read)) c.all.ensures.found
 
 pub returns-clause-broken : goal.returns-clause-broken
 returns-clause-broken g c usable t has is within =
-    let told = metric_rows (g.Q.shows c.args.conn.now) (g.Q.shows c.ask.new.self) t c.args.service.now c.args.run c.args.metric _ c.in_ok-rows.rows.items has (search rules) (c.in_ok-rows.ensures.shown usable) in
+    let told = metric_rows (g.Q.Reader.shows c.args.conn.now) (g.Q.Reader.shows c.ask.new.self) t c.args.service.now c.args.run c.args.metric _ c.in_ok-rows.rows.items has (search rules) (c.in_ok-rows.ensures.shown usable) in
     unless_broken measurement_cells (λ row. Null ∷ Words c.args.service.now ∷ row) IsMeasurementWithin _ c.in_ok-rows.rows.items told (rw c.as_slice.ensures.value at (c.all.ensures.broken is))
     (all-filter IsMeasurementWithin (is_measurement_in c.args.service.now c.args.run c.args.metric) t.measurements within)
