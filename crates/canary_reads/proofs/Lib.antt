@@ -26,3 +26,5 @@ pub mod TableRows
 pub mod DeskRows
 pub mod Sequence
 pub mod Meta
+mod FirstTexts
+mod FoundMetrics

@@ -9,3 +9,5 @@ pub mod Breaks
 pub mod Faults
 pub mod Told
 pub mod Reader
+pub mod First
+pub mod Metrics

@@ -15,9 +15,11 @@
 pub mod callers;
 mod columns;
 pub mod fault;
+pub mod first;
 mod held;
 pub mod histories;
 pub mod lists;
+pub mod metrics;
 pub mod pages;
 pub mod reader;
 pub mod runs;

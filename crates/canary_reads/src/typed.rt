@@ -72,7 +72,7 @@ fn is_meta(rows: &[Row]) -> bool
 }
 
 // That the number stands in this column.
-fn is_at(row: &Row, at: usize, number: u32) -> bool
+pub(crate) fn is_at(row: &Row, at: usize, number: u32) -> bool
     ensures { IsTrue result ↔ (column row.now at ≡ whole number) }
 {
     match row.get_ref(at) {
