@@ -16,3 +16,4 @@ mod HistoryLemmas
 mod StateLemmas
 mod RunsSame
 mod JudgedPasts
+mod MeasuredLemmas

@@ -5,4 +5,5 @@ pub mod Templates
 pub mod Strategies
 pub mod Bindings
 pub mod OfService
+pub mod Measured
 pub mod OneService

@@ -15,6 +15,7 @@ ghost use Rattle.canary_adopting.specs.OneService.{IsServiceFound};
 ghost use Rattle.canary_reads.specs.Reader.{IsKept};
 
 use crate::fault::read_fault;
+use crate::measured::measured;
 use crate::totals::Totals;
 use crate::{alone, bindings, counts, histories, runs, strategies};
 use canary_base::error::Memory;
@@ -137,8 +138,7 @@ fn judge_past<Q: Reader>(
 {
     let count = row.standing.runs;
     let runs = runs::runs(conn, alloc, &row.name, &stand.strategy, count)?;
-    let measurements = histories::measurements(conn, alloc, &row.name)?;
-    counts::counted(alloc, runs.as_slice(), measurements.as_slice())?;
+    let measurements = measured(conn, alloc, &row.name, runs.as_slice())?;
     let history = histories::history(conn, alloc, &row.name)?;
     let bindings = counts::binding_count(alloc, &stand.bound, runs.as_slice())?;
     judge_parts(alloc, stand, count, runs.as_slice())?;
@@ -146,7 +146,7 @@ fn judge_past<Q: Reader>(
         runs: u64::from(count),
         bindings,
         tallies: counts::tally_count(runs.as_slice())?,
-        measurements: measurements.as_slice().len() as u64,
+        measurements,
         lines: history.as_slice().len() as u64,
     })
 }
