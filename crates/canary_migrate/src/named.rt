@@ -22,7 +22,7 @@ pub(crate) fn attempt_bindings(
     made: &ServiceSpec,
 ) -> Result<Listed<BindingRow>, Memory>
     ensures { IfOk result
-        (λ rows. rows ≡ bindings_to name.now 0 (all_names (analyses made.now))) }
+        (λ rows. rows ≡ bindings_to name 0 (all_names (analyses made.now))) }
 {
     let names = Command::Service(made.copy(alloc)?).names_looked_up(alloc, None)?;
     bindings_to(alloc, name, 0, names.as_slice())
@@ -68,7 +68,7 @@ fn bindings_to(
     run: u32,
     names: &[Name],
 ) -> Result<Listed<BindingRow>, Memory>
-    ensures { IfOk result (λ rows. rows ≡ bindings_to service.now run names.now) }
+    ensures { IfOk result (λ rows. rows ≡ bindings_to service run names.now) }
 {
     let named = first_of_each(alloc, names)?;
     let revisions = distinct(alloc, named.as_slice())?;
@@ -94,7 +94,7 @@ fn rows_of(
     run: u32,
     revisions: &[Revision],
 ) -> Result<Listed<BindingRow>, Memory>
-    ensures { IfOk result (λ rows. rows ≡ map (binding_row service.now run) revisions.now) }
+    ensures { IfOk result (λ rows. rows ≡ map (binding_row service run) revisions.now) }
 {
     let mut rows = Listed::of(Vec::new(alloc));
     for revision in revisions {
