@@ -192,8 +192,8 @@ flag_passed None passed = tt
 flag_passed (Some t) passed =
     subst IsTrueOrFalse (sym passed.1) (go (bytes_eq passed.0 (codes "true")) (bytes_eq passed.0 (codes "false")) (bytes_eq-Decides passed.0 (codes "true")).0 (bytes_eq-Decides passed.0 (codes "false")).0 passed.2)
   where
-    go : (is_true is_false : Bool) → (is_true ≡ true → passed.0 ≡ codes "true") → (is_false ≡ true → passed.0 ≡ codes "false") → (is_true || is_false) ≡ true → IsTrueOrFalse passed.0
-    go true is_false when_true when_false test = inl (when_true refl)
+    go : (on off : Bool) → (on ≡ true → passed.0 ≡ codes "true") → (off ≡ true → passed.0 ≡ codes "false") → (on || off) ≡ true → IsTrueOrFalse passed.0
+    go true off when_true when_false test = inl (when_true refl)
     go false true when_true when_false test = inr (when_false refl)
     go false false when_true when_false test = cc
 

@@ -167,7 +167,7 @@ abbrev pub number_given : Text → List Row → Option ℕ
 number_given name rows =
     option_map (λ text. digits_value 10 (without_leading_plus text)) (one_of name rows)
 
--- the flag was given: clap holds `true` for it, and else `false`
+-- whether the flag was given: then clap has `true` for it, and else `false`
 abbrev pub flag_given : Text → List Row → Bool
 flag_given name rows = option_map_or (bytes_eq (codes "true")) (one_of name rows) false
 
@@ -286,11 +286,11 @@ HasText name rows = (text : Text) × (text_given name rows ≡ Some text)
 abbrev pub MayHaveNumber : Text → ℕ → List Row → Type 0
 MayHaveNumber name most rows = IfSome (one_of name rows) (IsUnsignedIn 1 most)
 
--- what clap holds for a flag
+-- what clap has for a flag
 abbrev pub IsTrueOrFalse : Text → Type 0
 IsTrueOrFalse text = (text ≡ codes "true") ⊎ (text ≡ codes "false")
 
--- if clap holds a text for the flag, then `true` or `false`
+-- if clap has a text for the flag, then `true` or `false`
 abbrev pub MayHaveFlag : Text → List Row → Type 0
 MayHaveFlag name rows = IfSome (one_of name rows) IsTrueOrFalse
 
