@@ -6,7 +6,7 @@ use Rattle.canary_once.specs.declared.book.BookFault.TheVariants as book
 use Rattle.canary_files.specs.Writes.{Known}
 use Rattle.canary_page.specs.declared.fault.PageFault.{PageFault}
 use Rattle.canary_page.specs.declared.fault.PageFault.TheVariants as fault
-use Rattle.canary_page.specs.Pages.{IsOfPieces}
+use Rattle.canary_markup.specs.Pages.{IsOfPieces}
 
 abbrev pub of_book : BookFault → PageFault
 of_book book.Memory = fault.Memory

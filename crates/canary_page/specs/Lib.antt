@@ -1,3 +1,1 @@
-pub mod Escaping
-pub mod Pages
 pub mod Drawn

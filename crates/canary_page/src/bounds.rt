@@ -78,6 +78,7 @@ fn number_of(text: &str) -> Word {
 }
 
 // A condition that is read from the left: where the present word begins, and what it is made of.
+#[derive(Drop)]
 struct Scan<'a> {
     text: &'a str,
     begin: usize,

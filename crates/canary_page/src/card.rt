@@ -1,14 +1,14 @@
 //! A service as a card.
-use crate::element::{Attribute, Element};
 use crate::figure::{badge, counted};
 use crate::history::history;
-use crate::markup::Markup;
 use crate::run::run;
 use crate::shown::{Shown, ShownRun};
 use crate::track::{bar, track};
 use crate::waits::waits;
 use canary_base::error::Memory;
 use canary_base::moments::Moment;
+use canary_markup::element::{Attribute, Element};
+use canary_markup::markup::Markup;
 use canary_release::service::Service;
 use std::alloc::Global;
 

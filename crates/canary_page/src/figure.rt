@@ -2,8 +2,6 @@
 use crate::bounds::bounds_of;
 use crate::chart::Chart;
 use crate::conditions::Conditions;
-use crate::element::{Attribute, Element};
-use crate::markup::Markup;
 use crate::numbers::{Span, whole_of};
 use crate::plot::{Frame, axis, bounds, curve, outcome, points};
 use crate::time::clock;
@@ -11,6 +9,8 @@ use canary_base::error::Memory;
 use canary_base::lists::Text;
 use canary_base::moments::Moment;
 use canary_condition::outcome::Phase;
+use canary_markup::element::{Attribute, Element};
+use canary_markup::markup::Markup;
 use canary_metric::metric::{Metric, effective_count};
 use canary_metric::tally::Tally;
 use canary_metric::verdict::is_completed;

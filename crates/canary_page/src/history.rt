@@ -1,9 +1,9 @@
 //! A service's history.
-use crate::element::Element;
 use crate::figure::counted;
-use crate::markup::Markup;
 use crate::time::stamp;
 use canary_base::names::Name;
+use canary_markup::element::Element;
+use canary_markup::markup::Markup;
 use canary_plan::line::Line;
 
 // The most lines of a history that a page has.

@@ -1,7 +1,7 @@
 //! What the marks of a page mean.
-use crate::element::{Attribute, Element};
-use crate::markup::Markup;
 use canary_condition::outcome::Phase;
+use canary_markup::element::{Attribute, Element};
+use canary_markup::markup::Markup;
 
 pub(crate) fn key(page: &mut Markup) {
     page.open(Element::Paragraph, "key");

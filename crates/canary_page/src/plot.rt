@@ -1,11 +1,11 @@
 //! A chart as SVG. Its lengths are tenths of a pixel.
 use crate::chart::{Chart, Point};
-use crate::element::{Attribute, Element};
-use crate::markup::Markup;
 use crate::numbers::{Span, part, whole_of};
 use crate::time::clock;
 use canary_base::moments::Moment;
 use canary_condition::outcome::{Outcome, Phase};
+use canary_markup::element::{Attribute, Element};
+use canary_markup::markup::Markup;
 
 const LEFT: u64 = 400;
 

@@ -130,7 +130,16 @@ fn read_run<B: Book>(
         return Ok(());
     };
     let templates = templates_of(alloc, book, record.analysis.revisions())?;
-    runs.push(shown_run(alloc, record, &templates)?)?;
+    Ok(push_run(alloc, runs, record, &templates)?)
+}
+
+fn push_run(
+    alloc: Global,
+    runs: &mut Vec<ShownRun>,
+    record: RunRecord,
+    templates: &Templates,
+) -> Result<(), Memory> {
+    runs.push(shown_run(alloc, record, templates)?)?;
     Ok(())
 }
 
@@ -141,11 +150,16 @@ fn templates_of<B: Book>(
 ) -> Result<Templates, PageFault>
     ensures { Stays (B.state book.old) (B.state book.new) }
 {
+    let names = names_of(alloc, revisions)?;
+    Ok(book.templates(names.as_slice())?)
+}
+
+fn names_of(alloc: Global, revisions: &[Revision]) -> Result<Vec<Name>, Memory> {
     let mut names = Vec::new(alloc);
     for revision in revisions {
         names.push(revision.template)?;
     }
-    Ok(book.templates(names.as_slice())?)
+    Ok(names)
 }
 
 fn shown_run(alloc: Global, record: RunRecord, templates: &Templates) -> Result<ShownRun, Memory> {

@@ -1,13 +1,13 @@
 //! A run of an analysis.
 use crate::chart::Chart;
 use crate::conditions::Conditions;
-use crate::element::Element;
 use crate::figure::{Measured, badge, figure};
-use crate::markup::Markup;
 use crate::shown::ShownRun;
 use crate::time::clock;
 use canary_base::error::Memory;
 use canary_base::moments::Moment;
+use canary_markup::element::Element;
+use canary_markup::markup::Markup;
 use canary_metric::metric::Metric;
 use canary_metric::tally::Tally;
 use canary_plan::analysis_parts::Revision;

@@ -1,9 +1,9 @@
 //! The services that are done.
-use crate::element::{Attribute, Element};
 use crate::figure::badge;
-use crate::markup::Markup;
 use crate::time::stamp;
 use crate::track::bar;
+use canary_markup::element::{Attribute, Element};
+use canary_markup::markup::Markup;
 use canary_plan::line::Line;
 use canary_release::service::Service;
 

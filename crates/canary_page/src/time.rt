@@ -1,7 +1,7 @@
 //! Moments and spans of time, for people.
-use crate::element::{Attribute, Element};
-use crate::markup::Markup;
 use canary_base::moments::Moment;
+use canary_markup::element::{Attribute, Element};
+use canary_markup::markup::Markup;
 
 const MINUTE: u64 = 60;
 

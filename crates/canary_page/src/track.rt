@@ -1,8 +1,8 @@
 //! The steps of a strategy, and the weight.
-use crate::element::{Attribute, Element};
-use crate::markup::Markup;
 use crate::time::span;
 use canary_base::names::Name;
+use canary_markup::element::{Attribute, Element};
+use canary_markup::markup::Markup;
 use canary_plan::step::Step;
 use canary_release::service::Service;
 use canary_release::stand::State;

@@ -1,11 +1,11 @@
 //! What a release waits for, and what can be said to it.
-use crate::element::Element;
-use crate::markup::Markup;
 use crate::shown::{Shown, Standing, step_of};
 use crate::time::{clock, since, span};
 use canary_base::durations::Seconds;
 use canary_base::moments::Moment;
 use canary_base::names::{Label, Name};
+use canary_markup::element::Element;
+use canary_markup::markup::Markup;
 use canary_plan::line::{Line, LineEvent};
 use canary_plan::step::Step;
 use canary_release::service::Service;

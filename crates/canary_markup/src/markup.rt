@@ -1,7 +1,7 @@
 //! The bytes of a page, piece after piece.
 ghost use Rattle.std.specs.Prelude.{◌≡◌, [], ◌∷◌, ◌++◌, IfOk, OnOk};
-ghost use Rattle.canary_page.specs.Escaping.{escaped, escaped_byte};
-ghost use Rattle.canary_page.specs.Pages.{bytes_of, IsOfPieces};
+ghost use Rattle.canary_markup.specs.Escaping.{escaped, escaped_byte};
+ghost use Rattle.canary_markup.specs.Pages.{bytes_of, IsOfPieces};
 
 use crate::element::{Attribute, Element};
 use crate::style::STYLE;
@@ -13,9 +13,9 @@ use itoa::Buffer;
 use std::alloc::Global;
 use std::marker::Model;
 
-// What stands before the title. The policy has the browser itself refuse whatever a page would
-// fetch or run.
-pub(crate) const HEAD: &str = concat!(
+/// What stands before the title. The policy has the browser itself refuse whatever a page would
+/// fetch or run.
+pub const HEAD: &str = concat!(
     "<!DOCTYPE html><html lang=\"en\"><head><meta charset=\"utf-8\">",
     "<meta name=\"viewport\" content=\"width=device-width, initial-scale=1\">",
     "<meta http-equiv=\"Content-Security-Policy\" ",
@@ -52,7 +52,7 @@ pub enum Piece<'a> {
 /// A part of a page: bytes that are those of pieces. If memory ran out, it has none, and takes no
 /// more.
 #[derive(Drop)]
-pub(crate) struct Markup {
+pub struct Markup {
     alloc: Global,
     bytes: Vec<u8>,
     has_failed: bool,
@@ -60,7 +60,7 @@ pub(crate) struct Markup {
 
 impl Model for Markup {
     ghost use Rattle.std.specs.Prelude.{List, ℕ};
-    ghost use Rattle.canary_page.specs.Pages.{IsOfPieces};
+    ghost use Rattle.canary_markup.specs.Pages.{IsOfPieces};
 
     ghost Value = { List ℕ };
 
@@ -70,8 +70,8 @@ impl Model for Markup {
 }
 
 impl Markup {
-    // One of no piece.
-    pub(crate) fn new(alloc: Global) -> Markup
+    /// One of no piece.
+    pub fn new(alloc: Global) -> Markup
         ensures { result ≡ [] }
     {
         Markup {
@@ -81,8 +81,8 @@ impl Markup {
         }
     }
 
-    // With one piece more.
-    pub(crate) fn add(&mut self, piece: Piece<'_>) {
+    /// With one piece more.
+    pub fn add(&mut self, piece: Piece<'_>) {
         if !self.has_failed && put(&mut self.bytes, piece).is_err() {
             self.fail();
         }
@@ -94,8 +94,8 @@ impl Markup {
         self.has_failed = true;
     }
 
-    // Its bytes, or `Memory` if that ran out.
-    pub(crate) fn bytes(&self) -> Result<&[u8], Memory>
+    /// Its bytes, or `Memory` if that ran out.
+    pub fn bytes(&self) -> Result<&[u8], Memory>
         ensures { IfOk result (λ bytes. IsOfPieces bytes.now) }
     {
         if self.has_failed {
@@ -107,70 +107,77 @@ impl Markup {
 }
 
 impl Markup {
-    pub(crate) fn text(&mut self, text: &str) {
+    /// A text, escaped.
+    pub fn text(&mut self, text: &str) {
         self.add(Piece::Text(text));
     }
 
-    pub(crate) fn number(&mut self, number: u64) {
+    /// A number, in decimal.
+    pub fn number(&mut self, number: u64) {
         self.add(Piece::Number(number));
     }
 
-    pub(crate) fn start(&mut self, element: Element) {
+    /// The start tag of an element begins.
+    pub fn start(&mut self, element: Element) {
         self.add(Piece::Start(element));
     }
 
-    pub(crate) fn start_end(&mut self) {
+    /// It ends.
+    pub fn start_end(&mut self) {
         self.add(Piece::StartEnd);
     }
 
-    pub(crate) fn end(&mut self, element: Element) {
+    /// The end tag of an element.
+    pub fn end(&mut self, element: Element) {
         self.add(Piece::End(element));
     }
 
-    pub(crate) fn value(&mut self, attribute: Attribute) {
+    /// The value of an attribute begins.
+    pub fn value(&mut self, attribute: Attribute) {
         self.add(Piece::Value(attribute));
     }
 
-    pub(crate) fn value_end(&mut self) {
+    /// It ends.
+    pub fn value_end(&mut self) {
         self.add(Piece::ValueEnd);
     }
 
-    // An attribute with this text.
-    pub(crate) fn attribute(&mut self, attribute: Attribute, text: &str) {
+    /// An attribute with this text.
+    pub fn attribute(&mut self, attribute: Attribute, text: &str) {
         self.value(attribute);
         self.text(text);
         self.value_end();
     }
 
-    // An attribute with this number.
-    pub(crate) fn measure(&mut self, attribute: Attribute, number: u64) {
+    /// An attribute with this number.
+    pub fn measure(&mut self, attribute: Attribute, number: u64) {
         self.value(attribute);
         self.number(number);
         self.value_end();
     }
 
-    // The start tag of an element of this class.
-    pub(crate) fn open(&mut self, element: Element, class: &str) {
+    /// The start tag of an element of this class.
+    pub fn open(&mut self, element: Element, class: &str) {
         self.start(element);
         self.attribute(Attribute::Class, class);
         self.start_end();
     }
 
-    // An element without attributes, up to its text.
-    pub(crate) fn begin(&mut self, element: Element) {
+    /// An element without attributes, up to its text.
+    pub fn begin(&mut self, element: Element) {
         self.start(element);
         self.start_end();
     }
 
-    // An element of this class with this text.
-    pub(crate) fn leaf(&mut self, element: Element, class: &str, text: &str) {
+    /// An element of this class with this text.
+    pub fn leaf(&mut self, element: Element, class: &str, text: &str) {
         self.open(element, class);
         self.text(text);
         self.end(element);
     }
 
-    // A moment as RFC 3339 has it, in UTC.
-    pub(crate) fn moment(&mut self, moment: Moment) {
+    /// A moment as RFC 3339 has it, in UTC.
+    pub fn moment(&mut self, moment: Moment) {
         let mut text = String::new(self.alloc);
         match moment.text(&mut text) {
             Ok(()) => self.text(text.as_str()),
@@ -178,8 +185,8 @@ impl Markup {
         }
     }
 
-    // The words of a line of a history.
-    pub(crate) fn line(&mut self, line: &Line) {
+    /// The words of a line of a history.
+    pub fn line(&mut self, line: &Line) {
         let mut text = String::new(self.alloc);
         match line.words(&mut text) {
             Ok(()) => self.text(text.as_str()),
@@ -187,8 +194,8 @@ impl Markup {
         }
     }
 
-    // A result.
-    pub(crate) fn result(&mut self, value: &Value) {
+    /// A result.
+    pub fn result(&mut self, value: &Value) {
         let mut text = String::new(self.alloc);
         match value.words(&mut text) {
             Ok(()) => self.text(text.as_str()),
@@ -196,8 +203,8 @@ impl Markup {
         }
     }
 
-    // A whole number.
-    pub(crate) fn whole(&mut self, number: i64) {
+    /// A whole number.
+    pub fn whole(&mut self, number: i64) {
         self.text(Buffer::new().format(number));
     }
 }

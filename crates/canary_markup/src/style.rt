@@ -1,7 +1,7 @@
 //! The style sheet of a page.
 
-// Light and dark by the reader's scheme, and for print. It fetches nothing.
-pub(crate) const STYLE: &str = concat!(
+/// The style sheet: light and dark by the reader's scheme, and for print. It fetches nothing.
+pub const STYLE: &str = concat!(
     ":root{color-scheme:light dark;--bg:#f6f7f9;--card:#fff;--ink:#1d2430;--soft:#586372;",
     "--line:#d9dee6;--ok:#1a7f4b;--bad:#c2332f;--hold:#9a5b00;--go:#2462c2;--err:#7a4fb5;",
     "--rest:#c7cfda}",

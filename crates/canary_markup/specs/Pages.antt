@@ -1,14 +1,14 @@
 -- A page, piece after piece.
 use Rattle.std.specs.Prelude.{◌≡◌, ℕ, List, [], ◌∷◌, ◌++◌, flat_map, codes, decimal}
-use Rattle.canary_page.specs.declared.element.Element.{Element}
-use Rattle.canary_page.specs.declared.element.Element.TheVariants as element
-use Rattle.canary_page.specs.declared.element.Attribute.{Attribute}
-use Rattle.canary_page.specs.declared.element.Attribute.TheVariants as attribute
-use Rattle.canary_page.specs.declared.markup.Piece.{Piece}
-use Rattle.canary_page.specs.declared.markup.Piece.TheVariants as piece
-use Rattle.canary_page.specs.declared.markup.TheConstants.{HEAD}
-use Rattle.canary_page.specs.declared.style.TheConstants.{STYLE}
-use Rattle.canary_page.specs.Escaping.{escaped}
+use Rattle.canary_markup.specs.declared.element.Element.{Element}
+use Rattle.canary_markup.specs.declared.element.Element.TheVariants as element
+use Rattle.canary_markup.specs.declared.element.Attribute.{Attribute}
+use Rattle.canary_markup.specs.declared.element.Attribute.TheVariants as attribute
+use Rattle.canary_markup.specs.declared.markup.Piece.{Piece}
+use Rattle.canary_markup.specs.declared.markup.Piece.TheVariants as piece
+use Rattle.canary_markup.specs.declared.markup.TheConstants.{HEAD}
+use Rattle.canary_markup.specs.declared.style.TheConstants.{STYLE}
+use Rattle.canary_markup.specs.Escaping.{escaped}
 
 -- the name of an element in a tag
 abbrev pub element_name : Element → List ℕ

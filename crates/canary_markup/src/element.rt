@@ -1,6 +1,6 @@
 //! The elements and the attributes that a page may have, of HTML and of SVG.
 ghost use Rattle.std.specs.Prelude.{◌≡◌};
-ghost use Rattle.canary_page.specs.Pages.{attribute_name, element_name};
+ghost use Rattle.canary_markup.specs.Pages.{attribute_name, element_name};
 
 /// An element. None of them runs a script or fetches anything.
 #[derive(Clone, Copy, Debug, PartialEq, Eq)]
