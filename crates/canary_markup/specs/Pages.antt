@@ -83,7 +83,7 @@ bytes_of (piece.Value a) = codes " " ++ attribute_name a ++ codes "=\""
 bytes_of piece.ValueEnd = codes "\""
 bytes_of piece.StartEnd = codes ">"
 bytes_of (piece.End e) = codes "</" ++ element_name e ++ codes ">"
-bytes_of (piece.Text text) = escaped text
+bytes_of (piece.Text text) = escaped text.now
 bytes_of (piece.Number n) = decimal n
 
 -- the bytes of pieces, one after another

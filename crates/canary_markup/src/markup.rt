@@ -1,6 +1,6 @@
 //! The bytes of a page, piece after piece.
 ghost use Rattle.std.specs.Prelude.{◌≡◌, [], ◌∷◌, ◌++◌, IfOk, OnOk};
-ghost use Rattle.canary_markup.specs.Escaping.{escaped, escaped_byte};
+ghost use Rattle.canary_markup.specs.Escaping.{escaped, escaped_byte, is_control};
 ghost use Rattle.canary_markup.specs.Pages.{bytes_of, IsOfPieces};
 
 use crate::element::{Attribute, Element};
@@ -81,10 +81,10 @@ impl Markup {
         }
     }
 
-    /// With one piece more.
+    /// With one piece more, unless memory ran out.
     pub fn add(&mut self, piece: Piece<'_>) {
-        if !self.has_failed && put(&mut self.bytes, piece).is_err() {
-            self.fail();
+        if !self.has_failed && !put_or_clear(&mut self.bytes, piece) {
+            self.has_failed = true;
         }
     }
 
@@ -209,9 +209,22 @@ impl Markup {
     }
 }
 
+// Appends the bytes of a piece, or has no bytes if memory ran out: whether it did not.
+fn put_or_clear(bytes: &mut Vec<u8>, piece: Piece<'_>) -> bool
+    ensures { IsOfPieces bytes.old.items → IsOfPieces bytes.new.items }
+{
+    match put(bytes, piece) {
+        Ok(()) => true,
+        Err(_) => {
+            bytes.clear();
+            false
+        }
+    }
+}
+
 // Appends the bytes of a piece. If memory runs out, some of them may be there.
 fn put(bytes: &mut Vec<u8>, piece: Piece<'_>) -> Result<(), Memory>
-    ensures { OnOk result (bytes.new.items ≡ bytes.old.items ++ bytes_of piece) }
+    ensures { OnOk result (bytes.new.items ≡ bytes.old.items ++ bytes_of piece.entry) }
 {
     match piece {
         Piece::Head => put_own(bytes, HEAD),
@@ -279,15 +292,31 @@ fn put_escaped(bytes: &mut Vec<u8>, text: &[u8]) -> Result<(), Memory>
 fn put_escaped_byte(bytes: &mut Vec<u8>, byte: u8) -> Result<(), Memory>
     ensures { OnOk result (bytes.new.items ≡ bytes.old.items ++ escaped_byte byte) }
 {
-    match byte {
-        b'&' => put_own(bytes, "&amp;"),
-        b'<' => put_own(bytes, "&lt;"),
-        b'>' => put_own(bytes, "&gt;"),
-        b'"' => put_own(bytes, "&quot;"),
-        b'\'' => put_own(bytes, "&#39;"),
-        0..=31 | 127 => put_own(bytes, "\u{fffd}"),
-        _ => put_byte(bytes, byte),
+    if byte == b'&' {
+        return put_own(bytes, "&amp;");
     }
+    if byte == b'<' {
+        return put_own(bytes, "&lt;");
+    }
+    if byte == b'>' {
+        return put_own(bytes, "&gt;");
+    }
+    if byte == b'"' {
+        return put_own(bytes, "&quot;");
+    }
+    if byte == b'\'' {
+        return put_own(bytes, "&#39;");
+    }
+    if is_control(byte) {
+        return put_own(bytes, "\u{fffd}");
+    }
+    put_byte(bytes, byte)
+}
+
+fn is_control(byte: u8) -> bool
+    ensures { result ≡ is_control byte }
+{
+    byte <= 31 || byte == 127
 }
 
 fn put_byte(bytes: &mut Vec<u8>, byte: u8) -> Result<(), Memory>

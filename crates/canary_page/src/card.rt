@@ -12,13 +12,14 @@ use canary_markup::markup::Markup;
 use canary_release::service::Service;
 use std::alloc::Global;
 
-// Draws a service that is not done, with the runs of its attempt, the newest first.
-pub(crate) fn card(
-    alloc: Global,
-    page: &mut Markup,
-    shown: &Shown,
-    now: Moment,
-) -> Result<(), Memory> {
+// The card of a service that is not done, with the runs of its attempt, the newest first.
+pub(crate) fn card(alloc: Global, shown: &Shown, now: Moment) -> Result<Markup, Memory> {
+    let mut page = Markup::new(alloc);
+    draw_card(alloc, &mut page, shown, now)?;
+    Ok(page)
+}
+
+fn draw_card(alloc: Global, page: &mut Markup, shown: &Shown, now: Moment) -> Result<(), Memory> {
     let service = &shown.service;
     page.start(Element::Article);
     page.attribute(Attribute::Class, service.status().text());

@@ -96,11 +96,13 @@ fn with_numbers(span: Option<Span>, numbers: &[i64]) -> Option<Span> {
     span
 }
 
-// The end of the run, or a measurement that was taken after it.
+// The end of the run, or what came after it: its start, where the present moment is before that, or
+// its last measurement.
 fn last_of(shown: Measured<'_>) -> Moment {
+    let end = shown.end.max(shown.started);
     match shown.tally.last() {
-        Some(last) if last.get() > shown.end.get() => last,
-        _ => shown.end,
+        Some(last) => end.max(last),
+        None => end,
     }
 }
 

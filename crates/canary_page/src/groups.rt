@@ -78,6 +78,13 @@ pub(crate) fn count_standing(placed: &[Placed], standing: Standing) -> u64 {
         .count() as u64
 }
 
+// How many of these wait for somebody.
+pub(crate) fn count_waiting(placed: &[Placed]) -> u64 {
+    count_standing(placed, Standing::Aborted)
+        .saturating_add(count_standing(placed, Standing::Held))
+        .saturating_add(count_standing(placed, Standing::Waits))
+}
+
 // How many of these have that status.
 pub(crate) fn count_status(placed: &[Placed], status: Status) -> u64 {
     placed

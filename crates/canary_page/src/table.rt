@@ -6,6 +6,7 @@ use canary_markup::element::{Attribute, Element};
 use canary_markup::markup::Markup;
 use canary_plan::line::Line;
 use canary_release::service::Service;
+use std::alloc::Global;
 
 // The start of the table, with its heading.
 pub(crate) fn begin_table(page: &mut Markup) {
@@ -33,7 +34,13 @@ pub(crate) fn end_table(page: &mut Markup) {
 }
 
 // The row of a service.
-pub(crate) fn row(page: &mut Markup, service: &Service, lines: &[Line]) {
+pub(crate) fn row(alloc: Global, service: &Service, lines: &[Line]) -> Markup {
+    let mut page = Markup::new(alloc);
+    draw_row(&mut page, service, lines);
+    page
+}
+
+fn draw_row(page: &mut Markup, service: &Service, lines: &[Line]) {
     page.start(Element::Row);
     page.attribute(Attribute::Id, service.name().as_str());
     page.start_end();
@@ -45,9 +52,7 @@ pub(crate) fn row(page: &mut Markup, service: &Service, lines: &[Line]) {
     page.begin(Element::Cell);
     badge(page, service.status().text());
     page.end(Element::Cell);
-    page.begin(Element::Cell);
-    page.text(service.version().as_str());
-    page.end(Element::Cell);
+    page.leaf(Element::Cell, "version", service.version().as_str());
     page.begin(Element::Cell);
     bar(page, service);
     page.end(Element::Cell);
