@@ -133,7 +133,8 @@ def card(article):
         yield f"  older {older.text()}"
     history = article.first("details")
     yield f"  history {history.first('summary').text()}"
-    for row in history.all("tr"):
+    rows = list(history.all("tr"))
+    for row in rows if len(rows) < 20 else rows[:1]:
         yield f"    {' '.join(cell.text() for cell in row.all('td'))}"
 
 
@@ -143,6 +144,8 @@ def outline(root):
     for item in root.first("ul", "chips").all("li"):
         yield f"chip {item.text()}"
     for node in root.first("main").inside:
+        if isinstance(node, str):
+            raise Broken(f"a text between the parts: {node!r}")
         if node.tag == "h2":
             yield f"part {node.text()}"
         elif node.tag == "article":

@@ -20,9 +20,9 @@ pub(crate) enum Sight {
     Page { every: Option<u64> },
 }
 
-/// Draws this of the desk in a file, once. The file is opened as `open_found` does it, and no row of
-/// it is changed. If a desk has it open, a copy is read, which stands beside the file meanwhile, in
-/// a folder that its owner alone may read.
+/// Draws this of the desk in a file, once. The file is opened as `open_found` does it, and no row
+/// of it is changed. If a desk has it open, a copy is read, which stands beside the file meanwhile,
+/// in a folder that its owner alone may read.
 ///
 /// # Errors
 /// `File` if there is no such file, and nothing is made then, or if no copy can be made beside it.

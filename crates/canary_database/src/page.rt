@@ -9,10 +9,10 @@ use std::time::Duration;
 // The name of standard output.
 const STANDARD_OUTPUT: &str = "-";
 
-/// Draws a page of the services in a file, as they stand at the present moment, into the file of the
-/// name `out`, or on `output` where that is `-`: once, or again each time after so many seconds. The
-/// page is written beside the file of that name and renamed to it, so that this is always a whole
-/// page. The desk's file is read as `status` reads it.
+/// Draws a page of the services in a file, as they stand at the present moment, into the file of
+/// the name `out`, or on `output` where that is `-`: once, or again each time after so many
+/// seconds. The page is written beside the file of that name and renamed to it, so that this is
+/// always a whole page. The desk's file is read as `status` reads it.
 ///
 /// # Errors
 /// As `status` of this crate; `Write` also if the page cannot be written beside `out`, or renamed.

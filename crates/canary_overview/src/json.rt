@@ -1,5 +1,6 @@
-//! A service, and its open runs, as JSON (RFC 8259). Its texts are names, labels, words and moments,
-//! none of which has a byte that JSON escapes. The keys of each object stand in ascending order.
+//! A service, and its open runs, as JSON (RFC 8259). Its texts are names, labels, words and
+//! moments, none of which has a byte that JSON escapes. The keys of each object stand in ascending
+//! order.
 use canary_base::error::Memory;
 use canary_base::moments::Moment;
 use canary_condition::outcome::Phase;

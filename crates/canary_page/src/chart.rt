@@ -1,4 +1,5 @@
 //! The measurements of a metric that a chart shows.
+use crate::numbers::{Span, whole_of};
 use canary_base::error::Memory;
 use canary_base::moments::Moment;
 use canary_condition::outcome::{Outcome, Phase};
@@ -32,6 +33,7 @@ pub(crate) struct Chart {
     // How many were seen, and how many of these were not Successful.
     seen: u64,
     seen_bad: u64,
+    span: Option<Span>,
     points: Vec<Point>,
 }
 
@@ -46,6 +48,7 @@ impl Chart {
             whole_bad: bad,
             seen: 0,
             seen_bad: 0,
+            span: None,
             points: Vec::new(alloc),
         }
     }
@@ -57,6 +60,9 @@ impl Chart {
         self.seen = self.seen.saturating_add(1);
         if is_bad {
             self.seen_bad = self.seen_bad.saturating_add(1);
+        }
+        if let Some(number) = whole_of(&recorded.outcome) {
+            self.span = Some(Span::with(self.span, number));
         }
         if shows {
             push_point(alloc, &mut self.points, recorded)?;
@@ -83,6 +89,11 @@ impl Chart {
 
     pub(crate) fn points(&self) -> &[Point] {
         self.points.as_slice()
+    }
+
+    // From the least result to the greatest, of those that are whole numbers, if there are any.
+    pub(crate) fn span(&self) -> Option<Span> {
+        self.span
     }
 
     // How many measurements there are.

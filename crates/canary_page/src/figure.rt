@@ -2,7 +2,7 @@
 use crate::bounds::bounds_of;
 use crate::chart::Chart;
 use crate::conditions::Conditions;
-use crate::numbers::{Span, whole_of};
+use crate::numbers::Span;
 use crate::plot::{Frame, axis, bounds, curve, outcome, points};
 use crate::time::clock;
 use canary_base::error::Memory;
@@ -78,14 +78,7 @@ fn text_of(condition: &Option<Text>) -> &str {
 
 // The numbers that a chart has, and those of the bounds.
 fn span_of(chart: &Chart, success: &[i64], failure: &[i64]) -> Option<Span> {
-    let span = with_numbers(None, success);
-    let mut span = with_numbers(span, failure);
-    for point in chart.points() {
-        if let Some(number) = whole_of(&point.outcome) {
-            span = Some(Span::with(span, number));
-        }
-    }
-    span
+    with_numbers(with_numbers(chart.span(), success), failure)
 }
 
 fn with_numbers(span: Option<Span>, numbers: &[i64]) -> Option<Span> {
@@ -160,7 +153,7 @@ fn in_words(page: &mut Markup, shown: Measured<'_>) {
     phase_count(page, tally.failed(), Phase::Failed);
     phase_count(page, tally.inconclusive(), Phase::Inconclusive);
     phase_count(page, tally.errors(), Phase::Error);
-    if let Some(span) = span_of(shown.chart, &[], &[]) {
+    if let Some(span) = shown.chart.span() {
         page.text("; results from ");
         page.whole(span.low);
         page.text(" to ");
@@ -207,26 +200,33 @@ fn notes(page: &mut Markup, shown: Measured<'_>) {
 }
 
 fn conditions(page: &mut Markup, conditions: &Conditions) {
-    page.begin(Element::Paragraph);
     if !conditions.is_known {
-        page.text("The template was revised since, so its conditions are not shown.");
+        sentence(
+            page,
+            "The template was revised since, so its conditions are not shown.",
+        );
     }
     condition(page, "success: ", &conditions.success);
     condition(page, "failure: ", &conditions.failure);
     if conditions.is_known && conditions.success.is_none() && conditions.failure.is_none() {
-        page.text("No condition: each result is a success.");
+        sentence(page, "No condition: each result is a success.");
     }
+}
+
+fn sentence(page: &mut Markup, text: &str) {
+    page.begin(Element::Paragraph);
+    page.text(text);
     page.end(Element::Paragraph);
 }
 
 fn condition(page: &mut Markup, kind: &str, text: &Option<Text>) {
     if let Some(text) = text {
-        page.open(Element::Span, "condition");
+        page.begin(Element::Paragraph);
         page.text(kind);
         page.begin(Element::Code);
         page.text(text.as_str());
         page.end(Element::Code);
-        page.end(Element::Span);
+        page.end(Element::Paragraph);
     }
 }
 
