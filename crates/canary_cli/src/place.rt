@@ -79,6 +79,7 @@ fn files_of(alloc: Global, program: &Program) -> Result<String, AllocError> {
         Program::History { db, .. } => listed(alloc, Some(db), None),
         Program::Export { db, .. } => listed(alloc, Some(db), None),
         Program::Status { db, .. } => listed(alloc, Some(db), None),
+        Program::Page { db, out, .. } => listed(alloc, Some(db), Some(out)),
         Program::Backup { db, copy } => listed(alloc, Some(db), Some(copy)),
         Program::Check { file, request } => listed(alloc, file.as_ref(), request.as_ref()),
     }

@@ -4,8 +4,8 @@
 //! Callers may rest on this: `history` and `export` look at the names that they are given before
 //! they open a file; `pipe`, `serve`, `import`, `history` and `export` make a file that is not
 //! there, and `status`, `page` and `backup` make none. What the file of a name holds no contract
-//! says, so //! what comes of it else is in the contracts of canary_tables, and of canary_programs, over any
-//! book.
+//! says, so what comes of it else is in the contracts of canary_tables, and of canary_programs,
+//! over any book.
 //!
 //! In use (canary_cli, src/perform.rt):
 //!

@@ -31,7 +31,7 @@ both_of : (s t : List ℕ) → IsOfPieces s → IsOfPieces t → IsOfPieces (s +
 both_of s t p q = (p.0 ++ q.0, (λ i. p.1 i ++ q.1 i) ∙ sym (flat_map-append bytes_of p.0 q.0))
 
 -- a text of pieces went out whole
-pub abbrev Wrote : Known → Known → Type 0
+abbrev pub Wrote : Known → Known → Type 0
 Wrote a b = (text : List ℕ) × IsOfPieces text × Appends a b text
 
 pub wrote_none : (a : Known) → Wrote a a
