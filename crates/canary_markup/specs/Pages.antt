@@ -45,7 +45,6 @@ element_name element.Heading = codes "th"
 element_name element.Cell = codes "td"
 element_name element.Time = codes "time"
 element_name element.Code = codes "code"
-element_name element.Apart = codes "bdi"
 
 -- the name of an attribute in a tag
 abbrev pub attribute_name : Attribute → List ℕ

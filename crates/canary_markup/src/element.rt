@@ -38,7 +38,6 @@ pub enum Element {
     Cell,
     Time,
     Code,
-    Apart,
 }
 
 impl Element {
@@ -80,7 +79,6 @@ impl Element {
             Element::Cell => "td",
             Element::Time => "time",
             Element::Code => "code",
-            Element::Apart => "bdi",
         }
     }
 }

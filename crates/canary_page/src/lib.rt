@@ -7,7 +7,7 @@
 //!
 //! In use (canary_programs, src/page.rt):
 //!
-//!     match canary_page::page::draw(alloc, book, names, view, out) {
+//!     match draw(alloc, book, names, view, out) {
 //!         Ok(()) => Ok(()),
 //!         Err(fault) => Err(fault.into()),
 //!     }
