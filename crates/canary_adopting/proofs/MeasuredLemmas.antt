@@ -1,6 +1,6 @@
 -- Measurements that are counted page by page.
 use Rattle.std.proofs.Common.{◌≡◌, ℕ, zero, suc, ◌+◌, ◌<◌, ◌≤◌, List, [], ◌∷◌, ◌++◌, length, map, take, drop, get_or, refl, sym, ap, ap₂, ◌∙◌, subst, arith}
-use Rattle.std.specs.Prelude.{Option, Some, None, filter, Result, Ok, Err, IfOk}
+use Rattle.std.specs.Prelude.{Option, Some, None}
 use Rattle.std.proofs.lemmas.List.{take_more, take_all, drop_more}
 use Rattle.sqlite.specs.State.{State}
 use Rattle.canary_metric.specs.Metrics.{MetricValue}
@@ -10,21 +10,18 @@ use Rattle.canary_release.specs.declared.stand.Stand.{Stand}
 use Rattle.canary_once.specs.declared.record.RunRecord.{RunRecord}
 use Rattle.canary_rows.specs.declared.rows.MeasurementRow.{MeasurementRow}
 use Rattle.canary_rows.specs.declared.rows.ServiceRow.{ServiceRow}
-use Rattle.canary_rows.specs.Limits.{AreWithin}
-use Rattle.canary_rows.specs.Tables.{Tables, is_measurement_of}
+use Rattle.canary_rows.specs.Tables.{Tables}
 use Rattle.canary_schema.specs.Stores.{IsUsable, Stores}
 use Rattle.canary_stored.specs.Values.{measurement_of_row}
 use Rattle.canary_judging.specs.Counting.{IsNext, AreCounted, none_counted, counted_at, counted_all}
 use Rattle.canary_judging.specs.Services.{metrics_of_runs}
 use Rattle.canary_recounting.specs.Recounted.{AreTallied}
-use Rattle.canary_reads.specs.declared.fault.ReadFault.{ReadFault}
-use Rattle.canary_reads.specs.declared.fault.ReadFault.TheVariants.{Broken}
 use Rattle.canary_reads.specs.Finds.{IsSame}
 use Rattle.canary_adopting.specs.Measured.{AreCountedTo, AreMeasured, IsSoFar, IsPageCounted, measurements_of, page_after}
-use Rattle.canary_adopting.specs.OfService.{AreRunsOf, AreMeasurementsOf, IsTold}
+use Rattle.canary_adopting.specs.OfService.{AreRunsOf, AreMeasurementsOf}
 use Rattle.canary_adopting.specs.OneService.{IsPastJudged}
 use Rattle.canary_adopting.specs.declared.measured.SoFar.{SoFar}
-use Rattle.canary_adopting.proofs.HistoryLemmas.{read_all, none_told}
+use Rattle.canary_adopting.proofs.HistoryLemmas.{read_all}
 use Rattle.canary_adopting.proofs.JudgedPasts.{tallied_there}
 use Rattle.canary_adopting.proofs.Standing.{same_then, stores_then}
 

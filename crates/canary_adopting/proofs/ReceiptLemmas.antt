@@ -1,6 +1,6 @@
 -- Rows whose numbers follow one another, where they come in the order of their numbers.
-use Rattle.std.proofs.Common.{◌≡◌, ◌⊎◌, inl, inr, ℕ, zero, suc, ◌<◌, ◌≤◌, ◌==◌, List, [], ◌∷◌, length, Bool, true, false, true≢false, nat_le, nat_lt, refl, sym, ap, ap₂, ◌∙◌, subst, arith, eqb-true, eq-eqb}
-use Rattle.std.specs.Prelude.{◌&&◌, filter, Option, Result, Ok, Err, OnOk, IsPermutation}
+use Rattle.std.proofs.Common.{◌≡◌, ◌⊎◌, inl, inr, ℕ, zero, suc, ◌<◌, ◌≤◌, ◌==◌, List, [], ◌∷◌, Bool, true, false, true≢false, nat_le, nat_lt, refl, sym, ap, ap₂, ◌∙◌, subst, arith, eqb-true, eq-eqb}
+use Rattle.std.specs.Prelude.{◌&&◌, filter, Result, Ok, Err, OnOk}
 use Rattle.std.specs.Str.{bytes_eq}
 use Rattle.std.specs.List.{AllByRecursion}
 use Rattle.std.specs.List.Sorted.{IsNonDecreasingBy}
@@ -10,7 +10,6 @@ use Rattle.std.proofs.lemmas.List.Sorted.{All-permutation, IsPermutation-sym}
 use Rattle.canary_rows.specs.declared.rows.KeptRow.{KeptRow}
 use Rattle.canary_rows.specs.Tables.{Tables, is_kept}
 use Rattle.canary_stored.specs.Values.{receipt_of_row}
-use Rattle.canary_judging.specs.Judged.{IsOneRead}
 use Rattle.canary_reads.specs.Pages.{is_kept_between, number_of_kept}
 use Rattle.canary_reads.specs.Sorts.{Sorts}
 use Rattle.canary_adopting.specs.Alone.{HasValue}
@@ -99,8 +98,8 @@ module _ {X : Type 0} (key : X → ℕ) (P : X → Type 0) where
       let most : key x ≤ last = high.0 in
       let it = one (suc before) (omega arith) (omega (arith, least, most)) in
       let not_above : suc before < key x → ⊥ = λ more.
-          (let none : filter (has (suc before)) (x ∷ xs) ≡ [] = none_below (suc before) (key x) (x ∷ xs) more (let own : key x ≤ key x = omega arith in own, rise.0) in
-          let some : it.0 ∷ [] ≡ [] = sym it.1 ∙ none in cc) in
+      (let none : filter (has (suc before)) (x ∷ xs) ≡ [] = none_below (suc before) (key x) (x ∷ xs) more (let own : key x ≤ key x = omega arith in own, rise.0) in
+      let some : it.0 ∷ [] ≡ [] = sym it.1 ∙ none in cc) in
       let same : key x ≡ suc before = omega (arith, least, not_above) in
       let kept : x ∷ filter (has (suc before)) xs ≡ it.0 ∷ [] = sym (first_kept (has (suc before)) x xs (eq-eqb (suc before) (key x) (sym same))) ∙ it.1 in
       let is : it.0 ≡ x = cc kept in

@@ -1,6 +1,5 @@
-use Rattle.std.proofs.Common.{◌≡◌, ◌+◌, length, Err, sym, ap, subst, rules, ◌∙◌}
+use Rattle.std.proofs.Common.{◌≡◌, Err, sym, subst, rules, ◌∙◌}
 use Rattle.canary_judging.specs.Services.{metrics_of_runs}
-use Rattle.canary_rows.specs.declared.rows.MeasurementRow.{MeasurementRow}
 use Rattle.canary_reads.specs.declared.fault.ReadFault.TheVariants.{Broken}
 use Rattle.canary_adopting.specs.Measured.{AreCountedTo}
 use Rattle.canary_adopting.proofs.measured.count_page.Goals as goal
