@@ -1,5 +1,6 @@
 -- What is written, and that what was committed stays.
 use Rattle.std.proofs.Common.{◌≡◌, ◌⊎◌, inl, inr, [], ◌∷◌, ◌++◌, List, map, Bool, true, false, IsTrue, Ok, Err, Result, OnOk, refl, sym, ap, subst, ◌∙◌, arith}
+use Rattle.sqlite.specs.Order.{Row}
 use Rattle.sqlite.specs.Held.{Held, state}
 use Rattle.sqlite.specs.State.{State, HasCleanDisk, Survives, KeepsCommit}
 use Rattle.sqlite.specs.Effect.{Database}
@@ -14,13 +15,13 @@ use Rattle.canary_schema.specs.Stores.{IsNumbered, Holds, IsHeld, IsReady, IsUsa
 use Rattle.canary_statements.specs.Fills.{IsNumberedAnew, HasOneId}
 use Rattle.canary_reads.specs.Reader.{IsKept}
 
-cases : (b : Bool) → (b ≡ true) ⊎ (b ≡ false)
-cases true = inl refl
-cases false = inr refl
+either_way : (b : Bool) → (b ≡ true) ⊎ (b ≡ false)
+either_way true = inl refl
+either_way false = inr refl
 
 -- what was committed stays, whether or not the transaction goes on
 pub kept_once : {S : Type 0} (g : Ghosts S) (old new : Held S) → StaysCommitted (state g old) (state g new) → ((state g old).in_transaction ≡ false → new ≡ old) → Survives (state g old) (state g new) (λ _. ⊥) → IsKept (state g old) (state g new)
-kept_once g old new kept ended survives usable = by_cases (cases (state g old).in_transaction)
+kept_once g old new kept ended survives usable = by_cases (either_way (state g old).in_transaction)
   where
     by_cases : ((state g old).in_transaction ≡ true) ⊎ ((state g old).in_transaction ≡ false) → IsUsable (state g old) × ((state g new).committed ≡ (state g old).committed)
     by_cases (inl live) =
@@ -44,7 +45,7 @@ meta_id = refl
 pub has_id : (db : Database) (t : Tables) → Holds moved db t → HasOneId (db.trees 0)
 has_id db t h = subst HasOneId (sym h.meta) meta_id
 
-same : {old new : List _} → new ≡ old → IsNumbered old → IsNumbered new
+same : {old new : List Row} → new ≡ old → IsNumbered old → IsNumbered new
 same e h = subst IsNumbered (sym e) h
 
 pub still_held : (old new : State) (t : Tables) → Holds moved old.now t → IsNumberedAnew old new → Holds moved new.now t

@@ -157,10 +157,11 @@ fn transact<S: Alter, G: Progress>(
     if let Err(fault) = write(&mut tx, alloc, templates, tallies, progress) {
         return Err(if_live(&mut tx, fault));
     }
-    match tx.commit() {
-        Ok(()) => Ok(()),
-        Err(error) => Err(fault_of(error).into()),
+    if let Err(error) = tx.commit() {
+        let _undone = conn.is_autocommit();
+        return Err(fault_of(error).into());
     }
+    Ok(())
 }
 
 // All that is written, judged.
