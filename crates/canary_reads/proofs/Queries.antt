@@ -123,14 +123,17 @@ pair_of false b h = absurd (false≢true h)
 -- a transaction that goes on was not undone
 seen_unchanged : (old new : State) → IsUnchanged old new ⊎ IsRolledBack old new → IsTrue (seen_inside new).is_open → IsUnchanged (seen_inside old) (seen_inside new)
 seen_unchanged old new (inl h) live =
-    let open_and = pair_of new.is_open new.in_transaction live in
-    (record {
-      was_open = subst (λ b. IsTrue (old.is_open && b)) (h.0.mode) (subst (λ b. IsTrue (b && new.in_transaction)) (sym h.0.was_open) open_and.1);
-      is_open = live;
-      now_is = h.0.now_is;
-      committed_is = h.0.now_is;
-      mode = refl;
-    }, record { changes = h.1.changes; last_rowid = h.1.last_rowid }, refl)
+    let open_and = pair_of new.is_open new.in_transaction live in (
+      record {
+        was_open = subst (λ b. IsTrue (old.is_open && b)) (h.0.mode) (subst (λ b. IsTrue (b && new.in_transaction)) (sym h.0.was_open) open_and.1);
+        is_open = live;
+        now_is = h.0.now_is;
+        committed_is = h.0.now_is;
+        mode = refl;
+      },
+      record { changes = h.1.changes; last_rowid = h.1.last_rowid },
+      refl,
+    )
 seen_unchanged old new (inr h) live = absurd (false≢true (sym h.autocommit ∙ (pair_of new.is_open new.in_transaction live).1))
 
 usable_seen : (old new : State) (P : _) → Survives old new P → IsUnchanged (seen_inside old) (seen_inside new) → IsUsable (seen_inside new) → IsUsable (seen_inside old)
@@ -157,10 +160,12 @@ pub shown_inside : (sql : List ℕ) (params : Row) (old new : State) (rows : Lis
 unfolding Shown
 shown_inside sql params old new rows query u h =
     let none = subst ReturnsNothing h.1.is (reads_only old.now.schema sql query) in
-    let plain = subst (ShowsRows old new sql h.0 (at_time params h.0.formats h.1.now) rows) none h.2 in
-    (h.0, record { is = h.1.is; whole = h.1.whole; given = h.1.given; now = h.1.now },
+    let plain = subst (ShowsRows old new sql h.0 (at_time params h.0.formats h.1.now) rows) none h.2 in (
+      h.0,
+      record { is = h.1.is; whole = h.1.whole; given = h.1.given; now = h.1.now },
       subst (ShowsRows (seen_inside old) (seen_inside new) sql h.0 (at_time params h.0.formats h.1.now) rows) (sym none)
-      (plain.0, plain.1, plain.2, seen_unchanged old new (inl plain.3) u.is_open))
+          (plain.0, plain.1, plain.2, seen_unchanged old new (inl plain.3) u.is_open),
+    )
 
 -- whatever a query answers, the database is as it was
 pub keeps : (sql : List ℕ) (params : Row) (old new : State) (r : Result (Vec Row Global) Error) (P : _) → IsQuery sql → (IsTrue old.is_open → old.now ≡ old.committed) → Survives old new P
