@@ -2,7 +2,7 @@
 //!
 //! Callers may rest on this: a part of a page is made of the tags and the attributes of two closed
 //! lists, of numbers, of a head and a style sheet of its own, and of escaped texts. So whatever
-//! texts it is given, `<`, `>`, `&` and quotes come from its own writing alone; none of its elements
+//! texts it is given, `<`, `>`, `&` and quotes come from its own writing alone. None of its elements
 //! runs a script, and none fetches anything. If memory runs out, it holds no bytes, and says so at
 //! its end.
 //!

@@ -3,7 +3,8 @@ ghost use Rattle.std.specs.Prelude.{◌≡◌, ◌↔◌, ◌+◌, ◌≤◌, Is
 ghost use Rattle.std.specs.Option.{option_copied};
 ghost use Rattle.canary_metric.specs.Counts.{size};
 ghost use Rattle.canary_release.specs.Sound.{IsJudgedBy};
-ghost use Rattle.canary_judging.specs.Counting.{at_run, of_metric, none_counted, counted_at, IsNext};
+ghost use Rattle.canary_judging.specs.Counting.{at_run, of_metric, none_counted, counted_at};
+ghost use Rattle.canary_judging.specs.Counting.{IsNext};
 ghost use Rattle.canary_judging.specs.Services.{metrics_of_runs};
 
 use crate::counts::{Counts, RunCounts};
