@@ -1,4 +1,4 @@
-use Rattle.std.proofs.Common.{◌≡◌, rules, to_z, of_z, w64, ◌∙◌}
+use Rattle.std.proofs.Common.{◌≡◌, refl, rules}
 use Rattle.sqlite.specs.Held.{state}
 use Rattle.canary_statements.proofs.CountsInserted.{counts_sound, counts_inserted, moment_given}
 use Rattle.canary_statements.proofs.fills.tally_row.Goals as goal
