@@ -29,7 +29,7 @@ module _ {X : Type 0} (test : X → Bool) (xs : List X) (i : ℕ) (x : X) (low :
       sym (suffix_len-take_no test xs (i + 1) x (omega arith) (omega (arith, low)) last)
 
   pub one_counted : (passes more : ℕ) → passes ≡ suffix_len test (take i xs) → more ≡ (if test x then passes + 1 else 0) → more ≡ suffix_len test (take (i + 1) xs)
-  one_counted passes more so is = is ∙ by_cases (test x) refl
+  one_counted passes more so counted = counted ∙ by_cases (test x) refl
     where
       by_cases : (b : Bool) → test x ≡ b → (if b then passes + 1 else 0) ≡ suffix_len test (take (i + 1) xs)
       by_cases true yes = passed_more passes so yes
