@@ -16,8 +16,8 @@ module _ {X : Type 0} (test : X → Bool) (xs : List X) (i : ℕ) (x : X) (low :
   here n e = let at : n - 1 ≡ i = omega (arith, e) in ap (λ k. get_or xs k x) at ∙ sym is
 
   pub passed_more : (passes : ℕ) → passes ≡ suffix_len test (take i xs) → test x ≡ true → passes + 1 ≡ suffix_len test (take (i + 1) xs)
-  passed_more passes so yes =
-      let last : test (get_or xs ((i + 1) - 1) x) ≡ true = ap test (here (i + 1) (omega arith)) ∙ yes in
+  passed_more passes so passed =
+      let last : test (get_or xs ((i + 1) - 1) x) ≡ true = ap test (here (i + 1) (omega arith)) ∙ passed in
       let all = suffix_len-take_yes test xs (i + 1) x (omega arith) (omega (arith, low)) last in
       let at : (i + 1) - 1 ≡ i = omega arith in
       let before : suffix_len test (take ((i + 1) - 1) xs) ≡ passes = ap (λ k. suffix_len test (take k xs)) at ∙ sym so in
@@ -29,10 +29,10 @@ module _ {X : Type 0} (test : X → Bool) (xs : List X) (i : ℕ) (x : X) (low :
       sym (suffix_len-take_no test xs (i + 1) x (omega arith) (omega (arith, low)) last)
 
   pub one_counted : (passes more : ℕ) → passes ≡ suffix_len test (take i xs) → more ≡ (if test x then passes + 1 else 0) → more ≡ suffix_len test (take (i + 1) xs)
-  one_counted passes more so is = is ∙ by_cases (test x) refl
+  one_counted passes more so counted = counted ∙ by_cases (test x) refl
     where
       by_cases : (b : Bool) → test x ≡ b → (if b then passes + 1 else 0) ≡ suffix_len test (take (i + 1) xs)
-      by_cases true yes = passed_more passes so yes
+      by_cases true passed = passed_more passes so passed
       by_cases false fails = failed_more fails
 
 pub all_passed : {X : Type 0} (test : X → Bool) (xs : List X) (i passes : ℕ) → length xs ≤ i → passes ≡ suffix_len test (take i xs) → passes ≡ suffix_len test xs

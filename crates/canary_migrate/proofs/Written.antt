@@ -21,7 +21,7 @@ either_way false = inr refl
 
 -- what was committed stays, whether or not the transaction goes on
 pub kept_once : {S : Type 0} (g : Ghosts S) (old new : Held S) → StaysCommitted (state g old) (state g new) → ((state g old).in_transaction ≡ false → new ≡ old) → Survives (state g old) (state g new) (λ _. ⊥) → IsKept (state g old) (state g new)
-kept_once g old new kept ended survives usable = by_cases (either_way (state g old).in_transaction)
+kept_once {S = S} g old new kept ended survives usable = by_cases (either_way (state g old).in_transaction)
   where
     by_cases : ((state g old).in_transaction ≡ true) ⊎ ((state g old).in_transaction ≡ false) → IsUsable (state g old) × ((state g new).committed ≡ (state g old).committed)
     by_cases (inl live) =

@@ -5,12 +5,11 @@
 //! desk's. Any fault leaves the database as it was. All this if the connection is usable then: its
 //! disk did not fail.
 //!
-//! In use:
+//! In use (canary_database, src/migrate.rt):
 //!
-//!     match migrate(rt.alloc(), conn, &mut shown) {
-//!         Ok(conn) => TableBook::adopt(rt.alloc(), conn, &mut shown),
-//!         Err((fault, left)) => Err((fault, left)),
-//!     }
+//!     let upgraded = upgrade(rt, file, &mut shown);
+//!     shown.end();
+//!     upgraded.map_err(fault_of)
 #![tactic(auto)]
 
 mod fill;

@@ -94,7 +94,7 @@ fn counted(row: &FirstTally, passes: u32) -> Result<TallyRow, ReadFault>
     ensures broken { result ≡ Err ReadFault.Broken → ¬ IsTallyWithin (counted_with row.now passes) }
 {
     laws::consistent();
-    let counts = Tally::from_counts(
+    match Tally::from_counts(
         row.counted,
         row.failed,
         row.inconclusive,
@@ -102,8 +102,7 @@ fn counted(row: &FirstTally, passes: u32) -> Result<TallyRow, ReadFault>
         row.consecutive,
         passes,
         row.last,
-    );
-    match counts {
+    ) {
         Some(counts) => Ok(TallyRow {
             service: row.service,
             run: row.run,
