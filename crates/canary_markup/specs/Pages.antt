@@ -1,5 +1,5 @@
 -- A page, piece after piece.
-use Rattle.std.specs.Prelude.{◌≡◌, ℕ, List, [], ◌∷◌, ◌++◌, flat_map, codes, decimal}
+use Rattle.std.specs.Prelude.{◌≡◌, ℕ, List, ◌++◌, flat_map, codes, decimal}
 use Rattle.canary_markup.specs.declared.element.Element.{Element}
 use Rattle.canary_markup.specs.declared.element.Element.TheVariants as element
 use Rattle.canary_markup.specs.declared.element.Attribute.{Attribute}
