@@ -1,9 +1,9 @@
 -- Bytes of pieces, one more piece, and one more byte of a text.
-use Rattle.std.proofs.Common.{◌≡◌, ◌∙◌, ℕ, suc, ◌+◌, ◌<◌, List, [], ◌∷◌, ◌++◌, length, drop, get_or, flat_map, sym, ap, refl, drop-cons, arith}
+use Rattle.std.proofs.Common.{◌≡◌, ◌∙◌, ℕ, suc, ◌+◌, ◌<◌, List, [], ◌∷◌, ◌++◌, length, drop, get_or, sym, ap, drop-cons, arith}
 use Rattle.std.proofs.lemmas.List.{append_assoc, flat_map_more}
 use Rattle.canary_markup.specs.declared.markup.Piece.{Piece}
 use Rattle.canary_markup.specs.Escaping.{escaped, escaped_byte}
-use Rattle.canary_markup.specs.Pages.{bytes_of, written, IsOfPieces}
+use Rattle.canary_markup.specs.Pages.{bytes_of, IsOfPieces}
 
 -- no bytes are those of no pieces
 pub of_none : (bytes : List ℕ) → bytes ≡ [] → IsOfPieces bytes

@@ -1,12 +1,12 @@
 -- A page, piece after piece.
-use Rattle.std.specs.Prelude.{◌≡◌, ℕ, List, [], ◌∷◌, ◌++◌, flat_map, codes, decimal}
+use Rattle.std.specs.Prelude.{◌≡◌, ℕ, List, ◌++◌, flat_map, codes, decimal}
 use Rattle.canary_markup.specs.declared.element.Element.{Element}
 use Rattle.canary_markup.specs.declared.element.Element.TheVariants as element
 use Rattle.canary_markup.specs.declared.element.Attribute.{Attribute}
 use Rattle.canary_markup.specs.declared.element.Attribute.TheVariants as attribute
 use Rattle.canary_markup.specs.declared.markup.Piece.{Piece}
 use Rattle.canary_markup.specs.declared.markup.Piece.TheVariants as piece
-use Rattle.canary_markup.specs.declared.markup.TheConstants.{HEAD}
+use Rattle.canary_markup.specs.declared.markup.TheConstants.{HEAD, REFRESH}
 use Rattle.canary_markup.specs.declared.style.TheConstants.{STYLE}
 use Rattle.canary_markup.specs.Escaping.{escaped}
 
@@ -72,10 +72,9 @@ attribute_name attribute.Data = codes "d"
 
 -- the bytes of a piece
 abbrev pub bytes_of : Piece → List ℕ
-bytes_of piece.Head = HEAD
-bytes_of (piece.Refresh seconds) =
-    codes "<meta http-equiv=\"refresh\" content=\"" ++ decimal seconds ++ codes "\">"
-bytes_of piece.Style = codes "<style>" ++ STYLE ++ codes "</style></head>"
+bytes_of piece.Head = HEAD.now
+bytes_of (piece.Refresh seconds) = REFRESH.now ++ decimal seconds ++ codes "\">"
+bytes_of piece.Style = STYLE.now
 bytes_of piece.Foot = codes "</html>\n"
 bytes_of (piece.Start e) = codes "<" ++ element_name e
 bytes_of (piece.Value a) = codes " " ++ attribute_name a ++ codes "=\""

@@ -22,6 +22,9 @@ pub const HEAD: &str = concat!(
     "content=\"default-src 'none'; style-src 'unsafe-inline'\">"
 );
 
+/// What stands before the seconds after which the page is loaded anew.
+pub const REFRESH: &str = "<meta http-equiv=\"refresh\" content=\"";
+
 /// A piece of a page.
 #[derive(Clone, Copy)]
 pub enum Piece<'a> {
@@ -229,7 +232,7 @@ fn put(bytes: &mut Vec<u8>, piece: Piece<'_>) -> Result<(), Memory>
     match piece {
         Piece::Head => put_own(bytes, HEAD),
         Piece::Refresh(seconds) => put_refresh(bytes, seconds),
-        Piece::Style => put_three(bytes, "<style>", STYLE, "</style></head>"),
+        Piece::Style => put_own(bytes, STYLE),
         Piece::Foot => put_own(bytes, "</html>\n"),
         Piece::Start(element) => put_two(bytes, "<", element.name()),
         Piece::Value(attribute) => put_three(bytes, " ", attribute.name(), "=\""),
@@ -244,9 +247,7 @@ fn put(bytes: &mut Vec<u8>, piece: Piece<'_>) -> Result<(), Memory>
 fn put_refresh(bytes: &mut Vec<u8>, seconds: u64) -> Result<(), Memory>
     ensures { OnOk result (bytes.new.items ≡ bytes.old.items ++ bytes_of (Piece.Refresh seconds)) }
 {
-    put_own(bytes, "<meta http-equiv=\"refresh\" content=\"")?;
-    put_number(bytes, seconds)?;
-    put_own(bytes, "\">")
+    put_three(bytes, REFRESH, Buffer::new().format(seconds), "\">")
 }
 
 // Appends a text of the page's own.

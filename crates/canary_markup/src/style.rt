@@ -1,8 +1,9 @@
 //! The style sheet of a page.
 
-/// The style sheet: light and dark by the reader's scheme, and for print. It fetches nothing.
+/// The style sheet, and the end of the head: light and dark by the reader's scheme, and for print.
+/// It fetches nothing.
 pub const STYLE: &str = concat!(
-    ":root{color-scheme:light dark;--bg:#f6f7f9;--card:#fff;--ink:#1d2430;--soft:#586372;",
+    "<style>:root{color-scheme:light dark;--bg:#f6f7f9;--card:#fff;--ink:#1d2430;--soft:#586372;",
     "--line:#d9dee6;--ok:#1a7f4b;--bad:#c2332f;--hold:#9a5b00;--go:#2462c2;--err:#7a4fb5;",
     "--rest:#c7cfda}",
     "@media(prefers-color-scheme:dark){:root{--bg:#12161c;--card:#1b212a;--ink:#e6eaf0;",
@@ -79,5 +80,6 @@ pub const STYLE: &str = concat!(
     "@media(max-width:640px){main{padding:10px}article{padding:10px}.weight{margin-left:0}",
     ".done{display:block;overflow-x:auto}.done th,.done td{padding:6px}.done .bar{display:none}",
     ".say{margin-left:0}}",
-    "@media print{:root{--bg:#fff}article,.metric{break-inside:avoid}.say{display:none}}"
+    "@media print{:root{--bg:#fff}article,.metric{break-inside:avoid}.say{display:none}}",
+    "</style></head>"
 );
