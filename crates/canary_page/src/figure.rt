@@ -30,7 +30,7 @@ pub(crate) struct Measured<'a> {
 }
 
 // Draws it.
-pub(crate) fn figure(alloc: Global, page: &mut Markup, shown: Measured<'_>) -> Result<(), Memory> {
+pub(crate) fn figure(alloc: Global, page: &mut Markup, shown: &Measured<'_>) -> Result<(), Memory> {
     let success = bounds_in(alloc, &shown.conditions.success)?;
     let failure = bounds_in(alloc, &shown.conditions.failure)?;
     let span = span_of(shown.chart, success.as_slice(), failure.as_slice());
@@ -42,23 +42,23 @@ pub(crate) fn figure(alloc: Global, page: &mut Markup, shown: Measured<'_>) -> R
     page.open(Element::Figure, "metric");
     caption(page, shown);
     begin_drawing(page, shown);
-    axis(page, frame);
+    axis(page, &frame);
     bounds(
         page,
-        frame,
+        &frame,
         "limit good",
         success.as_slice(),
         text_of(&shown.conditions.success),
     );
     bounds(
         page,
-        frame,
+        &frame,
         "limit bad",
         failure.as_slice(),
         text_of(&shown.conditions.failure),
     );
-    curve(page, frame, shown.chart);
-    points(page, frame, shown.chart);
+    curve(page, &frame, shown.chart);
+    points(page, &frame, shown.chart);
     page.end(Element::Drawing);
     notes(page, shown);
     page.end(Element::Figure);
@@ -91,7 +91,7 @@ fn with_numbers(span: Option<Span>, numbers: &[i64]) -> Option<Span> {
 
 // The end of the run, or what came after it: its start, where the present moment is before that, or
 // its last measurement.
-fn last_of(shown: Measured<'_>) -> Moment {
+fn last_of(shown: &Measured<'_>) -> Moment {
     let end = shown.end.max(shown.started);
     match shown.tally.last() {
         Some(last) => end.max(last),
@@ -99,11 +99,11 @@ fn last_of(shown: Measured<'_>) -> Moment {
     }
 }
 
-fn phase_of(shown: Measured<'_>) -> Phase {
+fn phase_of(shown: &Measured<'_>) -> Phase {
     shown.tally.phase(shown.metric, shown.is_closed)
 }
 
-fn caption(page: &mut Markup, shown: Measured<'_>) {
+fn caption(page: &mut Markup, shown: &Measured<'_>) {
     page.begin(Element::Caption);
     page.begin(Element::Strong);
     page.text(shown.metric.name().as_str());
@@ -130,7 +130,7 @@ pub(crate) fn badge(page: &mut Markup, word: &str) {
 }
 
 // The start of the drawing, with its numbers in words.
-fn begin_drawing(page: &mut Markup, shown: Measured<'_>) {
+fn begin_drawing(page: &mut Markup, shown: &Measured<'_>) {
     page.start(Element::Drawing);
     page.attribute(Attribute::Class, "plot");
     page.attribute(Attribute::View, "0 0 3000 900");
@@ -143,7 +143,7 @@ fn begin_drawing(page: &mut Markup, shown: Measured<'_>) {
     page.start_end();
 }
 
-fn in_words(page: &mut Markup, shown: Measured<'_>) {
+fn in_words(page: &mut Markup, shown: &Measured<'_>) {
     page.text(shown.metric.name().as_str());
     page.text(": ");
     counted(page, shown.chart.whole(), " measurement");
@@ -186,7 +186,7 @@ pub(crate) fn counted(page: &mut Markup, count: u64, thing: &str) {
 }
 
 // The conditions, and the numbers by which the metric is judged.
-fn notes(page: &mut Markup, shown: Measured<'_>) {
+fn notes(page: &mut Markup, shown: &Measured<'_>) {
     page.open(Element::Block, "notes");
     conditions(page, shown.conditions);
     page.begin(Element::Paragraph);
@@ -230,7 +230,7 @@ fn condition(page: &mut Markup, kind: &str, text: &Option<Text>) {
     }
 }
 
-fn wanted(page: &mut Markup, shown: Measured<'_>) {
+fn wanted(page: &mut Markup, shown: &Measured<'_>) {
     page.number(u64::from(shown.tally.counted()));
     if let Some(count) = effective_count(shown.metric) {
         page.text(" of ");
@@ -246,7 +246,7 @@ fn wanted(page: &mut Markup, shown: Measured<'_>) {
     }
 }
 
-fn limits(page: &mut Markup, shown: Measured<'_>) {
+fn limits(page: &mut Markup, shown: &Measured<'_>) {
     let (tally, metric) = (shown.tally, shown.metric);
     allowed(page, tally.failed(), " failed", metric.failure_limit());
     allowed(
@@ -279,7 +279,7 @@ fn allowed(page: &mut Markup, count: u32, thing: &str, limit: u32) {
 }
 
 // When the next measurement is due, if one is wanted.
-fn due(page: &mut Markup, shown: Measured<'_>) {
+fn due(page: &mut Markup, shown: &Measured<'_>) {
     if shown.is_closed || is_completed(phase_of(shown)) {
         return;
     }

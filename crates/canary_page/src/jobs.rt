@@ -1,8 +1,8 @@
 //! The parts of a page, in order.
 use crate::groups::{Placed, count_standing};
-use crate::page::View;
 use crate::shown::Standing;
 use canary_base::error::Memory;
+use canary_base::moments::Moment;
 use canary_base::names::Name;
 use std::alloc::Global;
 
@@ -27,7 +27,10 @@ pub(crate) enum Job {
 #[derive(Clone, Copy)]
 pub(crate) struct Plan<'a> {
     pub(crate) placed: &'a [Placed],
-    pub(crate) view: View,
+    /// The moment to which services are passed.
+    pub(crate) now: Moment,
+    /// The seconds after which the page loads itself anew; none if it does not.
+    pub(crate) every: Option<u64>,
 }
 
 // The parts of the page of these services.

@@ -47,15 +47,16 @@ pub fn draw<W: Write, B: Book>(
     let placed = placed_of(alloc, book, names, view.now)?;
     let plan = Plan {
         placed: placed.as_slice(),
-        view,
+        now: view.now,
+        every: view.every,
     };
-    draw_planned(alloc, book, plan, out)
+    draw_planned(alloc, book, &plan, out)
 }
 
 fn draw_planned<W: Write, B: Book>(
     alloc: Global,
     book: &mut B,
-    plan: Plan<'_>,
+    plan: &Plan<'_>,
     out: &mut W,
 ) -> Result<(), PageFault>
     ensures stays { Stays (B.state book.old) (B.state book.new) }
@@ -68,7 +69,7 @@ fn draw_planned<W: Write, B: Book>(
 fn draw_jobs<W: Write, B: Book>(
     alloc: Global,
     book: &mut B,
-    plan: Plan<'_>,
+    plan: &Plan<'_>,
     jobs: &[Job],
     out: &mut W,
 ) -> Result<(), PageFault>
@@ -76,7 +77,7 @@ fn draw_jobs<W: Write, B: Book>(
     ensures drawn { IsDrawn (W.contents out.old) (W.contents out.new) result }
 {
     for job in jobs {
-        put_job(alloc, book, plan, *job, out)?;
+        put_job(alloc, book, plan, job, out)?;
     }
     Ok(())
 }
@@ -84,8 +85,8 @@ fn draw_jobs<W: Write, B: Book>(
 fn put_job<W: Write, B: Book>(
     alloc: Global,
     book: &mut B,
-    plan: Plan<'_>,
-    job: Job,
+    plan: &Plan<'_>,
+    job: &Job,
     out: &mut W,
 ) -> Result<(), PageFault>
     ensures stays { Stays (B.state book.old) (B.state book.new) }
@@ -110,24 +111,24 @@ fn put_out<W: Write>(page: &Markup, out: &mut W) -> Result<(), PageFault>
 fn markup_of<B: Book>(
     alloc: Global,
     book: &mut B,
-    plan: Plan<'_>,
-    job: Job,
+    plan: &Plan<'_>,
+    job: &Job,
 ) -> Result<Markup, PageFault>
     ensures stays { Stays (B.state book.old) (B.state book.new) }
 {
     match job {
-        Job::Card(name) => card_of(alloc, book, &name, plan.view.now),
-        Job::Row(name) => row_of(alloc, book, &name, plan.view.now),
+        Job::Card(name) => card_of(alloc, book, name, plan.now),
+        Job::Row(name) => row_of(alloc, book, name, plan.now),
         _ => Ok(frame_of(alloc, plan, job)),
     }
 }
 
 // What stands between the services.
-fn frame_of(alloc: Global, plan: Plan<'_>, job: Job) -> Markup {
+fn frame_of(alloc: Global, plan: &Plan<'_>, job: &Job) -> Markup {
     let mut page = Markup::new(alloc);
     let placed = plan.placed;
     match job {
-        Job::Head => head(&mut page, placed, plan.view.now, plan.view.every),
+        Job::Head => head(&mut page, placed, plan.now, plan.every),
         Job::Waiting => part(&mut page, "Waits for somebody", count_waiting(placed)),
         Job::Going => {
             let count = count_standing(placed, Standing::Goes);

@@ -31,14 +31,14 @@ pub(crate) struct Frame {
 
 impl Frame {
     // How far from the left that moment is.
-    fn left(self, moment: Moment) -> u64 {
+    fn left(&self, moment: Moment) -> u64 {
         let since = moment.get().saturating_sub(self.from.get());
         let whole = self.to.get().saturating_sub(self.from.get());
         LEFT.saturating_add(part(since, whole, RIGHT - LEFT))
     }
 
     // How far from the top that number is.
-    fn top(self, number: i64) -> u64 {
+    fn top(&self, number: i64) -> u64 {
         match self.span {
             Some(span) => TOP.saturating_add(span.below(number, BOTTOM - TOP)),
             None => BASE,
@@ -46,7 +46,7 @@ impl Frame {
     }
 
     // How far from the top a measurement is.
-    fn top_of(self, outcome: &Outcome) -> u64 {
+    fn top_of(&self, outcome: &Outcome) -> u64 {
         match whole_of(outcome) {
             Some(number) => self.top(number),
             None => BASE,
@@ -55,7 +55,7 @@ impl Frame {
 }
 
 // The axis, with the moments at its ends.
-pub(crate) fn axis(page: &mut Markup, frame: Frame) {
+pub(crate) fn axis(page: &mut Markup, frame: &Frame) {
     level(page, "axis", AXIS);
     page.end(Element::Line);
     label(page, "tick", LEFT, TICKS);
@@ -87,13 +87,13 @@ fn label(page: &mut Markup, class: &str, left: u64, top: u64) {
 }
 
 // The dashed line of each of these numbers, with which that condition compares a result.
-pub(crate) fn bounds(page: &mut Markup, frame: Frame, class: &str, bounds: &[i64], text: &str) {
+pub(crate) fn bounds(page: &mut Markup, frame: &Frame, class: &str, bounds: &[i64], text: &str) {
     for bound in bounds {
         limit(page, frame, class, *bound, text);
     }
 }
 
-fn limit(page: &mut Markup, frame: Frame, class: &str, bound: i64, text: &str) {
+fn limit(page: &mut Markup, frame: &Frame, class: &str, bound: i64, text: &str) {
     let top = frame.top(bound);
     level(page, class, top);
     page.begin(Element::Title);
@@ -106,7 +106,7 @@ fn limit(page: &mut Markup, frame: Frame, class: &str, bound: i64, text: &str) {
 }
 
 // The line through all points that have a number.
-pub(crate) fn curve(page: &mut Markup, frame: Frame, chart: &Chart) {
+pub(crate) fn curve(page: &mut Markup, frame: &Frame, chart: &Chart) {
     if frame.span.is_none() {
         return;
     }
@@ -132,14 +132,14 @@ fn step_to(page: &mut Markup, step: &str, left: u64, top: u64) {
     page.number(top);
 }
 
-pub(crate) fn points(page: &mut Markup, frame: Frame, chart: &Chart) {
+pub(crate) fn points(page: &mut Markup, frame: &Frame, chart: &Chart) {
     for point in chart.points() {
         draw_point(page, frame, point);
     }
 }
 
 // A point, whose shape says its phase.
-fn draw_point(page: &mut Markup, frame: Frame, point: &Point) {
+fn draw_point(page: &mut Markup, frame: &Frame, point: &Point) {
     let (left, top) = (frame.left(point.taken), frame.top_of(&point.outcome));
     let element = shape_of(point.phase);
     page.start(element);

@@ -87,11 +87,8 @@ fn figures(alloc: Global, page: &mut Markup, run: &ShownRun, now: Moment) -> Res
         let chart = run.charts.as_slice().get(place);
         let conditions = run.conditions.as_slice().get(place);
         if let (Some(tally), Some(chart), Some(conditions)) = (tally, chart, conditions) {
-            figure(
-                alloc,
-                page,
-                measured(run, now, metric, tally, chart, conditions),
-            )?;
+            let shown = measured(run, now, metric, tally, chart, conditions);
+            figure(alloc, page, &shown)?;
         }
     }
     Ok(())
