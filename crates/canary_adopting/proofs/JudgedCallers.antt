@@ -5,13 +5,13 @@ use Rattle.std.specs.List.{AllByRecursion, sum_by}
 use Rattle.std.proofs.lemmas.List.Sums.{sum_by_more}
 use Rattle.sqlite.specs.State.{State}
 use Rattle.canary_rows.specs.declared.rows.CallerRow.{CallerRow}
-use Rattle.canary_rows.specs.Tables.{Tables, is_caller, is_kept}
+use Rattle.canary_rows.specs.Tables.{Tables, is_caller}
 use Rattle.canary_rows.specs.Limits.{AreWithin}
 use Rattle.canary_schema.specs.Stores.{IsUsable, Stores}
-use Rattle.canary_stored.specs.Values.{receipt_of_row}
-use Rattle.canary_judging.specs.Judged.{AreCallersJudged, IsCallerJudged, IsOneRead}
+use Rattle.canary_judging.specs.Judged.{AreCallersJudged, IsCallerJudged}
 use Rattle.canary_reads.specs.Finds.{IsSame}
-use Rattle.canary_adopting.specs.Alone.{IsAlone, HasValue, only}
+use Rattle.canary_adopting.specs.Alone.{only}
+use Rattle.canary_adopting.specs.Receipts.{AreReceived}
 use Rattle.canary_adopting.proofs.Standing.{same_then, stores_then}
 
 pub only_one : {R : Type 0} (rows : List R) (row : R) → only rows ≡ Some row → rows ≡ row ∷ []
@@ -19,46 +19,38 @@ only_one [] row is = cc
 only_one (x ∷ []) row is = let same : x ≡ row = cc in ap (λ (y : _). y ∷ []) same
 only_one (x ∷ y ∷ rest) row is = cc
 
--- A receipt.
-
-pub receipt_found : {R A : Type 0} (test : R → Bool) (value : R → Option A) (all rows : List R) → rows ≡ filter test all → IsAlone (HasValue value) rows → IsOneRead test value all
-receipt_found test value all rows is alone = record { row = alone.row; one = sym is ∙ alone.one; read = alone.has.0; is = alone.has.1 }
-
-pub receipt_there : {R A : Type 0} (test : R → Bool) (value : R → Option A) (all rows : List R) → rows ≡ filter test all → IsOneRead test value all → IsAlone (HasValue value) rows
-receipt_there test value all rows is one = record { row = one.row; one = is ∙ one.one; has = (one.read, one.is) }
-
 -- The numbers from 1 on.
 
 -- the first numbers are judged, and nothing was changed
-pub record NumbersSoFar (P : Tables → ℕ → Type 0) (last : ℕ) (old now : State) : Type 0 where
+pub record NumbersSoFar (caller : List ℕ) (last : ℕ) (old now : State) : Type 0 where
   pub same : IsSame old now
-  pub judged : IsUsable now → (t : Tables) → Stores old t → (number : ℕ) → 1 ≤ number → number ≤ last → P t number
+  pub judged : IsUsable now → (t : Tables) → Stores old t → AreReceived caller 0 last t
 
-pub no_number : (P : Tables → ℕ → Type 0) (old : State) → NumbersSoFar P 0 old old
-no_number P old = record { same = λ usable. (usable, refl); judged = λ usable t has number low high. absurd (let none : ⊥ = omega arith in none) }
+pub no_number : (caller : List ℕ) (old : State) → NumbersSoFar caller 0 old old
+no_number caller old = record { same = λ usable. (usable, refl); judged = λ usable t has number low high. absurd (let none : ⊥ = omega (arith, low, high) in none) }
 
-one_or_before : (number last : ℕ) → number ≤ suc last → (number ≤ last) ⊎ (number ≡ suc last)
-one_or_before zero last most = inl (omega arith)
-one_or_before (suc number) zero most = inr (omega arith)
-one_or_before (suc number) (suc last) most = elim (one_or_before number last (omega arith)) [
-  | inl before ↦ inl (omega arith)
-  | inr is ↦ inr (omega arith)
+before_or_after : (number before : ℕ) → (number ≤ before) ⊎ (before < number)
+before_or_after zero before = inl (omega arith)
+before_or_after (suc number) zero = inr (omega arith)
+before_or_after (suc number) (suc before) = elim (before_or_after number before) [
+  | inl less ↦ inl (omega (arith, less))
+  | inr more ↦ inr (omega (arith, more))
 ]
 
-pub number_more : (P : Tables → ℕ → Type 0) (last : ℕ) (old between new : State) → NumbersSoFar P last old between → IsSame between new → (IsUsable new → (t : Tables) → Stores between t → P t (last + 1)) → NumbersSoFar P (last + 1) old new
-number_more P last old between new before same is =
+pub numbers_more : (caller : List ℕ) (before last : ℕ) (old between new : State) → NumbersSoFar caller before old between → IsSame between new → (IsUsable new → (t : Tables) → Stores between t → AreReceived caller before last t) → NumbersSoFar caller last old new
+numbers_more caller before last old between new first same is =
     record {
-      same = same_then old between new before.same same;
-      judged = λ usable t has number low high. elim (one_or_before number last (omega arith)) [
-        | inl less ↦ before.judged (same usable).0 t has number low less
-        | inr last_one ↦ subst (P t) (let e : last + 1 ≡ number = omega arith in e) (is usable t (stores_then old between t before.same (same usable).0 has))
+      same = same_then old between new first.same same;
+      judged = λ usable t has number low high. elim (before_or_after number before) [
+        | inl less ↦ first.judged (same usable).0 t has number low less
+        | inr more ↦ is usable t (stores_then old between t first.same (same usable).0 has) number more high
       ];
     }
 
-pub number_refused : (P : Tables → ℕ → Type 0) (before last : ℕ) (old between new : State) → before < last → IsSame old between → IsSame between new → IsUsable new → ((t : Tables) → Stores between t → ¬ (AreWithin t × P t (before + 1)))
-    → (t : Tables) → Stores old t → ¬ (AreWithin t × ((number : ℕ) → 1 ≤ number → number ≤ last → P t number))
-number_refused P before last old between new below first same usable refused t has all =
-    refused t (stores_then old between t first (same usable).0 has) (all.0, all.1 (before + 1) (omega arith) (omega arith))
+pub numbers_refused : (caller : List ℕ) (before last settled : ℕ) (old between new : State) → last ≤ settled → IsSame old between → IsSame between new → IsUsable new → ((t : Tables) → Stores between t → ¬ (AreWithin t × AreReceived caller before last t))
+    → (t : Tables) → Stores old t → ¬ (AreWithin t × AreReceived caller 0 settled t)
+numbers_refused caller before last settled old between new most first same usable refused t has all =
+    refused t (stores_then old between t first (same usable).0 has) (all.0, λ number low high. all.1 number (omega (arith, low)) (omega (arith, high, most)))
 
 -- A caller.
 
@@ -66,9 +58,12 @@ pub same_row : (a b : CallerRow) → a.name ≡ b.name → a.settled ≡ b.settl
 same_row a b names numbers = λ i. record { name = names i; settled = numbers i }
 
 pub caller_judged : (t : Tables) (rows : List CallerRow) (caller alone : CallerRow) → rows ≡ filter (is_caller caller.name) t.callers → only rows ≡ Some alone → alone ≡ caller → (1 ≤ caller.settled) × (caller.settled ≤ 1000000000)
-    → ((number : ℕ) → 1 ≤ number → number ≤ caller.settled → IsOneRead (is_kept caller.name number) receipt_of_row t.kept) → IsCallerJudged t caller
+    → AreReceived caller.name 0 caller.settled t → IsCallerJudged t caller
 caller_judged t rows caller alone are one same within kept =
-    record { one = sym are ∙ only_one rows alone one ∙ ap (λ (row : CallerRow). row ∷ []) same; some = within.0; within = within.1; kept = kept }
+    record { one = sym are ∙ only_one rows alone one ∙ ap (λ (row : CallerRow). row ∷ []) same; some = within.0; within = within.1; kept = λ number low high. kept number (omega (arith, low)) high }
+
+pub receipts_there : (t : Tables) (caller : CallerRow) → IsCallerJudged t caller → AreReceived caller.name 0 caller.settled t
+receipts_there t caller judged number low high = judged.kept number (omega (arith, low)) high
 
 pub only_caller : (t : Tables) (rows : List CallerRow) (caller : CallerRow) → rows ≡ filter (is_caller caller.name) t.callers → IsCallerJudged t caller → only rows ≡ Some caller
 only_caller t rows caller are judged = ap only (are ∙ judged.one)

@@ -10,7 +10,6 @@ use Rattle.canary_plan.specs.declared.strategy.CheckedStrategy.{CheckedStrategy}
 use Rattle.canary_plan.specs.Plans.{strategy_of, bound_of, all_revisions, distinct}
 use Rattle.canary_plan.specs.PlanRefusals.{strategy_refusal}
 use Rattle.canary_canonical.specs.Readings.{canonical_in}
-use Rattle.canary_release.specs.declared.effect.Recorded.{Recorded}
 use Rattle.canary_release.specs.declared.stand.Stand.{Stand}
 use Rattle.canary_release.specs.declared.stand.State.{State}
 use Rattle.canary_release.specs.Parts.{is_broken}
@@ -19,16 +18,16 @@ use Rattle.canary_rows.specs.declared.rows.BindingRow.{BindingRow}
 use Rattle.canary_rows.specs.declared.rows.Standing.{Standing}
 use Rattle.canary_rows.specs.declared.rows.ServiceRow.{ServiceRow}
 use Rattle.canary_rows.specs.declared.rows.TallyRow.{TallyRow}
-use Rattle.canary_rows.specs.Tables.{Tables, is_service, is_binding_of, is_tally_of, is_measurement_of}
+use Rattle.canary_rows.specs.Tables.{Tables, is_service, is_binding_of, is_tally_of}
 use Rattle.canary_stored.specs.Numbers.{state_of, hold_of, truth_of}
 use Rattle.canary_stored.specs.Reading.{known_in}
-use Rattle.canary_stored.specs.Values.{made_from, stand_from, stand_of, history_row, measurement_of_row}
+use Rattle.canary_stored.specs.Values.{made_from, stand_from, stand_of, history_row}
 use Rattle.canary_judging.specs.Services.{IsServiceJudged, open_runs_in}
 use Rattle.canary_judging.specs.Totals.{tallies_to, bindings_to}
 use Rattle.canary_adopting.specs.declared.totals.Totals.{Totals}
-use Rattle.canary_adopting.specs.OfService.{AreRunsOf, AreMeasurementsOf, IsHistoryOf}
+use Rattle.canary_adopting.specs.OfService.{AreRunsOf, IsHistoryOf}
 use Rattle.canary_adopting.specs.Alone.{only}
-use Rattle.canary_adopting.specs.OneService.{IsPastJudged, IsServiceUnder, IsServiceFound, totals_bound, totals_of}
+use Rattle.canary_adopting.specs.OneService.{IsPastJudged, IsServiceUnder, IsServiceFound, measurements_under, totals_bound, totals_of}
 use Rattle.canary_adopting.specs.Bindings.{IsAttemptBound}
 use Rattle.canary_adopting.specs.Strategies.{newest_in, IsStrategyOf, IsStrategyAccepted}
 use Rattle.canary_adopting.proofs.JudgedCallers.{only_one}
@@ -220,22 +219,15 @@ bindings_sum t strategy name count runs are =
     ∙ sym (bindings_up t.bindings name (length runs))
     ∙ ap (bindings_to t.bindings name) are.as_many
 
-as_long : {R A : Type 0} (reads : R → Option A) (rows : List R) (found : List A) → map reads rows ≡ map Some found → length found ≡ length rows
-as_long reads [] [] is = refl
-as_long reads [] (x ∷ xs) is = cc
-as_long reads (row ∷ rows) [] is = cc
-as_long reads (row ∷ rows) (x ∷ xs) is = let rest : map reads rows ≡ map Some xs = cc in ap suc (as_long reads rows xs rest)
-
 same_length : {A B : Type 0} (f : A → B) (xs : List A) → length (map f xs) ≡ length xs
 same_length f [] = refl
 same_length f (x ∷ xs) = ap suc (same_length f xs)
 
-pub past_totals : (t : Tables) (row : ServiceRow) (stand : Stand) (runs : List RunRecord) (measurements : List Recorded) (history : List Line) → AreRunsOf stand.strategy row.name row.standing.runs t runs → AreMeasurementsOf row.name t measurements → IsHistoryOf row.name t history
+pub past_totals : (t : Tables) (row : ServiceRow) (stand : Stand) (runs : List RunRecord) (history : List Line) → AreRunsOf stand.strategy row.name row.standing.runs t runs → IsHistoryOf row.name t history
     → (totals : Totals) → totals.runs ≡ row.standing.runs → totals.bindings ≡ length (distinct (all_revisions stand.bound)) + sum_by (λ (r : RunRecord). length (distinct r.analysis.revisions)) runs → totals.tallies ≡ sum_by (λ (r : RunRecord). length r.tallies) runs
-    → totals.measurements ≡ length measurements → totals.lines ≡ length history → totals ≡ totals_bound t row stand.bound
-past_totals t row stand runs measurements history are read told totals count bound sum measured lines =
+    → totals.measurements ≡ measurements_under t row → totals.lines ≡ length history → totals ≡ totals_bound t row stand.bound
+past_totals t row stand runs history are told totals count bound sum measured lines =
     let bindings = bound ∙ ap (λ n. length (distinct (all_revisions stand.bound)) + n) (bindings_sum t stand.strategy row.name row.standing.runs runs are) in
     let tallies = sum ∙ tallies_sum t stand.strategy row.name row.standing.runs runs are in
-    let taken = measured ∙ as_long measurement_of_row (filter (is_measurement_of row.name) t.measurements) measurements read.each in
     let said = lines ∙ sym (same_length (history_row row.name) history) ∙ ap length (sym told.told) in
-    λ i. record { runs = count i; bindings = bindings i; tallies = tallies i; measurements = taken i; lines = said i }
+    λ i. record { runs = count i; bindings = bindings i; tallies = tallies i; measurements = measured i; lines = said i }

@@ -1,6 +1,7 @@
 mod Standing
 mod Each
 mod Names
+mod ReceiptLemmas
 mod JudgedCallers
 mod JudgedTemplates
 mod KnownAmong
@@ -15,3 +16,4 @@ mod HistoryLemmas
 mod StateLemmas
 mod RunsSame
 mod JudgedPasts
+mod MeasuredLemmas

@@ -91,7 +91,7 @@ only_one x [] all e = absurd (omega arith)
 only_one x (z ∷ []) all e = ap (λ y. y ∷ []) all.0
 only_one x (z ∷ y ∷ zs) all e = absurd (omega arith)
 
-one_passes : {X : Type 0} (p : X → Bool) (xs ys : List X) (x : X) → IsPermutation xs ys → filter p xs ≡ x ∷ [] → filter p ys ≡ x ∷ []
+pub one_passes : {X : Type 0} (p : X → Bool) (xs ys : List X) (x : X) → IsPermutation xs ys → filter p xs ≡ x ∷ [] → filter p ys ≡ x ∷ []
 one_passes {X} p xs ys x moved is =
     let P : X → Type 0 = λ y. y ≡ x in
     let Q : X → Type 0 = λ y. p y ≡ true → P y in

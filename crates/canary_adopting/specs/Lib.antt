@@ -1,7 +1,9 @@
 pub mod Judges
 pub mod Alone
+pub mod Receipts
 pub mod Templates
 pub mod Strategies
 pub mod Bindings
 pub mod OfService
+pub mod Measured
 pub mod OneService

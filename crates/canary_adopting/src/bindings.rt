@@ -3,7 +3,6 @@
 ghost use Rattle.std.specs.Prelude.{◌≡◌, ◌↔◌, false, ℕ, List, Option, IsTrue, IfOk, length};
 ghost use Rattle.std.specs.Prelude.{option_map};
 ghost use Rattle.std.specs.FinMap.{get};
-ghost use Rattle.sqlite.specs.Held.{state};
 ghost use Rattle.canary_plan.specs.Plans.{distinct};
 ghost use Rattle.canary_rows.specs.Limits.{AreWithin};
 ghost use Rattle.canary_reads.specs.Breaks.{BreaksUnless};
@@ -12,6 +11,7 @@ ghost use Rattle.canary_adopting.specs.OfService.{HasSuch};
 ghost use Rattle.canary_adopting.specs.OneService.{RefusesJudged};
 ghost use Rattle.canary_adopting.specs.Bindings.{IsTemplateOf, IsKnownBy, IsKnownIn, IsBindingOf};
 ghost use Rattle.canary_adopting.specs.Bindings.{IsBoundWhole, IsAttemptBound, IsRunBound};
+ghost use Rattle.canary_reads.specs.Reader.{IsKept};
 
 use canary_base::error::Memory;
 use canary_base::names::Name;
@@ -23,11 +23,11 @@ use canary_plan::strategy::Strategy;
 use canary_plan::template::Template;
 use canary_plan::templates::Templates;
 use canary_reads::fault::ReadFault;
+use canary_reads::reader::Reader;
 use canary_reads::services;
 use canary_rows::rows::BindingRow;
 use canary_stored::fault::RowFault;
 use canary_stored::reading;
-use sqlite::{Alter, Connection};
 use std::alloc::Global;
 
 /// What a run's rows of binding make of its service's strategy, and how many there are.
@@ -44,18 +44,20 @@ pub(crate) struct Binding {
 /// # Errors
 /// `Broken` where the tables hold what no program can, `Memory` where there is not enough,
 /// `Storage` where the database fails.
-pub fn known<S: Alter>(
-    conn: &mut Connection<S>,
+pub fn known<Q: Reader>(
+    conn: &mut Q,
     alloc: Global,
     service: &Name,
     run: u32,
 ) -> Result<Option<Templates>, ReadFault>
-    requires autocommit { conn.old.in_transaction ≡ false }
-    ensures mode { conn.new.in_transaction ≡ false }
-    ensures same { IsSame (state S.Store conn.old) (state S.Store conn.new) }
+    requires ready { Q.IsReady conn.old }
+    ensures mode { Q.IsReady conn.new }
+    ensures place { Q.place conn.new ≡ Q.place conn.old }
+    ensures kept { IsKept (Q.below conn.old) (Q.below conn.new) }
+    ensures same { IsSame (Q.shows conn.old) (Q.shows conn.new) }
     ensures found { FindsSuch (λ t found. IsKnownIn service.now run t (option_map get found))
-        (state S.Store conn.old) (state S.Store conn.new) result }
-    ensures broken { BreaksUnless AreWithin (state S.Store conn.old) (state S.Store conn.new)
+        (Q.shows conn.old) (Q.shows conn.new) result }
+    ensures broken { BreaksUnless AreWithin (Q.shows conn.old) (Q.shows conn.new)
         result }
 {
     let rows = services::bindings(conn, alloc, service, run)?;
@@ -63,17 +65,19 @@ pub fn known<S: Alter>(
 }
 
 // The templates that these rows name, each the first of its name.
-fn known_by<S: Alter>(
-    conn: &mut Connection<S>,
+fn known_by<Q: Reader>(
+    conn: &mut Q,
     alloc: Global,
     rows: &[BindingRow],
 ) -> Result<Option<Templates>, ReadFault>
-    requires autocommit { conn.old.in_transaction ≡ false }
-    ensures mode { conn.new.in_transaction ≡ false }
-    ensures same { IsSame (state S.Store conn.old) (state S.Store conn.new) }
+    requires ready { Q.IsReady conn.old }
+    ensures mode { Q.IsReady conn.new }
+    ensures place { Q.place conn.new ≡ Q.place conn.old }
+    ensures kept { IsKept (Q.below conn.old) (Q.below conn.new) }
+    ensures same { IsSame (Q.shows conn.old) (Q.shows conn.new) }
     ensures found { FindsSuch (λ t found. IsKnownBy rows.now t (option_map get found))
-        (state S.Store conn.old) (state S.Store conn.new) result }
-    ensures broken { BreaksUnless AreWithin (state S.Store conn.old) (state S.Store conn.new)
+        (Q.shows conn.old) (Q.shows conn.new) result }
+    ensures broken { BreaksUnless AreWithin (Q.shows conn.old) (Q.shows conn.new)
         result }
 {
     let mut known = Templates::new(alloc);
@@ -89,17 +93,19 @@ fn known_by<S: Alter>(
 }
 
 // The template of the revision that the row names.
-fn template_of<S: Alter>(
-    conn: &mut Connection<S>,
+fn template_of<Q: Reader>(
+    conn: &mut Q,
     alloc: Global,
     row: &BindingRow,
 ) -> Result<Option<Template>, ReadFault>
-    requires autocommit { conn.old.in_transaction ≡ false }
-    ensures mode { conn.new.in_transaction ≡ false }
-    ensures same { IsSame (state S.Store conn.old) (state S.Store conn.new) }
+    requires ready { Q.IsReady conn.old }
+    ensures mode { Q.IsReady conn.new }
+    ensures place { Q.place conn.new ≡ Q.place conn.old }
+    ensures kept { IsKept (Q.below conn.old) (Q.below conn.new) }
+    ensures same { IsSame (Q.shows conn.old) (Q.shows conn.new) }
     ensures found { FindsSuch (IsTemplateOf row.now)
-        (state S.Store conn.old) (state S.Store conn.new) result }
-    ensures broken { BreaksUnless AreWithin (state S.Store conn.old) (state S.Store conn.new)
+        (Q.shows conn.old) (Q.shows conn.new) result }
+    ensures broken { BreaksUnless AreWithin (Q.shows conn.old) (Q.shows conn.new)
         result }
 {
     let Some(found) = services::revision(conn, &row.template, row.revision)? else {
@@ -118,19 +124,21 @@ fn template_of<S: Alter>(
 /// # Errors
 /// `Broken` where it has others, or the tables hold what no program can; `Memory` where there is
 /// not enough, `Storage` where the database fails.
-pub(crate) fn attempt<S: Alter>(
-    conn: &mut Connection<S>,
+pub(crate) fn attempt<Q: Reader>(
+    conn: &mut Q,
     alloc: Global,
     service: &Name,
     strategy: &Strategy,
 ) -> Result<Bound, ReadFault>
-    requires autocommit { conn.old.in_transaction ≡ false }
-    ensures mode { conn.new.in_transaction ≡ false }
-    ensures same { IsSame (state S.Store conn.old) (state S.Store conn.new) }
+    requires ready { Q.IsReady conn.old }
+    ensures mode { Q.IsReady conn.new }
+    ensures place { Q.place conn.new ≡ Q.place conn.old }
+    ensures kept { IsKept (Q.below conn.old) (Q.below conn.new) }
+    ensures same { IsSame (Q.shows conn.old) (Q.shows conn.new) }
     ensures found { FindsSuch (IsAttemptBound service.now strategy.now)
-        (state S.Store conn.old) (state S.Store conn.new) result }
+        (Q.shows conn.old) (Q.shows conn.new) result }
     ensures broken { RefusesJudged (HasSuch (IsAttemptBound service.now strategy.now))
-        (state S.Store conn.old) (state S.Store conn.new) result }
+        (Q.shows conn.old) (Q.shows conn.new) result }
 {
     laws::bindings();
     let binding = bound(conn, alloc, service, 0, strategy)?;
@@ -148,21 +156,23 @@ pub(crate) fn attempt<S: Alter>(
 /// # Errors
 /// `Broken` where they bind no such analysis, or it has others, or the tables hold what no program
 /// can; `Memory` where there is not enough, `Storage` where the database fails.
-pub(crate) fn analysis<S: Alter>(
-    conn: &mut Connection<S>,
+pub(crate) fn analysis<Q: Reader>(
+    conn: &mut Q,
     alloc: Global,
     service: &Name,
     run: u32,
     strategy: &Strategy,
     step: Option<u32>,
 ) -> Result<BoundAnalysis, ReadFault>
-    requires autocommit { conn.old.in_transaction ≡ false }
-    ensures mode { conn.new.in_transaction ≡ false }
-    ensures same { IsSame (state S.Store conn.old) (state S.Store conn.new) }
+    requires ready { Q.IsReady conn.old }
+    ensures mode { Q.IsReady conn.new }
+    ensures place { Q.place conn.new ≡ Q.place conn.old }
+    ensures kept { IsKept (Q.below conn.old) (Q.below conn.new) }
+    ensures same { IsSame (Q.shows conn.old) (Q.shows conn.new) }
     ensures found { FindsSuch (IsRunBound service.now run strategy.now step)
-        (state S.Store conn.old) (state S.Store conn.new) result }
+        (Q.shows conn.old) (Q.shows conn.new) result }
     ensures broken { RefusesJudged (HasSuch (IsRunBound service.now run strategy.now step))
-        (state S.Store conn.old) (state S.Store conn.new) result }
+        (Q.shows conn.old) (Q.shows conn.new) result }
 {
     laws::bindings();
     let binding = bound(conn, alloc, service, run, strategy)?;
@@ -177,20 +187,22 @@ pub(crate) fn analysis<S: Alter>(
 }
 
 // What a run's rows of binding make of the strategy.
-fn bound<S: Alter>(
-    conn: &mut Connection<S>,
+fn bound<Q: Reader>(
+    conn: &mut Q,
     alloc: Global,
     service: &Name,
     run: u32,
     strategy: &Strategy,
 ) -> Result<Binding, ReadFault>
-    requires autocommit { conn.old.in_transaction ≡ false }
-    ensures mode { conn.new.in_transaction ≡ false }
-    ensures same { IsSame (state S.Store conn.old) (state S.Store conn.new) }
+    requires ready { Q.IsReady conn.old }
+    ensures mode { Q.IsReady conn.new }
+    ensures place { Q.place conn.new ≡ Q.place conn.old }
+    ensures kept { IsKept (Q.below conn.old) (Q.below conn.new) }
+    ensures same { IsSame (Q.shows conn.old) (Q.shows conn.new) }
     ensures found { FindsSuch (IsBindingOf service.now run strategy.now)
-        (state S.Store conn.old) (state S.Store conn.new) result }
+        (Q.shows conn.old) (Q.shows conn.new) result }
     ensures broken { RefusesJudged (IsBoundWhole service.now run)
-        (state S.Store conn.old) (state S.Store conn.new) result }
+        (Q.shows conn.old) (Q.shows conn.new) result }
 {
     let rows = services::bindings(conn, alloc, service, run)?;
     let Some(known) = known_by(conn, alloc, rows.as_slice())? else {

@@ -1,27 +1,31 @@
 //! Callers, and what is kept of their requests.
-ghost use Rattle.std.specs.Prelude.{◌≡◌, ◌≤◌, ◌↔◌, false, ℕ, Some, IsTrue, OnOk, Err};
+ghost use Rattle.std.specs.Prelude.{◌≡◌, ◌<◌, ◌≤◌, ◌↔◌, suc, Some, IsTrue, IfOk, OnOk, Err};
 ghost use Rattle.std.specs.List.{AllByRecursion, sum_by};
-ghost use Rattle.sqlite.specs.Held.{state};
-ghost use Rattle.canary_rows.specs.Tables.{is_kept};
 ghost use Rattle.canary_stored.specs.Values.{receipt_of_row};
-ghost use Rattle.canary_judging.specs.Judged.{AreCallersJudged, IsCallerJudged, IsOneRead};
+ghost use Rattle.canary_judging.specs.Judged.{AreCallersJudged, IsCallerJudged};
 ghost use Rattle.canary_reads.specs.declared.fault.ReadFault.TheVariants.{Broken};
 ghost use Rattle.canary_reads.specs.Finds.{IsSame, FindsSuch};
-ghost use Rattle.canary_adopting.specs.Alone.{IsAlone, HasValue, only};
+ghost use Rattle.canary_adopting.specs.Alone.{HasValue, only};
 ghost use Rattle.canary_adopting.specs.Judges.{FindsThat, RefusesUnless};
+ghost use Rattle.canary_adopting.specs.Receipts.{AreReceipts, AreReceived};
+ghost use Rattle.canary_reads.specs.Reader.{IsKept};
 
 use crate::fault::read_fault;
 use crate::progress::Progress;
 use crate::{alone, totals};
+use canary_base::error::Memory;
 use canary_base::lists::Listed;
 use canary_base::names::Name;
 use canary_base::numbers::LAST_NUMBER;
 use canary_reads::fault::ReadFault;
-use canary_reads::{callers, lists};
+use canary_reads::reader::Reader;
+use canary_reads::{callers, lists, pages};
 use canary_rows::rows::{CallerRow, KeptRow};
 use canary_stored::reading;
-use sqlite::{Alter, Connection};
 use std::alloc::Global;
+
+// The most numbers of a caller whose rows are read at once.
+const PAGE: u32 = 256;
 
 /// That each caller stands once, that each of its numbers has one row, which is read, and that
 /// there are no more kept rows than these.
@@ -29,18 +33,20 @@ use std::alloc::Global;
 /// # Errors
 /// `Broken` where that is not so, `Memory` where there is not enough, `Storage` where the database
 /// fails or has more rows than are counted.
-pub(crate) fn judge<S: Alter, G: Progress>(
-    conn: &mut Connection<S>,
+pub(crate) fn judge<Q: Reader, G: Progress>(
+    conn: &mut Q,
     alloc: Global,
     progress: &mut G,
 ) -> Result<(), ReadFault>
-    requires autocommit { conn.old.in_transaction ≡ false }
-    ensures mode { conn.new.in_transaction ≡ false }
-    ensures same { IsSame (state S.Store conn.old) (state S.Store conn.new) }
+    requires ready { Q.IsReady conn.old }
+    ensures mode { Q.IsReady conn.new }
+    ensures place { Q.place conn.new ≡ Q.place conn.old }
+    ensures kept { IsKept (Q.below conn.old) (Q.below conn.new) }
+    ensures same { IsSame (Q.shows conn.old) (Q.shows conn.new) }
     ensures judged { FindsThat AreCallersJudged
-        (state S.Store conn.old) (state S.Store conn.new) result }
+        (Q.shows conn.old) (Q.shows conn.new) result }
     ensures refused { RefusesUnless AreCallersJudged
-        (state S.Store conn.old) (state S.Store conn.new) result }
+        (Q.shows conn.old) (Q.shows conn.new) result }
 {
     let callers = lists::callers(conn, alloc)?;
     let settled = judge_each(conn, alloc, callers.as_slice(), progress)?;
@@ -49,20 +55,22 @@ pub(crate) fn judge<S: Alter, G: Progress>(
 }
 
 // How many requests of these callers are settled, where each is as it is to be.
-fn judge_each<S: Alter, G: Progress>(
-    conn: &mut Connection<S>,
+fn judge_each<Q: Reader, G: Progress>(
+    conn: &mut Q,
     alloc: Global,
     callers: &[CallerRow],
     progress: &mut G,
 ) -> Result<u64, ReadFault>
-    requires autocommit { conn.old.in_transaction ≡ false }
-    ensures mode { conn.new.in_transaction ≡ false }
-    ensures same { IsSame (state S.Store conn.old) (state S.Store conn.new) }
+    requires ready { Q.IsReady conn.old }
+    ensures mode { Q.IsReady conn.new }
+    ensures place { Q.place conn.new ≡ Q.place conn.old }
+    ensures kept { IsKept (Q.below conn.old) (Q.below conn.new) }
+    ensures same { IsSame (Q.shows conn.old) (Q.shows conn.new) }
     ensures judged { FindsSuch (λ t settled. AllByRecursion (IsCallerJudged t) callers.now
         × (settled ≡ sum_by (λ (row : _). row.settled) callers.now))
-        (state S.Store conn.old) (state S.Store conn.new) result }
+        (Q.shows conn.old) (Q.shows conn.new) result }
     ensures refused { RefusesUnless (λ t. AllByRecursion (IsCallerJudged t) callers.now)
-        (state S.Store conn.old) (state S.Store conn.new) result }
+        (Q.shows conn.old) (Q.shows conn.new) result }
 {
     let mut settled = 0;
     for caller in callers {
@@ -72,19 +80,21 @@ fn judge_each<S: Alter, G: Progress>(
     Ok(settled)
 }
 
-fn judge_one<S: Alter, G: Progress>(
-    conn: &mut Connection<S>,
+fn judge_one<Q: Reader, G: Progress>(
+    conn: &mut Q,
     alloc: Global,
     caller: &CallerRow,
     progress: &mut G,
 ) -> Result<(), ReadFault>
-    requires autocommit { conn.old.in_transaction ≡ false }
-    ensures mode { conn.new.in_transaction ≡ false }
-    ensures same { IsSame (state S.Store conn.old) (state S.Store conn.new) }
+    requires ready { Q.IsReady conn.old }
+    ensures mode { Q.IsReady conn.new }
+    ensures place { Q.place conn.new ≡ Q.place conn.old }
+    ensures kept { IsKept (Q.below conn.old) (Q.below conn.new) }
+    ensures same { IsSame (Q.shows conn.old) (Q.shows conn.new) }
     ensures judged { FindsThat (λ t. IsCallerJudged t caller.now)
-        (state S.Store conn.old) (state S.Store conn.new) result }
+        (Q.shows conn.old) (Q.shows conn.new) result }
     ensures refused { RefusesUnless (λ t. IsCallerJudged t caller.now)
-        (state S.Store conn.old) (state S.Store conn.new) result }
+        (Q.shows conn.old) (Q.shows conn.new) result }
 {
     let rows = callers::caller_rows(conn, alloc, &caller.name)?;
     if !is_alone(rows, caller) || !is_number(caller.settled) {
@@ -116,59 +126,112 @@ fn is_number(number: u32) -> bool
 }
 
 // That each of the caller's numbers from 1 to that one has one receipt.
-fn judge_receipts<S: Alter, G: Progress>(
-    conn: &mut Connection<S>,
+fn judge_receipts<Q: Reader, G: Progress>(
+    conn: &mut Q,
     alloc: Global,
     caller: &Name,
     settled: u32,
     progress: &mut G,
 ) -> Result<(), ReadFault>
-    requires autocommit { conn.old.in_transaction ≡ false }
-    ensures mode { conn.new.in_transaction ≡ false }
-    ensures same { IsSame (state S.Store conn.old) (state S.Store conn.new) }
-    ensures judged { FindsThat (λ t. (number : ℕ) → 1 ≤ number → number ≤ settled
-        → IsOneRead (is_kept caller.now number) receipt_of_row t.kept)
-        (state S.Store conn.old) (state S.Store conn.new) result }
-    ensures refused { RefusesUnless (λ t. (number : ℕ) → 1 ≤ number → number ≤ settled
-        → IsOneRead (is_kept caller.now number) receipt_of_row t.kept)
-        (state S.Store conn.old) (state S.Store conn.new) result }
+    requires ready { Q.IsReady conn.old }
+    ensures mode { Q.IsReady conn.new }
+    ensures place { Q.place conn.new ≡ Q.place conn.old }
+    ensures kept { IsKept (Q.below conn.old) (Q.below conn.new) }
+    ensures same { IsSame (Q.shows conn.old) (Q.shows conn.new) }
+    ensures judged { FindsThat (AreReceived caller.now 0 settled)
+        (Q.shows conn.old) (Q.shows conn.new) result }
+    ensures refused { RefusesUnless (AreReceived caller.now 0 settled)
+        (Q.shows conn.old) (Q.shows conn.new) result }
 {
-    for before in 0..settled {
-        judge_receipt(conn, alloc, caller, before + 1)?;
-        progress.judged(1);
+    let mut before = 0;
+    while before < settled {
+        let last = page_end(before, settled);
+        judge_page(conn, alloc, caller, before, last)?;
+        progress.judged(u64::from(last - before));
+        before = last;
     }
     Ok(())
 }
 
-fn judge_receipt<S: Alter>(
-    conn: &mut Connection<S>,
-    alloc: Global,
-    caller: &Name,
-    number: u32,
-) -> Result<(), ReadFault>
-    requires autocommit { conn.old.in_transaction ≡ false }
-    ensures mode { conn.new.in_transaction ≡ false }
-    ensures same { IsSame (state S.Store conn.old) (state S.Store conn.new) }
-    ensures judged { FindsThat (λ t. IsOneRead (is_kept caller.now number) receipt_of_row t.kept)
-        (state S.Store conn.old) (state S.Store conn.new) result }
-    ensures refused { RefusesUnless
-        (λ t. IsOneRead (is_kept caller.now number) receipt_of_row t.kept)
-        (state S.Store conn.old) (state S.Store conn.new) result }
+// The last number of the page that begins after that one.
+fn page_end(before: u32, settled: u32) -> u32
+    requires { before < settled }
+    ensures more { before < result }
+    ensures within { result ≤ settled }
 {
-    let rows = callers::kept_rows(conn, alloc, caller, number)?;
-    read_receipt(alloc, rows)
+    before + PAGE.min(settled - before)
 }
 
-// That there is one row, of a receipt.
-fn read_receipt(alloc: Global, rows: Listed<KeptRow>) -> Result<(), ReadFault>
-    ensures judged { OnOk result (IsAlone (HasValue receipt_of_row) rows) }
-    ensures refused { result ≡ Err Broken → ¬ IsAlone (HasValue receipt_of_row) rows }
+// That each of the caller's numbers after that one, up to the last, has one receipt.
+fn judge_page<Q: Reader>(
+    conn: &mut Q,
+    alloc: Global,
+    caller: &Name,
+    before: u32,
+    last: u32,
+) -> Result<(), ReadFault>
+    requires ready { Q.IsReady conn.old }
+    requires some { before < last }
+    ensures mode { Q.IsReady conn.new }
+    ensures place { Q.place conn.new ≡ Q.place conn.old }
+    ensures kept { IsKept (Q.below conn.old) (Q.below conn.new) }
+    ensures same { IsSame (Q.shows conn.old) (Q.shows conn.new) }
+    ensures judged { FindsThat (AreReceived caller.now before last)
+        (Q.shows conn.old) (Q.shows conn.new) result }
+    ensures refused { RefusesUnless (AreReceived caller.now before last)
+        (Q.shows conn.old) (Q.shows conn.new) result }
 {
-    let Some(row) = alone::only(rows) else {
-        return Err(ReadFault::Broken);
-    };
+    let rows = pages::kept(conn, alloc, caller, before, last)?;
+    are_receipts(alloc, rows.as_slice(), before, last)
+}
+
+// That the rows are of receipts whose numbers follow one another, from the one after `before` to
+// `last`.
+fn are_receipts(alloc: Global, rows: &[KeptRow], before: u32, last: u32) -> Result<(), ReadFault>
+    ensures judged { OnOk result (AreReceipts before last rows.now) }
+    ensures refused { result ≡ Err Broken → ¬ AreReceipts before last rows.now }
+{
+    let mut number = before;
+    for row in rows {
+        if !follows(number, row) {
+            return Err(ReadFault::Broken);
+        }
+        read_receipt(alloc, row)?;
+        number = row.number;
+    }
+    if number == last {
+        Ok(())
+    } else {
+        Err(ReadFault::Broken)
+    }
+}
+
+fn follows(number: u32, row: &KeptRow) -> bool
+    ensures { IsTrue result ↔ (row.now.number ≡ suc number) }
+{
+    row.number > number && row.number - 1 == number
+}
+
+// That the row is read as a receipt.
+fn read_receipt(alloc: Global, row: &KeptRow) -> Result<(), ReadFault>
+    ensures judged { OnOk result (HasValue receipt_of_row row.now) }
+    ensures refused { result ≡ Err Broken → ¬ HasValue receipt_of_row row.now }
+{
+    let row = copy(alloc, row)?;
     match reading::receipt(alloc, row) {
         Ok(_) => Ok(()),
         Err(fault) => Err(read_fault(fault)),
     }
+}
+
+fn copy(alloc: Global, row: &KeptRow) -> Result<KeptRow, Memory>
+    ensures { IfOk result (λ copy. copy ≡ row.now) }
+{
+    Ok(KeptRow {
+        caller: row.caller,
+        number: row.number,
+        command: row.command.copy(alloc)?,
+        status: row.status,
+        body: row.body.copy(alloc)?,
+    })
 }

@@ -1,10 +1,9 @@
-//! The measurements, the tallies and the rows of binding of a service's runs, counted anew.
-ghost use Rattle.std.specs.Prelude.{◌≡◌, ◌≢◌, ◌+◌, IfOk, OnOk, Err, length};
+//! The tallies and the rows of binding of a service's runs, counted.
+ghost use Rattle.std.specs.Prelude.{◌≡◌, ◌≢◌, ◌+◌, IfOk, Err, length};
 ghost use Rattle.std.specs.List.{sum_by};
 ghost use Rattle.canary_plan.specs.Plans.{all_revisions, distinct};
 ghost use Rattle.canary_once.specs.declared.record.RunRecord.{RunRecord};
 ghost use Rattle.canary_reads.specs.declared.fault.ReadFault.TheVariants as fault;
-ghost use Rattle.canary_recounting.specs.Recounted.{AreTallied};
 
 use crate::totals::sum;
 use canary_base::error::Memory;
@@ -12,29 +11,7 @@ use canary_once::record::RunRecord;
 use canary_plan::analysis_parts::distinct;
 use canary_plan::bound::Bound;
 use canary_reads::fault::ReadFault;
-use canary_recounting::counting::are_counted;
-use canary_release::effect::Recorded;
 use std::alloc::Global;
-
-/// That these measurements come one after another, and to the tallies of the runs, which are
-/// numbered from 1 on, each by its own analysis.
-///
-/// # Errors
-/// `Broken` where it is not so; `Memory`.
-pub(crate) fn counted(
-    alloc: Global,
-    runs: &[RunRecord],
-    measurements: &[Recorded],
-) -> Result<(), ReadFault>
-    ensures found { OnOk result (AreTallied runs.now measurements.now) }
-    ensures broken { result ≡ Err fault.Broken → ¬ AreTallied runs.now measurements.now }
-{
-    if are_counted(alloc, runs, measurements)? {
-        Ok(())
-    } else {
-        Err(ReadFault::Broken)
-    }
-}
 
 /// How many tallies the runs have.
 ///

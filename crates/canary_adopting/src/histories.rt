@@ -1,16 +1,15 @@
-//! The measurements of a service and the lines of its history, read.
+//! The lines of a service's history, read.
 ghost use Rattle.std.specs.Prelude.{◌≡◌, ◌++◌, ◌∷◌, [], false, Some, None, Err, IfOk, map};
 ghost use Rattle.canary_reads.specs.declared.fault.ReadFault.TheVariants as fault;
-ghost use Rattle.sqlite.specs.Held.{state};
 ghost use Rattle.canary_plan.specs.Lines.{line_at};
-ghost use Rattle.canary_stored.specs.Values.{measurement_of_row, line_of_row};
+ghost use Rattle.canary_stored.specs.Values.{line_of_row};
 ghost use Rattle.canary_reads.specs.Finds.{IsSame, FindsSuch};
 ghost use Rattle.canary_adopting.specs.Judges.{RefusesUnless};
-ghost use Rattle.canary_adopting.specs.OfService.{HasSuch, IsTold, AreMeasurementsOf, IsHistoryOf};
+ghost use Rattle.canary_adopting.specs.OfService.{HasSuch, IsHistoryOf};
 ghost use Rattle.canary_adopting.specs.OfService.{AreTold, line_words};
 ghost use Rattle.canary_rows.specs.declared.rows.HistoryRow.{HistoryRow};
+ghost use Rattle.canary_reads.specs.Reader.{IsKept};
 
-use crate::fault::read_fault;
 use canary_base::error::Memory;
 use canary_base::lists::Listed;
 use canary_base::moments::Moment;
@@ -18,71 +17,29 @@ use canary_base::names::Name;
 use canary_plan::line::{Line, LineEvent};
 use canary_reads::fault::ReadFault;
 use canary_reads::histories;
-use canary_release::effect::Recorded;
-use canary_rows::rows::{HistoryRow, MeasurementRow};
-use canary_stored::reading;
-use sqlite::{Alter, Connection};
+use canary_reads::reader::Reader;
+use canary_rows::rows::HistoryRow;
 use std::alloc::Global;
-
-/// All measurements of the service, in their order.
-///
-/// # Errors
-/// `Broken` where a row of them is not read, or the tables hold what no program can; `Memory`
-/// where there is not enough, `Storage` where the database fails.
-pub(crate) fn measurements<S: Alter>(
-    conn: &mut Connection<S>,
-    alloc: Global,
-    name: &Name,
-) -> Result<Listed<Recorded>, ReadFault>
-    requires autocommit { conn.old.in_transaction ≡ false }
-    ensures mode { conn.new.in_transaction ≡ false }
-    ensures same { IsSame (state S.Store conn.old) (state S.Store conn.new) }
-    ensures found { FindsSuch (AreMeasurementsOf name.now)
-        (state S.Store conn.old) (state S.Store conn.new) result }
-    ensures broken { RefusesUnless (HasSuch (AreMeasurementsOf name.now))
-        (state S.Store conn.old) (state S.Store conn.new) result }
-{
-    let rows = histories::measurement_rows(conn, alloc, name)?;
-    measurements_of(alloc, rows.as_slice())
-}
-
-// The measurements of rows, in their order.
-fn measurements_of(alloc: Global, rows: &[MeasurementRow]) -> Result<Listed<Recorded>, ReadFault>
-    ensures { AreTold measurement_of_row rows.now result }
-{
-    let mut found = Listed::of(Vec::new(alloc));
-    for row in rows {
-        found.push(measurement_of(alloc, row)?)?;
-    }
-    Ok(found)
-}
-
-fn measurement_of(alloc: Global, row: &MeasurementRow) -> Result<Recorded, ReadFault>
-    ensures { IsTold (measurement_of_row row.now) result }
-{
-    match reading::measurement(alloc, row) {
-        Ok(measurement) => Ok(measurement),
-        Err(fault) => Err(read_fault(fault)),
-    }
-}
 
 /// The lines of the service's history, in their order.
 ///
 /// # Errors
 /// `Broken` where a row's words are of no event, or the tables hold what no program can; `Memory`
 /// where there is not enough, `Storage` where the database fails.
-pub(crate) fn history<S: Alter>(
-    conn: &mut Connection<S>,
+pub(crate) fn history<Q: Reader>(
+    conn: &mut Q,
     alloc: Global,
     name: &Name,
 ) -> Result<Listed<Line>, ReadFault>
-    requires autocommit { conn.old.in_transaction ≡ false }
-    ensures mode { conn.new.in_transaction ≡ false }
-    ensures same { IsSame (state S.Store conn.old) (state S.Store conn.new) }
+    requires ready { Q.IsReady conn.old }
+    ensures mode { Q.IsReady conn.new }
+    ensures place { Q.place conn.new ≡ Q.place conn.old }
+    ensures kept { IsKept (Q.below conn.old) (Q.below conn.new) }
+    ensures same { IsSame (Q.shows conn.old) (Q.shows conn.new) }
     ensures found { FindsSuch (IsHistoryOf name.now)
-        (state S.Store conn.old) (state S.Store conn.new) result }
+        (Q.shows conn.old) (Q.shows conn.new) result }
     ensures broken { RefusesUnless (HasSuch (IsHistoryOf name.now))
-        (state S.Store conn.old) (state S.Store conn.new) result }
+        (Q.shows conn.old) (Q.shows conn.new) result }
 {
     let rows = histories::history(conn, alloc, name)?;
     lines_of(alloc, rows.as_slice())

@@ -1,15 +1,15 @@
 //! Judging the tables of a desk.
 ghost use Rattle.std.specs.Prelude.{◌≡◌, ◌≢◌, false, Err};
-ghost use Rattle.sqlite.specs.Held.{state};
 ghost use Rattle.canary_judging.specs.Services.{IsJudged};
 ghost use Rattle.canary_reads.specs.Finds.{IsSame};
 ghost use Rattle.canary_adopting.specs.Judges.{FindsThat, RefusesUnless};
+ghost use Rattle.canary_reads.specs.Reader.{IsKept};
 
 use crate::progress::Progress;
 use crate::{callers, services, templates};
 use canary_reads::fault::ReadFault;
 use canary_reads::lists;
-use sqlite::{Alter, Connection};
+use canary_reads::reader::Reader;
 use std::alloc::Global;
 
 /// That the tables are those of sound contents: their callers, their templates and their services,
@@ -20,27 +20,31 @@ use std::alloc::Global;
 /// # Errors
 /// `Broken` where that is not so, or where a row is none that a program can hold; `Memory` where
 /// there is not enough; `Storage` where the database fails, or has more rows than are counted.
-pub fn judge<S: Alter, G: Progress>(
-    conn: &mut Connection<S>,
+pub fn judge<Q: Reader, G: Progress>(
+    conn: &mut Q,
     alloc: Global,
     progress: &mut G,
 ) -> Result<(), ReadFault>
-    requires autocommit { conn.old.in_transaction ≡ false }
-    ensures mode { conn.new.in_transaction ≡ false }
-    ensures same { IsSame (state S.Store conn.old) (state S.Store conn.new) }
-    ensures judged { FindsThat IsJudged (state S.Store conn.old) (state S.Store conn.new) result }
+    requires ready { Q.IsReady conn.old }
+    ensures mode { Q.IsReady conn.new }
+    ensures place { Q.place conn.new ≡ Q.place conn.old }
+    ensures kept { IsKept (Q.below conn.old) (Q.below conn.new) }
+    ensures same { IsSame (Q.shows conn.old) (Q.shows conn.new) }
+    ensures judged { FindsThat IsJudged (Q.shows conn.old) (Q.shows conn.new) result }
     ensures refused { RefusesUnless IsJudged
-        (state S.Store conn.old) (state S.Store conn.new) result }
+        (Q.shows conn.old) (Q.shows conn.new) result }
 {
     progress.begin(count_rows(conn)?);
     judge_all(conn, alloc, progress)
 }
 
 // How many rows `progress` is told of.
-fn count_rows<S: Alter>(conn: &mut Connection<S>) -> Result<u64, ReadFault>
-    requires autocommit { conn.old.in_transaction ≡ false }
-    ensures mode { conn.new.in_transaction ≡ false }
-    ensures same { IsSame (state S.Store conn.old) (state S.Store conn.new) }
+fn count_rows<Q: Reader>(conn: &mut Q) -> Result<u64, ReadFault>
+    requires ready { Q.IsReady conn.old }
+    ensures mode { Q.IsReady conn.new }
+    ensures place { Q.place conn.new ≡ Q.place conn.old }
+    ensures kept { IsKept (Q.below conn.old) (Q.below conn.new) }
+    ensures same { IsSame (Q.shows conn.old) (Q.shows conn.new) }
     ensures whole { result ≢ Err ReadFault.Broken }
 {
     let kept = lists::kept_count(conn)?;
@@ -49,10 +53,12 @@ fn count_rows<S: Alter>(conn: &mut Connection<S>) -> Result<u64, ReadFault>
     Ok(kept.saturating_add(measured).saturating_add(others))
 }
 
-fn count_others<S: Alter>(conn: &mut Connection<S>) -> Result<u64, ReadFault>
-    requires autocommit { conn.old.in_transaction ≡ false }
-    ensures mode { conn.new.in_transaction ≡ false }
-    ensures same { IsSame (state S.Store conn.old) (state S.Store conn.new) }
+fn count_others<Q: Reader>(conn: &mut Q) -> Result<u64, ReadFault>
+    requires ready { Q.IsReady conn.old }
+    ensures mode { Q.IsReady conn.new }
+    ensures place { Q.place conn.new ≡ Q.place conn.old }
+    ensures kept { IsKept (Q.below conn.old) (Q.below conn.new) }
+    ensures same { IsSame (Q.shows conn.old) (Q.shows conn.new) }
     ensures whole { result ≢ Err ReadFault.Broken }
 {
     let runs = count_runs(conn)?;
@@ -62,10 +68,12 @@ fn count_others<S: Alter>(conn: &mut Connection<S>) -> Result<u64, ReadFault>
 }
 
 // The runs, and what they are bound to.
-fn count_runs<S: Alter>(conn: &mut Connection<S>) -> Result<u64, ReadFault>
-    requires autocommit { conn.old.in_transaction ≡ false }
-    ensures mode { conn.new.in_transaction ≡ false }
-    ensures same { IsSame (state S.Store conn.old) (state S.Store conn.new) }
+fn count_runs<Q: Reader>(conn: &mut Q) -> Result<u64, ReadFault>
+    requires ready { Q.IsReady conn.old }
+    ensures mode { Q.IsReady conn.new }
+    ensures place { Q.place conn.new ≡ Q.place conn.old }
+    ensures kept { IsKept (Q.below conn.old) (Q.below conn.new) }
+    ensures same { IsSame (Q.shows conn.old) (Q.shows conn.new) }
     ensures whole { result ≢ Err ReadFault.Broken }
 {
     let runs = lists::run_count(conn)?;
@@ -73,17 +81,19 @@ fn count_runs<S: Alter>(conn: &mut Connection<S>) -> Result<u64, ReadFault>
     Ok(runs.saturating_add(bindings))
 }
 
-fn judge_all<S: Alter, G: Progress>(
-    conn: &mut Connection<S>,
+fn judge_all<Q: Reader, G: Progress>(
+    conn: &mut Q,
     alloc: Global,
     progress: &mut G,
 ) -> Result<(), ReadFault>
-    requires autocommit { conn.old.in_transaction ≡ false }
-    ensures mode { conn.new.in_transaction ≡ false }
-    ensures same { IsSame (state S.Store conn.old) (state S.Store conn.new) }
-    ensures judged { FindsThat IsJudged (state S.Store conn.old) (state S.Store conn.new) result }
+    requires ready { Q.IsReady conn.old }
+    ensures mode { Q.IsReady conn.new }
+    ensures place { Q.place conn.new ≡ Q.place conn.old }
+    ensures kept { IsKept (Q.below conn.old) (Q.below conn.new) }
+    ensures same { IsSame (Q.shows conn.old) (Q.shows conn.new) }
+    ensures judged { FindsThat IsJudged (Q.shows conn.old) (Q.shows conn.new) result }
     ensures refused { RefusesUnless IsJudged
-        (state S.Store conn.old) (state S.Store conn.new) result }
+        (Q.shows conn.old) (Q.shows conn.new) result }
 {
     callers::judge(conn, alloc, progress)?;
     templates::judge(conn, alloc)?;

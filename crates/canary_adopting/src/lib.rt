@@ -20,6 +20,7 @@ mod counts;
 mod fault;
 mod histories;
 pub mod judge;
+mod measured;
 pub mod progress;
 mod runs;
 mod service;

@@ -1,7 +1,6 @@
 //! The runs of a service, judged with what they are bound to and their tallies.
 ghost use Rattle.std.specs.Prelude.{◌≡◌, ◌≢◌, ◌∷◌, ◌↔◌, [], false, IsTrue, IfOk, IfSome, None};
 ghost use Rattle.std.specs.Prelude.{length, map};
-ghost use Rattle.sqlite.specs.Held.{state};
 ghost use Rattle.canary_rows.specs.declared.rows.TallyRow.{TallyRow};
 ghost use Rattle.canary_stored.specs.Finding.{record_of_row};
 ghost use Rattle.canary_reads.specs.Finds.{IsSame, FindsSuch};
@@ -9,6 +8,7 @@ ghost use Rattle.canary_adopting.specs.Judges.{RefusesUnless};
 ghost use Rattle.canary_adopting.specs.OneService.{RefusesJudged};
 ghost use Rattle.canary_adopting.specs.OfService.{HasSuch, IsTold, ArePlaced, AreTalliesOf};
 ghost use Rattle.canary_adopting.specs.OfService.{IsRunOf, AreRunsOf};
+ghost use Rattle.canary_reads.specs.Reader.{IsKept};
 
 use crate::bindings;
 use crate::fault::read_fault;
@@ -20,11 +20,11 @@ use canary_once::record::RunRecord;
 use canary_plan::bound_analysis::BoundAnalysis;
 use canary_plan::strategy::Strategy;
 use canary_reads::fault::ReadFault;
+use canary_reads::reader::Reader;
 use canary_reads::runs;
 use canary_recounting::verdicts::has_own_verdict;
 use canary_rows::rows::{RunRow, TallyRow};
 use canary_stored::reading;
-use sqlite::{Alter, Connection};
 use std::alloc::Global;
 
 /// The runs 1 to `count` of the service of that strategy, each judged as by `run`, where templates
@@ -33,20 +33,22 @@ use std::alloc::Global;
 /// # Errors
 /// `Broken` where there are no such runs, or the tables hold what no program can; `Memory` where
 /// there is not enough, `Storage` where the database fails.
-pub(crate) fn runs<S: Alter>(
-    conn: &mut Connection<S>,
+pub(crate) fn runs<Q: Reader>(
+    conn: &mut Q,
     alloc: Global,
     name: &Name,
     strategy: &Strategy,
     count: u32,
 ) -> Result<Listed<RunRecord>, ReadFault>
-    requires autocommit { conn.old.in_transaction ≡ false }
-    ensures mode { conn.new.in_transaction ≡ false }
-    ensures same { IsSame (state S.Store conn.old) (state S.Store conn.new) }
+    requires ready { Q.IsReady conn.old }
+    ensures mode { Q.IsReady conn.new }
+    ensures place { Q.place conn.new ≡ Q.place conn.old }
+    ensures kept { IsKept (Q.below conn.old) (Q.below conn.new) }
+    ensures same { IsSame (Q.shows conn.old) (Q.shows conn.new) }
     ensures found { FindsSuch (AreRunsOf strategy.now name.now count)
-        (state S.Store conn.old) (state S.Store conn.new) result }
+        (Q.shows conn.old) (Q.shows conn.new) result }
     ensures broken { RefusesJudged (HasSuch (AreRunsOf strategy.now name.now count))
-        (state S.Store conn.old) (state S.Store conn.new) result }
+        (Q.shows conn.old) (Q.shows conn.new) result }
 {
     let mut found = Listed::of(Vec::new(alloc));
     for place in 0..count {
@@ -62,20 +64,22 @@ pub(crate) fn runs<S: Alter>(
 /// # Errors
 /// `Broken` where there is no such run, or the tables hold what no program can; `Memory` where
 /// there is not enough, `Storage` where the database fails.
-pub(crate) fn run<S: Alter>(
-    conn: &mut Connection<S>,
+pub(crate) fn run<Q: Reader>(
+    conn: &mut Q,
     alloc: Global,
     name: &Name,
     strategy: &Strategy,
     number: u32,
 ) -> Result<RunRecord, ReadFault>
-    requires autocommit { conn.old.in_transaction ≡ false }
-    ensures mode { conn.new.in_transaction ≡ false }
-    ensures same { IsSame (state S.Store conn.old) (state S.Store conn.new) }
+    requires ready { Q.IsReady conn.old }
+    ensures mode { Q.IsReady conn.new }
+    ensures place { Q.place conn.new ≡ Q.place conn.old }
+    ensures kept { IsKept (Q.below conn.old) (Q.below conn.new) }
+    ensures same { IsSame (Q.shows conn.old) (Q.shows conn.new) }
     ensures found { FindsSuch (IsRunOf strategy.now name.now number)
-        (state S.Store conn.old) (state S.Store conn.new) result }
+        (Q.shows conn.old) (Q.shows conn.new) result }
     ensures broken { RefusesJudged (HasSuch (IsRunOf strategy.now name.now number))
-        (state S.Store conn.old) (state S.Store conn.new) result }
+        (Q.shows conn.old) (Q.shows conn.new) result }
 {
     let rows = runs::run_rows(conn, alloc, name, number)?;
     let Some(row) = only(rows.as_slice()) else {
@@ -100,19 +104,21 @@ fn only(rows: &[RunRow]) -> Option<RunRow>
 }
 
 // The tallies of the run of that number.
-fn tallies<S: Alter>(
-    conn: &mut Connection<S>,
+fn tallies<Q: Reader>(
+    conn: &mut Q,
     alloc: Global,
     name: &Name,
     number: u32,
 ) -> Result<Listed<Tally>, ReadFault>
-    requires autocommit { conn.old.in_transaction ≡ false }
-    ensures mode { conn.new.in_transaction ≡ false }
-    ensures same { IsSame (state S.Store conn.old) (state S.Store conn.new) }
+    requires ready { Q.IsReady conn.old }
+    ensures mode { Q.IsReady conn.new }
+    ensures place { Q.place conn.new ≡ Q.place conn.old }
+    ensures kept { IsKept (Q.below conn.old) (Q.below conn.new) }
+    ensures same { IsSame (Q.shows conn.old) (Q.shows conn.new) }
     ensures found { FindsSuch (AreTalliesOf name.now number)
-        (state S.Store conn.old) (state S.Store conn.new) result }
+        (Q.shows conn.old) (Q.shows conn.new) result }
     ensures broken { RefusesUnless (HasSuch (AreTalliesOf name.now number))
-        (state S.Store conn.old) (state S.Store conn.new) result }
+        (Q.shows conn.old) (Q.shows conn.new) result }
 {
     let rows = runs::tallies(conn, alloc, name, number)?;
     if !are_placed(rows.as_slice()) {

@@ -1,7 +1,6 @@
 //! A service, with its runs, its measurements and its history.
 ghost use Rattle.std.specs.Prelude.{◌≡◌, ◌≢◌, false, [], ◌∷◌, Some, None, IfOk, OnOk, Err};
 ghost use Rattle.std.specs.Prelude.{filter};
-ghost use Rattle.sqlite.specs.Held.{state};
 ghost use Rattle.canary_plan.specs.declared.service.ServiceSpec.{ServiceSpec};
 ghost use Rattle.canary_canonical.specs.Readings.{canonical_in};
 ghost use Rattle.canary_release.specs.Parts.{is_broken};
@@ -13,8 +12,10 @@ ghost use Rattle.canary_reads.specs.Finds.{IsSame, FindsSuch};
 ghost use Rattle.canary_adopting.specs.OneService.{FindsJudged, RefusesJudged, IsPastJudged};
 ghost use Rattle.canary_adopting.specs.OneService.{totals_of, totals_bound, IsServiceUnder};
 ghost use Rattle.canary_adopting.specs.OneService.{IsServiceFound};
+ghost use Rattle.canary_reads.specs.Reader.{IsKept};
 
 use crate::fault::read_fault;
+use crate::measured::measured;
 use crate::totals::Totals;
 use crate::{alone, bindings, counts, histories, runs, strategies};
 use canary_base::error::Memory;
@@ -25,6 +26,7 @@ use canary_plan::bound::Bound;
 use canary_plan::service::ServiceSpec;
 use canary_plan::strategy::Strategy;
 use canary_reads::fault::ReadFault;
+use canary_reads::reader::Reader;
 use canary_reads::services;
 use canary_release::parts::is_broken;
 use canary_release::runs::{OpenRun, Runs};
@@ -32,7 +34,6 @@ use canary_release::service::ServiceParts;
 use canary_release::stand::Stand;
 use canary_rows::rows::ServiceRow;
 use canary_stored::reading;
-use sqlite::{Alter, Connection};
 use std::alloc::Global;
 
 /// How much the service of that name has, where templates are judged, and it stands once, is made
@@ -42,18 +43,20 @@ use std::alloc::Global;
 /// # Errors
 /// `Broken` where that is not so, `Memory` where there is not enough, `Storage` where the database
 /// fails.
-pub(crate) fn judge<S: Alter>(
-    conn: &mut Connection<S>,
+pub(crate) fn judge<Q: Reader>(
+    conn: &mut Q,
     alloc: Global,
     name: &Name,
 ) -> Result<Totals, ReadFault>
-    requires autocommit { conn.old.in_transaction ≡ false }
-    ensures mode { conn.new.in_transaction ≡ false }
-    ensures same { IsSame (state S.Store conn.old) (state S.Store conn.new) }
+    requires ready { Q.IsReady conn.old }
+    ensures mode { Q.IsReady conn.new }
+    ensures place { Q.place conn.new ≡ Q.place conn.old }
+    ensures kept { IsKept (Q.below conn.old) (Q.below conn.new) }
+    ensures same { IsSame (Q.shows conn.old) (Q.shows conn.new) }
     ensures judged { FindsJudged (IsServiceFound name.now)
-        (state S.Store conn.old) (state S.Store conn.new) result }
+        (Q.shows conn.old) (Q.shows conn.new) result }
     ensures refused { RefusesJudged (λ t. IsServiceUnder t name.now)
-        (state S.Store conn.old) (state S.Store conn.new) result }
+        (Q.shows conn.old) (Q.shows conn.new) result }
 {
     let rows = services::service_rows(conn, alloc, name)?;
     let Some(row) = alone::only(rows) else {
@@ -63,20 +66,18 @@ pub(crate) fn judge<S: Alter>(
 }
 
 // How much the service of the row has, if the row is the only one of its name.
-fn judge_row<S: Alter>(
-    conn: &mut Connection<S>,
-    alloc: Global,
-    row: &ServiceRow,
-) -> Result<Totals, ReadFault>
-    requires autocommit { conn.old.in_transaction ≡ false }
-    ensures mode { conn.new.in_transaction ≡ false }
-    ensures same { IsSame (state S.Store conn.old) (state S.Store conn.new) }
+fn judge_row<Q: Reader>(conn: &mut Q, alloc: Global, row: &ServiceRow) -> Result<Totals, ReadFault>
+    requires ready { Q.IsReady conn.old }
+    ensures mode { Q.IsReady conn.new }
+    ensures place { Q.place conn.new ≡ Q.place conn.old }
+    ensures kept { IsKept (Q.below conn.old) (Q.below conn.new) }
+    ensures same { IsSame (Q.shows conn.old) (Q.shows conn.new) }
     ensures judged { FindsJudged (λ t totals.
         filter (is_service row.now.name) t.services ≡ row.now ∷ []
         → IsServiceJudged t row.now × (totals ≡ totals_of t row.now))
-        (state S.Store conn.old) (state S.Store conn.new) result }
+        (Q.shows conn.old) (Q.shows conn.new) result }
     ensures refused { RefusesJudged (λ t. IsServiceJudged t row.now)
-        (state S.Store conn.old) (state S.Store conn.new) result }
+        (Q.shows conn.old) (Q.shows conn.new) result }
 {
     let made = made_by(alloc, row)?;
     let strategy = strategies::strategy(conn, alloc, &made)?;
@@ -118,25 +119,26 @@ fn stand_by(row: &ServiceRow, strategy: &Strategy, bound: &Bound) -> Result<Stan
 }
 
 // How much it has, where its runs, its measurements and its lines come to how it stands.
-fn judge_past<S: Alter>(
-    conn: &mut Connection<S>,
+fn judge_past<Q: Reader>(
+    conn: &mut Q,
     alloc: Global,
     row: &ServiceRow,
     stand: Stand,
 ) -> Result<Totals, ReadFault>
-    requires autocommit { conn.old.in_transaction ≡ false }
-    ensures mode { conn.new.in_transaction ≡ false }
-    ensures same { IsSame (state S.Store conn.old) (state S.Store conn.new) }
+    requires ready { Q.IsReady conn.old }
+    ensures mode { Q.IsReady conn.new }
+    ensures place { Q.place conn.new ≡ Q.place conn.old }
+    ensures kept { IsKept (Q.below conn.old) (Q.below conn.new) }
+    ensures same { IsSame (Q.shows conn.old) (Q.shows conn.new) }
     ensures judged { FindsSuch
         (λ t totals. IsPastJudged t row.now stand × (totals ≡ totals_bound t row.now stand.bound))
-        (state S.Store conn.old) (state S.Store conn.new) result }
+        (Q.shows conn.old) (Q.shows conn.new) result }
     ensures refused { RefusesJudged (λ t. IsPastJudged t row.now stand)
-        (state S.Store conn.old) (state S.Store conn.new) result }
+        (Q.shows conn.old) (Q.shows conn.new) result }
 {
     let count = row.standing.runs;
     let runs = runs::runs(conn, alloc, &row.name, &stand.strategy, count)?;
-    let measurements = histories::measurements(conn, alloc, &row.name)?;
-    counts::counted(alloc, runs.as_slice(), measurements.as_slice())?;
+    let measurements = measured(conn, alloc, &row.name, runs.as_slice())?;
     let history = histories::history(conn, alloc, &row.name)?;
     let bindings = counts::binding_count(alloc, &stand.bound, runs.as_slice())?;
     judge_parts(alloc, stand, count, runs.as_slice())?;
@@ -144,7 +146,7 @@ fn judge_past<S: Alter>(
         runs: u64::from(count),
         bindings,
         tallies: counts::tally_count(runs.as_slice())?,
-        measurements: measurements.as_slice().len() as u64,
+        measurements,
         lines: history.as_slice().len() as u64,
     })
 }

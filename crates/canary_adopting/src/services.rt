@@ -1,12 +1,12 @@
 //! All services, with all that is theirs.
 ghost use Rattle.std.specs.Prelude.{◌≡◌, false};
 ghost use Rattle.std.specs.List.{AllByRecursion};
-ghost use Rattle.sqlite.specs.Held.{state};
 ghost use Rattle.canary_judging.specs.Services.{AreServicesJudged};
 ghost use Rattle.canary_reads.specs.Finds.{IsSame};
 ghost use Rattle.canary_adopting.specs.Judges.{FindsThat, RefusesUnless};
 ghost use Rattle.canary_adopting.specs.OneService.{FindsJudged, RefusesJudged};
 ghost use Rattle.canary_adopting.specs.OneService.{IsServiceUnder, AreServicesFound, HaveTotals};
+ghost use Rattle.canary_reads.specs.Reader.{IsKept};
 
 use crate::progress::Progress;
 use crate::service;
@@ -15,7 +15,7 @@ use canary_base::names::Name;
 use canary_judging::laws;
 use canary_reads::fault::ReadFault;
 use canary_reads::lists;
-use sqlite::{Alter, Connection};
+use canary_reads::reader::Reader;
 use std::alloc::Global;
 
 /// That each service is as it is to be, where templates are judged, and that no table has other
@@ -24,18 +24,20 @@ use std::alloc::Global;
 /// # Errors
 /// `Broken` where that is not so, `Memory` where there is not enough, `Storage` where the database
 /// fails or has more rows than are counted.
-pub(crate) fn judge<S: Alter, G: Progress>(
-    conn: &mut Connection<S>,
+pub(crate) fn judge<Q: Reader, G: Progress>(
+    conn: &mut Q,
     alloc: Global,
     progress: &mut G,
 ) -> Result<(), ReadFault>
-    requires autocommit { conn.old.in_transaction ≡ false }
-    ensures mode { conn.new.in_transaction ≡ false }
-    ensures same { IsSame (state S.Store conn.old) (state S.Store conn.new) }
+    requires ready { Q.IsReady conn.old }
+    ensures mode { Q.IsReady conn.new }
+    ensures place { Q.place conn.new ≡ Q.place conn.old }
+    ensures kept { IsKept (Q.below conn.old) (Q.below conn.new) }
+    ensures same { IsSame (Q.shows conn.old) (Q.shows conn.new) }
     ensures judged { FindsJudged (λ t judged. AreServicesJudged t)
-        (state S.Store conn.old) (state S.Store conn.new) result }
+        (Q.shows conn.old) (Q.shows conn.new) result }
     ensures refused { RefusesJudged AreServicesJudged
-        (state S.Store conn.old) (state S.Store conn.new) result }
+        (Q.shows conn.old) (Q.shows conn.new) result }
 {
     laws::totals();
     let names = lists::service_names(conn, alloc)?;
@@ -44,19 +46,21 @@ pub(crate) fn judge<S: Alter, G: Progress>(
 }
 
 // How much the services of these names have.
-fn judge_each<S: Alter, G: Progress>(
-    conn: &mut Connection<S>,
+fn judge_each<Q: Reader, G: Progress>(
+    conn: &mut Q,
     alloc: Global,
     names: &[Name],
     progress: &mut G,
 ) -> Result<Totals, ReadFault>
-    requires autocommit { conn.old.in_transaction ≡ false }
-    ensures mode { conn.new.in_transaction ≡ false }
-    ensures same { IsSame (state S.Store conn.old) (state S.Store conn.new) }
+    requires ready { Q.IsReady conn.old }
+    ensures mode { Q.IsReady conn.new }
+    ensures place { Q.place conn.new ≡ Q.place conn.old }
+    ensures kept { IsKept (Q.below conn.old) (Q.below conn.new) }
+    ensures same { IsSame (Q.shows conn.old) (Q.shows conn.new) }
     ensures judged { FindsJudged (AreServicesFound names.now)
-        (state S.Store conn.old) (state S.Store conn.new) result }
+        (Q.shows conn.old) (Q.shows conn.new) result }
     ensures refused { RefusesJudged (λ t. AllByRecursion (IsServiceUnder t) names.now)
-        (state S.Store conn.old) (state S.Store conn.new) result }
+        (Q.shows conn.old) (Q.shows conn.new) result }
 {
     let mut totals = Totals::none();
     for name in names {
@@ -68,14 +72,16 @@ fn judge_each<S: Alter, G: Progress>(
 }
 
 // That the tables have no more than that.
-fn are_all<S: Alter>(conn: &mut Connection<S>, totals: &Totals) -> Result<(), ReadFault>
-    requires autocommit { conn.old.in_transaction ≡ false }
-    ensures mode { conn.new.in_transaction ≡ false }
-    ensures same { IsSame (state S.Store conn.old) (state S.Store conn.new) }
+fn are_all<Q: Reader>(conn: &mut Q, totals: &Totals) -> Result<(), ReadFault>
+    requires ready { Q.IsReady conn.old }
+    ensures mode { Q.IsReady conn.new }
+    ensures place { Q.place conn.new ≡ Q.place conn.old }
+    ensures kept { IsKept (Q.below conn.old) (Q.below conn.new) }
+    ensures same { IsSame (Q.shows conn.old) (Q.shows conn.new) }
     ensures judged { FindsThat (λ t. HaveTotals t totals.now)
-        (state S.Store conn.old) (state S.Store conn.new) result }
+        (Q.shows conn.old) (Q.shows conn.new) result }
     ensures refused { RefusesUnless (λ t. HaveTotals t totals.now)
-        (state S.Store conn.old) (state S.Store conn.new) result }
+        (Q.shows conn.old) (Q.shows conn.new) result }
 {
     totals::are_all(totals.runs, lists::run_count(conn)?)?;
     totals::are_all(totals.bindings, lists::binding_count(conn)?)?;

@@ -1,7 +1,6 @@
 //! The strategy of a service, which templates that are judged accept.
 ghost use Rattle.std.specs.Prelude.{◌≡◌, false, None, IfOk, Err};
 ghost use Rattle.std.specs.FinMap.{get};
-ghost use Rattle.sqlite.specs.Held.{state};
 ghost use Rattle.canary_plan.specs.Plans.{strategy_of};
 ghost use Rattle.canary_plan.specs.PlanRefusals.{analyses, strategy_refusal};
 ghost use Rattle.canary_plan.specs.Commands.{all_names};
@@ -13,6 +12,7 @@ ghost use Rattle.canary_reads.specs.declared.fault.ReadFault.TheVariants.{Broken
 ghost use Rattle.canary_reads.specs.Finds.{IsSame};
 ghost use Rattle.canary_adopting.specs.Strategies.{newest_in, known_among, IsStrategyAccepted};
 ghost use Rattle.canary_adopting.specs.Strategies.{IsStrategyOf};
+ghost use Rattle.canary_reads.specs.Reader.{IsKept};
 
 use crate::templates;
 use canary_base::error::Memory;
@@ -26,8 +26,8 @@ use canary_plan::strategy::Strategy;
 use canary_plan::template::Template;
 use canary_plan::templates::Templates;
 use canary_reads::fault::ReadFault;
+use canary_reads::reader::Reader;
 use canary_reads::services;
-use sqlite::{Alter, Connection};
 use std::alloc::Global;
 
 /// The strategy of a service that was asked for so, which the newest templates of the tables
@@ -36,19 +36,21 @@ use std::alloc::Global;
 /// # Errors
 /// `Broken` where something refuses the strategy, `Memory` where there is not enough, `Storage`
 /// where the database fails.
-pub(crate) fn strategy<S: Alter>(
-    conn: &mut Connection<S>,
+pub(crate) fn strategy<Q: Reader>(
+    conn: &mut Q,
     alloc: Global,
     spec: &ServiceSpec,
 ) -> Result<Strategy, ReadFault>
-    requires autocommit { conn.old.in_transaction ≡ false }
-    ensures mode { conn.new.in_transaction ≡ false }
-    ensures same { IsSame (state S.Store conn.old) (state S.Store conn.new) }
-    ensures found { IsUsable (state S.Store conn.new) → (t : Tables)
-        → Stores (state S.Store conn.old) t → AreTemplatesJudged t
+    requires ready { Q.IsReady conn.old }
+    ensures mode { Q.IsReady conn.new }
+    ensures place { Q.place conn.new ≡ Q.place conn.old }
+    ensures kept { IsKept (Q.below conn.old) (Q.below conn.new) }
+    ensures same { IsSame (Q.shows conn.old) (Q.shows conn.new) }
+    ensures found { IsUsable (Q.shows conn.new) → (t : Tables)
+        → Stores (Q.shows conn.old) t → AreTemplatesJudged t
         → IfOk result (IsStrategyOf t spec.now) }
-    ensures broken { IsUsable (state S.Store conn.new) → (t : Tables)
-        → Stores (state S.Store conn.old) t → AreTemplatesJudged t → result ≡ Err Broken
+    ensures broken { IsUsable (Q.shows conn.new) → (t : Tables)
+        → Stores (Q.shows conn.old) t → AreTemplatesJudged t → result ≡ Err Broken
         → AreWithin t → ¬ IsStrategyAccepted t spec.now }
 {
     let names = names_of(alloc, spec)?;
@@ -77,19 +79,21 @@ fn checked(alloc: Global, spec: &ServiceSpec, known: &Templates) -> Result<Strat
 }
 
 // The newest revisions of the templates that have one of these names.
-fn templates_of<S: Alter>(
-    conn: &mut Connection<S>,
+fn templates_of<Q: Reader>(
+    conn: &mut Q,
     alloc: Global,
     names: &[Name],
 ) -> Result<Templates, ReadFault>
-    requires autocommit { conn.old.in_transaction ≡ false }
-    ensures mode { conn.new.in_transaction ≡ false }
-    ensures same { IsSame (state S.Store conn.old) (state S.Store conn.new) }
-    ensures found { IsUsable (state S.Store conn.new) → (t : Tables)
-        → Stores (state S.Store conn.old) t → AreTemplatesJudged t
+    requires ready { Q.IsReady conn.old }
+    ensures mode { Q.IsReady conn.new }
+    ensures place { Q.place conn.new ≡ Q.place conn.old }
+    ensures kept { IsKept (Q.below conn.old) (Q.below conn.new) }
+    ensures same { IsSame (Q.shows conn.old) (Q.shows conn.new) }
+    ensures found { IsUsable (Q.shows conn.new) → (t : Tables)
+        → Stores (Q.shows conn.old) t → AreTemplatesJudged t
         → IfOk result (λ found. get found ≡ known_among (newest_in t) names.now) }
-    ensures broken { IsUsable (state S.Store conn.new) → (t : Tables)
-        → Stores (state S.Store conn.old) t → AreTemplatesJudged t → result ≡ Err Broken
+    ensures broken { IsUsable (Q.shows conn.new) → (t : Tables)
+        → Stores (Q.shows conn.old) t → AreTemplatesJudged t → result ≡ Err Broken
         → ¬ AreWithin t }
 {
     let mut found = Templates::new(alloc);
@@ -102,19 +106,21 @@ fn templates_of<S: Alter>(
 }
 
 // The newest revision of the template of that name, if there is one.
-fn template<S: Alter>(
-    conn: &mut Connection<S>,
+fn template<Q: Reader>(
+    conn: &mut Q,
     alloc: Global,
     name: &Name,
 ) -> Result<Option<Template>, ReadFault>
-    requires autocommit { conn.old.in_transaction ≡ false }
-    ensures mode { conn.new.in_transaction ≡ false }
-    ensures same { IsSame (state S.Store conn.old) (state S.Store conn.new) }
-    ensures found { IsUsable (state S.Store conn.new) → (t : Tables)
-        → Stores (state S.Store conn.old) t → AreTemplatesJudged t
+    requires ready { Q.IsReady conn.old }
+    ensures mode { Q.IsReady conn.new }
+    ensures place { Q.place conn.new ≡ Q.place conn.old }
+    ensures kept { IsKept (Q.below conn.old) (Q.below conn.new) }
+    ensures same { IsSame (Q.shows conn.old) (Q.shows conn.new) }
+    ensures found { IsUsable (Q.shows conn.new) → (t : Tables)
+        → Stores (Q.shows conn.old) t → AreTemplatesJudged t
         → IfOk result (λ found. found ≡ newest_in t name.now) }
-    ensures broken { IsUsable (state S.Store conn.new) → (t : Tables)
-        → Stores (state S.Store conn.old) t → AreTemplatesJudged t → result ≡ Err Broken
+    ensures broken { IsUsable (Q.shows conn.new) → (t : Tables)
+        → Stores (Q.shows conn.old) t → AreTemplatesJudged t → result ≡ Err Broken
         → ¬ AreWithin t }
 {
     laws::templates_found();

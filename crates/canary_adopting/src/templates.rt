@@ -1,7 +1,6 @@
 //! Templates, revision by revision.
 ghost use Rattle.std.specs.Prelude.{◌≡◌, ◌↔◌, false, IsTrue, IfOk, OnOk, Err};
 ghost use Rattle.std.specs.List.{AllByRecursion};
-ghost use Rattle.sqlite.specs.Held.{state};
 ghost use Rattle.canary_plan.specs.declared.template.Template.{Template};
 ghost use Rattle.canary_judging.specs.Judged.{AreTemplatesJudged};
 ghost use Rattle.canary_reads.specs.declared.fault.ReadFault.TheVariants.{Broken};
@@ -10,6 +9,7 @@ ghost use Rattle.canary_adopting.specs.Alone.{IsAlone};
 ghost use Rattle.canary_adopting.specs.Judges.{FindsThat, RefusesUnless};
 ghost use Rattle.canary_adopting.specs.Templates.{IsAccepted, IsAcceptedAs, IsNumbered};
 ghost use Rattle.canary_adopting.specs.Templates.{IsJudgedUnder};
+ghost use Rattle.canary_reads.specs.Reader.{IsKept};
 
 use crate::alone;
 use crate::fault::read_fault;
@@ -18,10 +18,10 @@ use canary_base::names::Name;
 use canary_plan::template::Template;
 use canary_reads::fault::ReadFault;
 use canary_reads::lists::{self, RevisionKey};
+use canary_reads::reader::Reader;
 use canary_reads::services;
 use canary_rows::rows::RevisionRow;
 use canary_stored::reading;
-use sqlite::{Alter, Connection};
 use std::alloc::Global;
 
 // The most revisions of a template.
@@ -33,31 +33,31 @@ const MOST_REVISIONS: u32 = 1_000_000;
 /// # Errors
 /// `Broken` where that is not so, `Memory` where there is not enough, `Storage` where the database
 /// fails.
-pub(crate) fn judge<S: Alter>(conn: &mut Connection<S>, alloc: Global) -> Result<(), ReadFault>
-    requires autocommit { conn.old.in_transaction ≡ false }
-    ensures mode { conn.new.in_transaction ≡ false }
-    ensures same { IsSame (state S.Store conn.old) (state S.Store conn.new) }
+pub(crate) fn judge<Q: Reader>(conn: &mut Q, alloc: Global) -> Result<(), ReadFault>
+    requires ready { Q.IsReady conn.old }
+    ensures mode { Q.IsReady conn.new }
+    ensures place { Q.place conn.new ≡ Q.place conn.old }
+    ensures kept { IsKept (Q.below conn.old) (Q.below conn.new) }
+    ensures same { IsSame (Q.shows conn.old) (Q.shows conn.new) }
     ensures judged { FindsThat AreTemplatesJudged
-        (state S.Store conn.old) (state S.Store conn.new) result }
+        (Q.shows conn.old) (Q.shows conn.new) result }
     ensures refused { RefusesUnless AreTemplatesJudged
-        (state S.Store conn.old) (state S.Store conn.new) result }
+        (Q.shows conn.old) (Q.shows conn.new) result }
 {
     let keys = lists::revision_keys(conn, alloc)?;
     judge_each(conn, alloc, keys.as_slice())
 }
 
-fn judge_each<S: Alter>(
-    conn: &mut Connection<S>,
-    alloc: Global,
-    keys: &[RevisionKey],
-) -> Result<(), ReadFault>
-    requires autocommit { conn.old.in_transaction ≡ false }
-    ensures mode { conn.new.in_transaction ≡ false }
-    ensures same { IsSame (state S.Store conn.old) (state S.Store conn.new) }
+fn judge_each<Q: Reader>(conn: &mut Q, alloc: Global, keys: &[RevisionKey]) -> Result<(), ReadFault>
+    requires ready { Q.IsReady conn.old }
+    ensures mode { Q.IsReady conn.new }
+    ensures place { Q.place conn.new ≡ Q.place conn.old }
+    ensures kept { IsKept (Q.below conn.old) (Q.below conn.new) }
+    ensures same { IsSame (Q.shows conn.old) (Q.shows conn.new) }
     ensures judged { FindsThat (λ t. AllByRecursion (IsJudgedUnder t) keys.now)
-        (state S.Store conn.old) (state S.Store conn.new) result }
+        (Q.shows conn.old) (Q.shows conn.new) result }
     ensures refused { RefusesUnless (λ t. AllByRecursion (IsJudgedUnder t) keys.now)
-        (state S.Store conn.old) (state S.Store conn.new) result }
+        (Q.shows conn.old) (Q.shows conn.new) result }
 {
     for key in keys {
         judge_one(conn, alloc, key)?;
@@ -65,18 +65,16 @@ fn judge_each<S: Alter>(
     Ok(())
 }
 
-fn judge_one<S: Alter>(
-    conn: &mut Connection<S>,
-    alloc: Global,
-    key: &RevisionKey,
-) -> Result<(), ReadFault>
-    requires autocommit { conn.old.in_transaction ≡ false }
-    ensures mode { conn.new.in_transaction ≡ false }
-    ensures same { IsSame (state S.Store conn.old) (state S.Store conn.new) }
+fn judge_one<Q: Reader>(conn: &mut Q, alloc: Global, key: &RevisionKey) -> Result<(), ReadFault>
+    requires ready { Q.IsReady conn.old }
+    ensures mode { Q.IsReady conn.new }
+    ensures place { Q.place conn.new ≡ Q.place conn.old }
+    ensures kept { IsKept (Q.below conn.old) (Q.below conn.new) }
+    ensures same { IsSame (Q.shows conn.old) (Q.shows conn.new) }
     ensures judged { FindsThat (λ t. IsJudgedUnder t key.now)
-        (state S.Store conn.old) (state S.Store conn.new) result }
+        (Q.shows conn.old) (Q.shows conn.new) result }
     ensures refused { RefusesUnless (λ t. IsJudgedUnder t key.now)
-        (state S.Store conn.old) (state S.Store conn.new) result }
+        (Q.shows conn.old) (Q.shows conn.new) result }
 {
     let rows = services::revision_rows(conn, alloc, &key.name, key.revision)?;
     read_revision(alloc, rows)?;
@@ -106,14 +104,16 @@ fn is_of(template: &Template, name: &Name) -> bool
 }
 
 // That it is one of the numbers of revisions, and follows another revision, or is the first.
-fn judge_number<S: Alter>(conn: &mut Connection<S>, key: &RevisionKey) -> Result<(), ReadFault>
-    requires autocommit { conn.old.in_transaction ≡ false }
-    ensures mode { conn.new.in_transaction ≡ false }
-    ensures same { IsSame (state S.Store conn.old) (state S.Store conn.new) }
+fn judge_number<Q: Reader>(conn: &mut Q, key: &RevisionKey) -> Result<(), ReadFault>
+    requires ready { Q.IsReady conn.old }
+    ensures mode { Q.IsReady conn.new }
+    ensures place { Q.place conn.new ≡ Q.place conn.old }
+    ensures kept { IsKept (Q.below conn.old) (Q.below conn.new) }
+    ensures same { IsSame (Q.shows conn.old) (Q.shows conn.new) }
     ensures judged { FindsThat (λ t. IsNumbered t key.now)
-        (state S.Store conn.old) (state S.Store conn.new) result }
+        (Q.shows conn.old) (Q.shows conn.new) result }
     ensures refused { RefusesUnless (λ t. IsNumbered t key.now)
-        (state S.Store conn.old) (state S.Store conn.new) result }
+        (Q.shows conn.old) (Q.shows conn.new) result }
 {
     if key.revision == 0 || key.revision > MOST_REVISIONS {
         return Err(ReadFault::Broken);

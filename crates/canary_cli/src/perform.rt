@@ -17,11 +17,14 @@ use canary_database::backup::backup;
 use canary_database::export::export;
 use canary_database::history::history;
 use canary_database::import::import;
+use canary_database::migrate::migrate;
+use canary_database::page::page;
 use canary_database::status::status;
 use canary_database::{pipe, serve};
 use canary_listen::limits::Limits;
 use canary_once::clock::StepClock;
 use canary_once::memory::MemoryBook;
+use canary_overview::overview::Form;
 use canary_programs::fault::{Fault, done_of};
 use canary_programs::overview::Drawing;
 use canary_programs::show::show;
@@ -157,7 +160,7 @@ fn run_placed<R: Read, W: Write, F: Write>(
 {
     let place = Place::of(rt.alloc(), &program, terminals.errors);
     let done = run(rt, program, input, output, errors, terminals);
-    finish(rt.alloc(), done, &place, errors)
+    finish(rt, done, &place, errors)
 }
 
 fn run<R: Read, W: Write, F: Write>(
@@ -193,6 +196,10 @@ fn run<R: Read, W: Write, F: Write>(
         }
         Program::Check { file, request } => check(rt, &file, &request, output, errors),
         Program::Backup { db, copy } => done(backup(rt, db.as_str(), copy.as_str())),
+        Program::Migrate { db, dry_run } => {
+            let db = db.as_str();
+            done(migrate(rt, db, dry_run, output, errors, shows))
+        }
         Program::History { db, service } => {
             let (db, service) = (db.as_str(), service.as_str());
             done(history(rt, db, service, output, errors, shows))
@@ -205,9 +212,13 @@ fn run<R: Read, W: Write, F: Write>(
             let (db, caller, service) = (db.as_str(), caller.as_str(), service.as_str());
             done(export(rt, db, caller, service, output, errors, shows))
         }
-        Program::Status { db, watch } => {
-            let drawing = drawing(watch, terminals);
+        Program::Status { db, watch, json } => {
+            let drawing = drawing(watch, json, terminals);
             done(status(rt, db.as_str(), drawing, output, errors, shows))
+        }
+        Program::Page { db, out, watch } => {
+            let (db, out) = (db.as_str(), out.as_str());
+            done(page(rt, db, out, watch, output, errors, shows))
         }
     }
 }
@@ -236,9 +247,10 @@ fn run_pipe<R: Read, W: Write, F: Write>(
     }
 }
 
-// How often a status is printed, and whether on a terminal.
-fn drawing(every: Option<u64>, terminals: Terminals) -> Drawing {
+// How often a status is printed, in which form, and whether on a terminal.
+fn drawing(every: Option<u64>, is_json: bool, terminals: Terminals) -> Drawing {
     Drawing {
+        form: if is_json { Form::Json } else { Form::Tables },
         every,
         is_terminal: terminals.output,
     }
@@ -314,7 +326,7 @@ fn pipe<R: Read, W: Write>(
 
 // The status of what was done, with the line of a fault on `errors`, and what it is about.
 fn finish<F: Write>(
-    alloc: Global,
+    rt: &HostRuntime,
     done: Result<Outcome, Fault>,
     place: &Place,
     errors: &mut F,
@@ -331,7 +343,7 @@ fn finish<F: Write>(
         }
         Err(fault) => {
             let status = fail(fault, errors);
-            place.tell(alloc, fault, errors);
+            place.tell(rt, fault, errors);
             status
         }
     }

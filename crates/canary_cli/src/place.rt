@@ -2,6 +2,7 @@
 ghost use Rattle.std.specs.Prelude.{◌≡◌};
 
 use canary_base::lists::Text;
+use canary_database::migrate::is_of_first_version;
 use canary_programs::fault::Fault;
 use canary_words::words::Program;
 use std::alloc::{AllocError, Global};
@@ -12,6 +13,8 @@ use std::io::Write;
 pub(crate) struct Place {
     address: String,
     files: String,
+    // The file of the records; nothing if there is none.
+    db: String,
 }
 
 impl Place {
@@ -31,6 +34,7 @@ impl Place {
         Place {
             address: String::new(alloc),
             files: String::new(alloc),
+            db: String::new(alloc),
         }
     }
 
@@ -38,6 +42,7 @@ impl Place {
         Ok(Place {
             address: address_of(alloc, program)?,
             files: files_of(alloc, program)?,
+            db: db_of(alloc, program)?,
         })
     }
 
@@ -51,17 +56,34 @@ impl Place {
         }
     }
 
-    /// Says what a fault is about, and in words what it is, if that is known. A fault of `errors`,
-    /// and memory that is refused for the line, are ignored.
-    pub(crate) fn tell<F: Write>(&self, alloc: Global, fault: Fault, errors: &mut F) {
+    /// Says what a fault is about, and in words what it is, if that is known; and of a file of the
+    /// first version, how it becomes one of this version. A fault of `errors`, and memory that is
+    /// refused for the line, are ignored.
+    pub(crate) fn tell<F: Write>(&self, rt: &HostRuntime, fault: Fault, errors: &mut F) {
         let about = self.about(fault);
         if about.is_empty() {
             return;
         }
-        if let Ok(line) = format!(in alloc; "{about}: {fault}\n") {
+        let line = if self.is_of_first_version(rt, fault) {
+            advice(rt.alloc(), self.db.as_str())
+        } else {
+            format!(in rt.alloc(); "{about}: {fault}\n")
+        };
+        if let Ok(line) = line {
             let _ = errors.write_all(line.as_bytes());
         }
     }
+
+    // Whether the fault is that the records are of the first version.
+    fn is_of_first_version(&self, rt: &HostRuntime, fault: Fault) -> bool {
+        fault == Fault::OtherSchema && is_of_first_version(rt, self.db.as_str())
+    }
+}
+
+// How a file of the first version becomes one of this version.
+fn advice(alloc: Global, file: &str) -> Result<String, AllocError> {
+    let of = "is a file of the first version; 'canary migrate' makes it a file of this version";
+    format!(in alloc; "{file}: {of}\n")
 }
 
 fn address_of(alloc: Global, program: &Program) -> Result<String, AllocError> {
@@ -79,8 +101,22 @@ fn files_of(alloc: Global, program: &Program) -> Result<String, AllocError> {
         Program::History { db, .. } => listed(alloc, Some(db), None),
         Program::Export { db, .. } => listed(alloc, Some(db), None),
         Program::Status { db, .. } => listed(alloc, Some(db), None),
+        Program::Page { db, out, .. } => listed(alloc, Some(db), Some(out)),
         Program::Backup { db, copy } => listed(alloc, Some(db), Some(copy)),
+        Program::Migrate { db, .. } => listed(alloc, Some(db), None),
         Program::Check { file, request } => listed(alloc, file.as_ref(), request.as_ref()),
+    }
+}
+
+// The file of the records.
+fn db_of(alloc: Global, program: &Program) -> Result<String, AllocError> {
+    match program {
+        Program::Pipe { db, .. } | Program::Serve { db, .. } => listed(alloc, db.as_ref(), None),
+        Program::Import { db, .. } | Program::History { db, .. } => listed(alloc, Some(db), None),
+        Program::Export { db, .. } | Program::Status { db, .. } => listed(alloc, Some(db), None),
+        Program::Backup { db, .. } | Program::Migrate { db, .. } => listed(alloc, Some(db), None),
+        Program::Page { db, .. } => listed(alloc, Some(db), None),
+        Program::Check { .. } => listed(alloc, None, None),
     }
 }
 

@@ -1,18 +1,16 @@
 //! `backup`: a copy of a desk's file, also while a desk serves it.
-use crate::open::has_other_bytes;
+use crate::open::{Found, found_in, has_other_bytes};
 use canary_backup::copying::Part;
 use canary_programs::fault::Fault;
-use canary_schema::known::is_desk;
-use sqlite::{Connection, Error, ErrorCode};
 
 /// Copies a desk's file of SQLite, with its log, to `copy` and `copy`-wal, also while a desk serves
-/// it. The copy has its names once it is whole, was opened and has a desk's tables, and is on the
-/// disk. Its rows are not judged.
+/// it. The copy has its names once it is whole, was opened and has a desk's tables, of this version
+/// or the first, and is on the disk. Its rows are not judged.
 ///
 /// # Errors
-/// What `Part::of` of canary_backup answers. `OtherSchema` if the file is no database of SQLite, or
-/// its tables are not a desk's; `Storage` if the copy cannot be opened; `Memory` if an allocation
-/// was refused. There is no copy then.
+/// What `Part::of` of canary_backup answers. `OtherSchema` if the file is not a database of SQLite,
+/// or its tables are not a desk's, of this version or the first; `Storage` if the copy cannot be
+/// opened; `Memory` if an allocation was refused. There is no copy then.
 pub fn backup(rt: &HostRuntime, file: &str, copy: &str) -> Result<(), Fault> {
     if has_other_bytes(rt, file)? {
         return Err(Fault::OtherSchema);
@@ -31,20 +29,10 @@ fn name_desk(rt: &HostRuntime, part: &Part) -> Result<(), Fault> {
     Ok(part.name(rt)?)
 }
 
-// Reads whether the tables of the database in this file are a desk's.
+// Reads whether the tables of the database in this file are a desk's, of this version or the first.
 fn look_for_desk(rt: &HostRuntime, file: &str) -> Result<(), Fault> {
-    match Connection::open(rt, file) {
-        Ok(conn) if is_desk(conn.schema()) => Ok(()),
-        Ok(_) => Err(Fault::OtherSchema),
-        Err(error) => Err(unopened(error)),
-    }
-}
-
-// Why a copy could not be opened: a schema that no desk has is one cause.
-fn unopened(error: Error) -> Fault {
-    match error {
-        Error::SqliteFailure(ErrorCode::NotADatabase) => Fault::OtherSchema,
-        Error::SqliteFailure(ErrorCode::OutOfMemory) => Fault::Memory,
-        _ => Fault::Storage,
+    match found_in(rt, file)? {
+        Found::Desk | Found::First => Ok(()),
+        Found::Other => Err(Fault::OtherSchema),
     }
 }

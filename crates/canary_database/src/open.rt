@@ -6,9 +6,11 @@ ghost use Rattle.canary_programs.specs.declared.fault.Fault.TheVariants as fault
 use crate::progress::Shown;
 use canary_base::names::Name;
 use canary_programs::fault::Fault;
+use canary_schema::first::is_first;
+use canary_schema::known::is_desk;
 use canary_tables::book::TableBook;
 use canary_tables::fault::TableFault;
-use sqlite::{Alter, File, FileStore};
+use sqlite::{Alter, Connection, Error, ErrorCode, File, FileStore};
 use std::fs::{self, Files};
 use std::io::{self, ErrorKind, Read, Write};
 
@@ -63,8 +65,11 @@ pub fn open_found<F: Write>(
     open(rt, file, errors, is_terminal)
 }
 
-// Whether there is a file of this name, as far as the system says so.
-fn find<P: Files>(files: &P, file: &str) -> Result<(), Fault>
+/// Finds whether there is a file of this name, as far as the system says so.
+///
+/// # Errors
+/// `File` if there is none.
+pub(crate) fn find<P: Files>(files: &P, file: &str) -> Result<(), Fault>
     ensures { IfErr result (λ f. f ≡ fault.File) }
 {
     if is_missing(files, file) {
@@ -119,8 +124,8 @@ fn first_bytes<P: Files + AllocGlobal>(rt: &P, file: &str) -> io::Result<Vec<u8>
     Ok(bytes)
 }
 
-// The fault of the tables, under the name that it has on the command line.
-fn fault_of(fault: TableFault) -> Fault
+/// The fault of the tables, under the name that it has on the command line.
+pub(crate) fn fault_of(fault: TableFault) -> Fault
     ensures { result ≡ of_tables fault }
 {
     match fault {
@@ -129,6 +134,40 @@ fn fault_of(fault: TableFault) -> Fault
         TableFault::InUse => Fault::InUse,
         TableFault::OtherSchema => Fault::OtherSchema,
         TableFault::BrokenRow => Fault::BrokenRow,
+    }
+}
+
+/// Of which version a database's tables are.
+#[derive(Clone, Copy, Debug, PartialEq, Eq)]
+pub(crate) enum Found {
+    /// A desk's of this version.
+    Desk,
+    /// A desk's of the first version.
+    First,
+    /// Others.
+    Other,
+}
+
+/// Of which version the tables in the file of this name are. Its rows are not judged.
+///
+/// # Errors
+/// `OtherSchema` if the file is not a database of SQLite; `Memory` if an allocation was refused;
+/// `Storage` if it cannot be opened otherwise.
+pub(crate) fn found_in(rt: &HostRuntime, file: &str) -> Result<Found, Fault> {
+    match Connection::open(rt, file) {
+        Ok(conn) if is_desk(conn.schema()) => Ok(Found::Desk),
+        Ok(conn) if is_first(conn.schema()) => Ok(Found::First),
+        Ok(_) => Ok(Found::Other),
+        Err(error) => Err(unopened(error)),
+    }
+}
+
+// Why a file could not be opened: that no database has its bytes is one cause.
+fn unopened(error: Error) -> Fault {
+    match error {
+        Error::SqliteFailure(ErrorCode::NotADatabase) => Fault::OtherSchema,
+        Error::SqliteFailure(ErrorCode::OutOfMemory) => Fault::Memory,
+        _ => Fault::Storage,
     }
 }
 

@@ -13,6 +13,7 @@ pub mod FoundCallers
 pub mod FoundServices
 pub mod FoundRuns
 pub mod FoundLines
+pub mod FoundPages
 pub mod Holding
 pub mod FoundLists
 pub mod Counting
@@ -25,3 +26,5 @@ pub mod TableRows
 pub mod DeskRows
 pub mod Sequence
 pub mod Meta
+mod FirstTexts
+mod FoundMetrics

@@ -3,7 +3,11 @@ pub mod Finds
 pub mod Parts
 pub mod Keys
 pub mod Sorts
+pub mod Pages
 pub mod Readable
 pub mod Breaks
 pub mod Faults
 pub mod Told
+pub mod Reader
+pub mod First
+pub mod Metrics

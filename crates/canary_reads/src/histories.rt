@@ -1,37 +1,39 @@
 //! What happened to a service: its history, and the measurements of its runs.
 ghost use Rattle.std.specs.Prelude.{◌≡◌, false, filter, take, drop};
 ghost use Rattle.std.specs.List.{AllByRecursion};
-ghost use Rattle.sqlite.specs.Held.{state};
 ghost use Rattle.canary_rows.specs.Tables.{is_line_of, is_measurement_of};
 ghost use Rattle.canary_rows.specs.Limits.{IsLineWithin, IsMeasurementWithin};
 ghost use Rattle.canary_reads.specs.Finds.{IsSame, FindsRows};
 ghost use Rattle.canary_reads.specs.Breaks.{BreaksUnless};
+ghost use Rattle.canary_reads.specs.Reader.{IsKept};
 
 use crate::fault::ReadFault;
-use crate::{query, shown};
+use crate::reader::Reader;
+use crate::shown;
 use canary_base::lists::Listed;
 use canary_base::names::Name;
 use canary_rows::rows::{HistoryRow, MeasurementRow};
-use sqlite::{Alter, Connection, params};
+use sqlite::params;
 use std::alloc::Global;
 
 /// The lines of the service's history, in their order. `Memory` where there is not enough,
 /// `Storage` where the database fails, `Broken` where a line is none that a program can hold.
-pub fn history<S: Alter>(
-    conn: &mut Connection<S>,
+pub fn history<Q: Reader>(
+    conn: &mut Q,
     alloc: Global,
     service: &Name,
 ) -> Result<Listed<HistoryRow>, ReadFault>
-    requires autocommit { conn.old.in_transaction ≡ false }
-    ensures mode { conn.new.in_transaction ≡ false }
-    ensures same { IsSame (state S.Store conn.old) (state S.Store conn.new) }
+    requires ready { Q.IsReady conn.old }
+    ensures mode { Q.IsReady conn.new }
+    ensures place { Q.place conn.new ≡ Q.place conn.old }
+    ensures kept { IsKept (Q.below conn.old) (Q.below conn.new) }
+    ensures same { IsSame (Q.shows conn.old) (Q.shows conn.new) }
     ensures found { FindsRows (λ t. filter (is_line_of service.now) t.history)
-        (state S.Store conn.old) (state S.Store conn.new) result }
+        (Q.shows conn.old) (Q.shows conn.new) result }
     ensures broken { BreaksUnless (λ t. AllByRecursion IsLineWithin t.history)
-        (state S.Store conn.old) (state S.Store conn.new) result }
+        (Q.shows conn.old) (Q.shows conn.new) result }
 {
-    let rows = query::rows_of(
-        conn,
+    let rows = conn.ask(
         "SELECT moment, line FROM history WHERE service = ?1 ORDER BY place",
         params![service.as_str()],
     )?;
@@ -41,27 +43,28 @@ pub fn history<S: Alter>(
 /// The measurements of the service's runs, in their order: from that one on, counted from 0, at
 /// most so many. `Memory` where there is not enough, `Storage` where the database fails, and where
 /// `from` is 2^63 or more, `Broken` where a measurement of these is none that a program can hold.
-pub fn measurements<S: Alter>(
-    conn: &mut Connection<S>,
+pub fn measurements<Q: Reader>(
+    conn: &mut Q,
     alloc: Global,
     service: &Name,
     from: u64,
     most: u32,
 ) -> Result<Listed<MeasurementRow>, ReadFault>
-    requires autocommit { conn.old.in_transaction ≡ false }
-    ensures mode { conn.new.in_transaction ≡ false }
-    ensures same { IsSame (state S.Store conn.old) (state S.Store conn.new) }
+    requires ready { Q.IsReady conn.old }
+    ensures mode { Q.IsReady conn.new }
+    ensures place { Q.place conn.new ≡ Q.place conn.old }
+    ensures kept { IsKept (Q.below conn.old) (Q.below conn.new) }
+    ensures same { IsSame (Q.shows conn.old) (Q.shows conn.new) }
     ensures found { FindsRows
         (λ t. take most (drop from (filter (is_measurement_of service.now) t.measurements)))
-        (state S.Store conn.old) (state S.Store conn.new) result }
+        (Q.shows conn.old) (Q.shows conn.new) result }
     ensures broken { BreaksUnless (λ t. AllByRecursion IsMeasurementWithin t.measurements)
-        (state S.Store conn.old) (state S.Store conn.new) result }
+        (Q.shows conn.old) (Q.shows conn.new) result }
 {
     let Ok(offset) = i64::try_from(from) else {
         return Err(ReadFault::Storage);
     };
-    let rows = query::rows_of(
-        conn,
+    let rows = conn.ask(
         "SELECT run, metric, ordinal, taken, phase, outcome FROM measurement \
          WHERE service = ?1 ORDER BY place LIMIT ?3 OFFSET ?2",
         params![service.as_str(), offset, most],
@@ -71,21 +74,22 @@ pub fn measurements<S: Alter>(
 
 /// All measurements of the service's runs, in their order. `Memory` where there is not enough,
 /// `Storage` where the database fails, `Broken` where one is none that a program can hold.
-pub fn measurement_rows<S: Alter>(
-    conn: &mut Connection<S>,
+pub fn measurement_rows<Q: Reader>(
+    conn: &mut Q,
     alloc: Global,
     service: &Name,
 ) -> Result<Listed<MeasurementRow>, ReadFault>
-    requires autocommit { conn.old.in_transaction ≡ false }
-    ensures mode { conn.new.in_transaction ≡ false }
-    ensures same { IsSame (state S.Store conn.old) (state S.Store conn.new) }
+    requires ready { Q.IsReady conn.old }
+    ensures mode { Q.IsReady conn.new }
+    ensures place { Q.place conn.new ≡ Q.place conn.old }
+    ensures kept { IsKept (Q.below conn.old) (Q.below conn.new) }
+    ensures same { IsSame (Q.shows conn.old) (Q.shows conn.new) }
     ensures found { FindsRows (λ t. filter (is_measurement_of service.now) t.measurements)
-        (state S.Store conn.old) (state S.Store conn.new) result }
+        (Q.shows conn.old) (Q.shows conn.new) result }
     ensures broken { BreaksUnless (λ t. AllByRecursion IsMeasurementWithin t.measurements)
-        (state S.Store conn.old) (state S.Store conn.new) result }
+        (Q.shows conn.old) (Q.shows conn.new) result }
 {
-    let rows = query::rows_of(
-        conn,
+    let rows = conn.ask(
         "SELECT run, metric, ordinal, taken, phase, outcome FROM measurement \
          WHERE service = ?1 ORDER BY place",
         params![service.as_str()],

@@ -15,10 +15,13 @@
 pub mod callers;
 mod columns;
 pub mod fault;
+pub mod first;
 mod held;
 pub mod histories;
 pub mod lists;
-mod query;
+pub mod metrics;
+pub mod pages;
+pub mod reader;
 pub mod runs;
 pub mod services;
 mod shown;

@@ -3,7 +3,6 @@
 ghost use Rattle.std.specs.Prelude.{◌≡◌, ◌≢◌, false, List, [], IfOk, IfSome, Err};
 ghost use Rattle.std.specs.Prelude.{length, map, min, slice_index_or};
 ghost use Rattle.std.specs.List.{AllByRecursion};
-ghost use Rattle.sqlite.specs.Held.{state};
 ghost use Rattle.sqlite.specs.Order.{Row as Cells, column};
 ghost use Rattle.sqlite.specs.State.{Shown};
 ghost use Rattle.canary_rows.specs.Limits.{IsCallerWithin, IsRevisionWithin, IsServiceWithin};
@@ -13,14 +12,16 @@ ghost use Rattle.canary_reads.specs.Keys.{key_of};
 ghost use Rattle.canary_reads.specs.Queries.{IsQuery};
 ghost use Rattle.canary_reads.specs.Finds.{IsSame, FindsRows};
 ghost use Rattle.canary_reads.specs.Breaks.{BreaksUnless};
+ghost use Rattle.canary_reads.specs.Reader.{IsKept};
 
 use crate::fault::ReadFault;
-use crate::{held, query};
+use crate::held;
+use crate::reader::Reader;
 use canary_base::lists::Listed;
 use canary_base::names::Name;
 use canary_rows::rows::CallerRow;
+use sqlite::Row;
 use sqlite::types::ValueRef;
-use sqlite::{Alter, Connection, Row};
 use std::alloc::Global;
 
 /// What a revision of a template is found by: the template's name, and the revision's number.
@@ -32,72 +33,70 @@ pub struct RevisionKey {
 
 /// All callers, in the order in which they were added. `Memory` where there is not enough,
 /// `Storage` where the database fails, `Broken` where a caller is none that a program can hold.
-pub fn callers<S: Alter>(
-    conn: &mut Connection<S>,
-    alloc: Global,
-) -> Result<Listed<CallerRow>, ReadFault>
-    requires autocommit { conn.old.in_transaction ≡ false }
-    ensures mode { conn.new.in_transaction ≡ false }
-    ensures same { IsSame (state S.Store conn.old) (state S.Store conn.new) }
+pub fn callers<Q: Reader>(conn: &mut Q, alloc: Global) -> Result<Listed<CallerRow>, ReadFault>
+    requires ready { Q.IsReady conn.old }
+    ensures mode { Q.IsReady conn.new }
+    ensures place { Q.place conn.new ≡ Q.place conn.old }
+    ensures kept { IsKept (Q.below conn.old) (Q.below conn.new) }
+    ensures same { IsSame (Q.shows conn.old) (Q.shows conn.new) }
     ensures found { FindsRows (λ t. t.callers)
-        (state S.Store conn.old) (state S.Store conn.new) result }
+        (Q.shows conn.old) (Q.shows conn.new) result }
     ensures broken { BreaksUnless (λ t. AllByRecursion IsCallerWithin t.callers)
-        (state S.Store conn.old) (state S.Store conn.new) result }
+        (Q.shows conn.old) (Q.shows conn.new) result }
 {
-    let rows = query::rows_of(conn, "SELECT name, settled FROM caller ORDER BY rowid", &[])?;
+    let rows = conn.ask("SELECT name, settled FROM caller ORDER BY rowid", &[])?;
     held::all(alloc, rows.as_slice())
 }
 
 /// The keys of all revisions, in the order in which they were added. `Memory` where there is not
 /// enough, `Storage` where the database fails, `Broken` where a revision is none that a program can
 /// hold.
-pub fn revision_keys<S: Alter>(
-    conn: &mut Connection<S>,
+pub fn revision_keys<Q: Reader>(
+    conn: &mut Q,
     alloc: Global,
 ) -> Result<Listed<RevisionKey>, ReadFault>
-    requires autocommit { conn.old.in_transaction ≡ false }
-    ensures mode { conn.new.in_transaction ≡ false }
-    ensures same { IsSame (state S.Store conn.old) (state S.Store conn.new) }
+    requires ready { Q.IsReady conn.old }
+    ensures mode { Q.IsReady conn.new }
+    ensures place { Q.place conn.new ≡ Q.place conn.old }
+    ensures kept { IsKept (Q.below conn.old) (Q.below conn.new) }
+    ensures same { IsSame (Q.shows conn.old) (Q.shows conn.new) }
     ensures found { FindsRows (λ t. map key_of t.revisions)
-        (state S.Store conn.old) (state S.Store conn.new) result }
+        (Q.shows conn.old) (Q.shows conn.new) result }
     ensures broken { BreaksUnless (λ t. AllByRecursion IsRevisionWithin t.revisions)
-        (state S.Store conn.old) (state S.Store conn.new) result }
+        (Q.shows conn.old) (Q.shows conn.new) result }
 {
-    let rows = query::rows_of(
-        conn,
-        "SELECT name, revision FROM revision ORDER BY rowid",
-        &[],
-    )?;
+    let rows = conn.ask("SELECT name, revision FROM revision ORDER BY rowid", &[])?;
     held::all(alloc, rows.as_slice())
 }
 
 /// The names of all services, in the order in which they were added. `Memory` where there is not
 /// enough, `Storage` where the database fails, `Broken` where a service is none that a program can
 /// hold.
-pub fn service_names<S: Alter>(
-    conn: &mut Connection<S>,
-    alloc: Global,
-) -> Result<Listed<Name>, ReadFault>
-    requires autocommit { conn.old.in_transaction ≡ false }
-    ensures mode { conn.new.in_transaction ≡ false }
-    ensures same { IsSame (state S.Store conn.old) (state S.Store conn.new) }
+pub fn service_names<Q: Reader>(conn: &mut Q, alloc: Global) -> Result<Listed<Name>, ReadFault>
+    requires ready { Q.IsReady conn.old }
+    ensures mode { Q.IsReady conn.new }
+    ensures place { Q.place conn.new ≡ Q.place conn.old }
+    ensures kept { IsKept (Q.below conn.old) (Q.below conn.new) }
+    ensures same { IsSame (Q.shows conn.old) (Q.shows conn.new) }
     ensures found { FindsRows (λ t. map (λ row. row.name) t.services)
-        (state S.Store conn.old) (state S.Store conn.new) result }
+        (Q.shows conn.old) (Q.shows conn.new) result }
     ensures broken { BreaksUnless (λ t. AllByRecursion IsServiceWithin t.services)
-        (state S.Store conn.old) (state S.Store conn.new) result }
+        (Q.shows conn.old) (Q.shows conn.new) result }
 {
-    let rows = query::rows_of(conn, "SELECT name FROM service ORDER BY rowid", &[])?;
+    let rows = conn.ask("SELECT name FROM service ORDER BY rowid", &[])?;
     held::all(alloc, rows.as_slice())
 }
 
 /// How many settled requests there are, of which SQLite counts 2^63 - 1 at most. `Memory` where
 /// there is not enough, `Storage` where the database fails.
-pub fn kept_count<S: Alter>(conn: &mut Connection<S>) -> Result<u64, ReadFault>
-    requires autocommit { conn.old.in_transaction ≡ false }
-    ensures mode { conn.new.in_transaction ≡ false }
-    ensures same { IsSame (state S.Store conn.old) (state S.Store conn.new) }
+pub fn kept_count<Q: Reader>(conn: &mut Q) -> Result<u64, ReadFault>
+    requires ready { Q.IsReady conn.old }
+    ensures mode { Q.IsReady conn.new }
+    ensures place { Q.place conn.new ≡ Q.place conn.old }
+    ensures kept { IsKept (Q.below conn.old) (Q.below conn.new) }
+    ensures same { IsSame (Q.shows conn.old) (Q.shows conn.new) }
     ensures found { FindsRows (λ t. min (length t.kept) 9223372036854775807)
-        (state S.Store conn.old) (state S.Store conn.new) result }
+        (Q.shows conn.old) (Q.shows conn.new) result }
     ensures whole { result ≢ Err ReadFault.Broken }
 {
     count_of(conn, "SELECT count(*) FROM kept")
@@ -105,12 +104,14 @@ pub fn kept_count<S: Alter>(conn: &mut Connection<S>) -> Result<u64, ReadFault>
 
 /// How many runs there are, of which SQLite counts 2^63 - 1 at most. `Memory` where there is
 /// not enough, `Storage` where the database fails.
-pub fn run_count<S: Alter>(conn: &mut Connection<S>) -> Result<u64, ReadFault>
-    requires autocommit { conn.old.in_transaction ≡ false }
-    ensures mode { conn.new.in_transaction ≡ false }
-    ensures same { IsSame (state S.Store conn.old) (state S.Store conn.new) }
+pub fn run_count<Q: Reader>(conn: &mut Q) -> Result<u64, ReadFault>
+    requires ready { Q.IsReady conn.old }
+    ensures mode { Q.IsReady conn.new }
+    ensures place { Q.place conn.new ≡ Q.place conn.old }
+    ensures kept { IsKept (Q.below conn.old) (Q.below conn.new) }
+    ensures same { IsSame (Q.shows conn.old) (Q.shows conn.new) }
     ensures found { FindsRows (λ t. min (length t.runs) 9223372036854775807)
-        (state S.Store conn.old) (state S.Store conn.new) result }
+        (Q.shows conn.old) (Q.shows conn.new) result }
     ensures whole { result ≢ Err ReadFault.Broken }
 {
     count_of(conn, "SELECT count(*) FROM run")
@@ -118,12 +119,14 @@ pub fn run_count<S: Alter>(conn: &mut Connection<S>) -> Result<u64, ReadFault>
 
 /// How many rows bind runs and attempts to revisions, of which SQLite counts 2^63 - 1 at most.
 /// `Memory` where there is not enough, `Storage` where the database fails.
-pub fn binding_count<S: Alter>(conn: &mut Connection<S>) -> Result<u64, ReadFault>
-    requires autocommit { conn.old.in_transaction ≡ false }
-    ensures mode { conn.new.in_transaction ≡ false }
-    ensures same { IsSame (state S.Store conn.old) (state S.Store conn.new) }
+pub fn binding_count<Q: Reader>(conn: &mut Q) -> Result<u64, ReadFault>
+    requires ready { Q.IsReady conn.old }
+    ensures mode { Q.IsReady conn.new }
+    ensures place { Q.place conn.new ≡ Q.place conn.old }
+    ensures kept { IsKept (Q.below conn.old) (Q.below conn.new) }
+    ensures same { IsSame (Q.shows conn.old) (Q.shows conn.new) }
     ensures found { FindsRows (λ t. min (length t.bindings) 9223372036854775807)
-        (state S.Store conn.old) (state S.Store conn.new) result }
+        (Q.shows conn.old) (Q.shows conn.new) result }
     ensures whole { result ≢ Err ReadFault.Broken }
 {
     count_of(conn, "SELECT count(*) FROM binding")
@@ -131,12 +134,14 @@ pub fn binding_count<S: Alter>(conn: &mut Connection<S>) -> Result<u64, ReadFaul
 
 /// How many tallies there are, of which SQLite counts 2^63 - 1 at most. `Memory` where there is
 /// not enough, `Storage` where the database fails.
-pub fn tally_count<S: Alter>(conn: &mut Connection<S>) -> Result<u64, ReadFault>
-    requires autocommit { conn.old.in_transaction ≡ false }
-    ensures mode { conn.new.in_transaction ≡ false }
-    ensures same { IsSame (state S.Store conn.old) (state S.Store conn.new) }
+pub fn tally_count<Q: Reader>(conn: &mut Q) -> Result<u64, ReadFault>
+    requires ready { Q.IsReady conn.old }
+    ensures mode { Q.IsReady conn.new }
+    ensures place { Q.place conn.new ≡ Q.place conn.old }
+    ensures kept { IsKept (Q.below conn.old) (Q.below conn.new) }
+    ensures same { IsSame (Q.shows conn.old) (Q.shows conn.new) }
     ensures found { FindsRows (λ t. min (length t.tallies) 9223372036854775807)
-        (state S.Store conn.old) (state S.Store conn.new) result }
+        (Q.shows conn.old) (Q.shows conn.new) result }
     ensures whole { result ≢ Err ReadFault.Broken }
 {
     count_of(conn, "SELECT count(*) FROM tally")
@@ -144,12 +149,14 @@ pub fn tally_count<S: Alter>(conn: &mut Connection<S>) -> Result<u64, ReadFault>
 
 /// How many measurements there are, of which SQLite counts 2^63 - 1 at most. `Memory` where there
 /// is not enough, `Storage` where the database fails.
-pub fn measurement_count<S: Alter>(conn: &mut Connection<S>) -> Result<u64, ReadFault>
-    requires autocommit { conn.old.in_transaction ≡ false }
-    ensures mode { conn.new.in_transaction ≡ false }
-    ensures same { IsSame (state S.Store conn.old) (state S.Store conn.new) }
+pub fn measurement_count<Q: Reader>(conn: &mut Q) -> Result<u64, ReadFault>
+    requires ready { Q.IsReady conn.old }
+    ensures mode { Q.IsReady conn.new }
+    ensures place { Q.place conn.new ≡ Q.place conn.old }
+    ensures kept { IsKept (Q.below conn.old) (Q.below conn.new) }
+    ensures same { IsSame (Q.shows conn.old) (Q.shows conn.new) }
     ensures found { FindsRows (λ t. min (length t.measurements) 9223372036854775807)
-        (state S.Store conn.old) (state S.Store conn.new) result }
+        (Q.shows conn.old) (Q.shows conn.new) result }
     ensures whole { result ≢ Err ReadFault.Broken }
 {
     count_of(conn, "SELECT count(*) FROM measurement")
@@ -157,29 +164,33 @@ pub fn measurement_count<S: Alter>(conn: &mut Connection<S>) -> Result<u64, Read
 
 /// How many lines of histories there are, of which SQLite counts 2^63 - 1 at most. `Memory` where
 /// there is not enough, `Storage` where the database fails.
-pub fn history_count<S: Alter>(conn: &mut Connection<S>) -> Result<u64, ReadFault>
-    requires autocommit { conn.old.in_transaction ≡ false }
-    ensures mode { conn.new.in_transaction ≡ false }
-    ensures same { IsSame (state S.Store conn.old) (state S.Store conn.new) }
+pub fn history_count<Q: Reader>(conn: &mut Q) -> Result<u64, ReadFault>
+    requires ready { Q.IsReady conn.old }
+    ensures mode { Q.IsReady conn.new }
+    ensures place { Q.place conn.new ≡ Q.place conn.old }
+    ensures kept { IsKept (Q.below conn.old) (Q.below conn.new) }
+    ensures same { IsSame (Q.shows conn.old) (Q.shows conn.new) }
     ensures found { FindsRows (λ t. min (length t.history) 9223372036854775807)
-        (state S.Store conn.old) (state S.Store conn.new) result }
+        (Q.shows conn.old) (Q.shows conn.new) result }
     ensures whole { result ≢ Err ReadFault.Broken }
 {
     count_of(conn, "SELECT count(*) FROM history")
 }
 
 // The whole number that stands first in what the query shows.
-fn count_of<S: Alter>(conn: &mut Connection<S>, text: &str) -> Result<u64, ReadFault>
-    requires autocommit { conn.old.in_transaction ≡ false }
+fn count_of<Q: Reader>(conn: &mut Q, text: &str) -> Result<u64, ReadFault>
+    requires ready { Q.IsReady conn.old }
     requires query { IsQuery text.now }
-    ensures mode { conn.new.in_transaction ≡ false }
-    ensures same { IsSame (state S.Store conn.old) (state S.Store conn.new) }
-    ensures shown { IsUsable (state S.Store conn.new) → IfOk result (λ count. (rows : List Cells)
-        × Shown text.now [] (state S.Store conn.old) (state S.Store conn.new) rows
+    ensures mode { Q.IsReady conn.new }
+    ensures place { Q.place conn.new ≡ Q.place conn.old }
+    ensures kept { IsKept (Q.below conn.old) (Q.below conn.new) }
+    ensures same { IsSame (Q.shows conn.old) (Q.shows conn.new) }
+    ensures shown { IsUsable (Q.shows conn.new) → IfOk result (λ count. (rows : List Cells)
+        × Shown text.now [] (Q.shows conn.old) (Q.shows conn.new) rows
         × (column (slice_index_or rows 0 []) 0 ≡ whole count)) }
     ensures whole { result ≢ Err ReadFault.Broken }
 {
-    let rows = query::rows_of(conn, text, &[])?;
+    let rows = conn.ask(text, &[])?;
     match first_number(rows.as_slice()) {
         Some(count) => Ok(count),
         None => Err(ReadFault::Storage),

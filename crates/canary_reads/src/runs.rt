@@ -1,7 +1,6 @@
 //! Runs, and the counts of their metrics.
 ghost use Rattle.std.specs.Prelude.{◌≡◌, ◌∷◌, false, filter, IfOk};
 ghost use Rattle.std.specs.List.{AllByRecursion};
-ghost use Rattle.sqlite.specs.Held.{state};
 ghost use Rattle.sqlite.specs.declared.types.Value.TheVariants.{Text as Words};
 ghost use Rattle.canary_rows.specs.Tables.{is_run, is_open_run_of, is_tally_of};
 ghost use Rattle.canary_rows.specs.Limits.{IsRunWithin, IsTallyWithin};
@@ -10,32 +9,36 @@ ghost use Rattle.canary_reads.specs.Breaks.{BreaksUnless};
 ghost use Rattle.canary_reads.specs.Finds.{IsSame, FindsRows, FindsSuch, TellsCells, first};
 ghost use Rattle.canary_reads.specs.Sorts.{Sorts, IsFront, is_open, is_run_of};
 ghost use Rattle.canary_reads.specs.Sorts.{number_of, metric_of};
+ghost use Rattle.canary_reads.specs.Reader.{IsKept};
 
 use crate::fault::ReadFault;
-use crate::{query, shown};
+use crate::reader::Reader;
+use crate::shown;
 use canary_base::error::Memory;
 use canary_base::lists::Listed;
 use canary_base::names::Name;
 use canary_rows::rows::{RunRow, TallyRow};
 use canary_schema::fault::StoreFault;
-use sqlite::{Alter, Connection, Row, params};
+use sqlite::{Row, params};
 use std::alloc::Global;
 
 /// The run of the service under that number, if there is one. `Memory` where there is not enough,
 /// `Storage` where the database fails, `Broken` where the run's row is none that a program can
 /// hold.
-pub fn run<S: Alter>(
-    conn: &mut Connection<S>,
+pub fn run<Q: Reader>(
+    conn: &mut Q,
     service: &Name,
     number: u32,
 ) -> Result<Option<RunRow>, ReadFault>
-    requires autocommit { conn.old.in_transaction ≡ false }
-    ensures mode { conn.new.in_transaction ≡ false }
-    ensures same { IsSame (state S.Store conn.old) (state S.Store conn.new) }
+    requires ready { Q.IsReady conn.old }
+    ensures mode { Q.IsReady conn.new }
+    ensures place { Q.place conn.new ≡ Q.place conn.old }
+    ensures kept { IsKept (Q.below conn.old) (Q.below conn.new) }
+    ensures same { IsSame (Q.shows conn.old) (Q.shows conn.new) }
     ensures found { FindsRows (λ t. first (filter (is_run service.now number) t.runs))
-        (state S.Store conn.old) (state S.Store conn.new) result }
+        (Q.shows conn.old) (Q.shows conn.new) result }
     ensures broken { BreaksUnless (λ t. AllByRecursion IsRunWithin t.runs)
-        (state S.Store conn.old) (state S.Store conn.new) result }
+        (Q.shows conn.old) (Q.shows conn.new) result }
 {
     let rows = run_shown(conn, service, number)?;
     shown::first(service, rows.as_slice())
@@ -44,39 +47,38 @@ pub fn run<S: Alter>(
 /// The rows of the service's run under that number, of which a desk writes one at most. `Memory`
 /// where there is not enough, `Storage` where the database fails, `Broken` where one is none that a
 /// program can hold.
-pub fn run_rows<S: Alter>(
-    conn: &mut Connection<S>,
+pub fn run_rows<Q: Reader>(
+    conn: &mut Q,
     alloc: Global,
     service: &Name,
     number: u32,
 ) -> Result<Listed<RunRow>, ReadFault>
-    requires autocommit { conn.old.in_transaction ≡ false }
-    ensures mode { conn.new.in_transaction ≡ false }
-    ensures same { IsSame (state S.Store conn.old) (state S.Store conn.new) }
+    requires ready { Q.IsReady conn.old }
+    ensures mode { Q.IsReady conn.new }
+    ensures place { Q.place conn.new ≡ Q.place conn.old }
+    ensures kept { IsKept (Q.below conn.old) (Q.below conn.new) }
+    ensures same { IsSame (Q.shows conn.old) (Q.shows conn.new) }
     ensures found { FindsRows (λ t. filter (is_run service.now number) t.runs)
-        (state S.Store conn.old) (state S.Store conn.new) result }
+        (Q.shows conn.old) (Q.shows conn.new) result }
     ensures broken { BreaksUnless (λ t. AllByRecursion IsRunWithin t.runs)
-        (state S.Store conn.old) (state S.Store conn.new) result }
+        (Q.shows conn.old) (Q.shows conn.new) result }
 {
     let rows = run_shown(conn, service, number)?;
     shown::all(alloc, service, rows.as_slice())
 }
 
 // What is shown of the run's rows, behind the service.
-fn run_shown<S: Alter>(
-    conn: &mut Connection<S>,
-    service: &Name,
-    number: u32,
-) -> Result<Vec<Row>, StoreFault>
-    requires autocommit { conn.old.in_transaction ≡ false }
-    ensures mode { conn.new.in_transaction ≡ false }
-    ensures same { IsSame (state S.Store conn.old) (state S.Store conn.new) }
+fn run_shown<Q: Reader>(conn: &mut Q, service: &Name, number: u32) -> Result<Vec<Row>, StoreFault>
+    requires ready { Q.IsReady conn.old }
+    ensures mode { Q.IsReady conn.new }
+    ensures place { Q.place conn.new ≡ Q.place conn.old }
+    ensures kept { IsKept (Q.below conn.old) (Q.below conn.new) }
+    ensures same { IsSame (Q.shows conn.old) (Q.shows conn.new) }
     ensures found { FindsSuch (λ t rows. TellsCells run_cells (λ row. Words service.now ∷ row)
         (filter (is_run service.now number) t.runs) rows.items)
-        (state S.Store conn.old) (state S.Store conn.new) result }
+        (Q.shows conn.old) (Q.shows conn.new) result }
 {
-    query::rows_of(
-        conn,
+    conn.ask(
         "SELECT number, step, started, closed, outside, verdict FROM run \
          WHERE service = ?1 AND number = ?2 ORDER BY rowid",
         params![service.as_str(), number],
@@ -85,18 +87,20 @@ fn run_shown<S: Alter>(
 
 /// The open runs of the service, by their numbers. `Memory` where there is not enough, `Storage`
 /// where the database fails, `Broken` where a run that is read is none that a program can hold.
-pub fn open_runs<S: Alter>(
-    conn: &mut Connection<S>,
+pub fn open_runs<Q: Reader>(
+    conn: &mut Q,
     alloc: Global,
     service: &Name,
 ) -> Result<Listed<RunRow>, ReadFault>
-    requires autocommit { conn.old.in_transaction ≡ false }
-    ensures mode { conn.new.in_transaction ≡ false }
-    ensures same { IsSame (state S.Store conn.old) (state S.Store conn.new) }
+    requires ready { Q.IsReady conn.old }
+    ensures mode { Q.IsReady conn.new }
+    ensures place { Q.place conn.new ≡ Q.place conn.old }
+    ensures kept { IsKept (Q.below conn.old) (Q.below conn.new) }
+    ensures same { IsSame (Q.shows conn.old) (Q.shows conn.new) }
     ensures found { FindsSuch (λ t. Sorts number_of (filter (is_open_run_of service.now) t.runs))
-        (state S.Store conn.old) (state S.Store conn.new) result }
+        (Q.shows conn.old) (Q.shows conn.new) result }
     ensures broken { BreaksUnless (λ t. AllByRecursion IsRunWithin t.runs)
-        (state S.Store conn.old) (state S.Store conn.new) result }
+        (Q.shows conn.old) (Q.shows conn.new) result }
 {
     let front = front_runs(conn, alloc, service)?;
     let open = open_among(alloc, front.as_slice())?;
@@ -108,21 +112,22 @@ pub fn open_runs<S: Alter>(
 }
 
 // Three runs of the service, the open ones first: then no run that is closed before them is read.
-fn front_runs<S: Alter>(
-    conn: &mut Connection<S>,
+fn front_runs<Q: Reader>(
+    conn: &mut Q,
     alloc: Global,
     service: &Name,
 ) -> Result<Listed<RunRow>, ReadFault>
-    requires autocommit { conn.old.in_transaction ≡ false }
-    ensures mode { conn.new.in_transaction ≡ false }
-    ensures same { IsSame (state S.Store conn.old) (state S.Store conn.new) }
+    requires ready { Q.IsReady conn.old }
+    ensures mode { Q.IsReady conn.new }
+    ensures place { Q.place conn.new ≡ Q.place conn.old }
+    ensures kept { IsKept (Q.below conn.old) (Q.below conn.new) }
+    ensures same { IsSame (Q.shows conn.old) (Q.shows conn.new) }
     ensures found { FindsSuch (λ t. IsFront 3 (filter (is_run_of service.now) t.runs))
-        (state S.Store conn.old) (state S.Store conn.new) result }
+        (Q.shows conn.old) (Q.shows conn.new) result }
     ensures broken { BreaksUnless (λ t. AllByRecursion IsRunWithin t.runs)
-        (state S.Store conn.old) (state S.Store conn.new) result }
+        (Q.shows conn.old) (Q.shows conn.new) result }
 {
-    let rows = query::rows_of(
-        conn,
+    let rows = conn.ask(
         "SELECT number, step, started, closed, outside, verdict FROM run \
          WHERE service = ?1 ORDER BY closed LIMIT 3",
         params![service.as_str()],
@@ -131,21 +136,22 @@ fn front_runs<S: Alter>(
 }
 
 // The open runs of the service, for which all its runs are gone over.
-fn all_open_runs<S: Alter>(
-    conn: &mut Connection<S>,
+fn all_open_runs<Q: Reader>(
+    conn: &mut Q,
     alloc: Global,
     service: &Name,
 ) -> Result<Listed<RunRow>, ReadFault>
-    requires autocommit { conn.old.in_transaction ≡ false }
-    ensures mode { conn.new.in_transaction ≡ false }
-    ensures same { IsSame (state S.Store conn.old) (state S.Store conn.new) }
+    requires ready { Q.IsReady conn.old }
+    ensures mode { Q.IsReady conn.new }
+    ensures place { Q.place conn.new ≡ Q.place conn.old }
+    ensures kept { IsKept (Q.below conn.old) (Q.below conn.new) }
+    ensures same { IsSame (Q.shows conn.old) (Q.shows conn.new) }
     ensures found { FindsSuch (λ t. Sorts number_of (filter (is_open_run_of service.now) t.runs))
-        (state S.Store conn.old) (state S.Store conn.new) result }
+        (Q.shows conn.old) (Q.shows conn.new) result }
     ensures broken { BreaksUnless (λ t. AllByRecursion IsRunWithin t.runs)
-        (state S.Store conn.old) (state S.Store conn.new) result }
+        (Q.shows conn.old) (Q.shows conn.new) result }
 {
-    let rows = query::rows_of(
-        conn,
+    let rows = conn.ask(
         "SELECT number, step, started, closed, outside, verdict FROM run \
          WHERE service = ?1 AND closed IS NULL ORDER BY number",
         params![service.as_str()],
@@ -175,23 +181,24 @@ fn by_number(runs: Listed<RunRow>) -> Result<Listed<RunRow>, Memory>
 
 /// The counts of a run's metrics, by the places of the metrics. `Memory` where there is not enough,
 /// `Storage` where the database fails, `Broken` where a row is none that a program can hold.
-pub fn tallies<S: Alter>(
-    conn: &mut Connection<S>,
+pub fn tallies<Q: Reader>(
+    conn: &mut Q,
     alloc: Global,
     service: &Name,
     run: u32,
 ) -> Result<Listed<TallyRow>, ReadFault>
-    requires autocommit { conn.old.in_transaction ≡ false }
-    ensures mode { conn.new.in_transaction ≡ false }
-    ensures same { IsSame (state S.Store conn.old) (state S.Store conn.new) }
+    requires ready { Q.IsReady conn.old }
+    ensures mode { Q.IsReady conn.new }
+    ensures place { Q.place conn.new ≡ Q.place conn.old }
+    ensures kept { IsKept (Q.below conn.old) (Q.below conn.new) }
+    ensures same { IsSame (Q.shows conn.old) (Q.shows conn.new) }
     ensures found { FindsSuch
         (λ t. Sorts metric_of (filter (is_tally_of service.now run) t.tallies))
-        (state S.Store conn.old) (state S.Store conn.new) result }
+        (Q.shows conn.old) (Q.shows conn.new) result }
     ensures broken { BreaksUnless (λ t. AllByRecursion IsTallyWithin t.tallies)
-        (state S.Store conn.old) (state S.Store conn.new) result }
+        (Q.shows conn.old) (Q.shows conn.new) result }
 {
-    let rows = query::rows_of(
-        conn,
+    let rows = conn.ask(
         "SELECT run, metric, counted, failed, inconclusive, errors, consecutive, passes, last \
          FROM tally WHERE service = ?1 AND run = ?2 ORDER BY metric",
         params![service.as_str(), run],

@@ -1,7 +1,6 @@
 //! Revisions of templates, services, and to which revisions these are bound.
 ghost use Rattle.std.specs.Prelude.{◌≡◌, ◌≢◌, ◌∷◌, false, filter, Err};
 ghost use Rattle.std.specs.List.{list_any, AllByRecursion};
-ghost use Rattle.sqlite.specs.Held.{state};
 ghost use Rattle.sqlite.specs.declared.types.Value.TheVariants.{Text as Words};
 ghost use Rattle.canary_rows.specs.Tables.{is_revision, is_revision_of, is_service, is_binding_of};
 ghost use Rattle.canary_rows.specs.Limits.{IsRevisionWithin, IsServiceWithin, IsBindingWithin};
@@ -9,33 +8,33 @@ ghost use Rattle.canary_rows.specs.Newest.{IsNewest};
 ghost use Rattle.canary_schema.specs.Cells.{revision_cells, service_cells};
 ghost use Rattle.canary_reads.specs.Finds.{IsSame, FindsRows, FindsSuch, TellsCells, first};
 ghost use Rattle.canary_reads.specs.Breaks.{BreaksUnless};
+ghost use Rattle.canary_reads.specs.Reader.{IsKept};
 
 use crate::fault::ReadFault;
-use crate::{query, shown};
+use crate::reader::Reader;
+use crate::shown;
 use canary_base::lists::Listed;
 use canary_base::names::Name;
 use canary_rows::rows::{BindingRow, RevisionRow, ServiceRow};
 use canary_schema::fault::StoreFault;
-use sqlite::{Alter, Connection, Row, params};
+use sqlite::{Row, params};
 use std::alloc::Global;
 
 /// The newest revision of the template of that name, which is the one with the greatest number, if
 /// there is one. `Memory` where there is not enough, `Storage` where the database fails, `Broken`
 /// where the revision's row is none that a program can hold.
-pub fn newest<S: Alter>(
-    conn: &mut Connection<S>,
-    name: &Name,
-) -> Result<Option<RevisionRow>, ReadFault>
-    requires autocommit { conn.old.in_transaction ≡ false }
-    ensures mode { conn.new.in_transaction ≡ false }
-    ensures same { IsSame (state S.Store conn.old) (state S.Store conn.new) }
+pub fn newest<Q: Reader>(conn: &mut Q, name: &Name) -> Result<Option<RevisionRow>, ReadFault>
+    requires ready { Q.IsReady conn.old }
+    ensures mode { Q.IsReady conn.new }
+    ensures place { Q.place conn.new ≡ Q.place conn.old }
+    ensures kept { IsKept (Q.below conn.old) (Q.below conn.new) }
+    ensures same { IsSame (Q.shows conn.old) (Q.shows conn.new) }
     ensures found { FindsSuch (λ t. IsNewest (filter (is_revision_of name.now) t.revisions))
-        (state S.Store conn.old) (state S.Store conn.new) result }
+        (Q.shows conn.old) (Q.shows conn.new) result }
     ensures broken { BreaksUnless (λ t. AllByRecursion IsRevisionWithin t.revisions)
-        (state S.Store conn.old) (state S.Store conn.new) result }
+        (Q.shows conn.old) (Q.shows conn.new) result }
 {
-    let rows = query::rows_of(
-        conn,
+    let rows = conn.ask(
         "SELECT revision, spec FROM revision WHERE name = ?1 ORDER BY revision DESC LIMIT 1",
         params![name.as_str()],
     )?;
@@ -45,18 +44,20 @@ pub fn newest<S: Alter>(
 /// The revision of the template of that name under that number, if there is one. `Memory` where
 /// there is not enough, `Storage` where the database fails, `Broken` where the revision's row is
 /// none that a program can hold.
-pub fn revision<S: Alter>(
-    conn: &mut Connection<S>,
+pub fn revision<Q: Reader>(
+    conn: &mut Q,
     name: &Name,
     number: u32,
 ) -> Result<Option<RevisionRow>, ReadFault>
-    requires autocommit { conn.old.in_transaction ≡ false }
-    ensures mode { conn.new.in_transaction ≡ false }
-    ensures same { IsSame (state S.Store conn.old) (state S.Store conn.new) }
+    requires ready { Q.IsReady conn.old }
+    ensures mode { Q.IsReady conn.new }
+    ensures place { Q.place conn.new ≡ Q.place conn.old }
+    ensures kept { IsKept (Q.below conn.old) (Q.below conn.new) }
+    ensures same { IsSame (Q.shows conn.old) (Q.shows conn.new) }
     ensures found { FindsRows (λ t. first (filter (is_revision name.now number) t.revisions))
-        (state S.Store conn.old) (state S.Store conn.new) result }
+        (Q.shows conn.old) (Q.shows conn.new) result }
     ensures broken { BreaksUnless (λ t. AllByRecursion IsRevisionWithin t.revisions)
-        (state S.Store conn.old) (state S.Store conn.new) result }
+        (Q.shows conn.old) (Q.shows conn.new) result }
 {
     let rows = revision_shown(conn, name, number)?;
     shown::first(name, rows.as_slice())
@@ -65,39 +66,38 @@ pub fn revision<S: Alter>(
 /// The rows of that revision of the template, of which a desk writes one at most. `Memory` where
 /// there is not enough, `Storage` where the database fails, `Broken` where one is none that a
 /// program can hold.
-pub fn revision_rows<S: Alter>(
-    conn: &mut Connection<S>,
+pub fn revision_rows<Q: Reader>(
+    conn: &mut Q,
     alloc: Global,
     name: &Name,
     number: u32,
 ) -> Result<Listed<RevisionRow>, ReadFault>
-    requires autocommit { conn.old.in_transaction ≡ false }
-    ensures mode { conn.new.in_transaction ≡ false }
-    ensures same { IsSame (state S.Store conn.old) (state S.Store conn.new) }
+    requires ready { Q.IsReady conn.old }
+    ensures mode { Q.IsReady conn.new }
+    ensures place { Q.place conn.new ≡ Q.place conn.old }
+    ensures kept { IsKept (Q.below conn.old) (Q.below conn.new) }
+    ensures same { IsSame (Q.shows conn.old) (Q.shows conn.new) }
     ensures found { FindsRows (λ t. filter (is_revision name.now number) t.revisions)
-        (state S.Store conn.old) (state S.Store conn.new) result }
+        (Q.shows conn.old) (Q.shows conn.new) result }
     ensures broken { BreaksUnless (λ t. AllByRecursion IsRevisionWithin t.revisions)
-        (state S.Store conn.old) (state S.Store conn.new) result }
+        (Q.shows conn.old) (Q.shows conn.new) result }
 {
     let rows = revision_shown(conn, name, number)?;
     shown::all(alloc, name, rows.as_slice())
 }
 
 // What is shown of the revision's rows, behind the template's name.
-fn revision_shown<S: Alter>(
-    conn: &mut Connection<S>,
-    name: &Name,
-    number: u32,
-) -> Result<Vec<Row>, StoreFault>
-    requires autocommit { conn.old.in_transaction ≡ false }
-    ensures mode { conn.new.in_transaction ≡ false }
-    ensures same { IsSame (state S.Store conn.old) (state S.Store conn.new) }
+fn revision_shown<Q: Reader>(conn: &mut Q, name: &Name, number: u32) -> Result<Vec<Row>, StoreFault>
+    requires ready { Q.IsReady conn.old }
+    ensures mode { Q.IsReady conn.new }
+    ensures place { Q.place conn.new ≡ Q.place conn.old }
+    ensures kept { IsKept (Q.below conn.old) (Q.below conn.new) }
+    ensures same { IsSame (Q.shows conn.old) (Q.shows conn.new) }
     ensures found { FindsSuch (λ t rows. TellsCells revision_cells (λ row. Words name.now ∷ row)
         (filter (is_revision name.now number) t.revisions) rows.items)
-        (state S.Store conn.old) (state S.Store conn.new) result }
+        (Q.shows conn.old) (Q.shows conn.new) result }
 {
-    query::rows_of(
-        conn,
+    conn.ask(
         "SELECT revision, spec FROM revision WHERE name = ?1 AND revision = ?2 ORDER BY rowid",
         params![name.as_str(), number],
     )
@@ -105,17 +105,16 @@ fn revision_shown<S: Alter>(
 
 /// The service of that name, if there is one. `Memory` where there is not enough, `Storage` where
 /// the database fails, `Broken` where the service's row is none that a program can hold.
-pub fn service<S: Alter>(
-    conn: &mut Connection<S>,
-    name: &Name,
-) -> Result<Option<ServiceRow>, ReadFault>
-    requires autocommit { conn.old.in_transaction ≡ false }
-    ensures mode { conn.new.in_transaction ≡ false }
-    ensures same { IsSame (state S.Store conn.old) (state S.Store conn.new) }
+pub fn service<Q: Reader>(conn: &mut Q, name: &Name) -> Result<Option<ServiceRow>, ReadFault>
+    requires ready { Q.IsReady conn.old }
+    ensures mode { Q.IsReady conn.new }
+    ensures place { Q.place conn.new ≡ Q.place conn.old }
+    ensures kept { IsKept (Q.below conn.old) (Q.below conn.new) }
+    ensures same { IsSame (Q.shows conn.old) (Q.shows conn.new) }
     ensures found { FindsRows (λ t. first (filter (is_service name.now) t.services))
-        (state S.Store conn.old) (state S.Store conn.new) result }
+        (Q.shows conn.old) (Q.shows conn.new) result }
     ensures broken { BreaksUnless (λ t. AllByRecursion IsServiceWithin t.services)
-        (state S.Store conn.old) (state S.Store conn.new) result }
+        (Q.shows conn.old) (Q.shows conn.new) result }
 {
     let rows = service_shown(conn, name)?;
     shown::first(name, rows.as_slice())
@@ -123,34 +122,37 @@ pub fn service<S: Alter>(
 
 /// The rows of the service, of which a desk writes one at most. `Memory` where there is not enough,
 /// `Storage` where the database fails, `Broken` where one is none that a program can hold.
-pub fn service_rows<S: Alter>(
-    conn: &mut Connection<S>,
+pub fn service_rows<Q: Reader>(
+    conn: &mut Q,
     alloc: Global,
     name: &Name,
 ) -> Result<Listed<ServiceRow>, ReadFault>
-    requires autocommit { conn.old.in_transaction ≡ false }
-    ensures mode { conn.new.in_transaction ≡ false }
-    ensures same { IsSame (state S.Store conn.old) (state S.Store conn.new) }
+    requires ready { Q.IsReady conn.old }
+    ensures mode { Q.IsReady conn.new }
+    ensures place { Q.place conn.new ≡ Q.place conn.old }
+    ensures kept { IsKept (Q.below conn.old) (Q.below conn.new) }
+    ensures same { IsSame (Q.shows conn.old) (Q.shows conn.new) }
     ensures found { FindsRows (λ t. filter (is_service name.now) t.services)
-        (state S.Store conn.old) (state S.Store conn.new) result }
+        (Q.shows conn.old) (Q.shows conn.new) result }
     ensures broken { BreaksUnless (λ t. AllByRecursion IsServiceWithin t.services)
-        (state S.Store conn.old) (state S.Store conn.new) result }
+        (Q.shows conn.old) (Q.shows conn.new) result }
 {
     let rows = service_shown(conn, name)?;
     shown::all(alloc, name, rows.as_slice())
 }
 
 // What is shown of the service's rows, behind its name.
-fn service_shown<S: Alter>(conn: &mut Connection<S>, name: &Name) -> Result<Vec<Row>, StoreFault>
-    requires autocommit { conn.old.in_transaction ≡ false }
-    ensures mode { conn.new.in_transaction ≡ false }
-    ensures same { IsSame (state S.Store conn.old) (state S.Store conn.new) }
+fn service_shown<Q: Reader>(conn: &mut Q, name: &Name) -> Result<Vec<Row>, StoreFault>
+    requires ready { Q.IsReady conn.old }
+    ensures mode { Q.IsReady conn.new }
+    ensures place { Q.place conn.new ≡ Q.place conn.old }
+    ensures kept { IsKept (Q.below conn.old) (Q.below conn.new) }
+    ensures same { IsSame (Q.shows conn.old) (Q.shows conn.new) }
     ensures found { FindsSuch (λ t rows. TellsCells service_cells (λ row. Words name.now ∷ row)
         (filter (is_service name.now) t.services) rows.items)
-        (state S.Store conn.old) (state S.Store conn.new) result }
+        (Q.shows conn.old) (Q.shows conn.new) result }
 {
-    query::rows_of(
-        conn,
+    conn.ask(
         "SELECT spec, stable, version, state, step, entered, hold, background, runs, last \
          FROM service WHERE name = ?1 ORDER BY rowid",
         params![name.as_str()],
@@ -159,16 +161,17 @@ fn service_shown<S: Alter>(conn: &mut Connection<S>, name: &Name) -> Result<Vec<
 
 /// Whether there is a service of that name. `Memory` where there is not enough, `Storage` where the
 /// database fails; never `Broken`.
-pub fn has_service<S: Alter>(conn: &mut Connection<S>, name: &Name) -> Result<bool, ReadFault>
-    requires autocommit { conn.old.in_transaction ≡ false }
-    ensures mode { conn.new.in_transaction ≡ false }
-    ensures same { IsSame (state S.Store conn.old) (state S.Store conn.new) }
+pub fn has_service<Q: Reader>(conn: &mut Q, name: &Name) -> Result<bool, ReadFault>
+    requires ready { Q.IsReady conn.old }
+    ensures mode { Q.IsReady conn.new }
+    ensures place { Q.place conn.new ≡ Q.place conn.old }
+    ensures kept { IsKept (Q.below conn.old) (Q.below conn.new) }
+    ensures same { IsSame (Q.shows conn.old) (Q.shows conn.new) }
     ensures found { FindsRows (λ t. list_any (is_service name.now) t.services)
-        (state S.Store conn.old) (state S.Store conn.new) result }
+        (Q.shows conn.old) (Q.shows conn.new) result }
     ensures whole { result ≢ Err ReadFault.Broken }
 {
-    let rows = query::rows_of(
-        conn,
+    let rows = conn.ask(
         "SELECT name FROM service WHERE name = ?1 ORDER BY rowid",
         params![name.as_str()],
     )?;
@@ -178,22 +181,23 @@ pub fn has_service<S: Alter>(conn: &mut Connection<S>, name: &Name) -> Result<bo
 /// The revisions of templates to which that run of the service is bound, in the order in which they
 /// were added; those of its present attempt under run 0. `Memory` where there is not enough,
 /// `Storage` where the database fails, `Broken` where a row is none that a program can hold.
-pub fn bindings<S: Alter>(
-    conn: &mut Connection<S>,
+pub fn bindings<Q: Reader>(
+    conn: &mut Q,
     alloc: Global,
     service: &Name,
     run: u32,
 ) -> Result<Listed<BindingRow>, ReadFault>
-    requires autocommit { conn.old.in_transaction ≡ false }
-    ensures mode { conn.new.in_transaction ≡ false }
-    ensures same { IsSame (state S.Store conn.old) (state S.Store conn.new) }
+    requires ready { Q.IsReady conn.old }
+    ensures mode { Q.IsReady conn.new }
+    ensures place { Q.place conn.new ≡ Q.place conn.old }
+    ensures kept { IsKept (Q.below conn.old) (Q.below conn.new) }
+    ensures same { IsSame (Q.shows conn.old) (Q.shows conn.new) }
     ensures found { FindsRows (λ t. filter (is_binding_of service.now run) t.bindings)
-        (state S.Store conn.old) (state S.Store conn.new) result }
+        (Q.shows conn.old) (Q.shows conn.new) result }
     ensures broken { BreaksUnless (λ t. AllByRecursion IsBindingWithin t.bindings)
-        (state S.Store conn.old) (state S.Store conn.new) result }
+        (Q.shows conn.old) (Q.shows conn.new) result }
 {
-    let rows = query::rows_of(
-        conn,
+    let rows = conn.ask(
         "SELECT run, template, revision FROM binding \
          WHERE service = ?1 AND run = ?2 ORDER BY rowid",
         params![service.as_str(), run],
@@ -203,16 +207,17 @@ pub fn bindings<S: Alter>(
 
 /// Whether the service's present attempt is bound to a revision of any template. `Memory` where
 /// there is not enough, `Storage` where the database fails; never `Broken`.
-pub fn has_bindings<S: Alter>(conn: &mut Connection<S>, service: &Name) -> Result<bool, ReadFault>
-    requires autocommit { conn.old.in_transaction ≡ false }
-    ensures mode { conn.new.in_transaction ≡ false }
-    ensures same { IsSame (state S.Store conn.old) (state S.Store conn.new) }
+pub fn has_bindings<Q: Reader>(conn: &mut Q, service: &Name) -> Result<bool, ReadFault>
+    requires ready { Q.IsReady conn.old }
+    ensures mode { Q.IsReady conn.new }
+    ensures place { Q.place conn.new ≡ Q.place conn.old }
+    ensures kept { IsKept (Q.below conn.old) (Q.below conn.new) }
+    ensures same { IsSame (Q.shows conn.old) (Q.shows conn.new) }
     ensures found { FindsRows (λ t. list_any (is_binding_of service.now 0) t.bindings)
-        (state S.Store conn.old) (state S.Store conn.new) result }
+        (Q.shows conn.old) (Q.shows conn.new) result }
     ensures whole { result ≢ Err ReadFault.Broken }
 {
-    let rows = query::rows_of(
-        conn,
+    let rows = conn.ask(
         "SELECT template FROM binding WHERE service = ?1 AND run = 0 ORDER BY rowid",
         params![service.as_str()],
     )?;

@@ -1,6 +1,5 @@
 //! Whether the rows of a desk's database are those of tables at all.
 ghost use Rattle.std.specs.Prelude.{◌≡◌, ◌≢◌, ◌∷◌, ◌↔◌, [], false, List, IsTrue, IfOk, OnOk, Err};
-ghost use Rattle.sqlite.specs.Held.{state};
 ghost use Rattle.sqlite.specs.Order.{Row as Cells, column};
 ghost use Rattle.sqlite.specs.State.{Shown};
 ghost use Rattle.canary_schema.specs.Layout.{service_at, run_at, measurement_at, history_at};
@@ -15,44 +14,49 @@ ghost use Rattle.canary_schema.specs.Cells.{revision_cells, binding_cells, tally
 ghost use Rattle.canary_reads.specs.Told.{HasCells, HasEarlyRows, HasLateRows, Assures, Denies};
 ghost use Rattle.canary_reads.specs.Queries.{IsQuery};
 ghost use Rattle.canary_reads.specs.Finds.{IsSame};
+ghost use Rattle.canary_reads.specs.Reader.{IsKept};
 
 use crate::fault::ReadFault;
-use crate::query;
+use crate::reader::Reader;
+use sqlite::Row;
 use sqlite::types::ValueRef;
-use sqlite::{Alter, Connection, Row};
 
 /// That the rows of a formed database are those of tables: each number is one from 0 on. `Memory`
 /// where there is not enough, `Storage` where the database fails, `Broken` where a number is
 /// negative.
-pub fn typed<S: Alter>(conn: &mut Connection<S>) -> Result<(), ReadFault>
-    requires autocommit { conn.old.in_transaction ≡ false }
-    ensures mode { conn.new.in_transaction ≡ false }
-    ensures same { IsSame (state S.Store conn.old) (state S.Store conn.new) }
-    ensures typed { IsUsable (state S.Store conn.new) → IsFormed (state S.Store conn.old).now
-        → HasWholeTallies (state S.Store conn.old).now
-        → OnOk result (HasRows (state S.Store conn.old).now) }
-    ensures broken { IsUsable (state S.Store conn.new) → IsFormed (state S.Store conn.old).now
-        → result ≡ Err ReadFault.Broken → ¬ HasRows (state S.Store conn.old).now }
+pub fn typed<Q: Reader>(conn: &mut Q) -> Result<(), ReadFault>
+    requires ready { Q.IsReady conn.old }
+    ensures mode { Q.IsReady conn.new }
+    ensures place { Q.place conn.new ≡ Q.place conn.old }
+    ensures kept { IsKept (Q.below conn.old) (Q.below conn.new) }
+    ensures same { IsSame (Q.shows conn.old) (Q.shows conn.new) }
+    ensures typed { IsUsable (Q.shows conn.new) → IsFormed (Q.shows conn.old).now
+        → HasWholeTallies (Q.shows conn.old).now
+        → OnOk result (HasRows (Q.shows conn.old).now) }
+    ensures broken { IsUsable (Q.shows conn.new) → IsFormed (Q.shows conn.old).now
+        → result ≡ Err ReadFault.Broken → ¬ HasRows (Q.shows conn.old).now }
 {
-    let _ = conn.schema();
+    conn.look();
     early_typed(conn)?;
     late_typed(conn)
 }
 
 /// Whether `meta` has just the row that a desk writes. `Memory` where there is not enough,
 /// `Storage` where the database fails; never `Broken`.
-pub fn has_meta<S: Alter>(conn: &mut Connection<S>) -> Result<bool, ReadFault>
-    requires autocommit { conn.old.in_transaction ≡ false }
-    ensures mode { conn.new.in_transaction ≡ false }
-    ensures same { IsSame (state S.Store conn.old) (state S.Store conn.new) }
-    ensures found { IsUsable (state S.Store conn.new)
-        → IsDeskSchema (state S.Store conn.old).now.schema
-        → IsRising (state S.Store conn.old).now
-        → IfOk result (λ has. IsTrue has ↔ ((state S.Store conn.old).now.trees 0 ≡ meta_rows)) }
+pub fn has_meta<Q: Reader>(conn: &mut Q) -> Result<bool, ReadFault>
+    requires ready { Q.IsReady conn.old }
+    ensures mode { Q.IsReady conn.new }
+    ensures place { Q.place conn.new ≡ Q.place conn.old }
+    ensures kept { IsKept (Q.below conn.old) (Q.below conn.new) }
+    ensures same { IsSame (Q.shows conn.old) (Q.shows conn.new) }
+    ensures found { IsUsable (Q.shows conn.new)
+        → IsDeskSchema (Q.shows conn.old).now.schema
+        → IsRising (Q.shows conn.old).now
+        → IfOk result (λ has. IsTrue has ↔ ((Q.shows conn.old).now.trees 0 ≡ meta_rows)) }
     ensures whole { result ≢ Err ReadFault.Broken }
 {
-    let _ = conn.schema();
-    let rows = query::rows_of(conn, "SELECT id, schema FROM meta ORDER BY id LIMIT 2", &[])?;
+    conn.look();
+    let rows = conn.ask("SELECT id, schema FROM meta ORDER BY id LIMIT 2", &[])?;
     Ok(is_meta(rows.as_slice()))
 }
 
@@ -68,7 +72,7 @@ fn is_meta(rows: &[Row]) -> bool
 }
 
 // That the number stands in this column.
-fn is_at(row: &Row, at: usize, number: u32) -> bool
+pub(crate) fn is_at(row: &Row, at: usize, number: u32) -> bool
     ensures { IsTrue result ↔ (column row.now at ≡ whole number) }
 {
     match row.get_ref(at) {
@@ -79,14 +83,16 @@ fn is_at(row: &Row, at: usize, number: u32) -> bool
 
 // That no number in the tables of callers, of their requests, of services and of their runs is
 // negative.
-fn early_typed<S: Alter>(conn: &mut Connection<S>) -> Result<(), ReadFault>
-    requires autocommit { conn.old.in_transaction ≡ false }
-    ensures mode { conn.new.in_transaction ≡ false }
-    ensures same { IsSame (state S.Store conn.old) (state S.Store conn.new) }
+fn early_typed<Q: Reader>(conn: &mut Q) -> Result<(), ReadFault>
+    requires ready { Q.IsReady conn.old }
+    ensures mode { Q.IsReady conn.new }
+    ensures place { Q.place conn.new ≡ Q.place conn.old }
+    ensures kept { IsKept (Q.below conn.old) (Q.below conn.new) }
+    ensures same { IsSame (Q.shows conn.old) (Q.shows conn.new) }
     ensures typed { Assures HasEarlyRows
-        (state S.Store conn.old) (state S.Store conn.new) result }
+        (Q.shows conn.old) (Q.shows conn.new) result }
     ensures broken { Denies HasEarlyRows
-        (state S.Store conn.old) (state S.Store conn.new) result }
+        (Q.shows conn.old) (Q.shows conn.new) result }
 {
     callers_typed(conn)?;
     kept_typed(conn)?;
@@ -96,14 +102,16 @@ fn early_typed<S: Alter>(conn: &mut Connection<S>) -> Result<(), ReadFault>
 
 // That no number in the tables of measurements, of histories, of revisions, of bindings and of
 // tallies is negative.
-fn late_typed<S: Alter>(conn: &mut Connection<S>) -> Result<(), ReadFault>
-    requires autocommit { conn.old.in_transaction ≡ false }
-    ensures mode { conn.new.in_transaction ≡ false }
-    ensures same { IsSame (state S.Store conn.old) (state S.Store conn.new) }
+fn late_typed<Q: Reader>(conn: &mut Q) -> Result<(), ReadFault>
+    requires ready { Q.IsReady conn.old }
+    ensures mode { Q.IsReady conn.new }
+    ensures place { Q.place conn.new ≡ Q.place conn.old }
+    ensures kept { IsKept (Q.below conn.old) (Q.below conn.new) }
+    ensures same { IsSame (Q.shows conn.old) (Q.shows conn.new) }
     ensures typed { Assures (λ at db. HasWholeTallies db → HasLateRows at db)
-        (state S.Store conn.old) (state S.Store conn.new) result }
+        (Q.shows conn.old) (Q.shows conn.new) result }
     ensures broken { Denies HasLateRows
-        (state S.Store conn.old) (state S.Store conn.new) result }
+        (Q.shows conn.old) (Q.shows conn.new) result }
 {
     measurements_typed(conn)?;
     history_typed(conn)?;
@@ -113,30 +121,34 @@ fn late_typed<S: Alter>(conn: &mut Connection<S>) -> Result<(), ReadFault>
 }
 
 // That no number in `caller` is negative; else `Broken`.
-fn callers_typed<S: Alter>(conn: &mut Connection<S>) -> Result<(), ReadFault>
-    requires autocommit { conn.old.in_transaction ≡ false }
-    ensures mode { conn.new.in_transaction ≡ false }
-    ensures same { IsSame (state S.Store conn.old) (state S.Store conn.new) }
+fn callers_typed<Q: Reader>(conn: &mut Q) -> Result<(), ReadFault>
+    requires ready { Q.IsReady conn.old }
+    ensures mode { Q.IsReady conn.new }
+    ensures place { Q.place conn.new ≡ Q.place conn.old }
+    ensures kept { IsKept (Q.below conn.old) (Q.below conn.new) }
+    ensures same { IsSame (Q.shows conn.old) (Q.shows conn.new) }
     ensures typed { Assures (λ at db. HasCells caller_cells (db.trees 1))
-        (state S.Store conn.old) (state S.Store conn.new) result }
+        (Q.shows conn.old) (Q.shows conn.new) result }
     ensures broken { Denies (λ at db. HasCells caller_cells (db.trees 1))
-        (state S.Store conn.old) (state S.Store conn.new) result }
+        (Q.shows conn.old) (Q.shows conn.new) result }
 {
-    let _ = conn.schema();
+    conn.look();
     none_shown(conn, "SELECT 1 FROM caller WHERE settled < 0 LIMIT 1")
 }
 
 // That no number in `kept` is negative; else `Broken`.
-fn kept_typed<S: Alter>(conn: &mut Connection<S>) -> Result<(), ReadFault>
-    requires autocommit { conn.old.in_transaction ≡ false }
-    ensures mode { conn.new.in_transaction ≡ false }
-    ensures same { IsSame (state S.Store conn.old) (state S.Store conn.new) }
+fn kept_typed<Q: Reader>(conn: &mut Q) -> Result<(), ReadFault>
+    requires ready { Q.IsReady conn.old }
+    ensures mode { Q.IsReady conn.new }
+    ensures place { Q.place conn.new ≡ Q.place conn.old }
+    ensures kept { IsKept (Q.below conn.old) (Q.below conn.new) }
+    ensures same { IsSame (Q.shows conn.old) (Q.shows conn.new) }
     ensures typed { Assures (λ at db. HasCells kept_cells (db.trees 3))
-        (state S.Store conn.old) (state S.Store conn.new) result }
+        (Q.shows conn.old) (Q.shows conn.new) result }
     ensures broken { Denies (λ at db. HasCells kept_cells (db.trees 3))
-        (state S.Store conn.old) (state S.Store conn.new) result }
+        (Q.shows conn.old) (Q.shows conn.new) result }
 {
-    let _ = conn.schema();
+    conn.look();
     none_shown(
         conn,
         "SELECT 1 FROM kept WHERE number < 0 OR status < 0 LIMIT 1",
@@ -144,16 +156,18 @@ fn kept_typed<S: Alter>(conn: &mut Connection<S>) -> Result<(), ReadFault>
 }
 
 // That no number in `service` is negative; else `Broken`.
-fn services_typed<S: Alter>(conn: &mut Connection<S>) -> Result<(), ReadFault>
-    requires autocommit { conn.old.in_transaction ≡ false }
-    ensures mode { conn.new.in_transaction ≡ false }
-    ensures same { IsSame (state S.Store conn.old) (state S.Store conn.new) }
+fn services_typed<Q: Reader>(conn: &mut Q) -> Result<(), ReadFault>
+    requires ready { Q.IsReady conn.old }
+    ensures mode { Q.IsReady conn.new }
+    ensures place { Q.place conn.new ≡ Q.place conn.old }
+    ensures kept { IsKept (Q.below conn.old) (Q.below conn.new) }
+    ensures same { IsSame (Q.shows conn.old) (Q.shows conn.new) }
     ensures typed { Assures (λ at db. HasCells service_cells (db.trees (service_at at)))
-        (state S.Store conn.old) (state S.Store conn.new) result }
+        (Q.shows conn.old) (Q.shows conn.new) result }
     ensures broken { Denies (λ at db. HasCells service_cells (db.trees (service_at at)))
-        (state S.Store conn.old) (state S.Store conn.new) result }
+        (Q.shows conn.old) (Q.shows conn.new) result }
 {
-    let _ = conn.schema();
+    conn.look();
     none_shown(
         conn,
         "SELECT 1 FROM service \
@@ -163,16 +177,18 @@ fn services_typed<S: Alter>(conn: &mut Connection<S>) -> Result<(), ReadFault>
 }
 
 // That no number in `run` is negative; else `Broken`.
-fn runs_typed<S: Alter>(conn: &mut Connection<S>) -> Result<(), ReadFault>
-    requires autocommit { conn.old.in_transaction ≡ false }
-    ensures mode { conn.new.in_transaction ≡ false }
-    ensures same { IsSame (state S.Store conn.old) (state S.Store conn.new) }
+fn runs_typed<Q: Reader>(conn: &mut Q) -> Result<(), ReadFault>
+    requires ready { Q.IsReady conn.old }
+    ensures mode { Q.IsReady conn.new }
+    ensures place { Q.place conn.new ≡ Q.place conn.old }
+    ensures kept { IsKept (Q.below conn.old) (Q.below conn.new) }
+    ensures same { IsSame (Q.shows conn.old) (Q.shows conn.new) }
     ensures typed { Assures (λ at db. HasCells run_cells (db.trees (run_at at)))
-        (state S.Store conn.old) (state S.Store conn.new) result }
+        (Q.shows conn.old) (Q.shows conn.new) result }
     ensures broken { Denies (λ at db. HasCells run_cells (db.trees (run_at at)))
-        (state S.Store conn.old) (state S.Store conn.new) result }
+        (Q.shows conn.old) (Q.shows conn.new) result }
 {
-    let _ = conn.schema();
+    conn.look();
     none_shown(
         conn,
         "SELECT 1 FROM run \
@@ -182,16 +198,18 @@ fn runs_typed<S: Alter>(conn: &mut Connection<S>) -> Result<(), ReadFault>
 }
 
 // That no number in `measurement` is negative; else `Broken`.
-fn measurements_typed<S: Alter>(conn: &mut Connection<S>) -> Result<(), ReadFault>
-    requires autocommit { conn.old.in_transaction ≡ false }
-    ensures mode { conn.new.in_transaction ≡ false }
-    ensures same { IsSame (state S.Store conn.old) (state S.Store conn.new) }
+fn measurements_typed<Q: Reader>(conn: &mut Q) -> Result<(), ReadFault>
+    requires ready { Q.IsReady conn.old }
+    ensures mode { Q.IsReady conn.new }
+    ensures place { Q.place conn.new ≡ Q.place conn.old }
+    ensures kept { IsKept (Q.below conn.old) (Q.below conn.new) }
+    ensures same { IsSame (Q.shows conn.old) (Q.shows conn.new) }
     ensures typed { Assures (λ at db. HasCells measurement_cells (db.trees (measurement_at at)))
-        (state S.Store conn.old) (state S.Store conn.new) result }
+        (Q.shows conn.old) (Q.shows conn.new) result }
     ensures broken { Denies (λ at db. HasCells measurement_cells (db.trees (measurement_at at)))
-        (state S.Store conn.old) (state S.Store conn.new) result }
+        (Q.shows conn.old) (Q.shows conn.new) result }
 {
-    let _ = conn.schema();
+    conn.look();
     none_shown(
         conn,
         "SELECT 1 FROM measurement \
@@ -200,44 +218,50 @@ fn measurements_typed<S: Alter>(conn: &mut Connection<S>) -> Result<(), ReadFaul
 }
 
 // That no number in `history` is negative; else `Broken`.
-fn history_typed<S: Alter>(conn: &mut Connection<S>) -> Result<(), ReadFault>
-    requires autocommit { conn.old.in_transaction ≡ false }
-    ensures mode { conn.new.in_transaction ≡ false }
-    ensures same { IsSame (state S.Store conn.old) (state S.Store conn.new) }
+fn history_typed<Q: Reader>(conn: &mut Q) -> Result<(), ReadFault>
+    requires ready { Q.IsReady conn.old }
+    ensures mode { Q.IsReady conn.new }
+    ensures place { Q.place conn.new ≡ Q.place conn.old }
+    ensures kept { IsKept (Q.below conn.old) (Q.below conn.new) }
+    ensures same { IsSame (Q.shows conn.old) (Q.shows conn.new) }
     ensures typed { Assures (λ at db. HasCells history_cells (db.trees (history_at at)))
-        (state S.Store conn.old) (state S.Store conn.new) result }
+        (Q.shows conn.old) (Q.shows conn.new) result }
     ensures broken { Denies (λ at db. HasCells history_cells (db.trees (history_at at)))
-        (state S.Store conn.old) (state S.Store conn.new) result }
+        (Q.shows conn.old) (Q.shows conn.new) result }
 {
-    let _ = conn.schema();
+    conn.look();
     none_shown(conn, "SELECT 1 FROM history WHERE moment < 0 LIMIT 1")
 }
 
 // That no number in `revision` is negative; else `Broken`.
-fn revisions_typed<S: Alter>(conn: &mut Connection<S>) -> Result<(), ReadFault>
-    requires autocommit { conn.old.in_transaction ≡ false }
-    ensures mode { conn.new.in_transaction ≡ false }
-    ensures same { IsSame (state S.Store conn.old) (state S.Store conn.new) }
+fn revisions_typed<Q: Reader>(conn: &mut Q) -> Result<(), ReadFault>
+    requires ready { Q.IsReady conn.old }
+    ensures mode { Q.IsReady conn.new }
+    ensures place { Q.place conn.new ≡ Q.place conn.old }
+    ensures kept { IsKept (Q.below conn.old) (Q.below conn.new) }
+    ensures same { IsSame (Q.shows conn.old) (Q.shows conn.new) }
     ensures typed { Assures (λ at db. HasCells revision_cells (db.trees (revision_at at)))
-        (state S.Store conn.old) (state S.Store conn.new) result }
+        (Q.shows conn.old) (Q.shows conn.new) result }
     ensures broken { Denies (λ at db. HasCells revision_cells (db.trees (revision_at at)))
-        (state S.Store conn.old) (state S.Store conn.new) result }
+        (Q.shows conn.old) (Q.shows conn.new) result }
 {
-    let _ = conn.schema();
+    conn.look();
     none_shown(conn, "SELECT 1 FROM revision WHERE revision < 0 LIMIT 1")
 }
 
 // That no number in `binding` is negative; else `Broken`.
-fn bindings_typed<S: Alter>(conn: &mut Connection<S>) -> Result<(), ReadFault>
-    requires autocommit { conn.old.in_transaction ≡ false }
-    ensures mode { conn.new.in_transaction ≡ false }
-    ensures same { IsSame (state S.Store conn.old) (state S.Store conn.new) }
+fn bindings_typed<Q: Reader>(conn: &mut Q) -> Result<(), ReadFault>
+    requires ready { Q.IsReady conn.old }
+    ensures mode { Q.IsReady conn.new }
+    ensures place { Q.place conn.new ≡ Q.place conn.old }
+    ensures kept { IsKept (Q.below conn.old) (Q.below conn.new) }
+    ensures same { IsSame (Q.shows conn.old) (Q.shows conn.new) }
     ensures typed { Assures (λ at db. HasCells binding_cells (db.trees (binding_at at)))
-        (state S.Store conn.old) (state S.Store conn.new) result }
+        (Q.shows conn.old) (Q.shows conn.new) result }
     ensures broken { Denies (λ at db. HasCells binding_cells (db.trees (binding_at at)))
-        (state S.Store conn.old) (state S.Store conn.new) result }
+        (Q.shows conn.old) (Q.shows conn.new) result }
 {
-    let _ = conn.schema();
+    conn.look();
     none_shown(
         conn,
         "SELECT 1 FROM binding WHERE run < 0 OR revision < 0 LIMIT 1",
@@ -245,17 +269,19 @@ fn bindings_typed<S: Alter>(conn: &mut Connection<S>) -> Result<(), ReadFault>
 }
 
 // That no number in `tally` is negative; else `Broken`.
-fn tallies_typed<S: Alter>(conn: &mut Connection<S>) -> Result<(), ReadFault>
-    requires autocommit { conn.old.in_transaction ≡ false }
-    ensures mode { conn.new.in_transaction ≡ false }
-    ensures same { IsSame (state S.Store conn.old) (state S.Store conn.new) }
+fn tallies_typed<Q: Reader>(conn: &mut Q) -> Result<(), ReadFault>
+    requires ready { Q.IsReady conn.old }
+    ensures mode { Q.IsReady conn.new }
+    ensures place { Q.place conn.new ≡ Q.place conn.old }
+    ensures kept { IsKept (Q.below conn.old) (Q.below conn.new) }
+    ensures same { IsSame (Q.shows conn.old) (Q.shows conn.new) }
     ensures typed { Assures
         (λ at db. HasWholeTallies db → HasCells tally_cells (db.trees (tally_at at)))
-        (state S.Store conn.old) (state S.Store conn.new) result }
+        (Q.shows conn.old) (Q.shows conn.new) result }
     ensures broken { Denies (λ at db. HasCells tally_cells (db.trees (tally_at at)))
-        (state S.Store conn.old) (state S.Store conn.new) result }
+        (Q.shows conn.old) (Q.shows conn.new) result }
 {
-    let _ = conn.schema();
+    conn.look();
     none_shown(
         conn,
         "SELECT 1 FROM tally \
@@ -265,18 +291,20 @@ fn tallies_typed<S: Alter>(conn: &mut Connection<S>) -> Result<(), ReadFault>
 }
 
 // That the query shows no row; else `Broken`.
-fn none_shown<S: Alter>(conn: &mut Connection<S>, text: &str) -> Result<(), ReadFault>
-    requires autocommit { conn.old.in_transaction ≡ false }
+fn none_shown<Q: Reader>(conn: &mut Q, text: &str) -> Result<(), ReadFault>
+    requires ready { Q.IsReady conn.old }
     requires query { IsQuery text.now }
-    ensures mode { conn.new.in_transaction ≡ false }
-    ensures same { IsSame (state S.Store conn.old) (state S.Store conn.new) }
-    ensures none { IsUsable (state S.Store conn.new)
-        → OnOk result (Shown text.now [] (state S.Store conn.old) (state S.Store conn.new) []) }
-    ensures some { IsUsable (state S.Store conn.new) → result ≡ Err ReadFault.Broken
+    ensures mode { Q.IsReady conn.new }
+    ensures place { Q.place conn.new ≡ Q.place conn.old }
+    ensures kept { IsKept (Q.below conn.old) (Q.below conn.new) }
+    ensures same { IsSame (Q.shows conn.old) (Q.shows conn.new) }
+    ensures none { IsUsable (Q.shows conn.new)
+        → OnOk result (Shown text.now [] (Q.shows conn.old) (Q.shows conn.new) []) }
+    ensures some { IsUsable (Q.shows conn.new) → result ≡ Err ReadFault.Broken
         → (row : Cells) × (rows : List Cells)
-        × Shown text.now [] (state S.Store conn.old) (state S.Store conn.new) (row ∷ rows) }
+        × Shown text.now [] (Q.shows conn.old) (Q.shows conn.new) (row ∷ rows) }
 {
-    let rows = query::rows_of(conn, text, &[])?;
+    let rows = conn.ask(text, &[])?;
     if rows.is_empty() {
         Ok(())
     } else {

@@ -3,18 +3,10 @@ use Rattle.std.proofs.Common.{◌≡◌, ℕ, zero, suc, ◌<◌, ◌≤◌, Lis
 use Rattle.std.specs.Prelude.{Option, Some, None, option_map, slice_get, slice_set, slice_index_or}
 use Rattle.std.proofs.lemmas.Option.{slice_get-map}
 use Rattle.canary_metric.specs.Metrics.{MetricValue}
-use Rattle.canary_metric.specs.Counts.{Counts}
-use Rattle.canary_release.specs.declared.effect.Recorded.{Recorded}
 use Rattle.canary_release.specs.Pasts.{change_at}
 use Rattle.canary_once.specs.declared.record.RunRecord.{RunRecord}
-use Rattle.canary_judging.specs.Counting.{at_run, at_metric, of_metric, change_run, none_counted, counted_all, AreCounted}
+use Rattle.canary_judging.specs.Counting.{at_run, at_metric, of_metric, change_run}
 use Rattle.canary_judging.specs.Services.{metrics_of_runs}
-
--- all are counted where those that are left are, from these tallies on
-pub record LeadsTo (runs : List (List MetricValue)) (all : List Recorded) (tallies : List (List Counts)) (left : List Recorded) : Type 0 where
-  pub on : AreCounted runs (none_counted runs) all → AreCounted runs tallies left
-  pub back : AreCounted runs tallies left → AreCounted runs (none_counted runs) all
-  pub value : counted_all (none_counted runs) all ≡ counted_all tallies left
 
 -- A list that changes at a place.
 

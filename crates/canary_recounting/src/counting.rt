@@ -3,9 +3,8 @@ ghost use Rattle.std.specs.Prelude.{◌≡◌, ◌↔◌, ◌+◌, ◌≤◌, Is
 ghost use Rattle.std.specs.Option.{option_copied};
 ghost use Rattle.canary_metric.specs.Counts.{size};
 ghost use Rattle.canary_release.specs.Sound.{IsJudgedBy};
-ghost use Rattle.canary_judging.specs.Counting.{at_run, of_metric, none_counted, IsNext};
+ghost use Rattle.canary_judging.specs.Counting.{at_run, of_metric, none_counted, counted_at, IsNext};
 ghost use Rattle.canary_judging.specs.Services.{metrics_of_runs};
-ghost use Rattle.canary_recounting.specs.Recounted.{AreTallied};
 
 use crate::counts::{Counts, RunCounts};
 use canary_base::error::Memory;
@@ -17,31 +16,11 @@ use canary_release::effect::Recorded;
 use canary_release::runs::new_tallies;
 use std::alloc::Global;
 
-/// Whether these measurements come one after another, each the next of a metric of its run and of
-/// the phase that the metric's conditions give its outcome, and the tallies of the runs are their
-/// counts. The runs are numbered from 1 on, and the metrics of each are those of its own analysis.
+/// No measurements of any metric of the runs, which are numbered from 1 on.
 ///
 /// # Errors
 /// `Memory` where an allocation was refused.
-pub fn are_counted(
-    alloc: Global,
-    runs: &[RunRecord],
-    measurements: &[Recorded],
-) -> Result<bool, Memory>
-    ensures { IfOk result (λ are. IsTrue are ↔ AreTallied runs.now measurements.now) }
-{
-    let mut counts = none_counted(alloc, runs)?;
-    for measurement in measurements {
-        if !is_next(runs, &counts, measurement) {
-            return Ok(false);
-        }
-        counts.count(measurement);
-    }
-    Ok(counts.are_of(runs))
-}
-
-// No measurements of any metric of the runs.
-fn none_counted(alloc: Global, runs: &[RunRecord]) -> Result<Counts, Memory>
+pub fn none_counted(alloc: Global, runs: &[RunRecord]) -> Result<Counts, Memory>
     ensures { IfOk result (λ counts. counts ≡ none_counted (metrics_of_runs runs.now)) }
 {
     let mut counts = Counts::new(alloc);
@@ -56,6 +35,20 @@ fn metric_count(run: &RunRecord) -> u32
     ensures { result ≡ length run.now.analysis.metrics }
 {
     run.analysis.metrics().len() as u32
+}
+
+/// Counts the measurement too, where it may come next: it is the next of a metric of its run, and
+/// of the phase that the metric's conditions give its outcome. Tells whether it may. The runs are
+/// numbered from 1 on, and the metrics of each are those of its own analysis.
+pub fn count_next(runs: &[RunRecord], counts: &mut Counts, next: &Recorded) -> bool
+    ensures next { IsTrue result ↔ IsNext (metrics_of_runs runs.now) counts.old next.now }
+    ensures counted { IsTrue result → counts.new ≡ counted_at next.now counts.old }
+{
+    if !is_next(runs, counts, next) {
+        return false;
+    }
+    counts.count(next);
+    true
 }
 
 // Whether the measurement may come next.

@@ -61,7 +61,7 @@ impl RunCounts {
 
 /// The tallies of a service's runs, the first of which has number 1.
 #[derive(Drop)]
-pub(crate) struct Counts {
+pub struct Counts {
     runs: Vec<RunCounts>,
 }
 
@@ -118,7 +118,7 @@ impl Counts {
     }
 
     /// Whether they are the tallies of these runs.
-    pub(crate) fn are_of(&self, runs: &[RunRecord]) -> bool
+    pub fn are_of(&self, runs: &[RunRecord]) -> bool
         ensures { IsTrue result ↔ (map (λ (r : RunRecord). r.tallies) runs.now ≡ self.now) }
     {
         are_of(self.runs.as_slice(), runs)

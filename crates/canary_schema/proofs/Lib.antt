@@ -3,6 +3,8 @@ mod Inserts
 mod Making
 mod Meta
 mod Readings
+mod Remaking
+mod RemakingTexts
 mod Rising
 mod Texts
 mod Went

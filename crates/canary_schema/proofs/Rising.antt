@@ -17,7 +17,7 @@ use Rattle.sqlite_rules.proofs.ListLemmas.{all_from}
 use Rattle.canary_schema.specs.Layout.{Layout}
 use Rattle.canary_schema.specs.Schema.{schema_at}
 use Rattle.canary_schema.specs.Cells.{tally_tree}
-use Rattle.canary_schema.specs.Formed.{AreWhole, HasWholeTallies}
+use Rattle.canary_schema.specs.Formed.{AreWhole, HasWholeTallies, HasRisingTables}
 use Rattle.canary_schema.specs.Numbered.{IsOpenedAnew, IsLeft}
 use Rattle.canary_schema.specs.Stores.{AreNumbered, IsNumbered, IsUsable}
 
@@ -66,6 +66,22 @@ module _ {S : Type 0} (g : Ghosts S) (old : State) (mid : S) (left : IsLeft old 
         same = one_database old.now (state g new).now (is ∙ was.1) (live was.0.is_open).0 sound;
         numbered = λ at desk. subst (AreNumbered at) (sym is) (of_desk (g.view mid) (state g new).now.schema (ordered clean) (listed clean) listing at desk);
       }
+
+  risen_now : (ordered : IsClean (g.view mid) → IsOrdered (g.view mid).shape (g.view mid).trees) (listed : IsClean (g.view mid) → IsListed ((g.view mid).trees catalog_tree) (g.view mid).shape (g.view mid).reals)
+      (new : Held S) → doubt (g.view mid).is_clean ≤ doubt (state g new).is_clean → (HasCleanDisk (state g new) → (state g new).now.trees ≡ (g.view mid).trees)
+      → (HasCleanDisk (state g new) → Opens (state g new) × IsLive (state g new)) → IsUsable (state g new) → HasRisingTables (state g new).now
+  risen_now ordered listed new falls trees opens usable =
+      let clean : IsClean (g.view mid) = omega (arith, falls, usable.clean) in
+      let is = trees usable.clean in
+      let sound = ((opens usable.clean).1 usable.is_open).0 in
+      let listing : Lists ((g.view mid).trees catalog_tree) (state g new).now.schema = subst (λ (t : Trees). Lists (t catalog_tree) (state g new).now.schema) is sound.lists in
+      subst (λ (t : Trees). AreRisen t (state g new).now.schema.tables) (sym is) (risen (g.view mid) (state g new).now.schema (ordered clean) (listed clean) listing)
+
+  pub all_risen : (ordered : IsClean (g.view mid) → IsOrdered (g.view mid).shape (g.view mid).trees) (listed : IsClean (g.view mid) → IsListed ((g.view mid).trees catalog_tree) (g.view mid).shape (g.view mid).reals)
+      {F : Type 0} (r : Result (Held S × Bool) F) → IfOk r (λ p. doubt (g.view mid).is_clean ≤ doubt (state g p.0).is_clean) → IfOk r (λ p. HasCleanDisk (state g p.0) → (state g p.0).now.trees ≡ (g.view mid).trees)
+      → IfOk r (λ p. HasCleanDisk (state g p.0) → Opens (state g p.0) × IsLive (state g p.0)) → IfOk r (λ p. IsUsable (state g p.0) → HasRisingTables (state g p.0).now)
+  all_risen ordered listed (Ok p) falls trees opens = risen_now ordered listed p.0 falls trees opens
+  all_risen ordered listed (Err e) falls trees opens = tt
 
   pub all_opened : {F : Type 0} (live : IsLive old) (ordered : IsClean (g.view mid) → IsOrdered (g.view mid).shape (g.view mid).trees)
       (listed : IsClean (g.view mid) → IsListed ((g.view mid).trees catalog_tree) (g.view mid).shape (g.view mid).reals)

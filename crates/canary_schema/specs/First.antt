@@ -1,45 +1,67 @@
--- The first schema of the desk, as its files had it before revisions: a table of templates, no
--- revisions and no bindings. Its row of meta is 1, 1.
-use Rattle.std.specs.Prelude.{[], ◌∷◌, codes, false}
+-- The first schema of the desk, as its files had it before revisions: a table of templates, tallies
+-- that count no passes, no revisions and no bindings. Its row of meta is 1, 1.
+use Rattle.std.specs.Prelude.{◌≡◌, [], ◌∷◌, ◌++◌, codes, false, List, map}
+use Rattle.sqlite.specs.Order.{Row, column}
 use Rattle.sqlite.specs.Table.{Table}
 use Rattle.sqlite.specs.Schema.{Schema}
-use Rattle.sqlite.specs.Change.{created, indexed}
-use Rattle.canary_schema.specs.Schema.{words, keyed, by, service, run, tally, measurement, sequence, history, with_kept}
+use Rattle.sqlite_schema.specs.declared.schema.Index.{Index}
+use Rattle.canary_schema.specs.Schema.{words, whole, maybe, keyed, key_index, index_at}
+use Rattle.canary_schema.specs.Schema.{meta, caller, kept, service, run, measurement, sequence, history}
+use Rattle.canary_schema.specs.Cells.{whole as number}
 
 abbrev pub template : Table
 template = keyed (codes "template") (words (codes "name") ∷ words (codes "spec") ∷ []) (1 ∷ []) []
 
--- the schema as the tables are made, one after another, from the third on
-abbrev pub first_with_template : Schema
-first_with_template = created with_kept template
+abbrev pub first_tally : Table
+first_tally = keyed (codes "tally")
+    (words (codes "service") ∷ whole (codes "run") ∷ whole (codes "metric")
+    ∷ whole (codes "counted") ∷ whole (codes "failed") ∷ whole (codes "inconclusive")
+    ∷ whole (codes "errors") ∷ whole (codes "consecutive") ∷ maybe (codes "last") ∷ [])
+    (1 ∷ 2 ∷ 3 ∷ []) []
 
-abbrev pub first_with_service : Schema
-first_with_service = created first_with_template service
+-- the tables, in the order in which they were made
 
-abbrev pub first_with_run : Schema
-first_with_run = created first_with_service run
+abbrev pub first_early_tables : List Table
+first_early_tables =
+    meta ∷ record caller { tree = 1 } ∷ record kept { tree = 3 } ∷ record template { tree = 5 }
+    ∷ record service { tree = 7 } ∷ []
 
-abbrev pub first_with_tally : Schema
-first_with_tally = created first_with_run tally
+abbrev pub first_late_tables : List Table
+first_late_tables =
+    record run { tree = 9 } ∷ record first_tally { tree = 11 }
+    ∷ record (measurement false) { tree = 13 } ∷ record sequence { tree = 15 }
+    ∷ record (history false) { tree = 16 } ∷ []
 
-abbrev pub first_with_measurement : Schema
-first_with_measurement = created (created first_with_tally (measurement false)) sequence
+-- the indexes that came with the keys
+abbrev pub first_key_indexes : List Index
+first_key_indexes =
+    key_index (codes "sqlite_autoindex_caller_1") 1 (1 ∷ [])
+    ∷ key_index (codes "sqlite_autoindex_kept_1") 3 (1 ∷ 2 ∷ [])
+    ∷ key_index (codes "sqlite_autoindex_template_1") 5 (1 ∷ [])
+    ∷ key_index (codes "sqlite_autoindex_service_1") 7 (1 ∷ [])
+    ∷ key_index (codes "sqlite_autoindex_run_1") 9 (1 ∷ 2 ∷ [])
+    ∷ key_index (codes "sqlite_autoindex_tally_1") 11 (1 ∷ 2 ∷ 3 ∷ [])
+    ∷ key_index (codes "sqlite_autoindex_measurement_1") 13 (2 ∷ 3 ∷ 4 ∷ 5 ∷ []) ∷ []
 
--- all tables, with the keys' own indexes
-abbrev pub first_with_history : Schema
-first_with_history = created first_with_measurement (history false)
-
--- and the indexes, one after another
-abbrev pub first_with_runs_indexed : Schema
-first_with_runs_indexed =
-    indexed first_with_history (record run { tree = 9 }) (by (codes "run_closed") 9 (1 ∷ 5 ∷ []))
-
-abbrev pub first_with_measurements_indexed : Schema
-first_with_measurements_indexed =
-    indexed first_with_runs_indexed (record (measurement false) { tree = 13 })
-    (by (codes "measurement_service") 13 (2 ∷ []))
+-- and the desk's own
+abbrev pub first_added_indexes : List Index
+first_added_indexes =
+    index_at (codes "run_closed") 17 9 (1 ∷ 5 ∷ []) false
+    ∷ index_at (codes "measurement_service") 18 13 (2 ∷ []) false
+    ∷ index_at (codes "history_service") 19 16 (2 ∷ []) false ∷ []
 
 abbrev pub first_schema : Schema
 first_schema =
-    indexed first_with_measurements_indexed (record (history false) { tree = 16 })
-    (by (codes "history_service") 16 (2 ∷ []))
+    record {
+      tables = first_early_tables ++ first_late_tables;
+      indexes = first_key_indexes ++ first_added_indexes;
+      views = [];
+    }
+
+-- what a row of meta shows: its id, which is the rowid, and the schema's number
+abbrev pub meta_shown : Row → Row
+meta_shown row = column row 0 ∷ column row 2 ∷ []
+
+-- meta has one row, which is 1, 1
+abbrev pub HasFirstMeta : List Row → Type 0
+HasFirstMeta rows = map meta_shown rows ≡ (number 1 ∷ number 1 ∷ []) ∷ []

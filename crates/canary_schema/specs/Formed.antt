@@ -8,7 +8,7 @@ use Rattle.canary_rows.specs.Tables.{Tables}
 use Rattle.canary_schema.specs.Layout.{Layout}
 use Rattle.canary_schema.specs.Schema.{schema_at}
 use Rattle.canary_schema.specs.Cells.{meta_rows, tally_tree}
-use Rattle.canary_schema.specs.Stores.{AreNumbered, IsHeld}
+use Rattle.canary_schema.specs.Stores.{AreNumbered, IsNumbered, IsHeld}
 
 -- the schema of a desk, in one of the layouts
 abbrev pub IsDeskSchema : Schema → Type 0
@@ -17,6 +17,10 @@ IsDeskSchema schema = (at : Layout) × (schema ≡ schema_at at)
 -- if the database is a desk's, the rowids of each table rise
 abbrev pub IsRising : Database → Type 0
 IsRising db = (at : Layout) → db.schema ≡ schema_at at → AreNumbered at db.trees
+
+-- the rowids of each table of the schema, whichever it is, are whole numbers and rise
+abbrev pub HasRisingTables : Database → Type 0
+HasRisingTables db = AllByRecursion (λ t. IsNumbered (db.trees t.tree)) db.schema.tables
 
 -- the ten tables are there, the rowids of each rise, and meta has its one row
 pub record IsFormed (db : Database) : Type 0 where

@@ -10,3 +10,4 @@ pub mod Faults
 pub mod Known
 pub mod Formed
 pub mod Numbered
+pub mod Remakes

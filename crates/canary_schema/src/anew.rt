@@ -4,7 +4,7 @@ ghost use Rattle.sqlite.specs.Held.{state};
 ghost use Rattle.sqlite.specs.State.{HasCleanDisk, Opens, IsLive};
 ghost use Rattle.sqlite.specs.Steps.{IsFresh};
 ghost use Rattle.sqlite_trees.specs.View.{IsClean, IsQuiet, doubt};
-ghost use Rattle.canary_schema.specs.Formed.{AreWhole, HasWholeTallies};
+ghost use Rattle.canary_schema.specs.Formed.{AreWhole, HasWholeTallies, HasRisingTables};
 ghost use Rattle.canary_schema.specs.Stores.{IsUsable};
 ghost use Rattle.canary_schema.specs.Numbered.{IsOpenedAnew, IsLeft};
 
@@ -47,8 +47,8 @@ fn open_read<S: Alter + Drop>(
 }
 
 /// Takes the store out of the connection and opens it again, which reads each row once more. The
-/// database is the same, and the rows of a desk's tables are now known to stand in the order of
-/// their rowids. Beside the connection it tells whether each row of tally, if the database is a
+/// database is the same, and the rows of its tables are now known to stand in the order of their
+/// rowids. Beside the connection it tells whether each row of tally, if the database is a
 /// desk's, has a value for each column: one that was written before a column was added has not, and
 /// no query shows it.
 ///
@@ -64,6 +64,8 @@ pub fn open_anew<S: Alter + Drop>(
     ensures mode { IfOk result (λ r. r.0.in_transaction ≡ false) }
     ensures opened { IfOk result (λ r. IsUsable (state S.Store r.0)
         → IsOpenedAnew (state S.Store conn) (state S.Store r.0)) }
+    ensures rising { IfOk result (λ r. IsUsable (state S.Store r.0)
+        → HasRisingTables (state S.Store r.0).now) }
     ensures whole { IfOk result (λ r. IsUsable (state S.Store r.0)
         → (IsTrue r.1 ↔ HasWholeTallies (state S.Store r.0).now)) }
     ensures left { IfErr result (λ e. IsLeft (state S.Store conn) (S.Store.view e.1)) }

@@ -9,7 +9,7 @@ use crate::numbers::Numbers;
 use crate::parts::{is_formed, is_keyed, is_one_key, is_one_order, is_one_reference, is_unkeyed};
 use sqlite_schema::schema::Table;
 
-fn is_meta(table: &Table) -> bool
+pub(crate) fn is_meta(table: &Table) -> bool
     ensures { IsTrue result ↔ table.now ≡ meta }
 {
     is_formed(table, b"meta", 0, Some(0), &[0], false)
@@ -20,7 +20,7 @@ fn is_meta(table: &Table) -> bool
         && is_unkeyed(table)
 }
 
-fn is_caller(table: &Table) -> bool
+pub(crate) fn is_caller(table: &Table) -> bool
     ensures { IsTrue result ↔ table.now ≡ record caller { tree = 1 } }
 {
     is_keyed(table, b"caller", 1, &[1])
@@ -34,7 +34,7 @@ fn is_caller(table: &Table) -> bool
         && table.references.is_empty()
 }
 
-fn is_kept(table: &Table) -> bool
+pub(crate) fn is_kept(table: &Table) -> bool
     ensures { IsTrue result ↔ table.now ≡ record kept { tree = 3 } }
 {
     is_keyed(table, b"kept", 3, &[1, 2])
@@ -51,7 +51,7 @@ fn is_kept(table: &Table) -> bool
         && is_one_reference(&table.references, b"caller")
 }
 
-fn is_service(table: &Table, tree: u32) -> bool
+pub(crate) fn is_service(table: &Table, tree: u32) -> bool
     ensures { IsTrue result ↔ table.now ≡ record service { tree = tree } }
 {
     is_keyed(table, b"service", tree, &[1])
@@ -74,7 +74,7 @@ fn is_service(table: &Table, tree: u32) -> bool
         && table.references.is_empty()
 }
 
-fn is_run(table: &Table, tree: u32) -> bool
+pub(crate) fn is_run(table: &Table, tree: u32) -> bool
     ensures { IsTrue result ↔ table.now ≡ record run { tree = tree } }
 {
     is_keyed(table, b"run", tree, &[1, 2])
@@ -93,7 +93,7 @@ fn is_run(table: &Table, tree: u32) -> bool
         && is_one_reference(&table.references, b"service")
 }
 
-fn is_measurement(table: &Table, tree: u32, is_placed: bool) -> bool
+pub(crate) fn is_measurement(table: &Table, tree: u32, is_placed: bool) -> bool
     ensures { IsTrue result ↔ table.now ≡ record (measurement is_placed) { tree = tree } }
 {
     is_formed(table, b"measurement", tree, Some(0), &[0], true)
@@ -115,7 +115,7 @@ fn is_measurement(table: &Table, tree: u32, is_placed: bool) -> bool
         && table.references.is_empty()
 }
 
-fn is_sequence(table: &Table, tree: u32) -> bool
+pub(crate) fn is_sequence(table: &Table, tree: u32) -> bool
     ensures { IsTrue result ↔ table.now ≡ record sequence { tree = tree } }
 {
     is_formed(table, b"sqlite_sequence", tree, None, &[], false)
@@ -126,7 +126,7 @@ fn is_sequence(table: &Table, tree: u32) -> bool
         && is_unkeyed(table)
 }
 
-fn is_history(table: &Table, tree: u32, is_placed: bool) -> bool
+pub(crate) fn is_history(table: &Table, tree: u32, is_placed: bool) -> bool
     ensures { IsTrue result ↔ table.now ≡ record (history is_placed) { tree = tree } }
 {
     is_formed(table, b"history", tree, Some(0), &[0], true)

@@ -2,12 +2,14 @@
 use Rattle.std.proofs.Common.{◌≡◌, ℕ, pos, List, [], ◌∷◌, ◌++◌, codes, slice_get, Some, Ok, Err, Result, OnOk, refl}
 use Rattle.sqlite.specs.declared.types.Value.TheVariants.{Null}
 use Rattle.sqlite.specs.declared.error.Error.{Error}
+use Rattle.sqlite.specs.Order.{Row}
 use Rattle.sqlite.specs.Term.{lit, col}
 use Rattle.sqlite.specs.Table.{Table}
 use Rattle.sqlite.specs.Cast.{cast_row}
 use Rattle.sqlite.specs.Command.TheVariants.{Insert}
 use Rattle.sqlite.specs.Source.TheVariants.{Values}
 use Rattle.sqlite.specs.State.{State, ExecutesInside}
+use Rattle.sqlite.specs.Effect.{IsDatabase}
 use Rattle.sqlite.specs.Listing.{understood}
 use Rattle.sqlite.specs.Given.{IsPlain}
 use Rattle.sqlite.proofs.Callers.{command_of}
@@ -20,6 +22,7 @@ use Rattle.canary_schema.specs.Schema.{schema_at, binding}
 use Rattle.canary_schema.specs.Cells.{binding_cells}
 use Rattle.canary_schema.specs.Stores.{IsReady}
 use Rattle.canary_statements.proofs.Inserted.{cast_null, cast_whole, inserted}
+use Rattle.canary_statements.proofs.SoundAfter.{sound_after}
 use Rattle.canary_statements.proofs.Spared.{bindings_now}
 
 abbrev text : List ℕ
@@ -50,3 +53,7 @@ binding_inserted old new t row (Ok count) ready h =
     let has = ready.stores.holds in
     bindings_now at old new t has (t.bindings ++ row ∷ [])
     (inserted at text 9 _ 5 (table at) (binding_cells row) (is_insert at) (is_plain at) (stands at) binding_cells row refl (kept_as_given at row) old new count has.schema h t.bindings has.numbered.1.1.1.1.1.1.1.1.0 has.bindings refl)
+
+pub binding_sound : (old new : State) (t : Tables) (row : BindingRow) (r : Result ℕ Error) → IsReady old t → (params : Row) → ExecutesInside 0 text params old new r → OnOk r (IsDatabase new.now)
+binding_sound old new t row (Err e) ready params h = tt
+binding_sound old new t row (Ok count) ready params h = let at = ready.stores.layout in sound_after at text 9 _ 5 params (is_insert at) (is_plain at) old new count ready.stores.holds.schema h

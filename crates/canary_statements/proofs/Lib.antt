@@ -27,3 +27,7 @@ pub mod BindingUpdated
 pub mod ServiceUpdated
 pub mod RunClosed
 pub mod TallyCounted
+pub mod CountsInserted
+pub mod Filled
+pub mod SchemaSet
+pub mod SoundAfter

@@ -15,6 +15,7 @@ ghost use Rattle.canary_rows.specs.Changes.{with_binding, with_run, with_tally, 
 ghost use Rattle.canary_rows.specs.Changes.{with_line};
 ghost use Rattle.canary_schema.specs.Stores.{Wrote, StaysLive, StaysCommitted, SurvivesCut};
 ghost use Rattle.canary_rows.specs.Changes.{tallies_opened};
+ghost use Rattle.canary_statements.specs.Fills.{StaysSound};
 
 use crate::cells::seconds;
 use canary_base::moments::Moment;
@@ -86,6 +87,8 @@ pub fn insert_revision<S: Alter>(
     }
         in Wrote (with_revision row)
         (state S.Store tx.old.conn.now) (state S.Store tx.new.conn.now) result }
+    ensures sound { StaysSound
+        (state S.Store tx.old.conn.now) (state S.Store tx.new.conn.now) result }
     ensures live { StaysLive
         (state S.Store tx.old.conn.now) (state S.Store tx.new.conn.now) result }
     ensures kept { StaysCommitted (state S.Store tx.old.conn.now) (state S.Store tx.new.conn.now) }
@@ -155,6 +158,8 @@ pub fn insert_binding<S: Alter>(
       revision = revision;
     }
         in Wrote (with_binding row)
+        (state S.Store tx.old.conn.now) (state S.Store tx.new.conn.now) result }
+    ensures sound { StaysSound
         (state S.Store tx.old.conn.now) (state S.Store tx.new.conn.now) result }
     ensures live { StaysLive
         (state S.Store tx.old.conn.now) (state S.Store tx.new.conn.now) result }

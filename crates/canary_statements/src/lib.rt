@@ -16,5 +16,6 @@
 #![tactic(auto)]
 
 mod cells;
+pub mod fills;
 pub mod inserts;
 pub mod updates;

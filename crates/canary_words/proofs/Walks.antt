@@ -1,5 +1,5 @@
 -- What clap's walk over words holds where it meets no fault: each row has a first value that passed the parser of its option.
--- This is for options that take one value each and have no default, and for flags that ask for help. And where a walk that meets no fault stops at a subcommand, that is not `help`.
+-- This is for options that take one value each, for flags that are true where they are used, and for flags that ask for help; what stands for an option that is not used passes its parser, too. And where a walk that meets no fault stops at a subcommand, that is not `help`.
 use Rattle.std.proofs.Common.{◌≡◌, ◌∙◌, ◌⊎◌, ◌++◌, ◌&&◌, ℕ, zero, suc, Bool, true, false, not, codes, cond, List, [], ◌∷◌, length, drop, fold, Option, Some, None, is_some, refl, sym, ap, subst, inl, inr}
 use Rattle.std.specs.Prelude.{find, slice_get, encode_utf8, unwrap_or, option_map, option_and_then, IfSome, if◌then◌else◌}
 use Rattle.std.specs.Option.{option_map_or}
@@ -8,15 +8,16 @@ use Rattle.std.proofs.lemmas.Slice.Eq.{bytes_eq-Decides}
 use Rattle.clap.specs.Lexer.{long_of, short_of}
 use Rattle.clap.specs.Facts.{explicit_source, parser_of_value, unwrap_or_range}
 use Rattle.clap.specs.Values.{read_as, refused_kind}
-use Rattle.clap.specs.Walk.{Held, Names, Outcome, Row, Rule, Step, Text, Waiting, Walk, action_of, after_flag, after_step, arg_by_id, arg_by_index, arg_by_long, arg_by_short, at_row, attached_value, bundle, bundle_met, bundle_step, default_rows, done, first_of, flag_met, has_row, idle, is_pending, long_met, long_or_other, more_values, most_values, next, nothing_held, one_of, option, option_met, option_word, plain, plain_word, positional, reacted, reading_by, refused, row_text, rows_after, settled, settled_rows, short_met, short_or_plain, stop_after, subcommand, subcommand_met, subcommand_or_other, takes_several, takes_values, to_positional, trailing, used, used_as, used_by_id, value, values_or_missing, waits, walk, walk_from, walked, walked_from, with_default, without, word_met}
+use Rattle.clap.specs.Walk.{Held, Names, Outcome, Row, Rule, Step, Text, Waiting, Walk, action_of, after_flag, after_step, arg_by_id, arg_by_index, arg_by_long, arg_by_short, at_row, attached_value, bundle, bundle_met, bundle_step, default_rows, done, first_of, flag_met, has_row, idle, is_pending, long_met, long_or_other, more_values, most_values, next, nothing_held, one_of, option, option_met, option_word, plain, plain_word, positional, reacted, reading_by, refused, row_text, rows_after, settled, settled_rows, short_met, short_or_plain, stop_after, subcommand, subcommand_met, subcommand_or_other, takes_several, takes_values, to_positional, trailing, used, used_as, used_by_id, value, values_or_missing, waits, with_values, walk, walk_from, walked, walked_from, with_default, without, word_met}
 use Rattle.clap.specs.Simple.{Shape}
 use Rattle.clap.specs.Takes.{is_given, value_passes}
 use Rattle.clap.specs.Kinds.{Kinds, or_else, range_kinds, request_kinds, value_kinds}
 use Rattle.clap.specs.Faults.{action_fault, bundle_fault, bundle_step_fault, check_fault, defaults_fault, flag_word_fault, flags_fault, level_fault, long_fault, option_fault, other_fault, positional_fault, react_fault, set_fault, settle_fault, short_fault, step_fault, stray_fault, turn_fault, use_fault, values_fault, walk_fault, word_fault}
 use Rattle.clap.specs.declared.builder.action.ArgAction.{ArgAction}
-use Rattle.clap.specs.declared.builder.action.ArgAction.TheVariants.{Set, Help}
+use Rattle.clap.specs.declared.builder.action.ArgAction.TheVariants.{Set, SetTrue, Help}
 use Rattle.clap.specs.declared.error.kind.ErrorKind.TheVariants.{TooManyValues, DisplayHelp, InvalidSubcommand}
-use Rattle.clap.specs.declared.parser.matches.ValueSource.TheVariants.{CommandLine}
+use Rattle.clap.specs.declared.parser.matches.ValueSource.{ValueSource}
+use Rattle.clap.specs.declared.parser.matches.ValueSource.TheVariants.{CommandLine, DefaultValue}
 
 -- ---- options and rows
 
@@ -24,11 +25,25 @@ use Rattle.clap.specs.declared.parser.matches.ValueSource.TheVariants.{CommandLi
 abbrev pub IsSingle : Rule → Type 0
 IsSingle a = (action_of a ≡ Set) × ((unwrap_or_range a.range).start_inclusive ≡ 1)
 
--- the rule is found by its own id, has no default, and takes one value or asks for help
+-- there is a first value
+abbrev pub HasFirst : List Text → Type 0
+HasFirst [] = ⊥
+HasFirst (v ∷ vs) = Unit {0}
+
+-- a flag, for which a value stands where it is used
+abbrev pub IsFlag : Rule → Type 0
+IsFlag a = (action_of a ≡ SetTrue) × HasFirst a.missing
+
+-- the first of the values, if there are any, passes the parser
+abbrev pub FirstPasses : Rule → List Text → Type 0
+FirstPasses a [] = Unit {0}
+FirstPasses a (v ∷ vs) = value_passes a v ≡ true
+
+-- the rule is found by its own id, a default passes its parser, and it takes one value, is a flag or asks for help
 pub record IsOption (c : List Rule) (a : Rule) : Type 0 where
   pub own : arg_by_id c a.id ≡ Some a
-  pub plain : a.defaults ≡ []
-  pub takes : IsSingle a ⊎ (action_of a ≡ Help)
+  pub default : FirstPasses a a.defaults
+  pub takes : IsSingle a ⊎ (IsFlag a ⊎ (action_of a ≡ Help))
 
 abbrev pub AreOptions : List Rule → List Rule → Type 0
 AreOptions c [] = Unit {0}
@@ -94,8 +109,8 @@ read-at_row c id change missing (r ∷ rows) changes adds read = go (bytes_eq r.
     go true more = read-append c (change r) rows (changes r read.0) read.1
     go false more = (read.0, more)
 
-read-more : (c : List Rule) (values : List Text) (r : Row) → IsRead c r → AreRead c (more_values CommandLine values r)
-read-more c values r is = (
+read-more : (c : List Rule) (source : ValueSource) (values : List Text) (r : Row) → IsRead c r → AreRead c (more_values source values r)
+read-more c source values r is = (
   record {
     rule = is.rule;
     first = is.first;
@@ -115,42 +130,65 @@ value_passed a v none = go (value_passes a v) none
     go true none = refl
     go false none = cc
 
-read-set : (c : List Rule) (again : Bool) (a : Rule) (values : List Text) (rows : List Row) → IsOption c a
-    → or_else (range_kinds 1 (most_values a) (length values)) (set_fault again a (values_or_missing a values) rows) ≡ [] → AreRead c rows
-    → AreRead c (used_as Set a.id (reading_by a) (values_or_missing a values) rows)
-read-set c again a [] rows is none read = cc
-read-set c again a (v ∷ vs) rows is none read =
-    let set : set_fault again a (v ∷ vs) rows ≡ [] = right_none _ _ none in
-    let each : values_fault a (v ∷ vs) ≡ [] = right_none _ _ set in
-    read-at_row c a.id (more_values CommandLine (v ∷ vs)) _ (without a.id rows) (read-more c (v ∷ vs)) (
+-- the row of an option with these values, of which the first passes
+read-valued : (c : List Rule) (source : ValueSource) (a : Rule) (v : Text) (vs : List Text) (rows : List Row) → IsOption c a → value_passes a v ≡ true → AreRead c rows
+    → AreRead c (with_values a.id (reading_by a) source (v ∷ vs) rows)
+read-valued c source a v vs rows is passed read =
+    read-at_row c a.id (more_values source (v ∷ vs)) _ rows (read-more c source (v ∷ vs)) (
       record {
         rule = a;
         first = v;
         rest = vs;
         by_id = is.own;
         values = refl;
-        passed = value_passed a v (left_none _ _ each);
+        passed = passed;
         reading = refl;
       },
       tt,
     )
-    (read-at_row c a.id (λ _. []) [] rows (λ r h. tt) tt read)
+    read
+
+read-set : (c : List Rule) (again : Bool) (a : Rule) (values : List Text) (rows : List Row) → IsOption c a → HasFirst values → set_fault again a values rows ≡ [] → AreRead c rows
+    → AreRead c (with_values a.id (reading_by a) CommandLine values (without a.id rows))
+read-set c again a [] rows is has none read = absurd has
+read-set c again a (v ∷ vs) rows is has none read =
+    let each : values_fault a (v ∷ vs) ≡ [] = right_none _ _ none in
+    read-valued c CommandLine a v vs (without a.id rows) is (value_passed a v (left_none _ _ each)) (read-at_row c a.id (λ _. []) [] rows (λ r h. tt) tt read)
+
+-- what a use comes to by its action
+read-acted : (c : List Rule) (again : Bool) (act : ArgAction) (a : Rule) (values : List Text) (rows : List Row) → action_of a ≡ act
+    → action_fault (action_of a) again a values rows ≡ [] → (action_fault act again a values rows ≡ [] → AreRead c (used_as act a.id (reading_by a) values rows))
+    → AreRead c (used_as (action_of a) a.id (reading_by a) values rows)
+read-acted c again act a values rows is none so =
+    subst (λ (x : ArgAction). AreRead c (used_as x a.id (reading_by a) values rows)) (sym is)
+    (so (subst (λ (x : ArgAction). action_fault x again a values rows ≡ []) is none))
+
+-- a use of one value that meets no fault has a first value
+one_value : (a : Rule) (values : List Text) → range_kinds 1 (most_values a) (length values) ≡ [] → HasFirst (values_or_missing a values)
+one_value a [] none = cc
+one_value a (v ∷ vs) none = tt
+
+-- and so has a use for which a value stands
+value_or_missing : (a : Rule) (values : List Text) → HasFirst a.missing → HasFirst (values_or_missing a values)
+value_or_missing a [] has = has
+value_or_missing a (v ∷ vs) has = tt
 
 read-used : (c : List Rule) (again : Bool) (a : Rule) (values : List Text) (rows : List Row) → IsOption c a → use_fault again a values rows ≡ [] → AreRead c rows
     → AreRead c (used a values rows)
-read-used c again a values rows is none read = elim is.takes [
-  | inl single ↦
-      let one : or_else (range_kinds 1 (most_values a) (length values)) (action_fault (action_of a) again a (values_or_missing a values) rows) ≡ [] =
-      subst (λ n. or_else (range_kinds n (most_values a) (length values)) (action_fault (action_of a) again a (values_or_missing a values) rows) ≡ []) single.1 none in
-      let set : or_else (range_kinds 1 (most_values a) (length values)) (set_fault again a (values_or_missing a values) rows) ≡ [] =
-      subst (λ (x : ArgAction). or_else (range_kinds 1 (most_values a) (length values)) (action_fault x again a (values_or_missing a values) rows) ≡ []) single.0 one in
-      subst (λ (x : ArgAction). AreRead c (used_as x a.id (reading_by a) (values_or_missing a values) rows)) (sym single.0) (read-set c again a values rows is set read)
-  | inr help ↦
-      let asked : action_fault (action_of a) again a (values_or_missing a values) rows ≡ [] =
-      right_none (range_kinds (unwrap_or_range a.range).start_inclusive (most_values a) (length values)) (action_fault (action_of a) again a (values_or_missing a values) rows) none in
-      let bad : request_kinds Help ≡ [] = subst (λ (x : ArgAction). action_fault x again a (values_or_missing a values) rows ≡ []) help asked in
-      cc
-]
+read-used c again a values rows is none read =
+    let in_range : range_kinds (unwrap_or_range a.range).start_inclusive (most_values a) (length values) ≡ [] = left_none _ _ none in
+    let acted : action_fault (action_of a) again a (values_or_missing a values) rows ≡ [] = right_none (range_kinds (unwrap_or_range a.range).start_inclusive (most_values a) (length values)) _ none in
+    elim is.takes [
+      | inl single ↦
+          let one : range_kinds 1 (most_values a) (length values) ≡ [] = subst (λ n. range_kinds n (most_values a) (length values) ≡ []) single.1 in_range in
+          read-acted c again Set a (values_or_missing a values) rows single.0 acted (λ set. read-set c again a (values_or_missing a values) rows is (one_value a values one) set read)
+      | inr (inl flag) ↦
+          read-acted c again SetTrue a (values_or_missing a values) rows flag.0 acted
+          (λ set. read-set c again a (values_or_missing a values) rows is (value_or_missing a values flag.1) set read)
+      | inr (inr help) ↦
+          let bad : request_kinds Help ≡ [] = subst (λ (x : ArgAction). action_fault x again a (values_or_missing a values) rows ≡ []) help acted in
+          cc
+    ]
 
 read-settled : (c : List Rule) (again : Bool) (h : Held) → AreOptions c c → settle_fault c again h ≡ [] → AreRead c h.rows → AreRead c (settled c h).rows
 read-settled c again h all none read = go h.pending none
@@ -408,9 +446,13 @@ read-defaults : (c xs : List Rule) (rows : List Row) → AreOptions c xs → Are
 read-defaults c [] rows all read = read
 read-defaults c (a ∷ xs) rows all read = read-defaults c xs (with_default rows a) all.1 (go (has_row a.id rows))
   where
+    by_default : (values : List Text) → FirstPasses a values → AreRead c (default_rows a.id (reading_by a) values rows)
+    by_default [] passes = read
+    by_default (v ∷ vs) passes = read-valued c DefaultValue a v vs rows all.0 passes read
+
     go : (b : Bool) → AreRead c (if b then rows else default_rows a.id (reading_by a) a.defaults rows)
     go true = read
-    go false = subst (λ values. AreRead c (default_rows a.id (reading_by a) values rows)) (sym all.0.plain) read
+    go false = by_default a.defaults all.0.default
 
 -- the steps of a level, of which none meets a fault
 record NoneFails (walk_faults below_faults settle_faults check_faults : Kinds) : Type 0 where

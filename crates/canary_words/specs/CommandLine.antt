@@ -1,20 +1,22 @@
 -- The command lines that the desk takes, by clap's definition of a simple command.
 use Rattle.std.specs.Prelude.{◌≡◌, ◌≢◌, ◌⊎◌, ℕ, Bool, true, false, List, Option, Some, None, codes}
 use Rattle.std.specs.Prelude.{option_map, option_and_then, IfSome, if◌then◌else◌}
+use Rattle.std.specs.Option.{option_map_or}
 use Rattle.std.specs.Str.{bytes_eq}
 use Rattle.std.specs.Str.Parse.{digits_value, without_leading_plus}
 use Rattle.clap.specs.Words.{App, Kinds, IsAmong, IsUnsignedIn, Row, Rule, Text, fault_of, new_app}
 use Rattle.clap.specs.Words.{first_of, new_rule, one_of, subcommand_of, with_rule}
 use Rattle.clap.specs.Words.{with_subcommand}
 use Rattle.clap.specs.Simple.{on_top}
-use Rattle.clap.specs.declared.builder.action.ArgAction.TheVariants.{Set}
+use Rattle.clap.specs.declared.builder.action.ArgAction.TheVariants.{Set, SetTrue}
 use Rattle.clap.specs.declared.builder.value_parser.ValueParser.TheVariants.{Unsigned}
 use Rattle.clap.specs.declared.error.kind.ErrorKind.{ErrorKind}
 use Rattle.clap.specs.declared.error.kind.ErrorKind.TheVariants.{DisplayHelp, DisplayVersion}
 use Rattle.canary_words.specs.declared.words.AskedLimits.{AskedLimits}
 use Rattle.canary_words.specs.declared.words.Program.{Program}
 use Rattle.canary_words.specs.declared.words.Program.TheVariants.{Pipe, Serve, Import, History}
-use Rattle.canary_words.specs.declared.words.Program.TheVariants.{Export, Status, Backup, Check}
+use Rattle.canary_words.specs.declared.words.Program.TheVariants.{Export, Status, Page, Backup}
+use Rattle.canary_words.specs.declared.words.Program.TheVariants.{Migrate, Check}
 use Rattle.canary_words.specs.declared.words.WordsFault.{WordsFault}
 use Rattle.canary_words.specs.declared.words.WordsFault.TheVariants.{Help, Usage, Memory}
 
@@ -51,6 +53,13 @@ moment_option name = with_numbers (text_option name true) 0 253370764799
 -- the option `--NAME VALUE`, which may be given, with a whole number from 1 to `most`
 abbrev pub number_option : Text → ℕ → Rule
 number_option name most = with_numbers (text_option name false) 1 most
+
+-- the flag `--NAME`, which may be given, and has no value
+abbrev pub flag : Text → Rule
+flag name = record (new_rule name) {
+  long = Some name;
+  action = Some SetTrue;
+}
 
 -- `--db FILE`, which has to be given
 abbrev pub db_option : Rule
@@ -97,15 +106,29 @@ abbrev pub export_command : App
 export_command = with_rule (with_rule (with_rule (new_app (codes "export")) db_option)
     (text_option (codes "caller") true)) (text_word (codes "service"))
 
--- `status --db FILE --watch SECONDS`
+-- `--watch SECONDS`, from one time to the next
+abbrev pub watch_option : Rule
+watch_option = number_option (codes "watch") 86400
+
+-- `status --db FILE --watch SECONDS --json`
 abbrev pub status_command : App
-status_command =
-    with_rule (with_rule (new_app (codes "status")) db_option) (number_option (codes "watch") 86400)
+status_command = with_rule (with_rule (with_rule (new_app (codes "status")) db_option) watch_option)
+    (flag (codes "json"))
+
+-- `page --db FILE --watch SECONDS OUT`
+abbrev pub page_command : App
+page_command = with_rule (with_rule (with_rule (new_app (codes "page")) db_option) watch_option)
+    (text_word (codes "out"))
 
 -- `backup --db FILE COPY`
 abbrev pub backup_command : App
 backup_command =
     with_rule (with_rule (new_app (codes "backup")) db_option) (text_word (codes "copy"))
+
+-- `migrate --db FILE --dry-run`
+abbrev pub migrate_command : App
+migrate_command =
+    with_rule (with_rule (new_app (codes "migrate")) db_option) (flag (codes "dry-run"))
 
 -- `check FILE`, or `check --request FILE`
 abbrev pub check_command : App
@@ -115,8 +138,9 @@ check_command = with_rule (with_rule (new_app (codes "check"))
 -- with the commands that work on the file of a desk's records
 abbrev pub with_records_commands : App → App
 with_records_commands a = with_subcommand (with_subcommand (with_subcommand (with_subcommand
-    (with_subcommand a import_command.top) history_command.top) export_command.top)
-    status_command.top) backup_command.top
+    (with_subcommand (with_subcommand (with_subcommand a import_command.top) history_command.top)
+    export_command.top) status_command.top) page_command.top) backup_command.top)
+    migrate_command.top
 
 -- the desk without its commands, behind no name of the program; `--version` is taken too
 abbrev pub bare_desk : App
@@ -142,6 +166,10 @@ faults_of = fault_of desk_command
 abbrev pub number_given : Text → List Row → Option ℕ
 number_given name rows =
     option_map (λ text. digits_value 10 (without_leading_plus text)) (one_of name rows)
+
+-- whether the flag was given: then clap has `true` for it, and else `false`
+abbrev pub flag_given : Text → List Row → Bool
+flag_given name rows = option_map_or (bytes_eq (codes "true")) (one_of name rows) false
 
 -- the text that was given
 abbrev pub text_given : Text → List Row → Option Text
@@ -193,11 +221,19 @@ export_of rows = exported (text_given (codes "db") rows) (text_given (codes "cal
     (text_given (codes "service") rows)
 
 abbrev pub status_of : List Row → Option Program
-status_of rows = option_map (λ db. Status db (number_given (codes "watch") rows))
-    (text_given (codes "db") rows)
+status_of rows = option_map (λ db. Status db (number_given (codes "watch") rows)
+    (flag_given (codes "json") rows)) (text_given (codes "db") rows)
+
+abbrev pub page_of : List Row → Option Program
+page_of rows =
+    with_db (λ db out. Page db out (number_given (codes "watch") rows)) (codes "out") rows
 
 abbrev pub backup_of : List Row → Option Program
 backup_of = with_db Backup (codes "copy")
+
+abbrev pub migrate_of : List Row → Option Program
+migrate_of rows = option_map (λ db. Migrate db (flag_given (codes "dry-run") rows))
+    (text_given (codes "db") rows)
 
 abbrev pub check_of : List Row → Option Program
 check_of rows = Some (Check (text_given (codes "file") rows) (text_given (codes "request") rows))
@@ -210,7 +246,9 @@ program_in p = if bytes_eq p.0 (codes "pipe") then pipe_of p.1
     else if bytes_eq p.0 (codes "history") then history_of p.1
     else if bytes_eq p.0 (codes "export") then export_of p.1
     else if bytes_eq p.0 (codes "status") then status_of p.1
+    else if bytes_eq p.0 (codes "page") then page_of p.1
     else if bytes_eq p.0 (codes "backup") then backup_of p.1
+    else if bytes_eq p.0 (codes "migrate") then migrate_of p.1
     else if bytes_eq p.0 (codes "check") then check_of p.1 else None
 
 -- the program of the words that the desk takes
@@ -248,6 +286,14 @@ HasText name rows = (text : Text) × (text_given name rows ≡ Some text)
 abbrev pub MayHaveNumber : Text → ℕ → List Row → Type 0
 MayHaveNumber name most rows = IfSome (one_of name rows) (IsUnsignedIn 1 most)
 
+-- what clap has for a flag
+abbrev pub IsTrueOrFalse : Text → Type 0
+IsTrueOrFalse text = (text ≡ codes "true") ⊎ (text ≡ codes "false")
+
+-- if clap has a text for the flag, then `true` or `false`
+abbrev pub MayHaveFlag : Text → List Row → Type 0
+MayHaveFlag name rows = IfSome (one_of name rows) IsTrueOrFalse
+
 abbrev pub HasMoments : List Row → Type 0
 HasMoments rows = HasMoment (codes "at") rows × HasMoment (codes "step") rows
 
@@ -272,6 +318,13 @@ HasExport rows = HasText (codes "db") rows × HasText (codes "caller") rows
 
 abbrev pub HasStatus : List Row → Type 0
 HasStatus rows = HasText (codes "db") rows × MayHaveNumber (codes "watch") 86400 rows
+    × MayHaveFlag (codes "json") rows
+
+abbrev pub HasPage : List Row → Type 0
+HasPage rows = HasTexts (codes "out") rows × MayHaveNumber (codes "watch") 86400 rows
+
+abbrev pub HasMigrate : List Row → Type 0
+HasMigrate rows = HasText (codes "db") rows × MayHaveFlag (codes "dry-run") rows
 
 -- nothing has to be given
 abbrev pub HasNothing : List Row → Type 0
@@ -286,7 +339,8 @@ abbrev pub HasRecordsProgram : Option (Text × List Row) → Type 0
 HasRecordsProgram met = Meets (codes "import") (HasTexts (codes "csv")) met
     ⊎ (Meets (codes "history") (HasTexts (codes "service")) met
     ⊎ (Meets (codes "export") HasExport met ⊎ (Meets (codes "status") HasStatus met
-    ⊎ Meets (codes "backup") (HasTexts (codes "copy")) met)))
+    ⊎ (Meets (codes "page") HasPage met ⊎ (Meets (codes "backup") (HasTexts (codes "copy")) met
+    ⊎ Meets (codes "migrate") HasMigrate met)))))
 
 -- one of the commands was met, with all that it has to be given
 abbrev pub HasProgram : Option (Text × List Row) → Type 0

@@ -6,7 +6,8 @@ ghost use Rattle.clap.specs.Words.{HasKind, Kinds};
 ghost use Rattle.canary_words.specs.CommandLine.{faults_of, program_of, program_in, number_given};
 ghost use Rattle.canary_words.specs.CommandLine.{text_given, limits_of, pipe_of, serve_of};
 ghost use Rattle.canary_words.specs.CommandLine.{import_of, history_of, export_of, status_of};
-ghost use Rattle.canary_words.specs.CommandLine.{backup_of, check_of};
+ghost use Rattle.canary_words.specs.CommandLine.{page_of, backup_of, migrate_of, check_of};
+ghost use Rattle.canary_words.specs.CommandLine.{flag_given, MayHaveFlag, HasPage, HasMigrate};
 ghost use Rattle.canary_words.specs.CommandLine.{IsFor, HasProgram, HasMoment, HasText};
 ghost use Rattle.canary_words.specs.CommandLine.{MayHaveNumber, HasMoments, HasListener, HasLimits};
 ghost use Rattle.canary_words.specs.CommandLine.{HasTexts, HasExport, HasStatus};
@@ -71,15 +72,30 @@ pub enum Program {
         caller: Text,
         service: Text,
     },
-    /// How the services stand, once, or again each time after so many seconds.
+    /// How the services stand, once, or again each time after so many seconds: a table, or with
+    /// `json` one JSON value for each service.
     Status {
         db: Text,
+        watch: Option<u64>,
+        json: bool,
+    },
+    /// How the services stand, as a page in the file of the name `out`, or on standard output where
+    /// it is `-`: once, or again each time after so many seconds.
+    Page {
+        db: Text,
+        out: Text,
         watch: Option<u64>,
     },
     /// A copy of the records in the file of the name `copy`.
     Backup {
         db: Text,
         copy: Text,
+    },
+    /// The records as this version keeps them; with `dry_run` it changes nothing, and says what it
+    /// would do.
+    Migrate {
+        db: Text,
+        dry_run: bool,
     },
     /// What the desk would refuse of the manifest in the file of the name `file`, or of the
     /// request's body in that of the name `request`: one of them, or the words are no check's.
@@ -148,8 +164,14 @@ fn program_of(alloc: Global, matches: &ArgMatches<'_>) -> Result<Program, AllocE
     if let Some(status) = matches.subcommand_matches("status") {
         return status_of(alloc, status);
     }
+    if let Some(page) = matches.subcommand_matches("page") {
+        return page_of(alloc, page);
+    }
     if let Some(backup) = matches.subcommand_matches("backup") {
         return backup_of(alloc, backup);
+    }
+    if let Some(migrate) = matches.subcommand_matches("migrate") {
+        return migrate_of(alloc, migrate);
     }
     check_of(alloc, matches.subcommand_matches("check").unwrap())
 }
@@ -221,6 +243,19 @@ fn status_of(alloc: Global, status: &ArgMatches<'_>) -> Result<Program, AllocErr
     Ok(Program::Status {
         db: text_given(alloc, status, "db")?,
         watch: number_given(status, "watch"),
+        json: flag_given(status, "json"),
+    })
+}
+
+// The program of `page` with these matches.
+fn page_of(alloc: Global, page: &ArgMatches<'_>) -> Result<Program, AllocError>
+    requires { HasPage (rows_of (found_of page.now)) }
+    ensures { IfOk result (λ p. page_of (rows_of (found_of page.now)) ≡ Some p) }
+{
+    Ok(Program::Page {
+        db: text_given(alloc, page, "db")?,
+        out: text_given(alloc, page, "out")?,
+        watch: number_given(page, "watch"),
     })
 }
 
@@ -232,6 +267,17 @@ fn backup_of(alloc: Global, backup: &ArgMatches<'_>) -> Result<Program, AllocErr
     Ok(Program::Backup {
         db: text_given(alloc, backup, "db")?,
         copy: text_given(alloc, backup, "copy")?,
+    })
+}
+
+// The program of `migrate` with these matches.
+fn migrate_of(alloc: Global, migrate: &ArgMatches<'_>) -> Result<Program, AllocError>
+    requires { HasMigrate (rows_of (found_of migrate.now)) }
+    ensures { IfOk result (λ p. migrate_of (rows_of (found_of migrate.now)) ≡ Some p) }
+{
+    Ok(Program::Migrate {
+        db: text_given(alloc, migrate, "db")?,
+        dry_run: flag_given(migrate, "dry-run"),
     })
 }
 
@@ -265,6 +311,14 @@ fn number_given(matches: &ArgMatches<'_>, name: &str) -> Option<u64>
     ensures { result ≡ number_given name.now (rows_of (found_of matches.now)) }
 {
     matches.get_one::<u64>(name)
+}
+
+// Whether the flag of this name was given.
+fn flag_given(matches: &ArgMatches<'_>, name: &str) -> bool
+    requires { MayHaveFlag name.now (rows_of (found_of matches.now)) }
+    ensures { result ≡ flag_given name.now (rows_of (found_of matches.now)) }
+{
+    matches.get_flag(name)
 }
 
 // The text that was given under this name.

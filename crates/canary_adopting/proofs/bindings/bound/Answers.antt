@@ -1,7 +1,6 @@
 use Rattle.std.proofs.Common.{◌≡◌, length, Err, rules, ap, subst, ◌∙◌}
 use Rattle.std.specs.Prelude.{option_map}
 use Rattle.std.specs.FinMap.{get}
-use Rattle.sqlite.specs.Held.{state}
 use Rattle.canary_adopting.specs.Bindings.{IsKnownBy}
 use Rattle.canary_adopting.proofs.Standing.{stores_then}
 use Rattle.canary_adopting.proofs.KnownBindings.{bound_told}
@@ -17,7 +16,7 @@ pub returns-clause-found : goal.returns-clause-found
 returns-clause-found g c usable t has =
     let usable_then = (c.known_by.ensures.same usable).0 in
     let rows = c.in_ok-rows.ensures.found usable_then t has in
-    let known = c.in_ok-known.ensures.found usable t (stores_then (state g.S.Store c.args.conn.now) (state g.S.Store c.bindings.new.conn) t c.bindings.ensures.same usable_then has) in
+    let known = c.in_ok-known.ensures.found usable t (stores_then (g.Q.Reader.shows c.args.conn.now) (g.Q.Reader.shows c.bindings.new.conn) t c.bindings.ensures.same usable_then has) in
     record {
       bound = bound_told t c.args.service.now c.args.run c.as_slice.result.now c.in-Some.known c.args.strategy.now c.in_ok-bound_to.field-0 (c.as_slice.ensures ∙ rows)
           (subst (λ o. IsKnownBy c.as_slice.result.now t (option_map get o)) c.in-Some.is known) c.in_ok-bound_to.ensures;

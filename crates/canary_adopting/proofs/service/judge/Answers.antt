@@ -1,6 +1,5 @@
 use Rattle.std.proofs.Common.{sym, ◌∙◌, ◌≡◌, Err, rules}
 use Rattle.std.proofs.lemmas.Result.{IfOk-weaker}
-use Rattle.sqlite.specs.Held.{state}
 use Rattle.canary_adopting.proofs.JudgedServices.{service_found, no_service, service_there}
 use Rattle.canary_adopting.proofs.Standing.{stores_then}
 use Rattle.canary_reads.specs.declared.fault.ReadFault.TheVariants.{Broken}
@@ -20,10 +19,10 @@ returns-clause-judged g c usable t has judged =
     let mid = (c.judge_row.ensures.same usable).0 in
     IfOk-weaker c.judge_row.result _ _
     (λ totals is. service_found t c.args.name.now c.in_ok-rows.rows c.in-Some.row totals (c.in_ok-rows.ensures.found mid t has) (sym c.only.ensures ∙ c.in-Some.is) is)
-    (c.judge_row.ensures.judged usable t (stores_then (state g.S.Store c.args.conn.now) (state g.S.Store c.service_rows.new.conn) t c.service_rows.ensures.same mid has) judged)
+    (c.judge_row.ensures.judged usable t (stores_then (g.Q.Reader.shows c.args.conn.now) (g.Q.Reader.shows c.service_rows.new.conn) t c.service_rows.ensures.same mid has) judged)
 
 pub returns-clause-refused : goal.returns-clause-refused
 returns-clause-refused g c usable t has judged is within under =
     let mid = (c.judge_row.ensures.same usable).0 in
-    c.judge_row.ensures.refused usable t (stores_then (state g.S.Store c.args.conn.now) (state g.S.Store c.service_rows.new.conn) t c.service_rows.ensures.same mid has) judged is within
+    c.judge_row.ensures.refused usable t (stores_then (g.Q.Reader.shows c.args.conn.now) (g.Q.Reader.shows c.service_rows.new.conn) t c.service_rows.ensures.same mid has) judged is within
     (service_there t c.args.name.now c.in_ok-rows.rows c.in-Some.row (c.in_ok-rows.ensures.found mid t has) (sym c.only.ensures ∙ c.in-Some.is) under)

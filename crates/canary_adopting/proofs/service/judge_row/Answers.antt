@@ -1,6 +1,5 @@
 use Rattle.std.proofs.Common.{◌≡◌, Err, rules}
 use Rattle.std.proofs.lemmas.Result.{IfOk-weaker}
-use Rattle.sqlite.specs.Held.{state}
 use Rattle.canary_reads.specs.declared.fault.ReadFault.TheVariants.{Broken}
 use Rattle.canary_adopting.proofs.JudgedServices.{service_judged, made_there, attempt_there, no_stand, past_there, totals_there}
 use Rattle.canary_adopting.proofs.Standing.{stores_then, same_then}
@@ -20,7 +19,7 @@ pub returns-in_err-bound-clause-refused : goal.returns-in_err-bound-clause-refus
 returns-in_err-bound-clause-refused g c usable t has judged is within row_judged =
     let broken : c.attempt.result ≡ Err Broken = search rules in
     let mid = (c.attempt.ensures.same usable).0 in
-    c.attempt.ensures.broken usable t (stores_then (state g.S.Store c.args.conn.now) (state g.S.Store c.strategy.new.conn) t c.strategy.ensures.same mid has) judged broken within
+    c.attempt.ensures.broken usable t (stores_then (g.Q.Reader.shows c.args.conn.now) (g.Q.Reader.shows c.strategy.new.conn) t c.strategy.ensures.same mid has) judged broken within
     (row_judged.stand.bound, attempt_there t c.args.row.now c.in_ok-made.made c.in_ok-strategy.strategy c.in_ok-made.ensures.made.0 (c.in_ok-strategy.ensures.found mid t has judged).1 row_judged)
 
 pub returns-in_err-stand-clause-refused : goal.returns-in_err-stand-clause-refused
@@ -28,24 +27,24 @@ returns-in_err-stand-clause-refused g c usable t has judged is within row_judged
     let broken : c.stand_by.result ≡ Err Broken = search rules in
     let mid = (c.attempt.ensures.same usable).0 in
     no_stand t c.args.row.now c.in_ok-made.made c.in_ok-strategy.strategy c.in_ok-bound.bound c.in_ok-made.ensures.made.0 (c.in_ok-strategy.ensures.found mid t has judged).1
-    (c.in_ok-bound.ensures.found usable t (stores_then (state g.S.Store c.args.conn.now) (state g.S.Store c.strategy.new.conn) t c.strategy.ensures.same mid has)) (c.stand_by.ensures.broken broken) row_judged
+    (c.in_ok-bound.ensures.found usable t (stores_then (g.Q.Reader.shows c.args.conn.now) (g.Q.Reader.shows c.strategy.new.conn) t c.strategy.ensures.same mid has)) (c.stand_by.ensures.broken broken) row_judged
 
 pub returns-clause-judged : goal.returns-clause-judged
 returns-clause-judged g c usable t has judged =
     let after = (c.judge_past.ensures.same usable).0 in
     let mid = (c.attempt.ensures.same after).0 in
-    let attempt = c.in_ok-bound.ensures.found after t (stores_then (state g.S.Store c.args.conn.now) (state g.S.Store c.strategy.new.conn) t c.strategy.ensures.same mid has) in
+    let attempt = c.in_ok-bound.ensures.found after t (stores_then (g.Q.Reader.shows c.args.conn.now) (g.Q.Reader.shows c.strategy.new.conn) t c.strategy.ensures.same mid has) in
     IfOk-weaker c.judge_past.result _ _
     (λ totals is one. (
       service_judged t c.args.row.now c.in_ok-made.made c.in_ok-strategy.strategy c.in_ok-bound.bound c.in_ok-stand.stand one c.in_ok-made.ensures.made (c.in_ok-strategy.ensures.found mid t has judged) attempt c.in_ok-stand.ensures.stand is.0,
       totals_there t c.args.row.now c.in_ok-strategy.strategy c.in_ok-bound.bound c.in_ok-stand.stand totals attempt c.in_ok-stand.ensures.stand is.1,
     ))
-    (c.judge_past.ensures.judged usable t (stores_then (state g.S.Store c.args.conn.now) (state g.S.Store c.attempt.new.conn) t (same_then (state g.S.Store c.args.conn.now) (state g.S.Store c.strategy.new.conn) (state g.S.Store c.attempt.new.conn) c.strategy.ensures.same c.attempt.ensures.same) after has))
+    (c.judge_past.ensures.judged usable t (stores_then (g.Q.Reader.shows c.args.conn.now) (g.Q.Reader.shows c.attempt.new.conn) t (same_then (g.Q.Reader.shows c.args.conn.now) (g.Q.Reader.shows c.strategy.new.conn) (g.Q.Reader.shows c.attempt.new.conn) c.strategy.ensures.same c.attempt.ensures.same) after has))
 
 pub returns-clause-refused : goal.returns-clause-refused
 returns-clause-refused g c usable t has judged is within row_judged =
     let after = (c.judge_past.ensures.same usable).0 in
     let mid = (c.attempt.ensures.same after).0 in
-    let attempt = c.in_ok-bound.ensures.found after t (stores_then (state g.S.Store c.args.conn.now) (state g.S.Store c.strategy.new.conn) t c.strategy.ensures.same mid has) in
-    c.judge_past.ensures.refused usable t (stores_then (state g.S.Store c.args.conn.now) (state g.S.Store c.attempt.new.conn) t (same_then (state g.S.Store c.args.conn.now) (state g.S.Store c.strategy.new.conn) (state g.S.Store c.attempt.new.conn) c.strategy.ensures.same c.attempt.ensures.same) after has) judged is within
+    let attempt = c.in_ok-bound.ensures.found after t (stores_then (g.Q.Reader.shows c.args.conn.now) (g.Q.Reader.shows c.strategy.new.conn) t c.strategy.ensures.same mid has) in
+    c.judge_past.ensures.refused usable t (stores_then (g.Q.Reader.shows c.args.conn.now) (g.Q.Reader.shows c.attempt.new.conn) t (same_then (g.Q.Reader.shows c.args.conn.now) (g.Q.Reader.shows c.strategy.new.conn) (g.Q.Reader.shows c.attempt.new.conn) c.strategy.ensures.same c.attempt.ensures.same) after has) judged is within
     (past_there t c.args.row.now c.in_ok-made.made c.in_ok-strategy.strategy c.in_ok-bound.bound c.in_ok-stand.stand c.in_ok-made.ensures.made.0 (c.in_ok-strategy.ensures.found mid t has judged).1 attempt c.in_ok-stand.ensures.stand row_judged)

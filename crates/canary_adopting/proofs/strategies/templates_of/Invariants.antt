@@ -1,7 +1,7 @@
 use Rattle.std.proofs.Common.{◌≡◌, false}
-use Rattle.sqlite.specs.Held.{state}
 use Rattle.canary_adopting.proofs.JudgedStrategies.{TemplatesSoFar}
+use Rattle.canary_adopting.proofs.Standing.{Goes}
 use Rattle.canary_adopting.proofs.strategies.templates_of.Given as goal
 
 abbrev pub invariant-loop-name : goal.invariant-loop-name
-invariant-loop-name g l = (l.conn.in_transaction ≡ false) × TemplatesSoFar l.names l.name-index (state g.S.Store l.initial.conn) (state g.S.Store l.conn) l.found
+invariant-loop-name g l = Goes g.Q.Reader.IsReady g.Q.Reader.place g.Q.Reader.below l.initial.conn l.conn × TemplatesSoFar l.names l.name-index (g.Q.Reader.shows l.initial.conn) (g.Q.Reader.shows l.conn) l.found

@@ -1,6 +1,5 @@
 use Rattle.std.proofs.Common.{◌≡◌, Err, rules}
 use Rattle.std.proofs.lemmas.Result.{IfOk-weaker}
-use Rattle.sqlite.specs.Held.{state}
 use Rattle.canary_reads.specs.declared.fault.ReadFault.TheVariants.{Broken}
 use Rattle.canary_adopting.proofs.JudgedTemplates.{revision_found, revision_alone, numbered_there}
 use Rattle.canary_adopting.proofs.Standing.{stores_then}
@@ -20,9 +19,9 @@ pub returns-clause-judged : goal.returns-clause-judged
 returns-clause-judged g c usable t has =
     let mid = (c.judge_number.ensures.same usable).0 in
     IfOk-weaker c.judge_number.result _ _ (λ done numbered. revision_found t c.args.key.now c.in_ok-rows.rows (c.in_ok-rows.ensures.found mid t has) c.in_ok-read_revision.ensures.judged numbered)
-    (c.judge_number.ensures.judged usable t (stores_then (state g.S.Store c.args.conn.now) (state g.S.Store c.revision_rows.new.conn) t c.revision_rows.ensures.same mid has))
+    (c.judge_number.ensures.judged usable t (stores_then (g.Q.Reader.shows c.args.conn.now) (g.Q.Reader.shows c.revision_rows.new.conn) t c.revision_rows.ensures.same mid has))
 
 pub returns-clause-refused : goal.returns-clause-refused
 returns-clause-refused g c usable t has is judged =
     let mid = (c.judge_number.ensures.same usable).0 in
-    c.judge_number.ensures.refused usable t (stores_then (state g.S.Store c.args.conn.now) (state g.S.Store c.revision_rows.new.conn) t c.revision_rows.ensures.same mid has) is (judged.0, numbered_there t c.args.key.now judged.1)
+    c.judge_number.ensures.refused usable t (stores_then (g.Q.Reader.shows c.args.conn.now) (g.Q.Reader.shows c.revision_rows.new.conn) t c.revision_rows.ensures.same mid has) is (judged.0, numbered_there t c.args.key.now judged.1)

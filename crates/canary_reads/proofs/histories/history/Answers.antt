@@ -1,6 +1,5 @@
 use Rattle.std.proofs.Common.{◌∷◌, refl, rules}
 use Rattle.std.proofs.lemmas.Result.{IfOk-weaker}
-use Rattle.sqlite.specs.Held.{state}
 use Rattle.sqlite.specs.declared.types.Value.TheVariants.{Null, Text as Words}
 use Rattle.sqlite_keyed.proofs.ListLemmas.{all-filter}
 use Rattle.canary_rows.specs.Tables.{is_line_of}
@@ -12,17 +11,17 @@ use Rattle.canary_reads.proofs.TypedRows.{told_all}
 use Rattle.canary_reads.proofs.FoundLines.{line_rows}
 use Rattle.canary_reads.proofs.histories.history.Goals as goal
 
-pub rows_of-requires-clause-query : goal.rows_of-requires-clause-query
-rows_of-requires-clause-query g c = history_query
+pub ask-requires-clause-query : goal.ask-requires-clause-query
+ask-requires-clause-query g c = history_query
 
 pub returns-clause-found : goal.returns-clause-found
 returns-clause-found g c usable t has =
-    let told = line_rows (state g.S.Store c.args.conn.now) (state g.S.Store c.rows_of.new.conn) t c.args.service.now _ c.in_ok-rows.rows.items has (search rules) (c.in_ok-rows.ensures.shown usable) in
+    let told = line_rows (g.Q.Reader.shows c.args.conn.now) (g.Q.Reader.shows c.ask.new.self) t c.args.service.now _ c.in_ok-rows.rows.items has (search rules) (c.in_ok-rows.ensures.shown usable) in
     IfOk-weaker c.all.result _ _
     (λ found read. told_all history_cells history_in (λ x. refl) (λ row. Null ∷ Words c.args.service.now ∷ row) c.in_ok-rows.rows.items _ found told (rw c.as_slice.ensures.value at read)) c.all.ensures.found
 
 pub returns-clause-broken : goal.returns-clause-broken
 returns-clause-broken g c usable t has is within =
-    let told = line_rows (state g.S.Store c.args.conn.now) (state g.S.Store c.rows_of.new.conn) t c.args.service.now _ c.in_ok-rows.rows.items has (search rules) (c.in_ok-rows.ensures.shown usable) in
+    let told = line_rows (g.Q.Reader.shows c.args.conn.now) (g.Q.Reader.shows c.ask.new.self) t c.args.service.now _ c.in_ok-rows.rows.items has (search rules) (c.in_ok-rows.ensures.shown usable) in
     unless_broken history_cells (λ row. Null ∷ Words c.args.service.now ∷ row) IsLineWithin _ c.in_ok-rows.rows.items told (rw c.as_slice.ensures.value at (c.all.ensures.broken is))
     (all-filter IsLineWithin (is_line_of c.args.service.now) t.history within)

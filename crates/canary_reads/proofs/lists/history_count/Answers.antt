@@ -1,5 +1,4 @@
 use Rattle.std.proofs.lemmas.Result.{IfOk-weaker}
-use Rattle.sqlite.specs.Held.{state}
 use Rattle.canary_schema.specs.Layout.{history_at}
 use Rattle.canary_schema.specs.Cells.{history_cells}
 use Rattle.canary_reads.proofs.Counting.{count_found}
@@ -12,4 +11,4 @@ count_of-requires-clause-query g c = history_count_query
 pub returns-clause-found : goal.returns-clause-found
 returns-clause-found g c usable t has =
     IfOk-weaker c.count_of.result _ _
-    (λ n told. count_found history_count_text history_at history_counts history_cells t.history (state g.S.Store c.args.conn.now) (state g.S.Store c.count_of.new.conn) _ told.0 n has.layout has.holds.schema has.holds.history told.1 told.2) (c.count_of.ensures.shown usable)
+    (λ n told. count_found history_count_text history_at history_counts history_cells t.history (g.Q.Reader.shows c.args.conn.now) (g.Q.Reader.shows c.count_of.new.conn) _ told.0 n has.layout has.holds.schema has.holds.history told.1 told.2) (c.count_of.ensures.shown usable)

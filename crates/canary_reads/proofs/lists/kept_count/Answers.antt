@@ -1,5 +1,4 @@
 use Rattle.std.proofs.lemmas.Result.{IfOk-weaker}
-use Rattle.sqlite.specs.Held.{state}
 use Rattle.canary_schema.specs.Cells.{kept_cells}
 use Rattle.canary_reads.proofs.Counting.{count_found}
 use Rattle.canary_reads.proofs.CountTexts.{kept_count_text, kept_count_query, kept_counts}
@@ -11,4 +10,4 @@ count_of-requires-clause-query g c = kept_count_query
 pub returns-clause-found : goal.returns-clause-found
 returns-clause-found g c usable t has =
     IfOk-weaker c.count_of.result _ _
-    (λ n told. count_found kept_count_text (λ _. 3) kept_counts kept_cells t.kept (state g.S.Store c.args.conn.now) (state g.S.Store c.count_of.new.conn) _ told.0 n has.layout has.holds.schema has.holds.kept told.1 told.2) (c.count_of.ensures.shown usable)
+    (λ n told. count_found kept_count_text (λ _. 3) kept_counts kept_cells t.kept (g.Q.Reader.shows c.args.conn.now) (g.Q.Reader.shows c.count_of.new.conn) _ told.0 n has.layout has.holds.schema has.holds.kept told.1 told.2) (c.count_of.ensures.shown usable)

@@ -1,13 +1,12 @@
 use Rattle.std.proofs.Common.{◌≡◌, ◌==◌, length, not, ap, ◌∙◌, rules}
-use Rattle.sqlite.specs.Held.{state}
 use Rattle.canary_reads.proofs.Texts.{has_service_query}
 use Rattle.canary_reads.proofs.FoundServices.{has_service_found}
 use Rattle.canary_reads.proofs.services.has_service.Goals as goal
 
-pub rows_of-requires-clause-query : goal.rows_of-requires-clause-query
-rows_of-requires-clause-query g c = has_service_query
+pub ask-requires-clause-query : goal.ask-requires-clause-query
+ask-requires-clause-query g c = has_service_query
 
 pub returns-clause-found : goal.returns-clause-found
 returns-clause-found g c usable t has =
     let told : c.is_empty.result ≡ (length c.in_ok-rows.rows.items == 0) = search rules in
-    ap not told ∙ has_service_found (state g.S.Store c.args.conn.now) (state g.S.Store c.rows_of.new.conn) t c.args.name.now _ c.in_ok-rows.rows.items has (search rules) (c.in_ok-rows.ensures.shown usable)
+    ap not told ∙ has_service_found (g.Q.Reader.shows c.args.conn.now) (g.Q.Reader.shows c.ask.new.self) t c.args.name.now _ c.in_ok-rows.rows.items has (search rules) (c.in_ok-rows.ensures.shown usable)

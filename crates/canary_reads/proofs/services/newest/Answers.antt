@@ -1,6 +1,5 @@
 use Rattle.std.proofs.Common.{◌∷◌, filter, refl, sym, subst, rules}
 use Rattle.std.proofs.lemmas.Result.{IfOk-weaker}
-use Rattle.sqlite.specs.Held.{state}
 use Rattle.sqlite.specs.declared.types.Value.TheVariants.{Text as Words}
 use Rattle.sqlite_keyed.proofs.ListLemmas.{all-filter}
 use Rattle.canary_rows.specs.Tables.{is_revision_of}
@@ -14,17 +13,17 @@ use Rattle.canary_reads.proofs.TypedRows.{same_first}
 use Rattle.canary_reads.proofs.FoundServices.{newest_rows}
 use Rattle.canary_reads.proofs.services.newest.Goals as goal
 
-pub rows_of-requires-clause-query : goal.rows_of-requires-clause-query
-rows_of-requires-clause-query g c = newest_query
+pub ask-requires-clause-query : goal.ask-requires-clause-query
+ask-requires-clause-query g c = newest_query
 
 pub returns-clause-found : goal.returns-clause-found
 returns-clause-found g c usable t has =
-    let told = newest_rows (state g.S.Store c.args.conn.now) (state g.S.Store c.rows_of.new.conn) t c.args.name.now _ c.in_ok-rows.rows.items has (search rules) (c.in_ok-rows.ensures.shown usable) in
+    let told = newest_rows (g.Q.Reader.shows c.args.conn.now) (g.Q.Reader.shows c.ask.new.self) t c.args.name.now _ c.in_ok-rows.rows.items has (search rules) (c.in_ok-rows.ensures.shown usable) in
     IfOk-weaker c.first.result _ _
     (λ found read. subst (IsNewest (filter (is_revision_of c.args.name.now) t.revisions)) (sym (same_first revision_cells revision_in (λ x. refl) (λ row. Words c.args.name.now ∷ row) c.in_ok-rows.rows.items told.0 found told.2 (rw c.as_slice.ensures.value at read))) (newest_first _ told.0 told.1)) c.first.ensures.found
 
 pub returns-clause-broken : goal.returns-clause-broken
 returns-clause-broken g c usable t has is within =
-    let told = newest_rows (state g.S.Store c.args.conn.now) (state g.S.Store c.rows_of.new.conn) t c.args.name.now _ c.in_ok-rows.rows.items has (search rules) (c.in_ok-rows.ensures.shown usable) in
+    let told = newest_rows (g.Q.Reader.shows c.args.conn.now) (g.Q.Reader.shows c.ask.new.self) t c.args.name.now _ c.in_ok-rows.rows.items has (search rules) (c.in_ok-rows.ensures.shown usable) in
     unless_broken revision_cells (λ row. Words c.args.name.now ∷ row) IsRevisionWithin told.0 c.in_ok-rows.rows.items told.2 (rw c.as_slice.ensures.value at (c.first.ensures.broken is))
     (first_within IsRevisionWithin _ told.0 told.1 (all-filter IsRevisionWithin (is_revision_of c.args.name.now) t.revisions within))

@@ -1,5 +1,4 @@
 use Rattle.std.proofs.lemmas.Result.{IfOk-weaker}
-use Rattle.sqlite.specs.Held.{state}
 use Rattle.canary_reads.proofs.SeekTexts.{measurements_below_query}
 use Rattle.canary_reads.proofs.DeskRows.{measurements_assured, measurements_denied}
 use Rattle.canary_reads.proofs.typed.measurements_typed.Goals as goal
@@ -11,9 +10,9 @@ pub returns-clause-typed : goal.returns-clause-typed
 returns-clause-typed g c usable at schema =
     let was = (c.none_shown.ensures.same usable).0 in
     IfOk-weaker c.none_shown.result _ _
-    (λ _ shown. measurements_assured (state g.S.Store c.args.conn.now) (state g.S.Store c.none_shown.new.conn) (c.schema.ensures.live was.is_open).0 at schema shown) (c.none_shown.ensures.none usable)
+    (λ _ shown. measurements_assured (g.Q.Reader.shows c.args.conn.now) (g.Q.Reader.shows c.none_shown.new.conn) (c.look.ensures.live was) at schema shown) (c.none_shown.ensures.none usable)
 
 pub returns-clause-broken : goal.returns-clause-broken
 returns-clause-broken g c usable at schema is has =
     let one = c.none_shown.ensures.some usable is in
-    measurements_denied (state g.S.Store c.args.conn.now) (state g.S.Store c.none_shown.new.conn) at schema one.0 one.1 one.2 has
+    measurements_denied (g.Q.Reader.shows c.args.conn.now) (g.Q.Reader.shows c.none_shown.new.conn) at schema one.0 one.1 one.2 has

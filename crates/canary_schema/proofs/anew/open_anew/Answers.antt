@@ -4,7 +4,7 @@ use Rattle.sqlite.proofs.StreamLemmas.{is_open_now}
 use Rattle.sqlite_trees.specs.View.{IsClean}
 use Rattle.canary_schema.specs.Cells.{tally_tree}
 use Rattle.canary_schema.specs.Numbered.{IsLeft}
-use Rattle.canary_schema.proofs.Rising.{taken, all_opened, all_whole, all_left}
+use Rattle.canary_schema.proofs.Rising.{taken, all_opened, all_risen, all_whole, all_left}
 use Rattle.canary_schema.proofs.anew.open_anew.Goals as goal
 
 pub returns-clause-opened : goal.returns-clause-opened
@@ -14,6 +14,15 @@ returns-clause-opened g c =
     taken g.S.Store c.args.conn mid c.into_store-store.ensures.undone c.into_store-store.ensures.quiet.clean (c.is_autocommit-settled.ensures.settled (c.is_autocommit-settled.ensures.value ∙ ap not c.requires.autocommit)) in
     let sound = λ (at : IsClean (g.S.Store.view mid)). sym (c.is_broken.ensures at) ∙ c.if-is_broken.false in
     all_opened g.S.Store (state g.S.Store c.args.conn) mid left (λ at. is_open_now g.S.Store mid (g.met.S.Store.broken_if_shut mid) (sound at)) c.schema.ensures.live (λ at. g.met.S.Store.ordered mid (sound at))
+    (λ at. g.met.S.Alter.listed mid (sound at)) c.open_read.result c.open_read.ensures.clean c.open_read.ensures.trees c.open_read.ensures.opens
+
+pub returns-clause-rising : goal.returns-clause-rising
+returns-clause-rising g c =
+    let mid = c.into_store-store.result in
+    let left : IsLeft (state g.S.Store c.args.conn) (g.S.Store.view mid) =
+    taken g.S.Store c.args.conn mid c.into_store-store.ensures.undone c.into_store-store.ensures.quiet.clean (c.is_autocommit-settled.ensures.settled (c.is_autocommit-settled.ensures.value ∙ ap not c.requires.autocommit)) in
+    let sound = λ (at : IsClean (g.S.Store.view mid)). sym (c.is_broken.ensures at) ∙ c.if-is_broken.false in
+    all_risen g.S.Store (state g.S.Store c.args.conn) mid left (λ at. is_open_now g.S.Store mid (g.met.S.Store.broken_if_shut mid) (sound at)) (λ at. g.met.S.Store.ordered mid (sound at))
     (λ at. g.met.S.Alter.listed mid (sound at)) c.open_read.result c.open_read.ensures.clean c.open_read.ensures.trees c.open_read.ensures.opens
 
 pub returns-clause-whole : goal.returns-clause-whole

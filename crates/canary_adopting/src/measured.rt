@@ -1,0 +1,167 @@
+//! The measurements of a service, read in pages and counted one after another.
+ghost use Rattle.std.specs.Prelude.{◌≡◌, ◌≤◌, ◌∷◌, [], IfOk, Err, length, map};
+ghost use Rattle.canary_once.specs.declared.record.RunRecord.{RunRecord};
+ghost use Rattle.canary_stored.specs.Values.{measurement_of_row};
+ghost use Rattle.canary_judging.specs.Services.{metrics_of_runs};
+ghost use Rattle.canary_reads.specs.declared.fault.ReadFault.TheVariants.{Broken};
+ghost use Rattle.canary_reads.specs.Finds.{IsSame, FindsSuch};
+ghost use Rattle.canary_reads.specs.Reader.{IsKept};
+ghost use Rattle.canary_adopting.specs.Judges.{RefusesUnless};
+ghost use Rattle.canary_adopting.specs.Measured.{AreCountedTo, AreMeasured, IsPageCounted};
+ghost use Rattle.canary_adopting.specs.Measured.{measurements_of};
+ghost use Rattle.canary_adopting.specs.OfService.{HasSuch, IsTold};
+
+use crate::fault::read_fault;
+use crate::totals::sum;
+use canary_base::names::Name;
+use canary_once::record::RunRecord;
+use canary_reads::fault::ReadFault;
+use canary_reads::histories;
+use canary_reads::reader::Reader;
+use canary_recounting::counting::{count_next, none_counted};
+use canary_recounting::counts::Counts;
+use canary_release::effect::Recorded;
+use canary_rows::rows::MeasurementRow;
+use canary_stored::reading;
+use std::alloc::Global;
+
+// The most measurements that are read at once.
+const PAGE: u32 = 32_768;
+
+/// How many measurements are counted, and what they come to.
+#[derive(Drop)]
+pub(crate) struct SoFar {
+    pub counts: Counts,
+    pub count: u64,
+}
+
+impl SoFar {
+    fn count(&self) -> u64
+        ensures { result ≡ self.now.count }
+    {
+        self.count
+    }
+}
+
+/// How many measurements the service has, where each of them is read, they come one after another,
+/// and to the tallies of these runs, which are numbered from 1 on.
+///
+/// # Errors
+/// `Broken` where that is not so, or the tables hold what no program can; `Memory` where there is
+/// not enough, `Storage` where the database fails, or has more rows than are counted.
+pub(crate) fn measured<Q: Reader>(
+    conn: &mut Q,
+    alloc: Global,
+    name: &Name,
+    runs: &[RunRecord],
+) -> Result<u64, ReadFault>
+    requires ready { Q.IsReady conn.old }
+    ensures mode { Q.IsReady conn.new }
+    ensures place { Q.place conn.new ≡ Q.place conn.old }
+    ensures kept { IsKept (Q.below conn.old) (Q.below conn.new) }
+    ensures same { IsSame (Q.shows conn.old) (Q.shows conn.new) }
+    ensures found { FindsSuch (λ t count. AreMeasured name.now runs.now t
+        × (count ≡ length (measurements_of name.now t)))
+        (Q.shows conn.old) (Q.shows conn.new) result }
+    ensures broken { RefusesUnless (AreMeasured name.now runs.now)
+        (Q.shows conn.old) (Q.shows conn.new) result }
+{
+    let counts = none_counted(alloc, runs)?;
+    let mut so_far = SoFar { counts, count: 0 };
+    'pages: for _ in 0..u64::MAX {
+        let before = so_far.count();
+        so_far = count_page(conn, alloc, name, runs, so_far)?;
+        if so_far.count() - before < u64::from(PAGE) {
+            return tallied(runs, &so_far);
+        }
+    }
+    Err(ReadFault::Storage)
+}
+
+// How many are counted, where these come to the tallies of the runs.
+fn tallied(runs: &[RunRecord], so_far: &SoFar) -> Result<u64, ReadFault>
+    ensures found { IfOk result (λ count. (count ≡ so_far.now.count)
+        × (map (λ (r : RunRecord). r.tallies) runs.now ≡ so_far.now.counts)) }
+    ensures broken { result ≡ Err Broken
+        → ¬ (map (λ (r : RunRecord). r.tallies) runs.now ≡ so_far.now.counts) }
+{
+    if so_far.counts.are_of(runs) {
+        Ok(so_far.count)
+    } else {
+        Err(ReadFault::Broken)
+    }
+}
+
+// The next measurements of the service, counted too.
+fn count_page<Q: Reader>(
+    conn: &mut Q,
+    alloc: Global,
+    name: &Name,
+    runs: &[RunRecord],
+    so_far: SoFar,
+) -> Result<SoFar, ReadFault>
+    requires ready { Q.IsReady conn.old }
+    ensures mode { Q.IsReady conn.new }
+    ensures place { Q.place conn.new ≡ Q.place conn.old }
+    ensures kept { IsKept (Q.below conn.old) (Q.below conn.new) }
+    ensures same { IsSame (Q.shows conn.old) (Q.shows conn.new) }
+    ensures found { FindsSuch (IsPageCounted name.now runs.now 32768 so_far)
+        (Q.shows conn.old) (Q.shows conn.new) result }
+    ensures broken { RefusesUnless (HasSuch (IsPageCounted name.now runs.now 32768 so_far))
+        (Q.shows conn.old) (Q.shows conn.new) result }
+    ensures more { IfOk result (λ after. so_far.count ≤ after.count) }
+{
+    let SoFar { counts, count } = so_far;
+    let rows = histories::measurements(conn, alloc, name, count, PAGE)?;
+    let count = sum(count, rows.as_slice().len() as u64)?;
+    let counts = count_rows(alloc, runs, counts, rows.as_slice())?;
+    Ok(SoFar { counts, count })
+}
+
+// The counts with the measurements of these rows.
+fn count_rows(
+    alloc: Global,
+    runs: &[RunRecord],
+    first: Counts,
+    rows: &[MeasurementRow],
+) -> Result<Counts, ReadFault>
+    ensures counted { IfOk result
+        (λ last. AreCountedTo (metrics_of_runs runs.now) first rows.now last) }
+    ensures refused { result ≡ Err Broken → (last : _)
+        → ¬ AreCountedTo (metrics_of_runs runs.now) first rows.now last }
+{
+    let mut counts = first;
+    for row in rows {
+        counts = count_row(alloc, runs, counts, row)?;
+    }
+    Ok(counts)
+}
+
+fn count_row(
+    alloc: Global,
+    runs: &[RunRecord],
+    first: Counts,
+    row: &MeasurementRow,
+) -> Result<Counts, ReadFault>
+    ensures counted { IfOk result
+        (λ last. AreCountedTo (metrics_of_runs runs.now) first (row.now ∷ []) last) }
+    ensures refused { result ≡ Err Broken → (last : _)
+        → ¬ AreCountedTo (metrics_of_runs runs.now) first (row.now ∷ []) last }
+{
+    let measurement = measurement_of(alloc, row)?;
+    let mut counts = first;
+    if count_next(runs, &mut counts, &measurement) {
+        Ok(counts)
+    } else {
+        Err(ReadFault::Broken)
+    }
+}
+
+fn measurement_of(alloc: Global, row: &MeasurementRow) -> Result<Recorded, ReadFault>
+    ensures { IsTold (measurement_of_row row.now) result }
+{
+    match reading::measurement(alloc, row) {
+        Ok(measurement) => Ok(measurement),
+        Err(fault) => Err(read_fault(fault)),
+    }
+}

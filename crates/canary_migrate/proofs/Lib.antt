@@ -1,0 +1,10 @@
+mod Standing
+mod Each
+mod Passes
+mod Moved
+mod Written
+mod Filling
+mod Rewriting
+mod Beyond
+mod Migrating
+mod Committing

@@ -1,0 +1,3 @@
+pub mod Migrated
+pub mod Fills
+pub mod Migrates

@@ -1,0 +1,61 @@
+//! A desk's file becomes one of the present schema.
+use crate::migrate::migrate;
+use canary_adopting::progress::Progress;
+use canary_reads::typed::has_meta;
+use canary_schema::fault::fault_of;
+use canary_schema::known::is_desk;
+use canary_tables::fault::TableFault;
+use sqlite::{Connection, Error, ErrorCode, File, FileStore};
+
+/// Makes the file of SQLite at a path, which is a desk's of the first schema, one of the present
+/// schema (`migrate`), and answers true; false if it is one already, of which nothing is changed.
+/// `progress` is told of the rows that are judged.
+///
+/// # Errors
+///
+/// `InUse` where another program has the file open; `OtherSchema` where it is of neither schema, as
+/// one with no tables; `BrokenRow` where its rows do not become those of a desk; `Memory` where an
+/// allocation was refused; `Storage` where the file cannot be opened, is no database, or fails. The
+/// file is as it was then; but if it fails as it is closed, it may be migrated.
+pub fn upgrade<G: Progress>(
+    rt: &HostRuntime,
+    path: &str,
+    progress: &mut G,
+) -> Result<bool, TableFault> {
+    let mut conn = Connection::open(rt, path).map_err(open_fault)?;
+    if is_current(&mut conn)? {
+        return Ok(false);
+    }
+    match migrate(rt.alloc(), conn, progress) {
+        Ok(conn) => closed(conn),
+        Err((fault, _left)) => Err(fault),
+    }
+}
+
+// Whether the tables are a desk's of the present schema. With other rows in meta they are of no
+// schema.
+fn is_current(conn: &mut Connection<FileStore<File>>) -> Result<bool, TableFault> {
+    if !conn.is_autocommit() || !is_desk(conn.schema()) {
+        return Ok(false);
+    }
+    if has_meta(conn)? {
+        Ok(true)
+    } else {
+        Err(TableFault::OtherSchema)
+    }
+}
+
+fn closed(conn: Connection<FileStore<File>>) -> Result<bool, TableFault> {
+    match conn.close() {
+        Ok(()) => Ok(true),
+        Err(error) => Err(fault_of(error).into()),
+    }
+}
+
+// Why a file could not be opened.
+fn open_fault(error: Error) -> TableFault {
+    match error {
+        Error::SqliteFailure(ErrorCode::DatabaseBusy) => TableFault::InUse,
+        error => fault_of(error).into(),
+    }
+}

@@ -1,0 +1,11 @@
+use Rattle.canary_reads.proofs.FirstTexts.{meta_query, meta_is}
+use Rattle.canary_reads.proofs.first.has_first_meta.Goals as goal
+
+pub ask-requires-clause-query : goal.ask-requires-clause-query
+ask-requires-clause-query g c = meta_query
+
+pub returns-clause-found : goal.returns-clause-found
+returns-clause-found g c usable first =
+    let is = meta_is (g.Q.Reader.shows c.args.conn.now) (g.Q.Reader.shows c.ask.new.self) c.in_ok-rows.rows.items first (c.in_ok-rows.ensures.shown usable) in
+    let told = rw c.as_slice.ensures.value at c.is_first_meta.ensures in
+    (λ has. is.0 (told.0 has), λ meta. told.1 (is.1 meta))
