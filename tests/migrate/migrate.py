@@ -181,24 +181,48 @@ def try_changed(program, folder):
 
 
 def try_no_desk(program, folder):
-    """Names and files that are no desk's of the first schema."""
-    file = os.path.join(folder, "none")
+    """Names and files that are no desk's of the first schema: nothing is made or changed."""
+    place = os.path.join(folder, "no-desk")
+    os.mkdir(place)
+    file = os.path.join(place, "none")
     for words in ((), ("--dry-run",)):
         want("no file", migrate(program, file, *words), refused("file"))
-        want("no file: what is made", os.path.exists(file), False)
-        want("a folder", migrate(program, folder, *words), refused("storage"))
-    with open(file, "w", encoding="ascii") as text:
-        text.write("a text that is longer than the first bytes of a database\n" * 100)
-    want("a text", migrate(program, file), refused("storage"))
+        want("no file: what is made", os.listdir(place), [])
+    # Of a folder no copy can be made.
+    want("a folder", migrate(program, place), refused("storage"))
+    want("a folder, dry run", migrate(program, place, "--dry-run"), refused("file"))
+    for kind, text, word in (("a text", "a text, longer than the first bytes of one\n", "storage"),
+                             ("an empty file", "", "other-schema")):
+        with open(file, "w", encoding="ascii") as written:
+            written.write(text)
+        for words in ((), ("--dry-run",)):
+            want(kind, migrate(program, file, *words), refused(word))
+            want(f"{kind}: its bytes", bytes_of(file), [text.encode(), b""])
+            if text:
+                want(f"{kind}: what is there", os.listdir(place), ["none"])
+    try_other_desks(program, file)
     remove(file)
-    open(file, "wb").close()
-    want("an empty file", migrate(program, file), refused("other-schema"))
-    want("an empty file: its bytes", bytes_of(file)[0], b"")
+    os.rmdir(place)
+
+
+def try_other_desks(program, file):
+    """Databases of another program, and of desks whose table meta has another number."""
     make(file, "CREATE TABLE note (title TEXT) STRICT")
+    want_refused(program, file, "another program's file")
+    make_first(file, "story")
+    want("a desk's", migrate(program, file), printed("migrated"))
+    for statement in ("UPDATE meta SET schema = 1", "UPDATE meta SET schema = 3",
+                      "DELETE FROM meta"):
+        change(file, statement)
+        want_refused(program, file, statement)
+
+
+def want_refused(program, file, row):
+    """The file is of neither schema, and stays as it is."""
     found = contents(file)
-    want("another program's file", migrate(program, file), refused("other-schema"))
-    want("another program's file", contents(file), found)
-    remove(file)
+    for words in ((), ("--dry-run",)):
+        want(row, migrate(program, file, *words), refused("other-schema"))
+        want(f"{row}: what it leaves", contents(file), found)
 
 
 def try_in_use(program, folder):
