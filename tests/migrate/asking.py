@@ -1,11 +1,12 @@
 """Programs that are run, and what they say, for migrate.py and stops.py."""
 import os
 import subprocess
+from contextlib import closing
 from datetime import datetime, timezone
 
-from first import body_of, bytes_of, connect, fail, in_order, migrated, rows_of, schema_after, \
-    schema_of
-from contextlib import closing
+from first import (
+    body_of, bytes_of, connect, fail, in_order, migrated, rows_of, schema_after, schema_of,
+)
 from story_words import B, REASONS, put, reply
 
 SECONDS = 600

@@ -202,7 +202,7 @@ def try_no_desk(program, folder):
                 want(f"{kind}: what is there", os.listdir(place), ["none"])
     try_other_desks(program, file)
     remove(file)
-    os.rmdir(place)
+    want("no desk's files: what is left beside them", os.listdir(place), [])
 
 
 def try_other_desks(program, file):

@@ -7,9 +7,7 @@ import sys
 
 from asking import migrate, printed, refused, want, want_histories
 from conversation import limits_writes
-from first import (
-    contents, copy, fail, in_order, make_first, migrated, remove, rows_of, schema_after,
-)
+from first import contents, copy, fail, in_order, make_first, migrated, remove, schema_after
 from power_cuts import CALL, TRACED, Trace, write_image
 
 # The calls that read, write or sync a file.
