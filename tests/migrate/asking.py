@@ -84,11 +84,12 @@ def want_sound(file):
     want(f"{file}: schema", schema_of(file), schema_after(file + ".made"))
 
 
-def want_migrated(program, file, rows):
-    """The file is that which these rows become, is taken for a desk's, and answers as before."""
+def want_migrated(program, file, rows, most=1000):
+    """The file is that which these rows become, is taken for a desk's, and answers as before; the
+    histories of so many services at most."""
     wanted = migrated(rows)
     want(f"{file}: rows", in_order(rows_of(file)), wanted)
-    want_histories(program, file, rows)
+    want_histories(program, file, rows, most)
     want_replies(program, file, rows)
     want(f"{file}: rows after what was sent again", in_order(rows_of(file)), wanted)
     want_sound(file)

@@ -7,7 +7,9 @@ import sys
 
 from asking import migrate, printed, refused, want, want_histories
 from conversation import limits_writes
-from first import contents, copy, fail, in_order, make_first, migrated, remove, schema_after
+from first import (
+    bytes_of, contents, copy, fail, in_order, make_first, migrated, remove, schema_after,
+)
 from power_cuts import CALL, TRACED, Trace, write_image
 
 # The calls that read, write or sync a file.
@@ -26,6 +28,8 @@ class Stopped:
         self.before = contents(self.whole)
         self.rows = self.before[1]
         self.after = schema_after(os.path.join(folder, "made")), migrated(self.rows)
+        # What a stop left, and whether that was migrated.
+        self.known = {}
 
     def begin(self):
         """The file is of the first schema again."""
@@ -40,11 +44,19 @@ class Stopped:
         return True
 
     def want_whole(self, row, is_done):
-        """After a stop the file is of one schema, of this one if the program was done; what it is
-        not yet it becomes, with the same history. Returns whether it was migrated."""
-        found = self.is_migrated(row)
-        if is_done and not found:
+        """After a stop the file is of one schema, of this one if the program was done. Returns
+        whether it was migrated."""
+        left = tuple(bytes_of(self.file))
+        if left not in self.known:
+            self.known[left] = self.goes_on(row)
+        if is_done and not self.known[left]:
             fail(f"{row}: it said that it was done, and it was not")
+        return self.known[left]
+
+    def goes_on(self, row):
+        """The file is wholly of one schema, and what it is not yet it becomes, with the same
+        history. Returns whether it was migrated."""
+        found = self.is_migrated(row)
         want(f"{row}: again", migrate(self.program, self.file),
              printed("current" if found else "migrated"))
         want(f"{row}: whether it is migrated then", self.is_migrated(f"{row}, again"), True)
