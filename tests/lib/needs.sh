@@ -9,7 +9,8 @@ optional=(cc strace sqlite3 curl)
 has() {
     case $1 in
         bash) [ "${BASH_VERSINFO[0]}" -ge 5 ] ;;
-        python3) python3 -c 'import sqlite3, sys; sys.exit(sys.version_info < (3, 10))' ;;
+        python3) python3 -c 'import sqlite3, sys
+sys.exit(sys.version_info < (3, 10) or sqlite3.sqlite_version_info < (3, 37))' ;;
         cc) cc -x c -o /dev/null - <<< $'#include <stdio.h>\nint main(void) { return 0; }' ;;
         strace) strace -o /dev/null true ;;
         ipv6) python3 -c 'import socket; socket.socket(socket.AF_INET6).bind(("::1", 0))' ;;
@@ -23,7 +24,7 @@ described() {
     case $1 in
         rt) echo "rt, the command of the Rattle kit" ;;
         bash) echo "bash 5 or later" ;;
-        python3) echo "python3 3.10 or later, with its module sqlite3" ;;
+        python3) echo "python3 3.10 or later, with its module sqlite3 over SQLite 3.37 or later" ;;
         cc) echo "cc, a C compiler with the C library's headers" ;;
         strace) echo "strace, which has to be able to trace a process" ;;
         sqlite3) echo "sqlite3 3.37 or later" ;;
@@ -48,8 +49,8 @@ packages_of() {
 left_out_without() {
     case $1 in
         cc) echo "cc: refused allocations (tests/allocations/run)" ;;
-        strace) echo "strace: calls that fail, power cuts (tests/disk/run), and how much a desk" \
-            "writes at once (tests/listener/run)" ;;
+        strace) echo "strace: calls that fail, power cuts (tests/disk/run, tests/migrate/run), and" \
+            "how much a desk writes at once (tests/listener/run)" ;;
         sqlite3) echo "sqlite3: what it reads in a desk's file, and files that it changed" \
             "(tests/tables/run, tests/files/run)" ;;
         curl) echo "curl: its long request (tests/listener/run)" ;;
