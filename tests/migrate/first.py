@@ -103,8 +103,12 @@ def contents(file):
     return schema_of(file), rows_of(file)
 
 
+# The bytes of a log's head and of the head of its first frame.
+LEAST_LOG = 32 + 24
+
+
 def bytes_of(file):
-    """The bytes of a file and those of its log, which may as well be missing as empty."""
+    """The bytes of a file and those of its log, which may as well be missing as hold no frame."""
     found = []
     for name in (file, file + "-wal"):
         if os.path.exists(name):
@@ -112,7 +116,7 @@ def bytes_of(file):
                 found.append(opened.read())
         else:
             found.append(b"")
-    return found
+    return [found[0], found[1] if len(found[1]) > LEAST_LOG else b""]
 
 
 # What migrating makes of the rows
