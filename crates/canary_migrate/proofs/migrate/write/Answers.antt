@@ -6,12 +6,12 @@ use Rattle.canary_migrate.proofs.Rewriting.{if_judged, sound_one, typed_broken, 
 use Rattle.canary_migrate.proofs.Written.{kept_live, kept_both}
 use Rattle.canary_migrate.proofs.migrate.write.Goals as goal
 
-pub typed-requires-clause-ready : goal.typed-requires-clause-ready
-typed-requires-clause-ready g c =
+pub typed-requires : goal.typed-requires
+typed-requires g c =
     sound_one c.args.templates.now c.args.tallies.now (state g.S.Store c.args.tx.now.conn.now) (state g.S.Store c.make_tables.new.tx.conn.now) (state g.S.Store c.make_tables.new.tx.conn.now) c.requires.live c.requires.read c.make_tables.ensures.kept c.make_tables.ensures.survives c.in_ok-make_tables.ensures.made
 
-pub judge-requires-clause-ready : goal.judge-requires-clause-ready
-judge-requires-clause-ready g c =
+pub judge-requires : goal.judge-requires
+judge-requires g c =
     sound_three c.args.templates.now c.args.tallies.now (state g.S.Store c.args.tx.now.conn.now) (state g.S.Store c.make_tables.new.tx.conn.now) (state g.S.Store c.typed.new.conn.conn.now) c.requires.live c.requires.read c.make_tables.ensures.kept c.make_tables.ensures.survives c.in_ok-make_tables.ensures.made
     c.typed.ensures.same c.in_ok-typed.ensures.typed (state g.S.Store c.fill.new.tx.conn.now) c.in_ok-fill.ensures.was c.in_ok-fill.ensures.sound c.in_ok-fill.ensures.wrote
 
