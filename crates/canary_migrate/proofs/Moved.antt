@@ -12,8 +12,7 @@ use Rattle.canary_rows.specs.Tables.{Tables}
 use Rattle.canary_schema.specs.Cells.{cells_of, meta_rows, tally_tree, whole}
 use Rattle.canary_schema.specs.First.{first_schema, HasFirstMeta}
 use Rattle.canary_schema.specs.Formed.{HasRisingTables, IsFormed, AreWhole, HasWholeTallies, HasRows}
-use Rattle.canary_schema.specs.Layout.{Layout, moved}
-use Rattle.canary_schema.specs.Layout as layout
+use Rattle.canary_schema.specs.Layout.{Layout, made, moved, packed}
 use Rattle.canary_schema.specs.Remakes.{IsRemade, AreKept, old_trees, new_trees}
 use Rattle.canary_schema.specs.Schema.{schema_at}
 use Rattle.canary_schema.specs.Stores.{IsNumbered, AreNumbered, Holds, IsHeld, IsUsable}
@@ -121,9 +120,9 @@ not_moved : (k : ℕ) → k ≡ 21 → k ≡ 17 → ⊥
 not_moved k e h = omega (arith, e, h)
 
 in_layout : (at : Layout) (t : Tables) (db : Database) → db.schema ≡ schema_at moved → Holds at db t → Holds moved db t
-in_layout layout.made t db is h = absurd (not_moved (tally_tree db.schema) (ap tally_tree is) (ap tally_tree h.schema))
-in_layout layout.moved t db is h = h
-in_layout layout.packed t db is h = absurd (not_moved (tally_tree db.schema) (ap tally_tree is) (ap tally_tree h.schema))
+in_layout made t db is h = absurd (not_moved (tally_tree db.schema) (ap tally_tree is) (ap tally_tree h.schema))
+in_layout moved t db is h = h
+in_layout packed t db is h = absurd (not_moved (tally_tree db.schema) (ap tally_tree is) (ap tally_tree h.schema))
 
 pub held_moved : (db : Database) (t : Tables) → db.schema ≡ schema_at moved → IsHeld db t → Holds moved db t
 held_moved db t is h = in_layout h.layout t db is h.holds
