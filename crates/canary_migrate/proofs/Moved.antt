@@ -78,41 +78,40 @@ rising : (db : Database) → IsFirst db → AllByRecursion (λ (t : Table). IsNu
 rising db first = subst (λ (s : Schema). AllByRecursion (λ (t : Table). IsNumbered (db.trees t.tree)) s.tables) first.schema first.rising
 
 numbered : (old new : State) → IsFirst old.now → IsMade old new → AreNumbered moved new.now.trees
-numbered old new first made =
+numbered old new first it =
     let r = rising old.now first in
-    let k = made.kept in
-    (one made.meta, (same k.0 r.1.0, (same k.1.0 r.1.1.0, (same k.1.1.0 r.1.1.1.1.0, (same k.1.1.1.0 r.1.1.1.1.1.0, (same k.1.1.1.1.0 r.1.1.1.1.1.1.1.0, (same k.1.1.1.1.1.0 r.1.1.1.1.1.1.1.1.1.0, (none made.none.0, (none made.none.1.0, (none made.none.1.1.0, tt))))))))))
+    let k = it.kept in
+    (one it.meta, (same k.0 r.1.0, (same k.1.0 r.1.1.0, (same k.1.1.0 r.1.1.1.1.0, (same k.1.1.1.0 r.1.1.1.1.1.0, (same k.1.1.1.1.0 r.1.1.1.1.1.1.1.0, (same k.1.1.1.1.1.0 r.1.1.1.1.1.1.1.1.1.0, (none it.none.0, (none it.none.1.0, (none it.none.1.1.0, tt))))))))))
 
 pub formed_made : (old new : State) → IsFirst old.now → IsMade old new → IsFormed new.now
-formed_made old new first made = record { layout = moved; schema = made.schema; numbered = numbered old new first made; meta = made.meta }
+formed_made old new first it = record { layout = moved; schema = it.schema; numbered = numbered old new first it; meta = it.meta }
 
 tree_is : tally_tree (schema_at moved) ≡ 21
 tree_is = refl
 
 pub whole_made : (old new : State) → IsMade old new → HasWholeTallies new.now
-whole_made old new made =
-    let tree : tally_tree new.now.schema ≡ 21 = ap tally_tree made.schema ∙ tree_is in
-    subst (λ (k : ℕ). AreWhole k new.now.trees) (sym tree) (subst (λ (rows : List Row). AllByRecursion (λ row. length row ≡ 11) rows) (sym made.none.1.1.0) tt)
+whole_made old new it =
+    let tree : tally_tree new.now.schema ≡ 21 = ap tally_tree it.schema ∙ tree_is in
+    subst (λ (k : ℕ). AreWhole k new.now.trees) (sym tree) (subst (λ (rows : List Row). AllByRecursion (λ row. length row ≡ 11) rows) (sym it.none.1.1.0) tt)
 
 -- the rows without what is made anew
-pub emptied : FirstTables → Tables
+abbrev pub emptied : FirstTables → Tables
 emptied f = record (migrated f) { revisions = []; bindings = []; tallies = [] }
 
 pub held_made : (old new : State) (f : FirstTables) → IsFirst old.now → HoldsFirst old.now f → IsMade old new → Holds moved new.now (emptied f)
-unfolding emptied
-held_made old new f first holds made = record {
-  schema = made.schema;
-  numbered = numbered old new first made;
-  meta = made.meta;
-  callers = ap cells_of made.kept.0 ∙ holds.callers;
-  kept = ap cells_of made.kept.1.0 ∙ holds.kept;
-  services = ap cells_of made.kept.1.1.0 ∙ holds.services;
-  runs = ap cells_of made.kept.1.1.1.0 ∙ holds.runs;
-  measurements = ap cells_of made.kept.1.1.1.1.0 ∙ holds.measurements;
-  history = ap cells_of made.kept.1.1.1.1.1.0 ∙ holds.history;
-  revisions = ap cells_of made.none.0;
-  bindings = ap cells_of made.none.1.0;
-  tallies = ap cells_of made.none.1.1.0;
+held_made old new f first holds it = record {
+  schema = it.schema;
+  numbered = numbered old new first it;
+  meta = it.meta;
+  callers = ap cells_of it.kept.0 ∙ holds.callers;
+  kept = ap cells_of it.kept.1.0 ∙ holds.kept;
+  services = ap cells_of it.kept.1.1.0 ∙ holds.services;
+  runs = ap cells_of it.kept.1.1.1.0 ∙ holds.runs;
+  measurements = ap cells_of it.kept.1.1.1.1.0 ∙ holds.measurements;
+  history = ap cells_of it.kept.1.1.1.1.1.0 ∙ holds.history;
+  revisions = ap cells_of it.none.0;
+  bindings = ap cells_of it.none.1.0;
+  tallies = ap cells_of it.none.1.1.0;
 }
 
 -- a desk's database of this schema is in this layout
@@ -129,7 +128,7 @@ pub held_moved : (db : Database) (t : Tables) → db.schema ≡ schema_at moved 
 held_moved db t is h = in_layout h.layout t db is h.holds
 
 -- the rows of the first schema that the tables hold, with these templates and tallies
-pub first_of : Tables → List TemplateRow → List FirstTally → FirstTables
+abbrev pub first_of : Tables → List TemplateRow → List FirstTally → FirstTables
 first_of t templates tallies = record {
   callers = t.callers;
   kept = t.kept;
@@ -142,16 +141,15 @@ first_of t templates tallies = record {
 }
 
 pub first_held : (old new : State) (t : Tables) (templates : List TemplateRow) (tallies : List FirstTally) → IsRead old.now templates tallies → IsMade old new → Holds moved new.now t → HoldsFirst old.now (first_of t templates tallies)
-unfolding first_of
-first_held old new t templates tallies read made holds = record {
+first_held old new t templates tallies read it holds = record {
   schema = read.first.schema;
   meta = read.meta;
-  callers = ap cells_of (sym made.kept.0) ∙ holds.callers;
-  kept = ap cells_of (sym made.kept.1.0) ∙ holds.kept;
+  callers = ap cells_of (sym it.kept.0) ∙ holds.callers;
+  kept = ap cells_of (sym it.kept.1.0) ∙ holds.kept;
   templates = read.templates_are;
-  services = ap cells_of (sym made.kept.1.1.0) ∙ holds.services;
-  runs = ap cells_of (sym made.kept.1.1.1.0) ∙ holds.runs;
+  services = ap cells_of (sym it.kept.1.1.0) ∙ holds.services;
+  runs = ap cells_of (sym it.kept.1.1.1.0) ∙ holds.runs;
   tallies = read.tallies_are;
-  measurements = ap cells_of (sym made.kept.1.1.1.1.0) ∙ holds.measurements;
-  history = ap cells_of (sym made.kept.1.1.1.1.1.0) ∙ holds.history;
+  measurements = ap cells_of (sym it.kept.1.1.1.1.0) ∙ holds.measurements;
+  history = ap cells_of (sym it.kept.1.1.1.1.1.0) ∙ holds.history;
 }

@@ -36,11 +36,9 @@ no_rows cells (x ∷ xs) rows e none = absurd (let it : [] ≡ map cells (x ∷ 
 
 -- what is added to rows without revisions, bindings and tallies
 filled_of : (t : Tables) (templates : List TemplateRow) (tallies : List FirstTally) → t.revisions ≡ [] → t.bindings ≡ [] → t.tallies ≡ [] → filled templates tallies t ≡ migrated (first_of t templates tallies)
-unfolding first_of
 filled_of t templates tallies revisions bindings counted = rw (revisions, bindings, counted) refl
 
 filled_first : (f : FirstTables) (templates : List TemplateRow) (tallies : List FirstTally) → templates ≡ f.templates → tallies ≡ f.tallies → filled templates tallies (emptied f) ≡ migrated f
-unfolding emptied
 filled_first f templates tallies same also = rw (same, also) refl
 
 -- before anything is written, after the tables are made, and after they are known to hold rows

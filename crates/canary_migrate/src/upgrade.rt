@@ -26,10 +26,8 @@ pub fn upgrade<G: Progress>(
     if is_current(&mut conn)? {
         return Ok(false);
     }
-    match migrate(rt.alloc(), conn, progress) {
-        Ok(conn) => closed(conn),
-        Err((fault, _left)) => Err(fault),
-    }
+    let conn = migrate(rt.alloc(), conn, progress).map_err(|(fault, _left)| fault)?;
+    closed(conn)
 }
 
 // Whether the tables are a desk's of the present schema. With other rows in meta they are of no

@@ -14,9 +14,9 @@ returns-clause-was g c =
 
 pub returns-clause-wrote : goal.returns-clause-wrote
 returns-clause-wrote g c usable t holds =
-    filled_so c.args.templates.now c.args.old.now (state g.S.Store c.args.tx.now.conn.now) (state g.S.Store c.bindings.new.conn.conn.now) (state g.S.Store c.with_passes.new.conn.conn.now) (state g.S.Store c.write.new.tx.conn.now) c.bindings.ensures.same c.with_passes.ensures.same c.write.ensures.kept c.in_ok-write.ensures.began
-    c.in_ok-bindings.bindings c.in_ok-counted.counted c.in_ok-revisions.revisions c.in_ok-bindings.ensures.found c.in_ok-counted.ensures.found c.in_ok-revisions.ensures
-    (rw (c.as_slice.ensures.value, c.as_slice-2.ensures.value, c.as_slice-3.ensures.value) at c.in_ok-write.ensures.wrote) usable t holds
+    filled_so (state g.S.Store c.args.tx.now.conn.now) (state g.S.Store c.bindings.new.conn.conn.now) (state g.S.Store c.with_passes.new.conn.conn.now) (state g.S.Store c.write.new.tx.conn.now) c.bindings.ensures.same c.with_passes.ensures.same c.write.ensures.kept c.in_ok-write.ensures.began
+    c.args.templates.now c.args.old.now c.in_ok-bindings.bindings c.in_ok-counted.counted c.in_ok-revisions.revisions c.in_ok-bindings.ensures.found c.in_ok-counted.ensures.found c.in_ok-revisions.ensures
+    (rw (c.as_slice.ensures, c.as_slice-2.ensures, c.as_slice-3.ensures) at c.in_ok-write.ensures.wrote) usable t holds
 
 pub returns-clause-sound : goal.returns-clause-sound
 returns-clause-sound g c usable t holds =

@@ -2,22 +2,26 @@ use Rattle.std.proofs.Common.{◌≡◌, Err, IsTrue, arith, rules}
 use Rattle.sqlite.specs.Held.{state}
 use Rattle.sqlite.specs.State.{State}
 use Rattle.canary_reads.specs.declared.fault.ReadFault.TheVariants.{Broken}
+use Rattle.canary_judging.specs.Services.{IsJudged}
+use Rattle.canary_migrate.specs.Migrates.{IsRewritten}
 use Rattle.canary_migrate.proofs.Rewriting.{if_judged, sound_one, typed_broken, sound_three, rewritten, judge_broken, fill_broken}
 use Rattle.canary_migrate.proofs.Written.{kept_live, kept_both}
 use Rattle.canary_migrate.proofs.migrate.write.Goals as goal
 
-pub typed-requires-clause-ready : goal.typed-requires-clause-ready
-typed-requires-clause-ready g c =
-    sound_one c.args.templates.now c.args.tallies.now (state g.S.Store c.args.tx.now.conn.now) (state g.S.Store c.make_tables.new.tx.conn.now) (state g.S.Store c.make_tables.new.tx.conn.now) c.requires.live c.requires.read c.make_tables.ensures.kept c.make_tables.ensures.survives c.in_ok-make_tables.ensures.made
+pub typed-requires : goal.typed-requires
+typed-requires g c = record {
+  ready = sound_one c.args.templates.now c.args.tallies.now (state g.S.Store c.args.tx.now.conn.now) (state g.S.Store c.make_tables.new.tx.conn.now) (state g.S.Store c.make_tables.new.tx.conn.now) c.requires.live c.requires.read c.make_tables.ensures.kept c.make_tables.ensures.survives c.in_ok-make_tables.ensures.made;
+}
 
-pub judge-requires-clause-ready : goal.judge-requires-clause-ready
-judge-requires-clause-ready g c =
-    sound_three c.args.templates.now c.args.tallies.now (state g.S.Store c.args.tx.now.conn.now) (state g.S.Store c.make_tables.new.tx.conn.now) (state g.S.Store c.typed.new.conn.conn.now) c.requires.live c.requires.read c.make_tables.ensures.kept c.make_tables.ensures.survives c.in_ok-make_tables.ensures.made
-    c.typed.ensures.same c.in_ok-typed.ensures.typed (state g.S.Store c.fill.new.tx.conn.now) c.in_ok-fill.ensures.was c.in_ok-fill.ensures.sound c.in_ok-fill.ensures.wrote
+pub judge-requires : goal.judge-requires
+judge-requires g c = record {
+  ready = sound_three c.args.templates.now c.args.tallies.now (state g.S.Store c.args.tx.now.conn.now) (state g.S.Store c.make_tables.new.tx.conn.now) (state g.S.Store c.typed.new.conn.conn.now) c.requires.live c.requires.read c.make_tables.ensures.kept c.make_tables.ensures.survives c.in_ok-make_tables.ensures.made
+      c.typed.ensures.same c.in_ok-typed.ensures.typed (state g.S.Store c.fill.new.tx.conn.now) c.in_ok-fill.ensures.was c.in_ok-fill.ensures.sound c.in_ok-fill.ensures.wrote;
+}
 
 pub returns-clause-done : goal.returns-clause-done
 returns-clause-done g c usable =
-    if_judged c.judge.result _ _ _ (λ judged. rewritten c.args.templates.now c.args.tallies.now (state g.S.Store c.args.tx.now.conn.now) (state g.S.Store c.make_tables.new.tx.conn.now) (state g.S.Store c.typed.new.conn.conn.now) c.requires.live c.requires.read c.make_tables.ensures.kept c.make_tables.ensures.survives c.in_ok-make_tables.ensures.made
+    if_judged c.judge.result (state g.S.Store c.fill.new.tx.conn.now) (IsRewritten (state g.S.Store c.args.tx.now.conn.now).now (state g.S.Store c.judge.new.conn.conn.now).now) IsJudged (λ judged. rewritten c.args.templates.now c.args.tallies.now (state g.S.Store c.args.tx.now.conn.now) (state g.S.Store c.make_tables.new.tx.conn.now) (state g.S.Store c.typed.new.conn.conn.now) c.requires.live c.requires.read c.make_tables.ensures.kept c.make_tables.ensures.survives c.in_ok-make_tables.ensures.made
     c.typed.ensures.same c.in_ok-typed.ensures.typed (state g.S.Store c.fill.new.tx.conn.now) c.in_ok-fill.ensures.was c.in_ok-fill.ensures.sound c.in_ok-fill.ensures.wrote (state g.S.Store c.judge.new.conn.conn.now) c.judge.ensures.same (λ _. judged) usable) (c.judge.ensures.judged usable)
 
 pub returns-clause-broken : goal.returns-clause-broken

@@ -13,11 +13,11 @@ pub loop-name-preserved : goal.loop-name-preserved
 loop-name-preserved g c = (
   goes_more g.Q.Reader.IsReady g.Q.Reader.place g.Q.Reader.below _ _ _ c.loop-name.invariant.0 c.bindings_of.ensures.mode c.bindings_of.ensures.place c.bindings_of.ensures.kept,
   one_more (λ (t : Tables). bindings_named t.services t.runs) c.args.names.now c.loop-name.name-index c.name-item.result (g.Q.Reader.shows c.args.conn.now) (g.Q.Reader.shows c.loop-name.conn) (g.Q.Reader.shows c.bindings_of.new.conn) c.loop-name.found _ _
-      (omega (arith, c.loop-name-test.true)) c.name-item.is c.loop-name.invariant.1 c.bindings_of.ensures.same c.in_ok-more.ensures.found (c.in_ok-joined.ensures ∙ ap (λ ys. c.loop-name.found ++ ys) c.as_slice.ensures.value),
+      (omega (arith, c.loop-name-test.true)) c.name-item.is c.loop-name.invariant.1 c.bindings_of.ensures.same c.in_ok-more.ensures.found (c.in_ok-found.ensures ∙ ap (λ ys. c.loop-name.found ++ ys) c.as_slice.ensures),
 )
 
-pub returns-in_err-bindings_of-clause-broken : goal.returns-in_err-bindings_of-clause-broken
-returns-in_err-bindings_of-clause-broken g c usable t has is within =
+pub returns-in_err-more-clause-broken : goal.returns-in_err-more-clause-broken
+returns-in_err-more-clause-broken g c usable t has is within =
     let broken : c.bindings_of.result ≡ Err Broken = search rules in
     c.bindings_of.ensures.broken usable t (stores_then (g.Q.Reader.shows c.args.conn.now) (g.Q.Reader.shows c.loop-name.conn) t c.loop-name.invariant.1.same (c.bindings_of.ensures.same usable).0 has) broken within
 
