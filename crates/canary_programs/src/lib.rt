@@ -16,7 +16,6 @@ pub mod fault;
 pub mod history;
 pub mod import;
 pub mod overview;
-pub mod page;
 pub mod pipe;
 pub mod serve;
 pub mod show;
