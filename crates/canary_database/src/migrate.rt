@@ -1,5 +1,5 @@
 //! `migrate`: a file of the first version becomes one of this version.
-use crate::open::{Found, fault_of, find, found_in, has_other_bytes};
+use crate::open::{Found, fault_of, find, found_in, has_other_bytes, is_blank};
 use crate::progress::Shown;
 use canary_backup::copying::{OwnFolder, copy_database};
 use canary_migrate::upgrade::upgrade;
@@ -11,7 +11,8 @@ use std::io::Write;
 /// file of the first version are judged before the transaction commits, which is shown on a
 /// terminal. A dry run does the same to a copy, which stands beside the file meanwhile, in a folder
 /// that its owner alone may read; it writes `would-migrate` in place of `migrated`, and does not
-/// change the file. No log is made beside a file that does not begin as a database.
+/// change the file. No log is made beside a file that does not begin
+/// as a database, and nothing is written to an empty one.
 ///
 /// # Errors
 /// `File` if there is no such file, and nothing is made then, or if no copy can be made beside it.
@@ -31,6 +32,9 @@ pub fn migrate<W: Write, F: Write>(
     find(rt, file)?;
     if has_other_bytes(rt, file)? {
         return Err(Fault::Storage);
+    }
+    if is_blank(rt, file)? {
+        return Err(Fault::OtherSchema);
     }
     let is_new = if is_dry {
         upgrade_copy(rt, file, errors, is_terminal)?

@@ -92,8 +92,26 @@ pub(crate) fn is_missing<P: Files>(files: &P, file: &str) -> bool {
 pub(crate) fn has_other_bytes<P: Files + AllocGlobal>(rt: &P, file: &str) -> Result<bool, Fault>
     ensures { IfErr result (λ f. f ≡ fault.Memory) }
 {
-    match is_other(rt, file) {
-        Ok(is_other) => Ok(is_other),
+    if_read(is_other(rt, file))
+}
+
+/// Whether the file of this name has no bytes, and no log beside it, as far as the system says so.
+/// To open it would write to it.
+///
+/// # Errors
+/// `Memory` if an allocation was refused.
+pub(crate) fn is_blank<P: Files + AllocGlobal>(rt: &P, file: &str) -> Result<bool, Fault>
+    ensures { IfErr result (λ f. f ≡ fault.Memory) }
+{
+    if_read(is_unwritten(rt, file))
+}
+
+// What was read of a file: false where it cannot be read.
+fn if_read(read: io::Result<bool>) -> Result<bool, Fault>
+    ensures { IfErr result (λ f. f ≡ fault.Memory) }
+{
+    match read {
+        Ok(is_so) => Ok(is_so),
         Err(error) if error.kind() == ErrorKind::OutOfMemory => Err(Fault::Memory),
         Err(_) => Ok(false),
     }
@@ -101,6 +119,10 @@ pub(crate) fn has_other_bytes<P: Files + AllocGlobal>(rt: &P, file: &str) -> Res
 
 fn is_other<P: Files + AllocGlobal>(rt: &P, file: &str) -> io::Result<bool> {
     Ok(begins_otherwise(rt, file)? && lacks_log(rt, file)?)
+}
+
+fn is_unwritten<P: Files + AllocGlobal>(rt: &P, file: &str) -> io::Result<bool> {
+    Ok(first_bytes(rt, file)?.is_empty() && lacks_log(rt, file)?)
 }
 
 // Whether the file of this name has bytes, and not the first ones of a database.
