@@ -14,8 +14,8 @@ use std::alloc::Global;
 
 /// That the tables are those of sound contents: their callers, their templates and their services,
 /// row by row. Nothing is changed. It reports to `progress` how many rows there are of receipts,
-/// runs, bindings, tallies, measurements and histories, then each receipt as it is judged, and a
-/// service's rows all at once.
+/// runs, bindings, tallies, measurements and histories, then the receipts of a caller as they are
+/// judged, 256 at most at once, and a service's rows all at once.
 ///
 /// # Errors
 /// `Broken` where that is not so, or where a row is none that a program can hold; `Memory` where

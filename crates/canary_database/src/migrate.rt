@@ -11,8 +11,8 @@ use std::io::Write;
 /// file of the first version are judged before the transaction commits, which is shown on a
 /// terminal. A dry run does the same to a copy, which stands beside the file meanwhile, in a folder
 /// that its owner alone may read; it writes `would-migrate` in place of `migrated`, and does not
-/// change the file. No log is made beside a file that does not begin
-/// as a database, and nothing is written to an empty one.
+/// change the file. No log is made beside a file that does not begin as a database, and nothing is
+/// written to an empty one.
 ///
 /// # Errors
 /// `File` if there is no such file, and nothing is made then, or if no copy can be made beside it.
