@@ -29,7 +29,7 @@ use std::alloc::Global;
 /// revision 1 of its name; each service and each run is bound to revision 1 of every template that
 /// its strategy or its analysis names; a tally's passes are counted; all other rows stay. The store
 /// is opened anew, and before the transaction commits, its rows are judged as `adopt` judges those
-/// of a desk, of which `progress` is told.
+/// of a desk, which is reported to `progress`.
 ///
 /// # Errors
 ///

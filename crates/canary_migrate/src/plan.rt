@@ -73,7 +73,7 @@ fn bindings_of_all<Q: Reader>(
     Ok(found)
 }
 
-// Rows, with others behind them.
+// Rows, with others after them.
 fn joined(found: Listed<BindingRow>, more: &[BindingRow]) -> Result<Listed<BindingRow>, Memory>
     ensures { IfOk result (λ all. all ≡ found ++ more.now) }
 {
@@ -143,7 +143,7 @@ fn made_by(alloc: Global, text: &str) -> Result<Option<ServiceSpec>, Memory>
     }
 }
 
-// These rows, and behind them those of the runs of the service that was made so.
+// These rows, and after them those of the runs of the service that was made so.
 fn with_runs<Q: Reader>(
     conn: &mut Q,
     alloc: Global,

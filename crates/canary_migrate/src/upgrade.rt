@@ -9,7 +9,7 @@ use sqlite::{Connection, Error, ErrorCode, File, FileStore};
 
 /// Makes the file of SQLite at a path, which is a desk's of the first schema, one of the present
 /// schema (`migrate`), and answers true; false if it is one already, of which nothing is changed.
-/// `progress` is told of the rows that are judged.
+/// The rows that are judged are reported to `progress`.
 ///
 /// # Errors
 ///
