@@ -12,11 +12,12 @@ use Rattle.canary_reads.specs.Finds.{TellsCells}
 use Rattle.canary_reads.proofs.Answer.{passes, shows}
 use Rattle.canary_reads.proofs.Asking.{all_found, page_found}
 use Rattle.canary_reads.proofs.Tests.{and_true, words_same, same_words}
-use Rattle.canary_reads.proofs.Texts.{history_text, history_tests, history_shown, history_asks, measurements_text, measurements_tests, measurements_shown, measurements_asks, all_measurements_text, all_measurements_asks}
+use Rattle.canary_reads.proofs.Texts.{history_text, history_tests, history_shown, history_asks, lines_text, lines_asks, measurements_text, measurements_tests, measurements_shown, measurements_asks, all_measurements_text, all_measurements_asks}
 use Rattle.canary_reads.proofs.TypedRows.{Tells, taken}
 
-tells_line : (service : List ℕ) → Tells history_cells (is_line_of service) history_cells (λ row. Null ∷ Words service ∷ row) (passes history_tests (Words service ∷ [])) (shows history_shown (Words service ∷ []))
-tells_line service = record {
+tells_line : (service : List ℕ) (rest : Row)
+    → Tells history_cells (is_line_of service) history_cells (λ row. Null ∷ Words service ∷ row) (passes history_tests (Words service ∷ rest)) (shows history_shown (Words service ∷ rest))
+tells_line service rest = record {
   filled = λ x. (_, _, refl);
   tests = λ id x. and_true _ ∙ words_same x.service service;
   shown = λ id x h. ap (λ n. Null ∷ Words n ∷ whole x.moment ∷ Words x.line ∷ []) (same_words service x.service h);
@@ -26,7 +27,7 @@ tells_line service = record {
 pub line_rows : (old new : State) (t : Tables) (service : List ℕ) (params : Row) (rows : List Row) → Stores old t → params ≡ Words service ∷ [] → Shown history_text params old new rows
     → TellsCells history_cells (λ row. Null ∷ Words service ∷ row) (filter (is_line_of service) t.history) rows
 line_rows old new t service params rows has given h =
-    all_found history_text history_at history_tests history_shown history_asks history_cells (is_line_of service) history_cells (λ row. Null ∷ Words service ∷ row) (Words service ∷ []) (tells_line service) t.history rows
+    all_found history_text history_at history_tests history_shown history_asks history_cells (is_line_of service) history_cells (λ row. Null ∷ Words service ∷ row) (Words service ∷ []) (tells_line service []) t.history rows
     (record { old = old; new = new; layout = has.layout; schema = has.holds.schema; numbered = has.holds.numbered.1.1.1.1.1.1.0; stored = has.holds.history; shows_rows = subst (λ p. Shown history_text p old new rows) given h })
 
 tells_measurement : (service : List ℕ) (rest : Row)
@@ -44,6 +45,17 @@ dropped f (suc from) (x ∷ xs) = dropped f from xs
 
 paged : {A B : Type 0} (f : A → B) (most from : ℕ) (xs : List A) → map f (take most (drop from xs)) ≡ take most (drop from (map f xs))
 paged f most from xs = taken f most (drop from xs) ∙ ap (take most) (dropped f from xs)
+
+-- what is shown is a page of the lines of the service, in their order
+pub line_page_rows : (old new : State) (t : Tables) (service : List ℕ) (from most : ℕ) (params : Row) (rows : List Row) → Stores old t → params ≡ Words service ∷ whole from ∷ whole most ∷ [] → Shown lines_text params old new rows
+    → TellsCells history_cells (λ row. Null ∷ Words service ∷ row) (take most (drop from (filter (is_line_of service) t.history))) rows
+line_page_rows old new t service from most params rows has given h =
+    let asked = Words service ∷ whole from ∷ whole most ∷ [] in
+    let p = page_found lines_text history_at history_tests history_shown (col 0 2) (col 0 1) lines_asks history_cells (is_line_of service) history_cells (λ row. Null ∷ Words service ∷ row) asked
+    (tells_line service (whole from ∷ whole most ∷ [])) t.history rows
+    (record { old = old; new = new; layout = has.layout; schema = has.holds.schema; numbered = has.holds.numbered.1.1.1.1.1.1.0; stored = has.holds.history; shows_rows = subst (λ p. Shown lines_text p old new rows) given h }) in
+    ap (map (λ row. Null ∷ Words service ∷ row)) p.1 ∙ paged (λ row. Null ∷ Words service ∷ row) most from p.0 ∙ ap (λ rows. take most (drop from rows)) p.2
+    ∙ sym (paged history_cells most from (filter (is_line_of service) t.history))
 
 -- what is shown is a page of the measurements of the service, in their order
 pub page_rows : (old new : State) (t : Tables) (service : List ℕ) (from most : ℕ) (params : Row) (rows : List Row) → Stores old t → params ≡ Words service ∷ whole from ∷ whole most ∷ [] → Shown measurements_text params old new rows

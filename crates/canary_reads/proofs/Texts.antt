@@ -259,6 +259,19 @@ history_asks made = record { names = _; is = refl; plain = (refl, refl); unliste
 history_asks moved = record { names = _; is = refl; plain = (refl, refl); unlisted = refl }
 history_asks packed = record { names = _; is = refl; plain = (refl, refl); unlisted = refl }
 
+abbrev pub lines_text : List ℕ
+lines_text = codes "SELECT moment, line FROM history WHERE service = ?1 ORDER BY place LIMIT ?3 OFFSET ?2"
+
+pub lines_query : IsQuery lines_text
+unfolding everything
+lines_query = tt
+
+pub lines_asks : Asks lines_text history_at history_tests history_shown (by_column 0) (col 0 2) (col 0 1)
+unfolding understood everything
+lines_asks made = record { names = _; is = refl; plain = (refl, refl); unlisted = refl }
+lines_asks moved = record { names = _; is = refl; plain = (refl, refl); unlisted = refl }
+lines_asks packed = record { names = _; is = refl; plain = (refl, refl); unlisted = refl }
+
 abbrev pub measurements_text : List ℕ
 measurements_text = codes "SELECT run, metric, ordinal, taken, phase, outcome FROM measurement WHERE service = ?1 ORDER BY place LIMIT ?3 OFFSET ?2"
 

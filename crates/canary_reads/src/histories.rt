@@ -40,6 +40,37 @@ pub fn history<Q: Reader>(
     shown::all(alloc, service, rows.as_slice())
 }
 
+/// The lines of the service's history, in their order: from that one on, counted from 0, at most so
+/// many. `Memory` where there is not enough, `Storage` where the database fails, and where `from` is
+/// 2^63 or more, `Broken` where a line of these is none that a program can hold.
+pub fn lines<Q: Reader>(
+    conn: &mut Q,
+    alloc: Global,
+    service: &Name,
+    from: u64,
+    most: u32,
+) -> Result<Listed<HistoryRow>, ReadFault>
+    requires ready { Q.IsReady conn.old }
+    ensures mode { Q.IsReady conn.new }
+    ensures place { Q.place conn.new ≡ Q.place conn.old }
+    ensures kept { IsKept (Q.below conn.old) (Q.below conn.new) }
+    ensures same { IsSame (Q.shows conn.old) (Q.shows conn.new) }
+    ensures found { FindsRows
+        (λ t. take most (drop from (filter (is_line_of service.now) t.history)))
+        (Q.shows conn.old) (Q.shows conn.new) result }
+    ensures broken { BreaksUnless (λ t. AllByRecursion IsLineWithin t.history)
+        (Q.shows conn.old) (Q.shows conn.new) result }
+{
+    let Ok(offset) = i64::try_from(from) else {
+        return Err(ReadFault::Storage);
+    };
+    let rows = conn.ask(
+        "SELECT moment, line FROM history WHERE service = ?1 ORDER BY place LIMIT ?3 OFFSET ?2",
+        params![service.as_str(), offset, most],
+    )?;
+    shown::all(alloc, service, rows.as_slice())
+}
+
 /// The measurements of the service's runs, in their order: from that one on, counted from 0, at
 /// most so many. `Memory` where there is not enough, `Storage` where the database fails, and where
 /// `from` is 2^63 or more, `Broken` where a measurement of these is none that a program can hold.
