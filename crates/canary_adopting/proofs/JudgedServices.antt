@@ -4,7 +4,6 @@ use Rattle.std.specs.Prelude.{filter, slice_get}
 use Rattle.std.specs.List.{sum_by}
 use Rattle.std.proofs.lemmas.List.Sums.{sum_by-cons}
 use Rattle.canary_plan.specs.declared.bound.BoundParts.{BoundParts}
-use Rattle.canary_plan.specs.declared.line.Line.{Line}
 use Rattle.canary_plan.specs.declared.service.ServiceSpec.{ServiceSpec}
 use Rattle.canary_plan.specs.declared.strategy.CheckedStrategy.{CheckedStrategy}
 use Rattle.canary_plan.specs.Plans.{strategy_of, bound_of, all_revisions, distinct}
@@ -21,13 +20,13 @@ use Rattle.canary_rows.specs.declared.rows.TallyRow.{TallyRow}
 use Rattle.canary_rows.specs.Tables.{Tables, is_service, is_binding_of, is_tally_of}
 use Rattle.canary_stored.specs.Numbers.{state_of, hold_of, truth_of}
 use Rattle.canary_stored.specs.Reading.{known_in}
-use Rattle.canary_stored.specs.Values.{made_from, stand_from, stand_of, history_row}
+use Rattle.canary_stored.specs.Values.{made_from, stand_from, stand_of}
 use Rattle.canary_judging.specs.Services.{IsServiceJudged, open_runs_in}
 use Rattle.canary_judging.specs.Totals.{tallies_to, bindings_to}
 use Rattle.canary_adopting.specs.declared.totals.Totals.{Totals}
-use Rattle.canary_adopting.specs.OfService.{AreRunsOf, IsHistoryOf}
+use Rattle.canary_adopting.specs.OfService.{AreRunsOf}
 use Rattle.canary_adopting.specs.Alone.{only}
-use Rattle.canary_adopting.specs.OneService.{IsPastJudged, IsServiceUnder, IsServiceFound, measurements_under, totals_bound, totals_of}
+use Rattle.canary_adopting.specs.OneService.{IsPastJudged, IsServiceUnder, IsServiceFound, measurements_under, lines_under, totals_bound, totals_of}
 use Rattle.canary_adopting.specs.Bindings.{IsAttemptBound}
 use Rattle.canary_adopting.specs.Strategies.{newest_in, IsStrategyOf, IsStrategyAccepted}
 use Rattle.canary_adopting.proofs.JudgedCallers.{only_one}
@@ -219,15 +218,10 @@ bindings_sum t strategy name count runs are =
     ∙ sym (bindings_up t.bindings name (length runs))
     ∙ ap (bindings_to t.bindings name) are.as_many
 
-same_length : {A B : Type 0} (f : A → B) (xs : List A) → length (map f xs) ≡ length xs
-same_length f [] = refl
-same_length f (x ∷ xs) = ap suc (same_length f xs)
-
-pub past_totals : (t : Tables) (row : ServiceRow) (stand : Stand) (runs : List RunRecord) (history : List Line) → AreRunsOf stand.strategy row.name row.standing.runs t runs → IsHistoryOf row.name t history
+pub past_totals : (t : Tables) (row : ServiceRow) (stand : Stand) (runs : List RunRecord) → AreRunsOf stand.strategy row.name row.standing.runs t runs
     → (totals : Totals) → totals.runs ≡ row.standing.runs → totals.bindings ≡ length (distinct (all_revisions stand.bound)) + sum_by (λ (r : RunRecord). length (distinct r.analysis.revisions)) runs → totals.tallies ≡ sum_by (λ (r : RunRecord). length r.tallies) runs
-    → totals.measurements ≡ measurements_under t row → totals.lines ≡ length history → totals ≡ totals_bound t row stand.bound
-past_totals t row stand runs history are told totals count bound sum measured lines =
+    → totals.measurements ≡ measurements_under t row → totals.lines ≡ lines_under t row → totals ≡ totals_bound t row stand.bound
+past_totals t row stand runs are totals count bound sum measured lines =
     let bindings = bound ∙ ap (λ n. length (distinct (all_revisions stand.bound)) + n) (bindings_sum t stand.strategy row.name row.standing.runs runs are) in
     let tallies = sum ∙ tallies_sum t stand.strategy row.name row.standing.runs runs are in
-    let said = lines ∙ sym (same_length (history_row row.name) history) ∙ ap length (sym told.told) in
-    λ i. record { runs = count i; bindings = bindings i; tallies = tallies i; measurements = measured i; lines = said i }
+    λ i. record { runs = count i; bindings = bindings i; tallies = tallies i; measurements = measured i; lines = lines i }

@@ -17,3 +17,4 @@ mod StateLemmas
 mod RunsSame
 mod JudgedPasts
 mod MeasuredLemmas
+mod LineLemmas

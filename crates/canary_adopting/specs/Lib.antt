@@ -6,4 +6,5 @@ pub mod Strategies
 pub mod Bindings
 pub mod OfService
 pub mod Measured
+pub mod HistoryLines
 pub mod OneService

@@ -1,5 +1,5 @@
 -- What is judged of one service's runs, measurements and lines.
-use Rattle.std.specs.Prelude.{◌≡◌, ◌≢◌, ℕ, suc, List, [], ◌∷◌, length, map, filter, Option, Some, None, slice_get, Result, Ok, Err}
+use Rattle.std.specs.Prelude.{◌≡◌, ℕ, suc, List, [], ◌∷◌, length, map, filter, Option, Some, None, slice_get, Result, Ok, Err}
 use Rattle.std.specs.List.{AllByRecursion}
 use Rattle.canary_metric.specs.Counts.{Counts}
 use Rattle.canary_plan.specs.declared.strategy.CheckedStrategy.{CheckedStrategy}
@@ -27,12 +27,6 @@ abbrev pub IsTold : {A : Type 0} → Option A → Result A ReadFault → Type 0
 IsTold value (Ok found) = value ≡ Some found
 IsTold value (Err Broken) = value ≡ None
 IsTold value (Err fault) = Unit {0}
-
--- each row's value, or it tells that some row has none, or why it cannot tell
-abbrev pub AreTold : {R A : Type 0} → (R → Option A) → List R → Result (List A) ReadFault → Type 0
-AreTold reads rows (Ok found) = map reads rows ≡ map Some found
-AreTold {R} {A} reads rows (Err Broken) = (found : List A) → map reads rows ≢ map Some found
-AreTold reads rows (Err fault) = Unit {0}
 
 -- what a row that is not read tells of the tables
 abbrev pub read_fault : RowFault → ReadFault

@@ -139,7 +139,7 @@ fn judge_past<Q: Reader>(
     let count = row.standing.runs;
     let runs = runs::runs(conn, alloc, &row.name, &stand.strategy, count)?;
     let measurements = measured(conn, alloc, &row.name, runs.as_slice())?;
-    let history = histories::history(conn, alloc, &row.name)?;
+    let lines = histories::lines(conn, alloc, &row.name)?;
     let bindings = counts::binding_count(alloc, &stand.bound, runs.as_slice())?;
     judge_parts(alloc, stand, count, runs.as_slice())?;
     Ok(Totals {
@@ -147,7 +147,7 @@ fn judge_past<Q: Reader>(
         bindings,
         tallies: counts::tally_count(runs.as_slice())?,
         measurements,
-        lines: history.as_slice().len() as u64,
+        lines,
     })
 }
 

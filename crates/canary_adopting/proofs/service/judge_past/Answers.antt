@@ -6,6 +6,7 @@ use Rattle.canary_reads.specs.declared.fault.ReadFault.TheVariants.{Broken}
 use Rattle.canary_adopting.specs.Measured.{AreMeasured}
 use Rattle.canary_adopting.proofs.JudgedPasts.{parts_there}
 use Rattle.canary_adopting.proofs.MeasuredLemmas.{are_measurements, past_measured}
+use Rattle.canary_adopting.proofs.LineLemmas.{history_there, lines_of_history}
 use Rattle.canary_adopting.proofs.JudgedServices.{past_totals}
 use Rattle.canary_adopting.proofs.Standing.{stores_then, same_then}
 use Rattle.canary_adopting.proofs.service.judge_past.Goals as goal
@@ -23,16 +24,17 @@ returns-in_err-measurements-clause-refused g c usable t has judged is within pas
     c.measured.ensures.broken usable t (stores_then (g.Q.Reader.shows c.args.conn.now) (g.Q.Reader.shows c.runs.new.conn) t c.runs.ensures.same mid has) broken
     (within, subst (λ rs. AreMeasured c.args.row.now.name rs t) (sym c.as_slice.ensures) (past_measured t c.args.row.now c.args.stand c.in_ok-runs.runs are past))
 
-pub returns-in_err-history-clause-refused : goal.returns-in_err-history-clause-refused
-returns-in_err-history-clause-refused g c usable t has judged is within past =
-    let broken : c.history.result ≡ Err Broken = search rules in
-    let after = (c.history.ensures.same usable).0 in
-    c.history.ensures.broken usable t (stores_then (g.Q.Reader.shows c.args.conn.now) (g.Q.Reader.shows c.measured.new.conn) t (same_then (g.Q.Reader.shows c.args.conn.now) (g.Q.Reader.shows c.runs.new.conn) (g.Q.Reader.shows c.measured.new.conn) c.runs.ensures.same c.measured.ensures.same) after has) broken (within, (past.history, past.told))
+pub returns-in_err-lines-clause-refused : goal.returns-in_err-lines-clause-refused
+returns-in_err-lines-clause-refused g c usable t has judged is within past =
+    let broken : c.lines.result ≡ Err Broken = search rules in
+    let after = (c.lines.ensures.same usable).0 in
+    c.lines.ensures.broken usable t (stores_then (g.Q.Reader.shows c.args.conn.now) (g.Q.Reader.shows c.measured.new.conn) t (same_then (g.Q.Reader.shows c.args.conn.now) (g.Q.Reader.shows c.runs.new.conn) (g.Q.Reader.shows c.measured.new.conn) c.runs.ensures.same c.measured.ensures.same) after has) broken
+    (within, lines_of_history c.args.row.now.name t past.history past.told)
 
 pub returns-in_err-judge_parts-clause-refused : goal.returns-in_err-judge_parts-clause-refused
 returns-in_err-judge_parts-clause-refused g c usable t has judged is within past =
     let broken : c.judge_parts.result ≡ Err Broken = search rules in
-    let after = (c.history.ensures.same usable).0 in
+    let after = (c.lines.ensures.same usable).0 in
     let mid = (c.measured.ensures.same after).0 in
     let are = c.in_ok-runs.ensures.found mid t has in
     let parts = parts_there t c.args.row.now c.args.stand c.in_ok-runs.runs are past in
@@ -40,14 +42,15 @@ returns-in_err-judge_parts-clause-refused g c usable t has judged is within past
 
 pub returns-clause-judged : goal.returns-clause-judged
 returns-clause-judged g c usable t has =
-    let after = (c.history.ensures.same usable).0 in
+    let after = (c.lines.ensures.same usable).0 in
     let mid = (c.measured.ensures.same after).0 in
     let both = same_then (g.Q.Reader.shows c.args.conn.now) (g.Q.Reader.shows c.runs.new.conn) (g.Q.Reader.shows c.measured.new.conn) c.runs.ensures.same c.measured.ensures.same in
     let are = c.in_ok-runs.ensures.found mid t has in
     let found = c.in_ok-measurements.ensures.found after t (stores_then (g.Q.Reader.shows c.args.conn.now) (g.Q.Reader.shows c.runs.new.conn) t c.runs.ensures.same mid has) in
     let taken = are_measurements c.args.row.now.name c.in_ok-runs.runs t (subst (λ rs. AreMeasured c.args.row.now.name rs t) c.as_slice.ensures found.0) in
-    let told = c.in_ok-history.ensures.found usable t (stores_then (g.Q.Reader.shows c.args.conn.now) (g.Q.Reader.shows c.measured.new.conn) t both after has) in
+    let lines = c.in_ok-lines.ensures.found usable t (stores_then (g.Q.Reader.shows c.args.conn.now) (g.Q.Reader.shows c.measured.new.conn) t both after has) in
+    let told = history_there c.args.row.now.name t lines.0 in
     let parts = ap (λ (rs : List RunRecord). is_broken (record { stand = c.args.stand; runs = record { count = c.args.row.now.standing.runs; open_runs = open_runs_in rs } })) (sym c.as_slice-3.ensures) ∙ c.in_ok-judge_parts.ensures.judged in (
-      record { runs = c.in_ok-runs.runs; are = are; measurements = taken.0; read = taken.1; tallied = taken.2; history = c.in_ok-history.history; told = told; parts = parts },
-      past_totals t c.args.row.now c.args.stand c.in_ok-runs.runs c.in_ok-history.history are told _ (search rules) (search rules) (search rules) found.1 (search rules),
+      record { runs = c.in_ok-runs.runs; are = are; measurements = taken.0; read = taken.1; tallied = taken.2; history = told.0; told = told.1; parts = parts },
+      past_totals t c.args.row.now c.args.stand c.in_ok-runs.runs are _ (search rules) (search rules) (search rules) found.1 lines.1,
     )
