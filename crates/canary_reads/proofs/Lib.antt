@@ -14,6 +14,7 @@ pub mod FoundServices
 pub mod FoundRuns
 pub mod FoundLines
 pub mod FoundPages
+pub mod FoundRunPages
 pub mod Holding
 pub mod FoundLists
 pub mod Counting

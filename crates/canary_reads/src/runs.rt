@@ -1,12 +1,10 @@
 //! Runs, and the counts of their metrics.
-ghost use Rattle.std.specs.Prelude.{◌≡◌, ◌∷◌, false, filter, IfOk};
+ghost use Rattle.std.specs.Prelude.{◌≡◌, false, filter, IfOk};
 ghost use Rattle.std.specs.List.{AllByRecursion};
-ghost use Rattle.sqlite.specs.declared.types.Value.TheVariants.{Text as Words};
 ghost use Rattle.canary_rows.specs.Tables.{is_run, is_open_run_of, is_tally_of};
 ghost use Rattle.canary_rows.specs.Limits.{IsRunWithin, IsTallyWithin};
-ghost use Rattle.canary_schema.specs.Cells.{run_cells};
 ghost use Rattle.canary_reads.specs.Breaks.{BreaksUnless};
-ghost use Rattle.canary_reads.specs.Finds.{IsSame, FindsRows, FindsSuch, TellsCells, first};
+ghost use Rattle.canary_reads.specs.Finds.{IsSame, FindsRows, FindsSuch, first};
 ghost use Rattle.canary_reads.specs.Sorts.{Sorts, IsFront, is_open, is_run_of};
 ghost use Rattle.canary_reads.specs.Sorts.{number_of, metric_of};
 ghost use Rattle.canary_reads.specs.Reader.{IsKept};
@@ -18,8 +16,7 @@ use canary_base::error::Memory;
 use canary_base::lists::Listed;
 use canary_base::names::Name;
 use canary_rows::rows::{RunRow, TallyRow};
-use canary_schema::fault::StoreFault;
-use sqlite::{Row, params};
+use sqlite::params;
 use std::alloc::Global;
 
 /// The run of the service under that number, if there is one. `Memory` where there is not enough,
@@ -40,49 +37,12 @@ pub fn run<Q: Reader>(
     ensures broken { BreaksUnless (λ t. AllByRecursion IsRunWithin t.runs)
         (Q.shows conn.old) (Q.shows conn.new) result }
 {
-    let rows = run_shown(conn, service, number)?;
-    shown::first(service, rows.as_slice())
-}
-
-/// The rows of the service's run under that number, of which a desk writes one at most. `Memory`
-/// where there is not enough, `Storage` where the database fails, `Broken` where one is none that a
-/// program can hold.
-pub fn run_rows<Q: Reader>(
-    conn: &mut Q,
-    alloc: Global,
-    service: &Name,
-    number: u32,
-) -> Result<Listed<RunRow>, ReadFault>
-    requires ready { Q.IsReady conn.old }
-    ensures mode { Q.IsReady conn.new }
-    ensures place { Q.place conn.new ≡ Q.place conn.old }
-    ensures kept { IsKept (Q.below conn.old) (Q.below conn.new) }
-    ensures same { IsSame (Q.shows conn.old) (Q.shows conn.new) }
-    ensures found { FindsRows (λ t. filter (is_run service.now number) t.runs)
-        (Q.shows conn.old) (Q.shows conn.new) result }
-    ensures broken { BreaksUnless (λ t. AllByRecursion IsRunWithin t.runs)
-        (Q.shows conn.old) (Q.shows conn.new) result }
-{
-    let rows = run_shown(conn, service, number)?;
-    shown::all(alloc, service, rows.as_slice())
-}
-
-// What is shown of the run's rows, behind the service.
-fn run_shown<Q: Reader>(conn: &mut Q, service: &Name, number: u32) -> Result<Vec<Row>, StoreFault>
-    requires ready { Q.IsReady conn.old }
-    ensures mode { Q.IsReady conn.new }
-    ensures place { Q.place conn.new ≡ Q.place conn.old }
-    ensures kept { IsKept (Q.below conn.old) (Q.below conn.new) }
-    ensures same { IsSame (Q.shows conn.old) (Q.shows conn.new) }
-    ensures found { FindsSuch (λ t rows. TellsCells run_cells (λ row. Words service.now ∷ row)
-        (filter (is_run service.now number) t.runs) rows.items)
-        (Q.shows conn.old) (Q.shows conn.new) result }
-{
-    conn.ask(
+    let rows = conn.ask(
         "SELECT number, step, started, closed, outside, verdict FROM run \
          WHERE service = ?1 AND number = ?2 ORDER BY rowid",
         params![service.as_str(), number],
-    )
+    )?;
+    shown::first(service, rows.as_slice())
 }
 
 /// The open runs of the service, by their numbers. `Memory` where there is not enough, `Storage`
