@@ -62,7 +62,7 @@ none_so_far name count old none = record {
 one_page_more : (name : List ℕ) (most before more after : ℕ) (t : Tables) → AreLinesSoFar name before t → IsPageOfLines name most before t more → after ≡ before + more → AreLinesSoFar name after t
 one_page_more name most before more after t so_far page sum =
     let all : List HistoryRow = lines_of name t in
-    let to : after ≡ before + length (lines_after name most before t) = sum ∙ ap (λ n. before + n) page.count in
+    let to : after ≡ before + length (lines_after name most before t) = sum ∙ ap (λ n. before + n) page.so_many in
     record {
       within = subst (λ n. n ≤ length all) (sym to) (page_within before most all so_far.within);
       lines = subst (AllByRecursion IsLineRow) (sym (ap (λ n. take n all) to ∙ page_more before most all)) (all_more IsLineRow (take before all) (lines_after name most before t) so_far.lines page.lines);
@@ -82,8 +82,8 @@ pages_more name most before more after old between new so_far same page sum =
 pub all_lines : (name : List ℕ) (most before more after : ℕ) (t : Tables) → AreLinesSoFar name before t → IsPageOfLines name most before t more → after ≡ before + more → more < most → AreLines name t × (after ≡ length (lines_of name t))
 all_lines name most before more after t so_far page sum few =
     let all : List HistoryRow = lines_of name t in
-    let less : length (lines_after name most before t) < most = subst (λ n. n < most) page.count few in
-    let count : after ≡ length all = sum ∙ ap (λ n. before + n) page.count ∙ last_page before most all so_far.within less in
+    let less : length (lines_after name most before t) < most = subst (λ n. n < most) page.so_many few in
+    let count : after ≡ length all = sum ∙ ap (λ n. before + n) page.so_many ∙ last_page before most all so_far.within less in
     let last = one_page_more name most before more after t so_far page sum in
     (subst (AllByRecursion IsLineRow) (take_all after all (omega (arith, count))) last.lines, count)
 

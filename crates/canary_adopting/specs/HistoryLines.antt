@@ -27,4 +27,4 @@ lines_after name most count t = take most (drop count (lines_of name t))
 -- they are lines', and so many
 pub record IsPageOfLines (name : List ℕ) (most from : ℕ) (t : Tables) (count : ℕ) : Type 0 where
   pub lines : AllByRecursion IsLineRow (lines_after name most from t)
-  pub count : count ≡ length (lines_after name most from t)
+  pub so_many : count ≡ length (lines_after name most from t)

@@ -23,3 +23,10 @@ returns-in_err-more-clause-broken g c usable t has is all =
     let broken : c.page_of_lines.result ≡ Err Broken = search rules in
     let mid = (c.page_of_lines.ensures.same usable).0 in
     c.page_of_lines.ensures.broken usable t (stores_then (g.Q.Reader.shows c.args.conn.now) (g.Q.Reader.shows c.pages.conn) t c.pages.invariant.1.same mid has) broken (all.0, page_there c.args.name.now 32768 c.pages.count t all.1)
+
+pub returns-then-more-from-clause-found : goal.returns-then-more-from-clause-found
+returns-then-more-from-clause-found g c usable t has =
+    let mid = (c.page_of_lines.ensures.same usable).0 in
+    let page = c.in_ok-more.ensures.found usable t (stores_then (g.Q.Reader.shows c.args.conn.now) (g.Q.Reader.shows c.pages.conn) t c.pages.invariant.1.same mid has) in
+    let few : c.in_ok-more.more < 32768 = omega (arith, c.if-more-from.true, c.from.ensures) in
+    all_lines c.args.name.now 32768 c.pages.count c.in_ok-more.more c.in_ok-count.count t (c.pages.invariant.1.value mid t has) page c.in_ok-count.ensures.sum few

@@ -19,5 +19,5 @@ returns-clause-found g c usable t has =
     let rows = c.in_ok-rows.ensures.found usable t has in
     record {
       lines = subst (AllByRecursion IsLineRow) (c.as_slice.ensures ∙ rows) c.in_ok-are_lines.ensures.lines;
-      count = search rules;
+      so_many = search rules;
     }
