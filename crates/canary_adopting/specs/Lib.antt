@@ -5,5 +5,7 @@ pub mod Templates
 pub mod Strategies
 pub mod Bindings
 pub mod OfService
+pub mod Remembered
+pub mod Pages
 pub mod Measured
 pub mod OneService
