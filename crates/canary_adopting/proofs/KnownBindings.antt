@@ -133,7 +133,7 @@ pub record KnownSoFar (rows : List BindingRow) (i : ℕ) (old now : State) (foun
 pub known_at_first : (rows : List BindingRow) (old : State) (found : Found) → found ≡ empty → KnownSoFar rows 0 old old found
 known_at_first rows old found is = record { same = λ usable. (usable, refl); value = λ usable t has. none_yet t found is }
 
-taken_more : (t : Tables) (rows : List BindingRow) (i : ℕ) (row : BindingRow) (found : Found) → i < length rows → row ≡ get_or rows i row → AreFound t (take i rows ++ row ∷ []) found → AreFound t (take (i + 1) rows) found
+pub taken_more : (t : Tables) (rows : List BindingRow) (i : ℕ) (row : BindingRow) (found : Found) → i < length rows → row ≡ get_or rows i row → AreFound t (take i rows ++ row ∷ []) found → AreFound t (take (i + 1) rows) found
 taken_more t rows i row found below at are = subst (λ rs. AreFound t rs found) (sym (take_more rows i row below ∙ ap (λ (r : BindingRow). take i rows ++ r ∷ []) (sym at))) are
 
 pub known_new : (rows : List BindingRow) (i : ℕ) (row : BindingRow) (old between new : State) (found more : Found) (x : Template) → i < length rows → row ≡ get_or rows i row → KnownSoFar rows i old between found → IsSame between new → get found row.template ≡ None

@@ -12,6 +12,8 @@ mod AllServices
 mod PlacedLemmas
 mod CountLemmas
 mod RunLemmas
+mod RememberedLemmas
+mod PageLemmas
 mod HistoryLemmas
 mod StateLemmas
 mod RunsSame

@@ -11,9 +11,6 @@ use Rattle.canary_plan.specs.declared.analysis_parts.AnalysisParts.{AnalysisPart
 use Rattle.canary_plan.specs.declared.strategy.CheckedStrategy.{CheckedStrategy}
 use Rattle.canary_release.specs.declared.effect.Closing.{Closing}
 use Rattle.canary_once.specs.declared.record.RunRecord.{RunRecord}
-use Rattle.sqlite.specs.State.{State}
-use Rattle.canary_schema.specs.Stores.{IsUsable, Stores}
-use Rattle.canary_reads.specs.Finds.{IsSame}
 use Rattle.canary_rows.specs.declared.rows.Ending.{Ending}
 use Rattle.canary_rows.specs.declared.rows.RunRow.{RunRow}
 use Rattle.canary_rows.specs.Tables.{Tables, is_run}
@@ -26,7 +23,6 @@ use Rattle.canary_adopting.specs.OfService.{AreTalliesOf, IsRunOf, AreRunsOf}
 use Rattle.canary_recounting.specs.Recounted.{HasOwnVerdict}
 use Rattle.canary_adopting.specs.Bindings.{IsRunBound}
 use Rattle.canary_adopting.proofs.PlacedLemmas.{both, head_passes, same_tallies, some_at}
-use Rattle.canary_adopting.proofs.StateLemmas.{stay, same_then}
 
 -- How a run was closed.
 
@@ -203,17 +199,3 @@ module _ (strategy : CheckedStrategy) (name : List ℕ) (t : Tables) where
 
   pub run_among : (place count : ℕ) (runs : List RunRecord) → place < count → AreRunsOf strategy name count t runs → (r : RunRecord) × IsRunOf strategy name (place + 1) t r
   run_among place count runs below are = let there = some_at runs place (subst (λ n. place < n) (sym are.as_many) below) in (there.0, subst (λ n. IsRunOf strategy name n t there.0) (plus_one place) (are.each place there.0 there.1))
-
-pub record RunsSoFar (strategy : CheckedStrategy) (name : List ℕ) (place : ℕ) (old now : State) (found : List RunRecord) : Type 0 where
-  pub same : IsSame old now
-  pub value : IsUsable now → (t : Tables) → Stores old t → AreRunsOf strategy name place t found
-
-pub more_found : (strategy : CheckedStrategy) (name : List ℕ) (place : ℕ) (old between new : State) (found more : List RunRecord) (r : RunRecord) → RunsSoFar strategy name place old between found → IsSame between new
-    → (IsUsable new → (t : Tables) → Stores between t → IsRunOf strategy name (place + 1) t r) → more ≡ found ++ r ∷ [] → RunsSoFar strategy name (place + 1) old new more
-more_found strategy name place old between new found more r before same told pushed =
-    record {
-      same = same_then old between new before.same same;
-      value = λ usable t stores.
-          let midway = (same usable).0 in
-          one_run_more strategy name t place found more r (before.value midway t stores) (told usable t (stay old between t before.same midway stores)) pushed;
-    }

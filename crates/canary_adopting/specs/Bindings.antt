@@ -55,6 +55,12 @@ pub record IsBindingOf (service : List ℕ) (run : ℕ) (strategy : CheckedStrat
   pub bound : binding.bound ≡ bound_of (known_in t service run) strategy
   pub rows : binding.rows ≡ length (filter (is_binding_of service run) t.bindings)
 
+-- what these rows of binding make of a strategy, and how many they are
+pub record IsBoundBy (rows : List BindingRow) (strategy : CheckedStrategy) (t : Tables)
+    (binding : Binding) : Type 0 where
+  pub bound : binding.bound ≡ bound_of (known_of t rows) strategy
+  pub many : binding.rows ≡ length rows
+
 -- what the present attempt is bound to, which has no other rows of binding
 pub record IsAttemptBound (service : List ℕ) (strategy : CheckedStrategy) (t : Tables)
     (bound : BoundParts) : Type 0 where

@@ -5,6 +5,8 @@ pub mod Templates
 pub mod Strategies
 pub mod Bindings
 pub mod OfService
+pub mod Remembered
+pub mod Pages
 pub mod Measured
 pub mod HistoryLines
 pub mod OneService

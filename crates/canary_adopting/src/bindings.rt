@@ -10,7 +10,7 @@ ghost use Rattle.canary_reads.specs.Finds.{IsSame, FindsSuch};
 ghost use Rattle.canary_adopting.specs.OfService.{HasSuch};
 ghost use Rattle.canary_adopting.specs.OneService.{RefusesJudged};
 ghost use Rattle.canary_adopting.specs.Bindings.{IsTemplateOf, IsKnownBy, IsKnownIn, IsBindingOf};
-ghost use Rattle.canary_adopting.specs.Bindings.{IsBoundWhole, IsAttemptBound, IsRunBound};
+ghost use Rattle.canary_adopting.specs.Bindings.{IsBoundWhole, IsAttemptBound};
 ghost use Rattle.canary_reads.specs.Reader.{IsKept};
 
 use canary_base::error::Memory;
@@ -18,7 +18,6 @@ use canary_base::names::Name;
 use canary_judging::laws;
 use canary_plan::analysis_parts::{Revision, distinct};
 use canary_plan::bound::Bound;
-use canary_plan::bound_analysis::BoundAnalysis;
 use canary_plan::strategy::Strategy;
 use canary_plan::template::Template;
 use canary_plan::templates::Templates;
@@ -30,7 +29,7 @@ use canary_stored::fault::RowFault;
 use canary_stored::reading;
 use std::alloc::Global;
 
-/// What a run's rows of binding make of its service's strategy, and how many there are.
+/// What rows of binding make of a service's strategy, and how many they are.
 #[derive(Drop)]
 pub(crate) struct Binding {
     pub bound: Bound,
@@ -92,8 +91,13 @@ fn known_by<Q: Reader>(
     Ok(Some(known))
 }
 
-// The template of the revision that the row names.
-fn template_of<Q: Reader>(
+/// The template of the revision that the row names; none where it names none that is there, or that
+/// is read as an accepted template.
+///
+/// # Errors
+/// `Broken` where the tables hold what no program can, `Memory` where there is not enough,
+/// `Storage` where the database fails.
+pub(crate) fn template_of<Q: Reader>(
     conn: &mut Q,
     alloc: Global,
     row: &BindingRow,
@@ -141,7 +145,7 @@ pub(crate) fn attempt<Q: Reader>(
         (Q.shows conn.old) (Q.shows conn.new) result }
 {
     laws::bindings();
-    let binding = bound(conn, alloc, service, 0, strategy)?;
+    let binding = bound(conn, alloc, service, strategy)?;
     let revisions = binding.bound.revisions(alloc)?;
     if are_all(alloc, revisions.as_slice(), binding.rows)? {
         Ok(binding.bound)
@@ -150,48 +154,11 @@ pub(crate) fn attempt<Q: Reader>(
     }
 }
 
-/// The analysis of a run of the service of that strategy, at that step or of the background, which
-/// has no rows of binding but for the templates of this analysis.
-///
-/// # Errors
-/// `Broken` where they bind no such analysis, or it has others, or the tables hold what no program
-/// can; `Memory` where there is not enough, `Storage` where the database fails.
-pub(crate) fn analysis<Q: Reader>(
-    conn: &mut Q,
-    alloc: Global,
-    service: &Name,
-    run: u32,
-    strategy: &Strategy,
-    step: Option<u32>,
-) -> Result<BoundAnalysis, ReadFault>
-    requires ready { Q.IsReady conn.old }
-    ensures mode { Q.IsReady conn.new }
-    ensures place { Q.place conn.new ≡ Q.place conn.old }
-    ensures kept { IsKept (Q.below conn.old) (Q.below conn.new) }
-    ensures same { IsSame (Q.shows conn.old) (Q.shows conn.new) }
-    ensures found { FindsSuch (IsRunBound service.now run strategy.now step)
-        (Q.shows conn.old) (Q.shows conn.new) result }
-    ensures broken { RefusesJudged (HasSuch (IsRunBound service.now run strategy.now step))
-        (Q.shows conn.old) (Q.shows conn.new) result }
-{
-    laws::bindings();
-    let binding = bound(conn, alloc, service, run, strategy)?;
-    let Some(analysis) = binding.bound.analysis(step) else {
-        return Err(ReadFault::Broken);
-    };
-    if are_all(alloc, analysis.revisions(), binding.rows)? {
-        Ok(analysis.copy()?)
-    } else {
-        Err(ReadFault::Broken)
-    }
-}
-
-// What a run's rows of binding make of the strategy.
+// What the rows of binding of the present attempt make of the strategy.
 fn bound<Q: Reader>(
     conn: &mut Q,
     alloc: Global,
     service: &Name,
-    run: u32,
     strategy: &Strategy,
 ) -> Result<Binding, ReadFault>
     requires ready { Q.IsReady conn.old }
@@ -199,12 +166,12 @@ fn bound<Q: Reader>(
     ensures place { Q.place conn.new ≡ Q.place conn.old }
     ensures kept { IsKept (Q.below conn.old) (Q.below conn.new) }
     ensures same { IsSame (Q.shows conn.old) (Q.shows conn.new) }
-    ensures found { FindsSuch (IsBindingOf service.now run strategy.now)
+    ensures found { FindsSuch (IsBindingOf service.now 0 strategy.now)
         (Q.shows conn.old) (Q.shows conn.new) result }
-    ensures broken { RefusesJudged (IsBoundWhole service.now run)
+    ensures broken { RefusesJudged (IsBoundWhole service.now 0)
         (Q.shows conn.old) (Q.shows conn.new) result }
 {
-    let rows = services::bindings(conn, alloc, service, run)?;
+    let rows = services::bindings(conn, alloc, service, 0)?;
     let Some(known) = known_by(conn, alloc, rows.as_slice())? else {
         return Err(ReadFault::Broken);
     };
@@ -214,8 +181,11 @@ fn bound<Q: Reader>(
     })
 }
 
-// Whether the templates of these revisions are so many.
-fn are_all(alloc: Global, revisions: &[Revision], rows: u64) -> Result<bool, Memory>
+/// Whether the templates of these revisions are so many.
+///
+/// # Errors
+/// `Memory`.
+pub(crate) fn are_all(alloc: Global, revisions: &[Revision], rows: u64) -> Result<bool, Memory>
     ensures { IfOk result (λ are. IsTrue are ↔ (rows ≡ length (distinct revisions.now))) }
 {
     let templates = distinct(alloc, revisions)?;

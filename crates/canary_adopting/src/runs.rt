@@ -1,17 +1,24 @@
-//! The runs of a service, judged with what they are bound to and their tallies.
-ghost use Rattle.std.specs.Prelude.{◌≡◌, ◌≢◌, ◌∷◌, ◌↔◌, [], false, IsTrue, IfOk, IfSome, None};
-ghost use Rattle.std.specs.Prelude.{length, map};
+//! The runs of a service, judged with what they are bound to and their tallies. Their rows are read
+//! in pages.
+ghost use Rattle.std.specs.Prelude.{◌≡◌, ◌≢◌, ◌∷◌, ◌<◌, ◌≤◌, ◌↔◌, [], false, ℕ, List, IsTrue};
+ghost use Rattle.std.specs.Prelude.{IfOk, IfSome, None, Err, length, map, filter};
+ghost use Rattle.std.specs.FinMap.{empty};
 ghost use Rattle.canary_rows.specs.declared.rows.TallyRow.{TallyRow};
+ghost use Rattle.canary_rows.specs.Tables.{Tables, is_tally_of};
 ghost use Rattle.canary_stored.specs.Finding.{record_of_row};
+ghost use Rattle.canary_reads.specs.declared.fault.ReadFault.TheVariants.{Broken};
 ghost use Rattle.canary_reads.specs.Finds.{IsSame, FindsSuch};
-ghost use Rattle.canary_adopting.specs.Judges.{RefusesUnless};
+ghost use Rattle.canary_reads.specs.Reader.{IsKept};
+ghost use Rattle.canary_reads.specs.Sorts.{Sorts, metric_of};
 ghost use Rattle.canary_adopting.specs.OneService.{RefusesJudged};
 ghost use Rattle.canary_adopting.specs.OfService.{HasSuch, IsTold, ArePlaced, AreTalliesOf};
 ghost use Rattle.canary_adopting.specs.OfService.{IsRunOf, AreRunsOf};
-ghost use Rattle.canary_reads.specs.Reader.{IsKept};
+ghost use Rattle.canary_adopting.specs.Pages.{AreGiven, AreThere, AreSoFar};
+ghost use Rattle.canary_adopting.specs.Remembered.{FindsWhere, RefusesWhere, AreRevisions};
 
-use crate::bindings;
 use crate::fault::read_fault;
+use crate::pages::{self, Page};
+use crate::remembered;
 use canary_base::error::Memory;
 use canary_base::lists::Listed;
 use canary_base::names::Name;
@@ -19,13 +26,32 @@ use canary_metric::tally::Tally;
 use canary_once::record::RunRecord;
 use canary_plan::bound_analysis::BoundAnalysis;
 use canary_plan::strategy::Strategy;
+use canary_plan::templates::Templates;
 use canary_reads::fault::ReadFault;
 use canary_reads::reader::Reader;
-use canary_reads::runs;
 use canary_recounting::verdicts::has_own_verdict;
 use canary_rows::rows::{RunRow, TallyRow};
 use canary_stored::reading;
 use std::alloc::Global;
+
+// The most runs whose rows are read at once.
+const PAGE: u32 = 64;
+
+/// The first runs of a service, how many they are, and the templates that were asked for last.
+#[derive(Drop)]
+pub(crate) struct SoFar {
+    pub count: u32,
+    pub runs: Listed<RunRecord>,
+    pub memo: Templates,
+}
+
+impl SoFar {
+    fn count(&self) -> u32
+        ensures { result ≡ self.now.count }
+    {
+        self.count
+    }
+}
 
 /// The runs 1 to `count` of the service of that strategy, each judged as by `run`, where templates
 /// are judged.
@@ -50,16 +76,78 @@ pub(crate) fn runs<Q: Reader>(
     ensures broken { RefusesJudged (HasSuch (AreRunsOf strategy.now name.now count))
         (Q.shows conn.old) (Q.shows conn.new) result }
 {
-    let mut found = Listed::of(Vec::new(alloc));
-    for place in 0..count {
-        found.push(run(conn, alloc, name, strategy, place + 1)?)?;
+    let mut so_far = none_yet(alloc);
+    while so_far.count() < count {
+        let last = page_end(so_far.count(), count);
+        so_far = judge_page(conn, alloc, name, strategy, so_far, last)?;
     }
-    Ok(found)
+    Ok(so_far.runs)
 }
 
-/// The run of that number of the service of that strategy, where templates are judged: there is one
-/// row of it, its rows of binding bind its analysis, and it has no others, each of its tallies has
-/// one row, and it has no others, and its verdict is that of its tallies.
+fn none_yet(alloc: Global) -> SoFar
+    ensures count { result.count ≡ 0 }
+    ensures runs { result.runs ≡ [] }
+    ensures memo { result.memo ≡ empty }
+{
+    SoFar {
+        count: 0,
+        runs: Listed::of(Vec::new(alloc)),
+        memo: Templates::new(alloc),
+    }
+}
+
+// The number of the last run in the page that begins after that one.
+fn page_end(before: u32, count: u32) -> u32
+    requires { before < count }
+    ensures more { before < result }
+    ensures within { result ≤ count }
+{
+    before + PAGE.min(count - before)
+}
+
+// The next runs, up to that number, judged too.
+fn judge_page<Q: Reader>(
+    conn: &mut Q,
+    alloc: Global,
+    name: &Name,
+    strategy: &Strategy,
+    so_far: SoFar,
+    last: u32,
+) -> Result<SoFar, ReadFault>
+    requires ready { Q.IsReady conn.old }
+    requires more { so_far.count < last }
+    ensures mode { Q.IsReady conn.new }
+    ensures place { Q.place conn.new ≡ Q.place conn.old }
+    ensures kept { IsKept (Q.below conn.old) (Q.below conn.new) }
+    ensures same { IsSame (Q.shows conn.old) (Q.shows conn.new) }
+    ensures count { IfOk result (λ found. found.count ≡ last) }
+    ensures found { FindsWhere (AreSoFar strategy.now name.now so_far)
+        (λ t found. AreSoFar strategy.now name.now found t)
+        (Q.shows conn.old) (Q.shows conn.new) result }
+    ensures broken { RefusesWhere (AreSoFar strategy.now name.now so_far)
+        (AreThere strategy.now name.now so_far.count last)
+        (Q.shows conn.old) (Q.shows conn.new) result }
+{
+    let SoFar {
+        count,
+        mut runs,
+        mut memo,
+    } = so_far;
+    let page = pages::page_between(conn, alloc, name, count, last)?;
+    for place in count..last {
+        let rows = pages::rows_of(alloc, &page, place + 1)?;
+        runs.push(run(conn, alloc, &mut memo, &rows, strategy)?)?;
+    }
+    Ok(SoFar {
+        count: last,
+        runs,
+        memo,
+    })
+}
+
+/// The run of a service of that strategy that has these rows, where templates are judged: there is
+/// one row of it, its rows of binding bind its analysis, and it has no others, each of its tallies
+/// has one row, and it has no others, and its verdict is that of its tallies.
 ///
 /// # Errors
 /// `Broken` where there is no such run, or the tables hold what no program can; `Memory` where
@@ -67,26 +155,30 @@ pub(crate) fn runs<Q: Reader>(
 pub(crate) fn run<Q: Reader>(
     conn: &mut Q,
     alloc: Global,
-    name: &Name,
+    memo: &mut Templates,
+    rows: &Page,
     strategy: &Strategy,
-    number: u32,
 ) -> Result<RunRecord, ReadFault>
     requires ready { Q.IsReady conn.old }
     ensures mode { Q.IsReady conn.new }
     ensures place { Q.place conn.new ≡ Q.place conn.old }
     ensures kept { IsKept (Q.below conn.old) (Q.below conn.new) }
     ensures same { IsSame (Q.shows conn.old) (Q.shows conn.new) }
-    ensures found { FindsSuch (IsRunOf strategy.now name.now number)
+    ensures found { (name : List ℕ) (number : ℕ) → FindsWhere
+        (AreGiven name number rows.now memo.old)
+        (λ t found. IsRunOf strategy.now name number t found × AreRevisions memo.new t)
         (Q.shows conn.old) (Q.shows conn.new) result }
-    ensures broken { RefusesJudged (HasSuch (IsRunOf strategy.now name.now number))
+    ensures broken { (name : List ℕ) (number : ℕ) → RefusesWhere
+        (AreGiven name number rows.now memo.old)
+        (HasSuch (IsRunOf strategy.now name number))
         (Q.shows conn.old) (Q.shows conn.new) result }
 {
-    let rows = runs::run_rows(conn, alloc, name, number)?;
-    let Some(row) = only(rows.as_slice()) else {
+    let Some(row) = only(rows.runs.as_slice()) else {
         return Err(ReadFault::Broken);
     };
-    let analysis = bindings::analysis(conn, alloc, name, number, strategy, row.step)?;
-    let tallies = tallies(conn, alloc, name, number)?;
+    let bindings = rows.bindings.as_slice();
+    let analysis = remembered::analysis(conn, alloc, memo, bindings, strategy, row.step)?;
+    let tallies = tallies(alloc, rows.tallies.as_slice())?;
     let run = record_of(&row, analysis, tallies)?;
     if has_own_verdict(&run) {
         Ok(run)
@@ -103,28 +195,19 @@ fn only(rows: &[RunRow]) -> Option<RunRow>
     if rows.len() == 1 { Some(rows[0]) } else { None }
 }
 
-// The tallies of the run of that number.
-fn tallies<Q: Reader>(
-    conn: &mut Q,
-    alloc: Global,
-    name: &Name,
-    number: u32,
-) -> Result<Listed<Tally>, ReadFault>
-    requires ready { Q.IsReady conn.old }
-    ensures mode { Q.IsReady conn.new }
-    ensures place { Q.place conn.new ≡ Q.place conn.old }
-    ensures kept { IsKept (Q.below conn.old) (Q.below conn.new) }
-    ensures same { IsSame (Q.shows conn.old) (Q.shows conn.new) }
-    ensures found { FindsSuch (AreTalliesOf name.now number)
-        (Q.shows conn.old) (Q.shows conn.new) result }
-    ensures broken { RefusesUnless (HasSuch (AreTalliesOf name.now number))
-        (Q.shows conn.old) (Q.shows conn.new) result }
+// The tallies of the run whose rows of tallies these are, by their metrics.
+fn tallies(alloc: Global, rows: &[TallyRow]) -> Result<Listed<Tally>, ReadFault>
+    ensures found { (t : Tables) (name : List ℕ) (number : ℕ)
+        → Sorts metric_of (filter (is_tally_of name number) t.tallies) rows.now
+        → IfOk result (AreTalliesOf name number t) }
+    ensures broken { (t : Tables) (name : List ℕ) (number : ℕ)
+        → Sorts metric_of (filter (is_tally_of name number) t.tallies) rows.now
+        → result ≡ Err Broken → ¬ HasSuch (AreTalliesOf name number) t }
 {
-    let rows = runs::tallies(conn, alloc, name, number)?;
-    if !are_placed(rows.as_slice()) {
+    if !are_placed(rows) {
         return Err(ReadFault::Broken);
     }
-    Ok(counts_of(alloc, rows.as_slice())?)
+    Ok(counts_of(alloc, rows)?)
 }
 
 // Whether each row stands at the place of its metric.

@@ -18,7 +18,7 @@ returns-clause-found g c usable t has =
     let rows = c.in_ok-rows.ensures.found usable_then t has in
     let known = c.in_ok-known.ensures.found usable t (stores_then (g.Q.Reader.shows c.args.conn.now) (g.Q.Reader.shows c.bindings.new.conn) t c.bindings.ensures.same usable_then has) in
     record {
-      bound = bound_told t c.args.service.now c.args.run c.as_slice.result.now c.in-Some.known c.args.strategy.now c.in_ok-bound_to.field-0 (c.as_slice.ensures ∙ rows)
+      bound = bound_told t c.args.service.now 0 c.as_slice.result.now c.in-Some.known c.args.strategy.now c.in_ok-bound_to.field-0 (c.as_slice.ensures ∙ rows)
           (subst (λ o. IsKnownBy c.as_slice.result.now t (option_map get o)) c.in-Some.is known) c.in_ok-bound_to.ensures;
       rows = ap length (c.as_slice-2.ensures ∙ rows);
     }

@@ -1,8 +1,12 @@
-use Rattle.std.proofs.Common.{◌≡◌, false}
-use Rattle.canary_adopting.proofs.RunLemmas.{RunsSoFar}
+use Rattle.std.proofs.Common.{◌≤◌, ◌-◌}
+use Rattle.canary_adopting.proofs.PageLemmas.{PagesSoFar}
 use Rattle.canary_adopting.proofs.Standing.{Goes}
 use Rattle.canary_adopting.proofs.runs.runs.Given as goal
 
 -- the runs so far are found
-abbrev pub invariant-loop-place : goal.invariant-loop-place
-invariant-loop-place g l = Goes g.Q.Reader.IsReady g.Q.Reader.place g.Q.Reader.below l.initial.conn l.conn × RunsSoFar l.strategy l.name l.place (g.Q.Reader.shows l.initial.conn) (g.Q.Reader.shows l.conn) l.found
+abbrev pub invariant-loop-alloc : goal.invariant-loop-alloc
+invariant-loop-alloc g l =
+    Goes g.Q.Reader.IsReady g.Q.Reader.place g.Q.Reader.below l.initial.conn l.conn × (l.so_far.count ≤ l.count) × PagesSoFar l.strategy l.name l.so_far (g.Q.Reader.shows l.initial.conn) (g.Q.Reader.shows l.conn)
+
+abbrev pub decreases-loop-alloc : goal.decreases-loop-alloc
+decreases-loop-alloc g l = l.count - l.so_far.count
