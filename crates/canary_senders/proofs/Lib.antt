@@ -6,3 +6,4 @@ pub mod Last
 pub mod Named
 pub mod Arriving
 pub mod Rows
+pub mod LatePauses

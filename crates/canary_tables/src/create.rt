@@ -36,6 +36,8 @@ impl<S: Alter> TableBook<S> {
             → contents_in (state S.Store book) ≡ no_contents) }
         ensures other { IfErr result
             (λ e. e.0 ≡ fault.OtherSchema → (state S.Store conn).now.schema ≢ no_schema) }
+        ensures taken { conn.in_transaction ≡ false → (state S.Store conn).now.schema ≢ no_schema
+            → IfErr result (λ e. e.0 ≡ fault.OtherSchema) }
         ensures unread { IfErr result (λ e. e.0 ≢ fault.BrokenRow) }
         ensures opened { IfErr result (λ e. e.0 ≢ fault.InUse) }
         ensures same { IfErr result (λ e. IsUsable (state S.Store e.1)

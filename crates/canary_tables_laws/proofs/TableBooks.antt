@@ -1,0 +1,57 @@
+-- From the definitions of canary_tables to those here.
+use Rattle.std.proofs.Common.{◌≡◌, refl}
+use Rattle.std.specs.Prelude.{Result, Ok, Err, IfOk}
+use Rattle.sqlite.specs.Held.{Held, state}
+use Rattle.sqlite.specs.State.{State}
+use Rattle.sqlite_trees.specs.declared.store.Store.{Ghosts}
+use Rattle.canary_once.specs.Contents.{no_contents}
+use Rattle.canary_schema.specs.Schema.{no_schema}
+use Rattle.canary_schema.specs.Stores.{IsUsable}
+use Rattle.canary_tables.specs.declared.fault.Left.{Left}
+use Rattle.canary_tables.specs.declared.fault.Left.TheVariants as left
+use Rattle.canary_tables.specs.Adopts.{IsAdopted, TellsTables}
+use Rattle.canary_tables.specs.Desk.{book_state, contents_in}
+use Rattle.canary_tables_laws.specs.TableBooks.{IsIntact, AreOfTheirRows, ContainsNothing, ContainsWhatWas, ShowsTables}
+
+usable : (s : State) → IsIntact s → IsUsable s
+usable s i = record { clean = i.0; is_open = i.1 }
+
+intact : (s : State) → IsUsable s → IsIntact s
+intact s u = (u.clean, u.is_open)
+
+pub of_their_rows : {S : Type 0} (g : Ghosts S) → AreOfTheirRows g (book_state g)
+of_their_rows g h =
+    record {
+      honest = usable (state g h);
+      intact = intact (state g h);
+      in_memory = λ all k. usable (state g k) (all k);
+      memory = λ all k. intact (state g k) (all k);
+      contents = refl;
+    }
+
+pub made : {S E : Type 0} (g : Ghosts S) (old : State) (r : Result (Held S) E) → IfOk r (λ _. old.now.schema ≡ no_schema)
+    → IfOk r (λ b. IsUsable (state g b) → contents_in (state g b) ≡ no_contents)
+    → IfOk r (λ b. ContainsNothing old (state g b) (book_state g b))
+made g old (Ok b) empty nothing =
+    record {
+      empty = empty;
+      honest = usable (state g b);
+      nothing = λ i. nothing (usable (state g b) i);
+    }
+made g old (Err e) empty nothing = tt
+
+pub taken_over : {S E : Type 0} (g : Ghosts S) (old : State) (r : Result (Held S) E)
+    → IfOk r (λ b. IsUsable (state g b) → IsAdopted old (state g b))
+    → IfOk r (λ b. ContainsWhatWas old (state g b) (book_state g b))
+taken_over g old (Ok b) adopted =
+    record {
+      honest = usable (state g b);
+      contents = λ i. (adopted (usable (state g b) i)).contents;
+      sound = λ i. (adopted (usable (state g b) i)).sound;
+      same = λ i. (adopted (usable (state g b) i)).same;
+    }
+taken_over g old (Err e) adopted = tt
+
+pub shows : {S : Type 0} (g : Ghosts S) (l : Left S) → ShowsTables g l → TellsTables g l
+shows g (left.Connection conn) i = usable (state g conn) i
+shows g (left.Store store) i = tt

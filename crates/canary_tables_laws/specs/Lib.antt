@@ -1,0 +1,2 @@
+pub mod TableBooks
+pub mod FaultRows

@@ -1,0 +1,72 @@
+-- What a book over tables is, without a definition of canary_tables.
+use Rattle.std.specs.Prelude.{◌≡◌, IsTrue}
+use Rattle.sqlite.specs.Effect.{Database}
+use Rattle.sqlite.specs.Held.{Held, state}
+use Rattle.sqlite.specs.State.{State, HasCleanDisk}
+use Rattle.sqlite_trees.specs.declared.store.Store.{Ghosts}
+use Rattle.canary_once.specs.Books.{BookState}
+use Rattle.canary_once.specs.Contents.{Contents, no_contents}
+use Rattle.canary_rows.specs.Limits.{AreWithin}
+use Rattle.canary_rows.specs.Tables.{Tables}
+use Rattle.canary_schema.specs.Cells.{meta_rows, tables_in}
+use Rattle.canary_schema.specs.Formed.{IsDeskSchema}
+use Rattle.canary_schema.specs.Schema.{no_schema}
+use Rattle.canary_schema.specs.Stores.{IsHeld}
+use Rattle.canary_stored.specs.Reading.{contents_of}
+use Rattle.canary_judging.specs.Soundness.{AreSoundTables}
+use Rattle.canary_tables.specs.declared.fault.Left.{Left}
+use Rattle.canary_tables.specs.declared.fault.Left.TheVariants as left
+
+-- the connection is open, and its disk did not fail
+abbrev pub IsIntact : State → Type 0
+IsIntact s = HasCleanDisk s × IsTrue s.is_open
+
+-- what the rows of its tables say
+abbrev pub rows_say : State → Contents
+rows_say s = contents_of (tables_in s.now)
+
+-- the book over a connection is honest exactly where that is live, is in memory exactly where each
+-- connection to such a store is live, and contains what the rows say
+pub record IsOfItsRows {S : Type 0} (g : Ghosts S) (h : Held S) (b : BookState) : Type 0 where
+  pub honest : IsIntact (state g h) → b.is_honest
+  pub intact : b.is_honest → IsIntact (state g h)
+  pub in_memory : ((k : Held S) → IsIntact (state g k)) → b.is_in_memory
+  pub memory : b.is_in_memory → (k : Held S) → IsIntact (state g k)
+  pub contents : b.contents ≡ rows_say (state g h)
+
+-- so each book over such a store
+abbrev pub AreOfTheirRows : {S : Type 0} → Ghosts S → (Held S → BookState) → Type 0
+AreOfTheirRows {S} g state_of = (h : Held S) → IsOfItsRows g h (state_of h)
+
+-- a book that was made of an empty database: it is honest, and contains nothing
+pub record ContainsNothing (old new : State) (b : BookState) : Type 0 where
+  pub empty : old.now.schema ≡ no_schema
+  pub honest : IsIntact new → b.is_honest
+  pub nothing : IsIntact new → b.contents ≡ no_contents
+
+-- rows of sound contents stand in the database
+abbrev pub HasSound : Database → Type 0
+HasSound db = (t : Tables) × (IsHeld db t × AreSoundTables t)
+
+-- a book that took a database over: it is honest, and contains what the rows said, which are those
+-- of sound contents; nothing has changed
+pub record ContainsWhatWas (old new : State) (b : BookState) : Type 0 where
+  pub honest : IsIntact new → b.is_honest
+  pub contents : IsIntact new → b.contents ≡ rows_say old
+  pub sound : IsIntact new → HasSound old.now
+  pub same : IsIntact new → new.now ≡ old.now
+
+-- What a refused database is not.
+
+-- a connection shows what its tables are; a store alone is not asked
+abbrev pub ShowsTables : {S : Type 0} → Ghosts S → Left S → Type 0
+ShowsTables g (left.Connection conn) = IsIntact (state g conn)
+ShowsTables g (left.Store store) = Unit {0}
+
+-- just a desk's tables and indexes are there, and meta has its one row
+abbrev pub IsDeskWithMeta : Database → Type 0
+IsDeskWithMeta db = IsDeskSchema db.schema × (db.trees 0 ≡ meta_rows)
+
+-- rows of sound contents stand in it, each of which a program can hold
+abbrev pub HoldsSoundRows : Database → Type 0
+HoldsSoundRows db = (t : Tables) × (IsHeld db t × (AreWithin t × AreSoundTables t))

@@ -1,0 +1,23 @@
+//! Laws over all books over tables, and over all faults.
+ghost use Rattle.canary_tables_laws.specs.TableBooks.{AreOfTheirRows};
+ghost use Rattle.canary_tables_laws.specs.FaultRows.{AreSqliteFaults, AreReadFaults};
+ghost use Rattle.canary_tables_laws.specs.FaultRows.{AreTableFaults};
+
+use canary_once::book::Book;
+use canary_tables::book::TableBook;
+use sqlite::Alter;
+
+/// However a book over tables came about, its store is honest exactly where its connection is open
+/// and its disk did not fail, and it contains what the rows of its tables say.
+pub fn table_books<S: Alter>()
+    ensures { AreOfTheirRows S.Store ⟦<TableBook<S> as Book>⟧.state }
+{}
+
+/// What each fault becomes: memory that is refused stays that, and so does a store that fails. A
+/// row that stands for no value is a broken row where a database is judged, and a failed store
+/// where a book is read.
+pub fn faults()
+    ensures sqlite { AreSqliteFaults }
+    ensures reads { AreReadFaults }
+    ensures tables { AreTableFaults }
+{}

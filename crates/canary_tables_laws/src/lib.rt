@@ -1,0 +1,15 @@
+//! What holds of every book over tables, in the terms of the crates below canary_tables alone.
+//!
+//! A book has a ghost member, which says what it contains and whether its store is honest, and each
+//! clause on a book's values holds where it is. So this crate says, without a definition of
+//! canary_tables, what that member is: a member that says less is refused here. Likewise what
+//! `create` and `adopt` promise, and what each fault becomes.
+//!
+//! Callers may rest on this: however a book over tables came about, it is honest exactly where its
+//! connection is open and its disk did not fail, and it contains what the rows of its tables say. A
+//! law does nothing: `laws::table_books::<S>();` is for a function whose proof wants it, of which
+//! there is none yet.
+#![tactic(auto)]
+
+pub mod books;
+pub mod laws;
