@@ -4,6 +4,8 @@
 #![tactic(auto)]
 
 #[cfg(test)]
+mod growths;
+#[cfg(test)]
 mod listen_wall_clock;
 #[cfg(test)]
 mod wire_conversation;

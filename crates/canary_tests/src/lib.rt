@@ -7,6 +7,12 @@
 #[cfg(test)]
 mod copies;
 #[cfg(test)]
+mod growths;
+#[cfg(test)]
+mod growths_kept;
+#[cfg(test)]
+mod halves;
+#[cfg(test)]
 mod once;
 #[cfg(test)]
 mod sending;
