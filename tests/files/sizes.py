@@ -29,7 +29,7 @@ def numbered(asked):
 
 
 def run(program, words, sent=b""):
-    return subprocess.run([program, *words], input=sent, capture_output=True, timeout=120)
+    return subprocess.run([program, *words], input=sent, capture_output=True, timeout=600)
 
 
 def want(row, done, output):
