@@ -34,10 +34,10 @@ const BODIES: [(&str, CommandKind); 5] = [
     ),
     (
         concat!(
-            r#"{"service":{"version":"v1","manifest":{"metadata":{"name":"web"},"spec":{"strategy":"#,
-            r#"{"canary":{"steps":[{"setWeight":20},{"pause":{"duration":"60s"}},{"analysis":"#,
-            r#"{"templates":[{"templateName":"t"}]}}],"analysis":{"startingStep":1,"templates":"#,
-            r#"[{"templateName":"t"}]}}}}}}}"#
+            r#"{"service":{"version":"v1","manifest":{"metadata":{"name":"web"},"spec":{"#,
+            r#""strategy":{"canary":{"steps":[{"setWeight":20},{"pause":{"duration":"60s"}},"#,
+            r#"{"analysis":{"templates":[{"templateName":"t"}]}}],"analysis":{"startingStep":1,"#,
+            r#""templates":[{"templateName":"t"}]}}}}}}}"#
         ),
         CommandKind::Service,
     ),

@@ -1,6 +1,6 @@
-//! Each call of these libraries that asks for memory, made twice on the same arguments. If memory is
-//! refused the first time, it answers `Memory` and no other fault, and leaves its arguments as they
-//! were: the second time it answers what it must. `tests/allocations/in-tests` refuses each
+//! Each call of these libraries that asks for memory, made twice on the same arguments. If memory
+//! is refused the first time, it answers `Memory` and no other fault, and leaves its arguments as
+//! they were: the second time it answers what it must. `tests/allocations/in-tests` refuses each
 //! allocation in turn. Calls on commands and on what becomes of them are in growths_kept.rt.
 
 use canary_base::error::Memory;
