@@ -2,6 +2,7 @@
 turn (with strace): parts of cli.py, each of which returns how many rows it had."""
 import os
 import subprocess
+import tempfile
 
 from conversation import STILL_AT_B
 from story_tables import KEPT, expect_tables, tables_of
@@ -15,11 +16,11 @@ class Streams:
     """An input and an output with names, so that strace knows a program's calls on them."""
 
     def __init__(self, folder):
-        self.input, self.output = os.path.join(folder, "input"), os.path.join(folder, "output")
-        self.log = os.path.join(folder, "calls")
+        place = tempfile.mkdtemp(dir=folder)
+        self.input, self.output = os.path.join(place, "input"), os.path.join(place, "output")
+        self.log = os.path.join(place, "calls")
         for name in (self.input, self.output):
-            if not os.path.exists(name):
-                os.mkfifo(name)
+            os.mkfifo(name)
 
     def begin(self, words, failing):
         """A process that answers over them, and the ends that are ours: one of its calls fails."""
