@@ -1,12 +1,14 @@
 """Runs each test of a program of tests with one allocation refused, and once more for each further
-one, until a run meets no refusal: tests_refused.py PROGRAM FOLDER LIBRARY [TEST..]. LIBRARY is made
-of refusing.c. The comment at the top of tests/allocations/in-tests says what has to come of it."""
+one: tests_refused.py PROGRAM FOLDER LIBRARY [TEST..]. LIBRARY is made of refusing.c. The comment at
+the top of tests/allocations/in-tests says what has to come of it."""
 import os
 import re
 import struct
 import subprocess
 import sys
 
+# How many allocations of one test are refused, at most: of one that asks for more, some in between.
+MOST = 2000
 # How a test ends that could not be set up since memory ran out.
 OUT_OF_MEMORY = re.compile(
     r"error: (Memory|AllocError|AllocFailed|.*[Oo]ut ?[Oo]f ?[Mm]emory)\n"
@@ -29,7 +31,7 @@ def refuse(program, library, counted, name, number):
         asked, = struct.unpack("L", told.read())
     is_held = done.returncode == 0 and "test result: ok" in done.stdout
     ran_out = done.returncode == 101 and OUT_OF_MEMORY.fullmatch(done.stderr) is not None
-    if not is_held and not (ran_out and number <= asked):
+    if not is_held and not (ran_out and 1 <= number <= asked):
         sys.exit(f"in-tests: {name}, with allocation {number} of {asked} refused: status "
                  f"{done.returncode}: {done.stderr}{done.stdout}")
     return is_held, asked
@@ -43,14 +45,10 @@ def main():
     if unknown or not names:
         sys.exit(f"in-tests: no such test: {' '.join(sorted(unknown))}")
     for name in wanted or names:
-        number, held = 1, 0
-        while True:
-            is_held, asked = refuse(program, library, counted, name, number)
-            if asked < number:
-                break
-            held += is_held
-            number += 1
-        print(f"in-tests: {name}: {asked} allocations, of which it holds without {held}",
+        _, asked = refuse(program, library, counted, name, 0)
+        numbers = range(1, asked + 1, asked // MOST + 1)
+        held = sum(refuse(program, library, counted, name, number)[0] for number in numbers)
+        print(f"in-tests: {name}: {len(numbers)} of {asked} allocations refused; it held in {held}",
               file=sys.stderr)
 
 
