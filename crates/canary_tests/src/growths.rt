@@ -9,6 +9,7 @@ use canary_base::moments::Moment;
 use canary_base::names::Name;
 use canary_condition::condition::{Condition, ConditionFault, Verdict3};
 use canary_condition::outcome::{FailureText, Outcome, Value};
+use canary_metric::metric::Metric;
 use canary_plan::analysis_parts::{Revision, distinct};
 use canary_plan::bound::Bound;
 use canary_plan::bound_analysis::BoundAnalysis;
@@ -379,10 +380,16 @@ fn strategy_checked(alloc: Global, spec: &ServiceSpec, known: &Templates) -> Opt
     }
 }
 
+fn are_two(metrics: Option<&[Metric]>) -> bool {
+    match metrics {
+        Some(metrics) => metrics.len() == 2,
+        None => false,
+    }
+}
+
 // Whether the analysis of step 1 and that of the background have two metrics each.
 fn has_both(bound: &Bound) -> bool {
-    bound.metrics(Some(1)).map(|metrics| metrics.len()) == Some(2)
-        && bound.metrics(None).map(|metrics| metrics.len()) == Some(2)
+    are_two(bound.metrics(Some(1))) && are_two(bound.metrics(None))
 }
 
 fn strategy_bound(alloc: Global, strategy: &Strategy, known: &Templates) -> Option<bool> {
