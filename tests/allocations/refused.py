@@ -245,7 +245,7 @@ def try_opened(trial, share):
 
 
 def try_serve(trial, share):
-    """The story told to a desk that listens, over a new file."""
+    """The story, sent to a desk that listens, over a new file."""
     def refuse(number):
         remove(trial.file)
         row = f"serve: when allocation {number} is refused"

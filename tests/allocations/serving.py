@@ -1,4 +1,4 @@
-"""The story as one client tells it to a desk that listens, of which one allocation may be refused:
+"""The story as one client sends it to a desk that listens, of which one allocation may be refused:
 a part of refused.py."""
 import re
 import socket
@@ -83,7 +83,7 @@ def at_story_moment(value, first, last):
 
 
 def converse_with_desk(row, program, file, environment, may_refuse):
-    """Tells the story to a desk on this file, and kills the desk. The tables that it leaves, with
+    """Sends the story to a desk on this file, and kills the desk. The tables that it leaves, with
     their moments at that of the story; none if the desk ended for memory before it listened."""
     begun = int(time.time())
     desk = subprocess.Popen([program, "serve", "--listen", "127.0.0.1:0", "--db", file],
