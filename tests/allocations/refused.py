@@ -1,13 +1,16 @@
 """Runs a program with one allocation refused, and once more for each further one, until a run meets
-no refusal: refused.py PROGRAM FOLDER LIBRARY STEP [CASE..]. LIBRARY is made of refusing.c. Of the
-allocations of a desk on a file each STEP-th is refused. The comment at the top of
-tests/allocations/run says what has to come of it."""
+no refusal: refused.py PROGRAM FOLDER LIBRARY STEP FIRST [CASE..]. LIBRARY is made of refusing.c. Of
+the allocations of a desk on a file each STEP-th is refused, from the FIRST on. The comment at the
+top of tests/allocations/run says what has to come of it; serving.py has the desk that listens."""
 import os
 import shutil
+import struct
 import subprocess
 import sys
 
 from conversation import STILL_AT_B, reply_of
+from serving import converse_with_desk
+from story_tables import expect_tables
 from story_words import Wrong, answer, expect, get, messages_of_story, query
 
 ROOT = os.path.join(os.path.dirname(os.path.realpath(__file__)), "../..")
@@ -72,8 +75,8 @@ class Trial:
 
     def asked(self):
         """How many allocations the last such process asked for."""
-        with open(self.counted, encoding="utf-8") as told:
-            return int(told.read())
+        with open(self.counted, "rb") as told:
+            return struct.unpack("L", told.read())[0]
 
     def run(self, words, number=0):
         """What a command line comes to: its exit status, the output, and the first line of standard
@@ -101,15 +104,28 @@ class Trial:
         return replies, (process.returncode, output, errors.split(b"\n")[0])
 
 
-def refuse_each(row, step, refuse):
-    """Each STEP-th allocation in turn, until a run asks for fewer."""
-    tried, number = 0, 1
-    while refuse(number) >= number:
-        tried += 1
-        number += step
-    if tried == 0:
-        raise Wrong(f"{row}: the program asks for no memory that could be refused")
-    print(f"refused: {row}: {tried} allocations", file=sys.stderr)
+class Share:
+    """Which allocations are refused: each STEP-th from the FIRST on."""
+
+    def __init__(self, step, first):
+        self.step, self.first = step, first
+
+    def first_of(self, asked):
+        """The first one, where a run asks for so many: it may ask for fewer than FIRST."""
+        return self.first if asked == 0 else 1 + (self.first - 1) % asked
+
+    def refuse_each(self, row, refuse):
+        """Refuses them in turn, until a run asks for fewer."""
+        tried, number = 0, self.first_of(refuse(self.first))
+        while refuse(number) >= number:
+            tried += 1
+            number += self.step
+        if tried == 0:
+            raise Wrong(f"{row}: the program asks for no memory that could be refused")
+        print(f"refused: {row}: {tried} allocations", file=sys.stderr)
+
+
+EACH = Share(1, 1)
 
 
 def read(file):
@@ -137,18 +153,19 @@ def is_cut_short(found, wanted):
     return is_part and (status, told) == (1, OUT_OF_MEMORY)
 
 
-def try_line(trial, row, words, wanted, step=1):
-    """A command line does as it must, or memory runs out on the way; and after that, with nothing
-    refused, it does as it must."""
+def try_line(trial, row, words, wanted, share=EACH, on_file=False):
+    """A command line does as it must, or memory runs out on the way; and one on a file does as it
+    must after that, with nothing refused."""
     def refuse(number):
         found = trial.run(words, number)
         asked = trial.asked()
         if not is_cut_short(found, wanted[1]):
             expect(f"{row}: when allocation {number} is refused", found, wanted)
-        expect(f"{row}: after a refusal of allocation {number}", trial.run(words), wanted)
+        if on_file:
+            expect(f"{row}: after a refusal of allocation {number}", trial.run(words), wanted)
         return asked
 
-    refuse_each(row, step, refuse)
+    share.refuse_each(row, refuse)
 
 
 def try_lines(trial, _):
@@ -186,25 +203,62 @@ def try_stream(trial, _):
         expect_told(f"stream: when allocation {number} is refused", found, wanted)
         return trial.asked()
 
-    refuse_each("a stream", 1, refuse)
+    EACH.refuse_each("a stream", refuse)
 
 
-def try_file(trial, step):
-    """The story over a new file, and then once more, with nothing refused: each request has the
-    reply that it had, or gets it now."""
+def try_over_file(trial, share, row, prepare):
+    """The story over a file that is as `prepare` leaves it, and then once more, with nothing
+    refused: each request has the reply that it had, or gets it now, and the tables are those of the
+    story."""
     words = [*STILL_AT_B, "--db", trial.file]
     requests, wanted = map(list, zip(*messages_of_story()))
 
     def refuse(number):
-        remove(trial.file)
+        prepare()
         found = trial.converse(words, requests, number)
         asked = trial.asked()
-        expect_told(f"file: when allocation {number} is refused", found, wanted)
-        found = trial.converse(words, requests)
-        expect_told(f"file: after a refusal of allocation {number}", found, wanted)
+        refused = f"{row}: when allocation {number} is refused"
+        expect_told(refused, found, wanted)
+        if found[0]:
+            expect_tables(refused, trial.file)
+        after = f"{row}: after a refusal of allocation {number}"
+        expect_told(after, trial.converse(words, requests), wanted)
+        expect_tables(after, trial.file)
         return asked
 
-    refuse_each("a stream over a file", step, refuse)
+    share.refuse_each(row, refuse)
+
+
+def try_file(trial, share):
+    """The story over a new file."""
+    try_over_file(trial, share, "a stream over a file", lambda: remove(trial.file))
+
+
+def try_opened(trial, share):
+    """The story over a file that has its first half."""
+    remove(trial.begun)
+    requests, wanted = map(list, zip(*messages_of_story()[:6]))
+    found = trial.converse([*STILL_AT_B, "--db", trial.begun], requests)
+    expect("half of the story", found, (wanted, (0, b"", b"")))
+    try_over_file(trial, share, "a stream over a file that is opened",
+                  lambda: copy(trial.begun, trial.file))
+
+
+def try_serve(trial, share):
+    """The story, sent to a desk that listens, over a new file."""
+    def refuse(number):
+        remove(trial.file)
+        row = f"serve: when allocation {number} is refused"
+        environment = trial.refusing(number)
+        tables = converse_with_desk(row, trial.program, trial.file, environment, True)
+        asked = trial.asked()
+        if tables is None:
+            row = f"serve: after a refusal of allocation {number}"
+            tables = converse_with_desk(row, trial.program, trial.file, trial.refusing(0), False)
+        expect_tables(row, trial.file, found=tables)
+        return asked
+
+    share.refuse_each("serve", refuse)
 
 
 def make_files(trial):
@@ -229,7 +283,7 @@ def lines_of(refused=None):
     return b"".join(lines)
 
 
-def try_import(trial, step):
+def try_import(trial, share):
     """A measurement file is imported: one row may be answered 503; and once more, with nothing
     refused."""
     make_files(trial)
@@ -245,10 +299,10 @@ def try_import(trial, step):
         expect(f"import: after a refusal of allocation {number}", trial.run(words), may_be[0])
         return asked
 
-    refuse_each("an import", step, refuse)
+    share.refuse_each("an import", refuse)
 
 
-def try_shown(trial, step):
+def try_shown(trial, share):
     """What the programs show of the file of a desk with measurements."""
     make_files(trial)
     copy(trial.begun, trial.file)
@@ -258,10 +312,10 @@ def try_shown(trial, step):
             ("export", ["export", *of_file, "--caller", "copy", "web"], EXPORTED),
             ("history", ["history", *of_file, "web"], HISTORY),
             ("status", ["status", *of_file], STATUS)):
-        try_line(trial, row, words, (0, shown, b""), step)
+        try_line(trial, row, words, (0, shown, b""), share, on_file=True)
 
 
-def try_backup(trial, step):
+def try_backup(trial, share):
     """`backup` makes a copy of a desk's file, or leaves none."""
     make_files(trial)
     words = ["backup", "--db", trial.begun, trial.copy]
@@ -284,14 +338,14 @@ def try_backup(trial, step):
                    [name for name in before if not name.endswith(".counted")])
         return asked
 
-    refuse_each("backup", step, refuse)
+    share.refuse_each("backup", refuse)
 
 
-CASES = (try_lines, try_stream, try_file, try_import, try_shown, try_backup)
+CASES = (try_lines, try_stream, try_file, try_opened, try_serve, try_import, try_shown, try_backup)
 
 
 def main():
-    program, folder, library, step, *wanted = sys.argv[1:]
+    program, folder, library, step, first, *wanted = sys.argv[1:]
     unknown = set(wanted) - {case.__name__ for case in CASES}
     if unknown:
         sys.exit(f"refused: unknown case: {' '.join(sorted(unknown))}")
@@ -299,7 +353,7 @@ def main():
     try:
         for case in CASES:
             if not wanted or case.__name__ in wanted:
-                case(trial, int(step))
+                case(trial, Share(int(step), int(first)))
     except (Wrong, subprocess.TimeoutExpired) as fault:
         sys.exit(f"refused: {fault}")
 

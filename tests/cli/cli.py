@@ -1,7 +1,7 @@
 """Runs a program on command lines: cli.py PROGRAM FOLDER [PART..], where FOLDER is for files. The
 rows of tests/cli/lines say what each line of words comes to, those of tests/cli/cases among them.
-streams.py has the streams, files.py the measurement files, terminals.py the terminals. The comment
-at the top of tests/cli/run says what is tried."""
+streams.py has the streams, files.py the measurement files, calls.py the calls that fail, and
+terminals.py the terminals. The comment at the top of tests/cli/run says what is tried."""
 import fcntl
 import os
 import re
@@ -15,6 +15,7 @@ import termios
 import time
 
 import terminals
+from calls import CALL_PARTS
 from conversation import AT_B, limits_writes
 from files import FILE_PARTS
 from story_words import B, Wrong, blocks, command, expanded, expect, get, put, wire
@@ -285,7 +286,7 @@ def try_terminals(program, folder):
 
 
 PARTS = (try_cases, try_mistakes, try_help, try_ends, try_faulty_streams, try_programs, try_serving,
-         try_name, try_terminals, *STREAM_PARTS, *FILE_PARTS)
+         try_name, try_terminals, *STREAM_PARTS, *FILE_PARTS, *CALL_PARTS)
 
 
 def main():
@@ -294,9 +295,10 @@ def main():
     if unknown:
         sys.exit(f"cli: unknown part: {' '.join(sorted(unknown))}")
     program = os.path.realpath(program)
+    left_out = CALL_PARTS if "strace" in os.environ.get("CHECK_WITHOUT", "").split() else ()
     rows = wrong = 0
     for part in PARTS:
-        if wanted and part.__name__ not in wanted:
+        if part in left_out or (wanted and part.__name__ not in wanted):
             continue
         try:
             rows += part(program, folder)

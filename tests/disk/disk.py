@@ -1,8 +1,8 @@
-"""Sends the program a story over files whose disk fails: disk.py PROGRAM FOLDER [PART..]. What was
-answered is kept, what was not is as if it had not been sent, and the program goes on, or says that
-it does not. The comment at the top of tests/disk/run says what is tried."""
+"""Sends the program a story over files whose disk fails: disk.py PROGRAM FOLDER STEP FIRST
+[PART..]. What was answered is kept, what was not is as if it had not been sent, and the program
+goes on, or says that it does not. Of the calls that openings make each STEP-th fails, from the
+FIRST on. The comment at the top of tests/disk/run says what is tried."""
 import os
-import re
 import shutil
 import sqlite3
 import sys
@@ -11,11 +11,11 @@ from disk_story import (
     REFUSED, Desk, Well, copy, fail, history, remove, size, tell_after, tell_failing, tell_whole,
     told_by, went_on,
 )
+from failing import CALLS, calls_in, failing_alone, under_strace
+from openings import try_openings
 from power_cuts import try_power_cuts
 
 NOBODY = 65534
-# The calls that read, write or sync a file.
-CALLS = ("pread64", "pwrite64", "fsync", "fdatasync", "ftruncate")
 
 
 def try_full_disk(program, folder):
@@ -40,22 +40,11 @@ def try_full_disk(program, folder):
           file=sys.stderr)
 
 
-def under_strace(file, log, failing=()):
-    """The words that go before those of a program, so that strace writes its calls on a file to a
-    log. strace counts the calls of each name alone: of those named here, the counted ones fail."""
-    words = ["strace", "-f", "-o", log, "-P", file, "-P", file + "-wal",
-             "-e", "trace=" + ",".join(CALLS)]
-    for call, when in failing:
-        words += ["-e", f"inject={call}:error=EIO:when={when}"]
-    return words
-
-
 def calls_of_story(program, folder):
     """The names of the calls that the story needs, one after another."""
     file, log = os.path.join(folder, "traced"), os.path.join(folder, "calls")
     tell_whole(Desk(program, file, "a traced desk", front=under_strace(file, log)))
-    with open(log) as told:
-        names = re.findall(r"^\d+ +(\w+)\(", told.read(), re.MULTILINE)
+    names = calls_in(log)
     if not names:
         fail("the story needs no calls")
     return names
@@ -79,7 +68,7 @@ def try_failing_calls(program, folder):
     """Each call in turn that reads, writes or syncs a file fails, alone, and with all after it."""
     well = Well(program, os.path.join(folder, "failing"))
     names = calls_of_story(program, folder)
-    alone = [[(name, names[:at + 1].count(name))] for at, name in enumerate(names)]
+    alone = [failing_alone(names, at) for at in range(len(names))]
     after = [[(call, f"{names[:at].count(call) + 1}+") for call in CALLS]
              for at in range(len(names))]
     for how, rows in (("alone", alone), ("with all after it", after)):
@@ -178,18 +167,22 @@ def try_read_only(program, folder):
     print("disk: of a file that may not be written the fault is storage", file=sys.stderr)
 
 
-STRACE_PARTS = (try_failing_calls, try_power_cuts)
+STRACE_PARTS = (try_openings, try_failing_calls, try_power_cuts)
 PARTS = (try_foreign_files, try_read_only, try_cut_files, try_full_disk, *STRACE_PARTS)
 
 
 def main():
-    program, folder, *wanted = sys.argv[1:]
+    program, folder, step, first, *wanted = sys.argv[1:]
     unknown = set(wanted) - {part.__name__ for part in PARTS}
     if unknown:
         fail(f"unknown part: {' '.join(sorted(unknown))}")
     left_out = STRACE_PARTS if "strace" in os.environ.get("CHECK_WITHOUT", "").split() else ()
     for part in PARTS:
-        if part not in left_out and (not wanted or part.__name__ in wanted):
+        if part in left_out or (wanted and part.__name__ not in wanted):
+            continue
+        if part is try_openings:
+            part(program, folder, int(step), int(first))
+        else:
             part(program, folder)
 
 

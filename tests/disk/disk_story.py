@@ -4,12 +4,14 @@ import os
 import resource
 import shutil
 import signal
+import sqlite3
 import subprocess
 import sys
 from contextlib import contextmanager
 
 from conversation import limits_writes, reply_of
-from story_words import STORY, B, answer, command, get, messages_of_story, put, query
+from story_tables import expect_tables
+from story_words import STORY, B, Wrong, answer, command, get, messages_of_story, put, query
 
 CALLERS = ("ops", "agent")
 REFUSED = answer("503 storage")
@@ -148,6 +150,7 @@ class Well:
         self.most = max(size(file), size(file + "-wal"))
         desk.want_end()
         self.history = history(program, file, desk.row)
+        want_tables(desk.row, file)
 
 
 def tell_whole(desk):
@@ -202,7 +205,8 @@ def went_on(desk, counts):
 
 def tell_after(program, file, row, well, counts):
     """After the fault the disk is well: what was answered is there, with its reply, and the rest
-    can be sent again. Returns how many messages were settled, which is one of these counts."""
+    can be sent again; then the tables are those of the story. Returns how many messages were
+    settled, which is one of these counts."""
     desk = Desk(program, file, row)
     for at in reversed(range(min(counts))):
         desk.want(at, "sent again after the fault, from the last one back,")
@@ -214,4 +218,13 @@ def tell_after(program, file, row, well, counts):
     lines = history(program, file, row)
     if lines != well.history:
         fail(f"{row}: the history is {lines}")
+    want_tables(row, file)
     return settled[0]
+
+
+def want_tables(row, file):
+    """The tables of the file have the rows of the story, as sqlite3 reads them."""
+    try:
+        expect_tables(row, file)
+    except (Wrong, sqlite3.Error) as fault:
+        fail(f"{row}: the tables: {fault}")

@@ -59,6 +59,14 @@ taken_since() {
     echo $(((taken - taken_before) * 100 / (all - all_before + 1)))
 }
 
+# The number of the commit, below $1, by which a script tries another share at each commit; 0 where
+# there is no commit to ask for.
+number_of_commit() {
+    local commit
+    commit=$(git -C "$root" rev-parse HEAD 2> /dev/null) || commit=0
+    echo $((0x${commit:0:12} % $1))
+}
+
 program=$root/crates/canary_desk/out/canary_desk
 # The same, built without proofs.
 unproved_program=$root/crates/canary_desk/out/canary_unproved

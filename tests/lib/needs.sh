@@ -49,8 +49,8 @@ packages_of() {
 left_out_without() {
     case $1 in
         cc) echo "cc: refused allocations (tests/allocations/run)" ;;
-        strace) echo "strace: calls that fail, power cuts (tests/disk/run, tests/migrate/run), and" \
-            "how much a desk writes at once (tests/listener/run)" ;;
+        strace) echo "strace: calls that fail (tests/cli/run, tests/disk/run, tests/migrate/run)," \
+            "power cuts (the last two), and how much a desk writes at once (tests/listener/run)" ;;
         sqlite3) echo "sqlite3: what it reads in a desk's file, and files that it changed" \
             "(tests/tables/run, tests/files/run)" ;;
         curl) echo "curl: its long request (tests/listener/run)" ;;

@@ -5,7 +5,7 @@ use canary_once::book::Book;
 use canary_once::clock::StepClock;
 use canary_once::memory::MemoryBook;
 use canary_testing::asked::name;
-use canary_wire::conversation::{Cause, Conversation, Pace, Routes, Wants};
+use canary_wire::conversation::{Cause, Conversation, Pace, Routes, Stage, Wants};
 use std::alloc::Global;
 use std::io;
 use std::io::{ErrorKind, Read, Write};
@@ -368,4 +368,39 @@ fn settles_nothing_unanswered(rt: HostRuntime) -> Result<(), Fail> {
     let alloc = rt.alloc();
     let (mut writer, mut book) = (writing(alloc, 1_000_000), MemoryBook::new(alloc));
     check_new(&rt, alloc, &mut writer, &mut book)
+}
+
+// Where a conversation stands before its first turn, and after ten in which it answers these bytes.
+fn stages(alloc: Global, stream: &str) -> Result<(Stage, Stage), Memory> {
+    let mut talk = Conversation::new(alloc, 16_384)?;
+    let mut reader = Incoming {
+        rest: stream.as_bytes(),
+        size: 1000,
+        blocks: true,
+    };
+    let mut writer = writing(alloc, 1_000);
+    let before = talk.stage();
+    take_ten_turns(alloc, &mut talk, &mut reader, &mut writer, FAR)?;
+    Ok((before, talk.stage()))
+}
+
+// Whether it is open at first, and stands so after its bytes.
+fn is_at(alloc: Global, stream: &str, stage: Stage) -> Result<bool, Memory> {
+    Ok(stages(alloc, stream)? == (Stage::Open, stage))
+}
+
+// Asked again where memory was refused.
+#[test]
+fn stages_of_conversations(rt: HostRuntime) -> Result<(), Fail> {
+    let alloc = rt.alloc();
+    for (stream, stage) in [
+        ("GET /services/web HTTP/1.1\r\n\r\n", Stage::Open),
+        (
+            "GET /services/web HTTP/1.1\r\nConnection: close\r\n\r\n",
+            Stage::Over,
+        ),
+    ] {
+        assert!(rt; is_at(alloc, stream, stage)? || is_at(alloc, stream, stage)?);
+    }
+    Ok(())
 }

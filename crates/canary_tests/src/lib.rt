@@ -1,11 +1,17 @@
-//! The tests of the crates up to the register (`canary_once`): moments that fall, copies that no
-//! program makes, and printed texts. Worked rows stand in the `proofs/Rows` of the crates and in
-//! tests/stories, and what a contract says is not tested again. Tests stand in crates of their own,
-//! so that no other crate is proved twice.
+//! The tests of the crates up to the register (`canary_once`): moments that fall, copies and other
+//! calls that no program makes, calls to which memory is refused, and printed texts. Worked rows
+//! stand in the `proofs/Rows` of the crates and in tests/stories, and what a contract says is not
+//! tested again. Tests stand in crates of their own, so that no other crate is proved twice.
 #![tactic(auto)]
 
 #[cfg(test)]
 mod copies;
+#[cfg(test)]
+mod growths;
+#[cfg(test)]
+mod growths_kept;
+#[cfg(test)]
+mod halves;
 #[cfg(test)]
 mod once;
 #[cfg(test)]
