@@ -100,43 +100,43 @@ page_fits n k xs fits =
 -- the text of all rows, with the page behind those that went out
 page_parts : (caller service : List ℕ) (name : Recorded → List ℕ) (all : List Recorded) (rows : ℕ) (front page : List ℕ)
     → rows_text caller service name 0 all ≡ front ++ rows_text caller service name rows (drop rows all)
-    → page ≡ rows_text caller service name rows (take 256 (drop rows all))
-    → rows_text caller service name 0 all ≡ (front ++ page) ++ rows_text caller service name (rows + length (take 256 (drop rows all))) (drop 256 (drop rows all))
+    → page ≡ rows_text caller service name rows (take 32768 (drop rows all))
+    → rows_text caller service name 0 all ≡ (front ++ page) ++ rows_text caller service name (rows + length (take 32768 (drop rows all))) (drop 32768 (drop rows all))
 page_parts caller service name all rows front page parts is =
     let left : List Recorded = drop rows all in
-    let rest : List ℕ = rows_text caller service name (rows + length (take 256 left)) (drop 256 left) in
+    let rest : List ℕ = rows_text caller service name (rows + length (take 32768 left)) (drop 32768 left) in
     parts
-    ∙ ap (λ l. front ++ rows_text caller service name rows l) (sym (take-append-drop 256 left))
-    ∙ ap (λ t. front ++ t) (rows_joined caller service name rows (take 256 left) (drop 256 left))
+    ∙ ap (λ l. front ++ rows_text caller service name rows l) (sym (take-append-drop 32768 left))
+    ∙ ap (λ t. front ++ t) (rows_joined caller service name rows (take 32768 left) (drop 32768 left))
     ∙ ap (λ t. front ++ (t ++ rest)) (sym is)
     ∙ sym (append_assoc front page rest)
 
 -- the next page went out whole
 pub so_far_more : (w now new : Known) (caller service : List ℕ) (name : Recorded → List ℕ) (all : List Recorded) (rows next : ℕ)
     → SoFar w now caller service name all rows
-    → Appends now new (rows_text caller service name rows (take 256 (drop rows all)))
-    → next ≡ rows + length (take 256 (drop rows all))
+    → Appends now new (rows_text caller service name rows (take 32768 (drop rows all)))
+    → next ≡ rows + length (take 32768 (drop rows all))
     → SoFar w new caller service name all next
 so_far_more w now new caller service name all rows next p q is =
-    let page : List ℕ = rows_text caller service name rows (take 256 (drop rows all)) in
-    let behind : drop 256 (drop rows all) ≡ drop next all = sym (drop_front rows 256 all) ∙ ap (λ n. drop n all) (sym is) in
+    let page : List ℕ = rows_text caller service name rows (take 32768 (drop rows all)) in
+    let behind : drop 32768 (drop rows all) ≡ drop next all = sym (drop_front rows 32768 all) ∙ ap (λ n. drop n all) (sym is) in
     record {
       front = p.front ++ page;
       parts = page_parts caller service name all rows p.front page p.parts refl
           ∙ (λ i. (p.front ++ page) ++ rows_text caller service name (sym is i) (behind i));
       written = appends_more w now new p.front page p.written q;
-      some = rw is (page_fits rows 256 all p.some);
+      some = rw is (page_fits rows 32768 all p.some);
     }
 
 -- some of the next page went out
 pub so_far_short : {A F : Type 0} (w now new : Known) (caller service : List ℕ) (name : Recorded → List ℕ) (all : List Recorded) (rows : ℕ) (r s : Result A F)
     → SoFar w now caller service name all rows
-    → Puts now new (rows_text caller service name rows (take 256 (drop rows all))) r
+    → Puts now new (rows_text caller service name rows (take 32768 (drop rows all))) r
     → IsErr s
     → Puts w new (rows_text caller service name 0 all) s
 so_far_short w now new caller service name all rows r (Ok x) p q failed = cc failed
 so_far_short w now new caller service name all rows r (Err e) p q failed =
-    let rest : List ℕ = rows_text caller service name (rows + length (take 256 (drop rows all))) (drop 256 (drop rows all)) in
+    let rest : List ℕ = rows_text caller service name (rows + length (take 32768 (drop rows all))) (drop 32768 (drop rows all)) in
     record {
       front = p.front ++ q.front;
       back = q.back ++ rest;
@@ -152,24 +152,24 @@ so_far_short w now new caller service name all rows r (Err e) p q failed =
 pub short_on : {A F : Type 0} (a b d : BookState) (caller service : List ℕ) (w now new : Known) (rows : ℕ) (r s : Result A F)
     → Stays a b → Stays b d
     → (b.is_honest → SoFar w now caller service (name_of (past_of a.contents service)) (recorded_of a.contents service) rows)
-    → (d.is_honest → Puts now new (rows_text caller service (name_of (past_of b.contents service)) rows (measurements_of b.contents service rows 256)) r)
+    → (d.is_honest → Puts now new (rows_text caller service (name_of (past_of b.contents service)) rows (measurements_of b.contents service rows 32768)) r)
     → IsErr s → d.is_honest
     → Puts w new (rows_text caller service (name_of (past_of a.contents service)) 0 (recorded_of a.contents service)) s
 short_on a b d caller service w now new rows r s p q so_far puts failed h =
-    let P : Contents → Type 0 = λ c. Puts now new (rows_text caller service (name_of (past_of c service)) rows (measurements_of c service rows 256)) r in
+    let P : Contents → Type 0 = λ c. Puts now new (rows_text caller service (name_of (past_of c service)) rows (measurements_of c service rows 32768)) r in
     so_far_short w now new caller service (name_of (past_of a.contents service)) (recorded_of a.contents service) rows r s (so_far (q.honest h)) (subst P (p.same (q.honest h)) (puts h)) failed
 
 pub more_on : {F : Type 0} (a b d : BookState) (caller service : List ℕ) (w now new : Known) (rows next : ℕ)
     → Stays a b → Stays b d
     → (b.is_honest → SoFar w now caller service (name_of (past_of a.contents service)) (recorded_of a.contents service) rows)
-    → (d.is_honest → Puts {A = ℕ} {E = F} now new (rows_text caller service (name_of (past_of b.contents service)) rows (measurements_of b.contents service rows 256)) (Ok next))
-    → (d.is_honest → next ≡ rows + length (measurements_of b.contents service rows 256))
+    → (d.is_honest → Puts {A = ℕ} {E = F} now new (rows_text caller service (name_of (past_of b.contents service)) rows (measurements_of b.contents service rows 32768)) (Ok next))
+    → (d.is_honest → next ≡ rows + length (measurements_of b.contents service rows 32768))
     → d.is_honest
     → SoFar w new caller service (name_of (past_of a.contents service)) (recorded_of a.contents service) next
 more_on {F = F} a b d caller service w now new rows next p q so_far puts counted h =
-    let text : Contents → List ℕ = λ c. rows_text caller service (name_of (past_of c service)) rows (measurements_of c service rows 256) in
+    let text : Contents → List ℕ = λ c. rows_text caller service (name_of (past_of c service)) rows (measurements_of c service rows 32768) in
     let P : Contents → Type 0 = λ c. Appends now new (text c) in
-    let Q : Contents → Type 0 = λ c. next ≡ rows + length (measurements_of c service rows 256) in
+    let Q : Contents → Type 0 = λ c. next ≡ rows + length (measurements_of c service rows 32768) in
     so_far_more w now new caller service (name_of (past_of a.contents service)) (recorded_of a.contents service) rows next (so_far (q.honest h))
     (subst P (p.same (q.honest h)) (puts_all {F = F} now new (text b.contents) next (puts h)))
     (subst Q (p.same (q.honest h)) (counted h))
@@ -185,14 +185,14 @@ tells_more n m le UnknownService t = absurd t
 pub why_on : {A : Type 0} (a b d : BookState) (caller service : List ℕ) (w now : Known) (rows : ℕ) (r s : Result A ExportFault)
     → Stays a b → Stays b d
     → (b.is_honest → SoFar w now caller service (name_of (past_of a.contents service)) (recorded_of a.contents service) rows)
-    → (d.is_honest → IfErr r (TellsPage (rows + length (measurements_of b.contents service rows 256))))
+    → (d.is_honest → IfErr r (TellsPage (rows + length (measurements_of b.contents service rows 32768))))
     → s ≡ r → d.is_honest
     → IfErr s (TellsPage (length (recorded_of a.contents service)))
 why_on {A = A} a b d caller service w now rows r s p q so_far why same h =
-    let P : Contents → Type 0 = λ c. IfErr r (TellsPage (rows + length (measurements_of c service rows 256))) in
+    let P : Contents → Type 0 = λ c. IfErr r (TellsPage (rows + length (measurements_of c service rows 32768))) in
     let all : List Recorded = recorded_of a.contents service in
     let R : Result A ExportFault → Type 0 = λ x. IfErr x (TellsPage (length all)) in
-    subst R (sym same) (IfErr-weaker r (TellsPage (rows + length (measurements_of a.contents service rows 256))) (TellsPage (length all)) (λ e t. tells_more (rows + length (measurements_of a.contents service rows 256)) (length all) (page_fits rows 256 all (so_far (q.honest h)).some) e t) (subst P (p.same (q.honest h)) (why h)))
+    subst R (sym same) (IfErr-weaker r (TellsPage (rows + length (measurements_of a.contents service rows 32768))) (TellsPage (length all)) (λ e t. tells_more (rows + length (measurements_of a.contents service rows 32768)) (length all) (page_fits rows 32768 all (so_far (q.honest h)).some) e t) (subst P (p.same (q.honest h)) (why h)))
 
 -- The whole file.
 

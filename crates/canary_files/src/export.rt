@@ -27,7 +27,7 @@ use thiserror::Error;
 pub const MOST_ROWS: u64 = 1_000_000_000;
 
 // How many measurements are read and written at once.
-const PAGE: u32 = 256;
+const PAGE: u32 = 32_768;
 
 /// Why a service's measurements were not all exported.
 #[derive(Clone, Copy, Debug, PartialEq, Eq, Error)]
@@ -201,15 +201,15 @@ fn write_page<W: Write, B: Book>(
         → Puts (W.contents out.old) (W.contents out.new)
         (rows_text source.now.caller source.now.service
         (name_of (past_of (B.state book.old).contents source.now.service))
-        from (measurements_of (B.state book.old).contents source.now.service from 256))
+        from (measurements_of (B.state book.old).contents source.now.service from 32768))
         result }
     ensures rows { (B.state book.new).is_honest → IfOk result (λ rows.
         rows ≡ from + length
-        (measurements_of (B.state book.old).contents source.now.service from 256)) }
+        (measurements_of (B.state book.old).contents source.now.service from 32768)) }
     ensures grows { IfOk result (λ rows. (from ≤ rows) × (rows ≤ MOST_ROWS)) }
     ensures why { (B.state book.new).is_honest → IfErr result (TellsPage
         (from + length
-        (measurements_of (B.state book.old).contents source.now.service from 256))) }
+        (measurements_of (B.state book.old).contents source.now.service from 32768))) }
     ensures sure { (B.state book.new).is_honest
         → IfErr result (IsExportFault (B.state book.old).is_sure) }
 {
