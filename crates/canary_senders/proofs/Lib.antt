@@ -5,5 +5,7 @@ pub mod Replies
 pub mod Last
 pub mod Named
 pub mod Arriving
+pub mod Delivering
 pub mod Rows
+pub mod DeliveryRows
 pub mod LatePauses

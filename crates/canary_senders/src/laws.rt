@@ -1,5 +1,6 @@
 //! Laws over all senders.
 ghost use Rattle.canary_once.specs.Contents.{no_contents};
+ghost use Rattle.canary_senders.specs.Delivery.{Delivers};
 ghost use Rattle.canary_senders.specs.Senders.{NobodyHasSettled, SettleFirstParts};
 ghost use Rattle.canary_senders.specs.Senders.{NoneIsReused, LastSettlesAll, OrderDoesNotMatter};
 
@@ -31,4 +32,17 @@ pub fn arrivals()
     ensures { OrderDoesNotMatter }
 {
     releases::independence();
+}
+
+/// A caller with a journal: it writes each command there, under its next number, before it sends
+/// it, and goes on to the next number once it heard that this one is settled. The network may lose,
+/// repeat and delay whatever goes over it, others may ask what they like, and either end may crash
+/// at any moment. The desk then settles at most one command under each of the caller's numbers, in
+/// order, and one that the caller asked under it: just these act. What the caller heard is what the
+/// desk keeps, and if nothing is pending, all that it asked is settled, and it heard each reply.
+pub fn delivery()
+    ensures { Delivers }
+{
+    plans::same_commands();
+    laws::running_on();
 }
