@@ -13,7 +13,7 @@ use Rattle.canary_once.specs.Contents.{Contents, no_contents}
 use Rattle.canary_once.specs.Answers.{after, answer, reused_reply}
 use Rattle.canary_once.specs.Single as single
 use Rattle.canary_once.proofs.Worlds.{replies_from_nothing}
-use Rattle.canary_senders.specs.Delivery.{Message, Answered, World, begun, Step, Ask, Instead, Send, Comes, Hears, Other, hears, runs}
+use Rattle.canary_senders.specs.Delivery.{Message, Answered, World, begun, Step, Ask, Instead, Send, Comes, Hears, Other, hears, request_of, runs}
 
 abbrev ops : List ℕ
 ops = codes "ops"
@@ -44,6 +44,10 @@ in_its_place c = refl
 -- the caller asks nothing in place of another command if no number is pending
 too_late : (c : Contents) → (runs ops 7 (begun c) (Instead (Abort web) ∷ [])).script ≡ []
 too_late c = refl
+
+-- a caller with seven settled requests goes on from number 8
+first_number : (request_of ops 7 b (sent_as 0 (Promote web))).number ≡ 8
+first_number = refl
 
 -- What the caller hears.
 
