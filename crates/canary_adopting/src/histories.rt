@@ -24,7 +24,8 @@ const PAGE: u32 = 32_768;
 ///
 /// # Errors
 /// `Broken` where a row's words are of no event, or the tables hold what no program can; `Memory`
-/// where there is not enough, `Storage` where the database fails, or has more rows than are counted.
+/// where there is not enough, `Storage` where the database fails, or has more rows than are
+/// counted.
 pub(crate) fn lines<Q: Reader>(conn: &mut Q, alloc: Global, name: &Name) -> Result<u64, ReadFault>
     requires ready { Q.IsReady conn.old }
     ensures mode { Q.IsReady conn.new }
@@ -62,7 +63,8 @@ fn page_of_lines<Q: Reader>(
     ensures same { IsSame (Q.shows conn.old) (Q.shows conn.new) }
     ensures found { FindsSuch (IsPageOfLines name.now 32768 from)
         (Q.shows conn.old) (Q.shows conn.new) result }
-    ensures broken { RefusesUnless (λ t. AllByRecursion IsLineRow (lines_after name.now 32768 from t))
+    ensures broken { RefusesUnless
+        (λ t. AllByRecursion IsLineRow (lines_after name.now 32768 from t))
         (Q.shows conn.old) (Q.shows conn.new) result }
 {
     let rows = histories::lines(conn, alloc, name, from, PAGE)?;

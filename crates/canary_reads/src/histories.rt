@@ -40,9 +40,9 @@ pub fn history<Q: Reader>(
     shown::all(alloc, service, rows.as_slice())
 }
 
-/// The lines of the service's history, in their order: from that one on, counted from 0, at most so
-/// many. `Memory` where there is not enough, `Storage` where the database fails, and where `from` is
-/// 2^63 or more, `Broken` where a line of these is none that a program can hold.
+/// The lines of the service's history, in their order: from that one on, counted from 0, at most
+/// so many. `Memory` where there is not enough, `Storage` where the database fails, and where
+/// `from` is 2^63 or more, `Broken` where a line of these is none that a program can hold.
 pub fn lines<Q: Reader>(
     conn: &mut Q,
     alloc: Global,
