@@ -129,20 +129,19 @@ class Run:
 
 def main():
     words = argparse.ArgumentParser(prog="tests/proofs/prove")
-    words.add_argument("root")
     words.add_argument("--lanes", type=int, default=os.cpu_count(), help="so many at a time")
     words.add_argument("--from", dest="clone", help="a clone whose kept work is taken first")
     words.add_argument("crates", nargs="*", metavar="CRATE", help="these, and what is below")
-    given = words.parse_args()
+    root, given = sys.argv[1], words.parse_intermixed_args(sys.argv[2:])
     rtlib = load_rtlib()
-    os.chdir(given.root)
+    os.chdir(root)
     rtlib.guarded()
     rtlib.Crate.may_have_bugs = rtlib.Crate.may_be_empty = rtlib.Crate.may_call_c = True
-    crates = wanted(rtlib.crates_below(given.root), given.crates)
+    crates = wanted(rtlib.crates_below(root), given.crates)
     held = rtlib.lock(crates)
     if given.clone:
         take(crates, os.path.abspath(given.clone))
-    logs = f"{given.root}/tests/proofs/out"
+    logs = f"{root}/tests/proofs/out"
     os.makedirs(logs, exist_ok=True)
     run = Run(crates, logs)
     lanes = [threading.Thread(target=run.lane) for _ in range(max(1, given.lanes))]
