@@ -10,6 +10,7 @@ use Rattle.serde_json.specs.Read.{read, max_depth}
 use Rattle.serde_json.specs.View.{items_of}
 use Rattle.serde_json.specs.Written.{has_float, compact_text}
 use Rattle.canary_base.specs.Names.{is_name, is_label}
+use Rattle.canary_plan.specs.Limits.{is_dry_run_name}
 use Rattle.canary_condition.specs.declared.outcome.Value.{Value}
 use Rattle.canary_condition.specs.declared.outcome.Value.TheVariants.{Whole, List as ListResult}
 use Rattle.canary_condition.specs.declared.outcome.Outcome.{Outcome}
@@ -26,12 +27,12 @@ use Rattle.canary_plan.specs.declared.command.Command.{Command}
 use Rattle.canary_plan.specs.declared.command.Command.TheVariants as command
 use Rattle.canary_canonical.specs.Texts.{whole_data, signed_data, data_or_null, list_data, metric_data, metric_data_with, template_data, step_data, background_data, service_data, result_data, entry_with, entry_data, report_data, start_data, service_alone, command_data, command_text}
 use Rattle.canary_canonical.specs.Forms.{◌⊛◌, at, at_if, is_object_of, name_in, label_in, number_up_to, signed_in, null_or, each, list_of}
-use Rattle.canary_canonical.specs.Readings.{seconds_in, moment_in, word_in, metric_with, metric_in, template_with, template_in, step_in, background_with, background_in, service_with, service_in, values_with, result_in, outcome_in, entry_of, entry_in, report_with, report_in, start_with, start_in, named_in, plain_of_kind, command_of_kind, command_in, if_text_of, canonical_in}
-use Rattle.canary_canonical.specs.Laws.{is_duration, is_word, is_signed_word, all_of, keeps_metric, keeps_template, keeps_step, keeps_background, keeps_service, keeps_outcome, keeps_entry, keeps_report, keeps_limits, KeepsLimits, ReadsBack, OneText}
+use Rattle.canary_canonical.specs.Readings.{seconds_in, moment_in, word_in, weight_in, starting_step_in, dry_run_name_in, metric_with, metric_in, template_with, template_in, step_in, background_with, background_in, service_with, service_in, values_with, result_in, outcome_in, entry_of, entry_in, report_with, report_in, start_with, start_in, named_in, plain_of_kind, command_of_kind, command_in, if_text_of, canonical_in}
+use Rattle.canary_canonical.specs.Laws.{is_duration, is_weight, is_starting_step, is_signed_word, all_of, keeps_metric, keeps_template, keeps_step, keeps_background, keeps_service, keeps_outcome, keeps_entry, keeps_report, keeps_limits, KeepsLimits, ReadsBack, OneText}
 use Rattle.canary_canonical.proofs.Kept.{made_where_kept}
 use Rattle.canary_canonical.proofs.Regular.{written_is_read}
 use Rattle.canary_canonical.proofs.PlainData.{plain_command}
-use Rattle.canary_canonical.proofs.Limits.{both, metric_numbers, ordinal_is_word, run_is_word, command_fits}
+use Rattle.canary_canonical.proofs.Limits.{both, is_word, metric_numbers, ordinal_is_word, run_is_word, command_fits}
 
 -- ---- parts
 
@@ -55,6 +56,15 @@ moment_back = number_back 253370764799
 
 word_back : (n : ℕ) → IsTrue (is_word n) → word_in (whole_data n) ≡ Some n
 word_back = number_back 4294967295
+
+weight_back : (n : ℕ) → IsTrue (is_weight n) → weight_in (whole_data n) ≡ Some n
+weight_back = number_back 1000000
+
+starting_step_back : (n : ℕ) → IsTrue (is_starting_step n) → starting_step_in (whole_data n) ≡ Some n
+starting_step_back = number_back 64
+
+dry_run_name_back : (s : List ℕ) → IsTrue (is_dry_run_name s) → dry_run_name_in (string s) ≡ Some s
+dry_run_name_back s h = passed s h
 
 signed_back : (z : ℤ) → IsTrue (is_signed_word z) → signed_in (signed_data z) ≡ Some z
 signed_back (pos n) h = passed (pos n) h
@@ -81,12 +91,11 @@ each_back form part test h (x ∷ xs) k =
     let rest = each_back form part test h xs (both k).1 in
     λ i. option_and_then (λ a. option_map (λ more. a ∷ more) (rest i)) (first i)
 
-texts_back : (xs : List (List ℕ)) → list_of as_str (list_data string xs) ≡ Some xs
-texts_back [] = refl
-texts_back (x ∷ xs) = ap (option_map (λ more. x ∷ more)) (texts_back xs)
-
 names_back : (xs : List (List ℕ)) → IsTrue (list_all is_name xs) → list_of name_in (list_data string xs) ≡ Some xs
 names_back = each_back string name_in is_name name_back
+
+dry_run_back : (xs : List (List ℕ)) → IsTrue (list_all is_dry_run_name xs) → list_of dry_run_name_in (list_data string xs) ≡ Some xs
+dry_run_back = each_back string dry_run_name_in is_dry_run_name dry_run_name_back
 
 -- ---- templates
 
@@ -120,16 +129,17 @@ metric_back m h =
 template_back : (t : TemplateSpec) → IsTrue (keeps_template t) → template_in (template_data t) ≡ Some t
 unfolding template_data template_in keeps_template
 template_back t h =
+    let lists = both (both h).1 in
     let name : at (codes "name") name_in (template_data t) ≡ Some t.name = name_back t.name (both h).0 in
-    let metrics : at (codes "metrics") (list_of metric_in) (template_data t) ≡ Some t.metrics = each_back metric_data metric_in keeps_metric metric_back t.metrics (both h).1 in
-    let dry_run : at (codes "dryRun") (list_of as_str) (template_data t) ≡ Some t.dry_run = texts_back t.dry_run in
+    let metrics : at (codes "metrics") (list_of metric_in) (template_data t) ≡ Some t.metrics = each_back metric_data metric_in keeps_metric metric_back t.metrics lists.0 in
+    let dry_run : at (codes "dryRun") (list_of dry_run_name_in) (template_data t) ≡ Some t.dry_run = dry_run_back t.dry_run lists.1 in
     (λ i. option_flatten (Some template_with ⊛ name i ⊛ metrics i ⊛ dry_run i)) ∙ sym (made_where_kept _ _ t.within)
 
 -- ---- services
 
 step_back : (s : Step) → IsTrue (keeps_step s) → step_in (step_data s) ≡ Some s
 unfolding step_data step_in keeps_step
-step_back (SetWeight percent) h = ap (option_map SetWeight) (word_back percent h)
+step_back (SetWeight percent) h = ap (option_map SetWeight) (weight_back percent h)
 step_back (Pause seconds) h = ap (option_map Pause) (seconds_or_null seconds h)
 step_back (Analysis names) h = ap (option_map Analysis) (names_back names h)
 
@@ -137,7 +147,7 @@ background_back : (b : Background) → IsTrue (keeps_background b) → backgroun
 unfolding background_data background_in keeps_background
 background_back b h =
     let templates : at (codes "templates") (list_of name_in) (background_data b) ≡ Some b.templates = names_back b.templates (both h).0 in
-    let starting_step : at (codes "startingStep") word_in (background_data b) ≡ Some b.starting_step = word_back b.starting_step (both h).1 in
+    let starting_step : at (codes "startingStep") starting_step_in (background_data b) ≡ Some b.starting_step = starting_step_back b.starting_step (both h).1 in
     λ i. Some background_with ⊛ templates i ⊛ starting_step i
 
 background_not_null : (b : Background) → IsTrue (keeps_background b) → null_or background_in (background_data b) ≡ Some (Some b)

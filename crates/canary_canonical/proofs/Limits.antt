@@ -20,7 +20,7 @@ use Rattle.canary_plan.specs.declared.command.Command.{Command}
 use Rattle.canary_plan.specs.declared.command.Command.TheVariants as command
 use Rattle.canary_plan.specs.Limits.{is_limit, is_count}
 use Rattle.canary_canonical.specs.Texts.{whole_data, signed_data, data_or_null, list_data, passing, metric_data, metric_data_with, template_data, step_data, background_data, service_data, entry_with, entry_data, report_data, start_data, command_data}
-use Rattle.canary_canonical.specs.Laws.{is_duration, is_word, is_signed_word, all_of, keeps_metric, keeps_template, keeps_step, keeps_background, keeps_service, keeps_outcome, keeps_entry, keeps_report, keeps_limits, KeepsLimits}
+use Rattle.canary_canonical.specs.Laws.{is_duration, is_weight, is_starting_step, is_signed_word, all_of, keeps_metric, keeps_template, keeps_step, keeps_background, keeps_service, keeps_outcome, keeps_entry, keeps_report, keeps_limits, KeepsLimits}
 use Rattle.canary_canonical.proofs.Regular.{NumbersFit, ItemsFit, MembersFit}
 
 -- ---- tests
@@ -31,6 +31,11 @@ both {a} {b} h = and_parts a b h
 -- what is at most a lesser number is at most a greater one
 pub weaker : (n less most : ℕ) → IsTrue (nat_le n less) → IsTrue (nat_le less most) → IsTrue (nat_le n most)
 weaker n less most h k = grind (arith, h, k)
+
+-- ---- numbers of 32 bits
+
+abbrev pub is_word : ℕ → Bool
+is_word n = nat_le n 4294967295
 
 -- ---- what the types of a metric, an entry and a report promise
 
@@ -73,6 +78,12 @@ run_is_word r = weaker r.run 1000000000 4294967295 (both (both r.within).0).1 re
 
 word_fits : (n : ℕ) → IsTrue (is_word n) → n < 2 ^ 64
 word_fits n h = grind (arith, h)
+
+weight_fits : (n : ℕ) → IsTrue (is_weight n) → n < 2 ^ 64
+weight_fits n h = grind (arith, h)
+
+starting_step_fits : (n : ℕ) → IsTrue (is_starting_step n) → n < 2 ^ 64
+starting_step_fits n h = grind (arith, h)
 
 moment_fits : (n : ℕ) → IsTrue (nat_le n 253370764799) → n < 2 ^ 64
 moment_fits n h = grind (arith, h)
@@ -132,19 +143,19 @@ metric_fits m h =
 
 template_fits : (t : TemplateSpec) → IsTrue (keeps_template t) → NumbersFit (template_data t)
 unfolding template_data keeps_template
-template_fits t h = (texts_fit t.dry_run, (items_fit metric_data keeps_metric metric_fits t.metrics (both h).1, (tt, tt)))
+template_fits t h = (texts_fit t.dry_run, (items_fit metric_data keeps_metric metric_fits t.metrics (both (both h).1).0, (tt, tt)))
 
 -- ---- services
 
 step_fits : (s : Step) → IsTrue (keeps_step s) → NumbersFit (step_data s)
 unfolding step_data keeps_step
-step_fits (SetWeight percent) h = (word_fits percent h, tt)
+step_fits (SetWeight percent) h = (weight_fits percent h, tt)
 step_fits (Pause seconds) h = (or_null_fits whole_data is_duration duration_fits seconds h, tt)
 step_fits (Analysis names) h = (texts_fit names, tt)
 
 background_fits : (b : Background) → IsTrue (keeps_background b) → NumbersFit (background_data b)
 unfolding background_data keeps_background
-background_fits b h = (word_fits _ (both h).1, (texts_fit b.templates, tt))
+background_fits b h = (starting_step_fits _ (both h).1, (texts_fit b.templates, tt))
 
 service_fits : (s : ServiceSpec) → IsTrue (keeps_service s) → NumbersFit (service_data s)
 unfolding service_data keeps_service

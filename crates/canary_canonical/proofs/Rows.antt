@@ -1,6 +1,6 @@
 -- Worked texts, computed on the definitions, so that a wrong key or value in a definition does not check.
 use Rattle.std.proofs.Common.{◌≡◌, ℕ, pos, negsuc, List, [], ◌∷◌, ◌++◌, Some, None, refl}
-use Rattle.std.specs.Prelude.{codes}
+use Rattle.std.specs.Prelude.{codes, replicate}
 use Rattle.std.specs.Fmt.{digits}
 use Rattle.json.proofs.OnLiterals.{json_on_literals}
 use Rattle.serde_json.proofs.OnLiterals.{serde_json_on_literals}
@@ -13,7 +13,7 @@ use Rattle.canary_plan.specs.declared.report.Entry.{Entry}
 use Rattle.canary_plan.specs.declared.command.Command.{Command}
 use Rattle.canary_plan.specs.declared.command.Command.TheVariants as command
 use Rattle.canary_canonical.specs.Texts.{metric_data_with, template_data, step_data, background_data, service_data, entry_data, report_data, start_data, command_data, command_text}
-use Rattle.canary_canonical.specs.Readings.{service_in, step_in, entry_in, report_in, start_in, plain_of_kind, command_of_kind, spelt_in, canonical_in}
+use Rattle.canary_canonical.specs.Readings.{template_in, metric_in, service_in, step_in, background_in, entry_in, report_in, start_in, plain_of_kind, command_of_kind, spelt_in, canonical_in}
 
 abbrev web : List ℕ
 web = codes "web"
@@ -151,6 +151,46 @@ longest = refl
 too_long : spelt_in (pausing (codes "31536001")) ≡ None
 unfolding serde_json_on_literals command_of_kind service_in step_in
 too_long = refl
+
+-- a service, with this weight
+abbrev weighing : List ℕ → List ℕ
+weighing percent = codes "{\"service\":{\"analysis\":null,\"name\":\"web\",\"steps\":[{\"setWeight\":" ++ percent ++ codes "}],\"version\":\"v1\"}}"
+
+greatest_weight : canonical_in (weighing (codes "1000000")) ≡ Some (command.Service (record { name = web; version = codes "v1"; steps = SetWeight 1000000 ∷ []; background = None }))
+unfolding json_on_literals serde_json_on_literals digits command_text command_data service_data step_data canonical_in command_of_kind service_in step_in
+greatest_weight = refl
+
+weight_too_great : canonical_in (weighing (codes "1000001")) ≡ None
+unfolding serde_json_on_literals canonical_in command_of_kind service_in step_in
+weight_too_great = refl
+
+-- a service, with a background analysis that begins at this step
+abbrev beginning : List ℕ → List ℕ
+beginning step = codes "{\"service\":{\"analysis\":{\"startingStep\":" ++ step ++ codes ",\"templates\":[\"t\"]},\"name\":\"web\",\"steps\":[],\"version\":\"v1\"}}"
+
+last_starting_step : canonical_in (beginning (codes "64")) ≡ Some (command.Service (record { name = web; version = codes "v1"; steps = []; background = Some (record { templates = codes "t" ∷ []; starting_step = 64 }) }))
+unfolding json_on_literals serde_json_on_literals digits command_text command_data service_data background_data canonical_in command_of_kind service_in background_in
+last_starting_step = refl
+
+starting_step_too_great : canonical_in (beginning (codes "65")) ≡ None
+unfolding serde_json_on_literals canonical_in command_of_kind service_in background_in
+starting_step_too_great = refl
+
+-- a template that marks so many letters "a" as dry-run
+abbrev marking : ℕ → List ℕ
+marking n = codes "{\"template\":{\"dryRun\":[\"" ++ replicate n 97 ++ codes "\"],\"metrics\":[{\"consecutiveErrorLimit\":4,\"count\":null,\"failureCondition\":null,\"failureLimit\":0,\"inconclusiveLimit\":0,\"initialDelay\":0,\"interval\":60,\"name\":\"m\",\"successCondition\":\"result == 0\"}],\"name\":\"t\"}}"
+
+longest_dry_run_name : canonical_in (marking 63) ≡ Some (command.Template (record { name = codes "t"; metrics = metric ∷ []; dry_run = replicate 63 97 ∷ []; within = refl }))
+unfolding json_on_literals serde_json_on_literals digits command_text command_data template_data metric_data_with canonical_in command_of_kind template_in metric_in
+longest_dry_run_name = refl
+
+dry_run_name_too_long : canonical_in (marking 64) ≡ None
+unfolding serde_json_on_literals canonical_in command_of_kind template_in metric_in
+dry_run_name_too_long = refl
+
+no_empty_dry_run_name : canonical_in (marking 0) ≡ None
+unfolding serde_json_on_literals canonical_in command_of_kind template_in metric_in
+no_empty_dry_run_name = refl
 
 -- a report, with this result
 abbrev reporting : List ℕ → List ℕ

@@ -15,6 +15,7 @@ use Rattle.canary_plan.specs.declared.report.Entry.{Entry}
 use Rattle.canary_plan.specs.declared.report.Report.{Report}
 use Rattle.canary_plan.specs.declared.command.Command.{Command}
 use Rattle.canary_plan.specs.declared.command.Command.TheVariants as command
+use Rattle.canary_plan.specs.Limits.{is_dry_run_name}
 use Rattle.canary_canonical.specs.Texts.{command_text}
 use Rattle.canary_canonical.specs.Readings.{canonical_in}
 
@@ -24,8 +25,11 @@ use Rattle.canary_canonical.specs.Readings.{canonical_in}
 abbrev pub is_duration : ℕ → Bool
 is_duration n = nat_le n 31536000
 
-abbrev pub is_word : ℕ → Bool
-is_word n = nat_le n 4294967295
+abbrev pub is_weight : ℕ → Bool
+is_weight n = nat_le n 1000000
+
+abbrev pub is_starting_step : ℕ → Bool
+is_starting_step n = nat_le n 64
 
 -- a word of 64 bits with a sign holds it
 abbrev pub is_signed_word : ℤ → Bool
@@ -40,15 +44,16 @@ unfoldable pub keeps_metric : MetricSpec → Bool
 keeps_metric m = is_label m.name && (all_of is_duration m.interval && is_duration m.initial_delay)
 
 unfoldable pub keeps_template : TemplateSpec → Bool
-keeps_template t = is_name t.name && list_all keeps_metric t.metrics
+keeps_template t =
+    is_name t.name && (list_all keeps_metric t.metrics && list_all is_dry_run_name t.dry_run)
 
 unfoldable pub keeps_step : Step → Bool
-keeps_step (SetWeight percent) = is_word percent
+keeps_step (SetWeight percent) = is_weight percent
 keeps_step (Pause duration) = all_of is_duration duration
 keeps_step (Analysis templates) = list_all is_name templates
 
 unfoldable pub keeps_background : Background → Bool
-keeps_background b = list_all is_name b.templates && is_word b.starting_step
+keeps_background b = list_all is_name b.templates && is_starting_step b.starting_step
 
 unfoldable pub keeps_service : ServiceSpec → Bool
 keeps_service s =

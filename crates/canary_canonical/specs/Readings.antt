@@ -20,8 +20,8 @@ use Rattle.canary_plan.specs.declared.report.Entry.{Entry}
 use Rattle.canary_plan.specs.declared.report.Report.{Report}
 use Rattle.canary_plan.specs.declared.command.Command.{Command}
 use Rattle.canary_plan.specs.declared.command.Command.TheVariants as command
-use Rattle.canary_plan.specs.Limits.{are_metric_limits, is_metric_count, is_ordinal, are_report_limits}
-use Rattle.canary_canonical.specs.Forms.{◌⊛◌, at, at_if, in_object_of, by_key, name_in, label_in, number_up_to, signed_in, null_or, list_of, where_kept}
+use Rattle.canary_plan.specs.Limits.{are_metric_limits, is_dry_run_name, is_metric_count, is_ordinal, are_report_limits}
+use Rattle.canary_canonical.specs.Forms.{◌⊛◌, at, at_if, in_object_of, by_key, name_in, label_in, number_up_to, signed_in, null_or, list_of, some_if, where_kept}
 use Rattle.canary_canonical.specs.Texts.{command_text}
 
 -- a duration, in seconds
@@ -35,6 +35,18 @@ moment_in = number_up_to 253370764799
 -- a number of 32 bits
 abbrev pub word_in : Data → Option ℕ
 word_in = number_up_to 4294967295
+
+-- a weight, in percent
+abbrev pub weight_in : Data → Option ℕ
+weight_in = number_up_to 1000000
+
+-- the step at which a background analysis begins
+abbrev pub starting_step_in : Data → Option ℕ
+starting_step_in = number_up_to 64
+
+-- the name of a metric that is dry-run, or `.*`
+abbrev pub dry_run_name_in : Data → Option (List ℕ)
+dry_run_name_in value = option_and_then (some_if is_dry_run_name) (as_str value)
 
 -- ---- templates
 
@@ -78,13 +90,13 @@ unfoldable pub template_in : Data → Option TemplateSpec
 template_in d = option_flatten (Some template_with
     ⊛ at (codes "name") name_in d
     ⊛ at (codes "metrics") (list_of metric_in) d
-    ⊛ at (codes "dryRun") (list_of as_str) d)
+    ⊛ at (codes "dryRun") (list_of dry_run_name_in) d)
 
 -- ---- services
 
 abbrev pub step_of_kind : List ℕ → Data → Option Step
 step_of_kind kind d =
-    if bytes_eq kind (codes "setWeight") then option_map SetWeight (word_in d)
+    if bytes_eq kind (codes "setWeight") then option_map SetWeight (weight_in d)
     else (if bytes_eq kind (codes "pause") then option_map Pause (null_or seconds_in d)
     else (if bytes_eq kind (codes "analysis") then option_map Analysis (list_of name_in d)
     else None))
@@ -99,7 +111,7 @@ background_with templates starting_step =
 unfoldable pub background_in : Data → Option Background
 background_in d = Some background_with
     ⊛ at (codes "templates") (list_of name_in) d
-    ⊛ at (codes "startingStep") word_in d
+    ⊛ at (codes "startingStep") starting_step_in d
 
 abbrev pub service_with : List ℕ → List ℕ → List Step → Option Background → ServiceSpec
 service_with name version steps background =

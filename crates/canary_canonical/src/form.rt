@@ -8,6 +8,7 @@ ghost use Rattle.serde_json.specs.View.{view};
 ghost use Rattle.canary_canonical.specs.Forms.{at, is_object_of, only_member};
 ghost use Rattle.canary_canonical.specs.Forms.{name_in, label_in, number_up_to, null_or};
 ghost use Rattle.canary_canonical.specs.Readings.{seconds_in, moment_in};
+ghost use Rattle.canary_canonical.specs.Readings.{weight_in, starting_step_in, dry_run_name_in};
 ghost use Rattle.canary_canonical.specs.Reads.{IsRead};
 
 use canary_base::durations::Seconds;
@@ -15,6 +16,9 @@ use canary_base::error::Memory;
 use canary_base::lists::Text;
 use canary_base::moments::Moment;
 use canary_base::names::{Label, Name};
+use canary_plan::service::StartingStep;
+use canary_plan::step::Weight;
+use canary_plan::template_spec::DryRunName;
 use serde_json::Value;
 use std::alloc::{AllocError, AllocFailed, Global};
 use thiserror::Error;
@@ -139,12 +143,34 @@ pub fn moment_in(value: &Value) -> Option<Moment>
     Moment::new(value.as_u64()?)
 }
 
+/// The weight that it is, in percent.
+pub fn weight_in(value: &Value) -> Option<Weight>
+    ensures { result ≡ weight_in (view value.now) }
+{
+    Weight::new(value.as_u64()?)
+}
+
+/// The step at which a background analysis begins that it is.
+pub fn starting_step_in(value: &Value) -> Option<StartingStep>
+    ensures { result ≡ starting_step_in (view value.now) }
+{
+    StartingStep::new(value.as_u64()?)
+}
+
 /// The text that it is.
 pub fn text_in(alloc: Global, value: &Value) -> Result<Text, FormFault>
     ensures { IsRead (as_str (view value.now)) result }
 {
     let text = value.as_str().ok_or(FormFault::Unreadable)?;
     Ok(Text::of(String::from_str(alloc, text)?))
+}
+
+/// The name of a metric that is dry-run, or `.*`, that it is: 1 to 63 bytes.
+pub fn dry_run_name_in(alloc: Global, value: &Value) -> Result<DryRunName, FormFault>
+    ensures { IsRead (dry_run_name_in (view value.now)) result }
+{
+    let text = text_in(alloc, value)?;
+    DryRunName::of(text).ok_or(FormFault::Unreadable)
 }
 
 /// The name under that key.
@@ -166,6 +192,13 @@ pub fn number_at(value: &Value, key: &str, greatest: u32) -> Option<u32>
     ensures { result ≡ at key.now (number_up_to greatest) (view value.now) }
 {
     number_up_to(value.get(key)?, greatest)
+}
+
+/// The step at which a background analysis begins, under that key.
+pub fn starting_step_at(value: &Value, key: &str) -> Option<StartingStep>
+    ensures { result ≡ at key.now starting_step_in (view value.now) }
+{
+    starting_step_in(value.get(key)?)
 }
 
 /// The duration under that key, in seconds.

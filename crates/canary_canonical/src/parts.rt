@@ -4,12 +4,14 @@ ghost use Rattle.std.specs.List.{list_all};
 ghost use Rattle.canary_base.specs.Names.{is_name};
 ghost use Rattle.serde_json.specs.Data.{string};
 ghost use Rattle.serde_json.specs.View.{view};
+ghost use Rattle.canary_plan.specs.Limits.{is_dry_run_name};
 ghost use Rattle.canary_canonical.specs.Texts.{whole_data, data_or_null, list_data, only};
 ghost use Rattle.canary_canonical.specs.Laws.{is_duration, all_of};
 
 use canary_base::durations::Seconds;
 use canary_base::lists::Text;
 use canary_base::names::Name;
+use canary_plan::template_spec::DryRunName;
 use serde_json::{Value, json};
 use std::alloc::{AllocError, Global};
 
@@ -58,15 +60,24 @@ pub fn only(alloc: Global, key: &str, value: Value) -> Result<Value, AllocError>
     json!(in alloc; {key: value})
 }
 
-/// The texts, in order.
-pub fn texts(alloc: Global, texts: &[Text]) -> Result<Value, AllocError>
-    ensures { IfOk result (λ value. view value ≡ list_data string texts.now) }
+/// The names of metrics that are dry-run, in order.
+pub fn dry_run_names(alloc: Global, names: &[DryRunName]) -> Result<Value, AllocError>
+    ensures value { IfOk result (λ value. view value ≡ list_data string names.now) }
+    ensures kept { IfOk result (λ _. IsTrue (list_all is_dry_run_name names.now)) }
 {
     let mut values = Vec::new(alloc);
-    for text in texts {
-        values.push(text_value(alloc, text)?)?;
+    for name in names {
+        values.push(dry_run_name_value(alloc, name)?)?;
     }
     Ok(Value::Array(values))
+}
+
+// The name of a metric that is dry-run in JSON.
+fn dry_run_name_value(alloc: Global, name: &DryRunName) -> Result<Value, AllocError>
+    ensures value { IfOk result (λ value. view value ≡ string name.now) }
+    ensures kept { IfOk result (λ _. IsTrue (is_dry_run_name name.now)) }
+{
+    Value::try_from_str(alloc, name.as_str())
 }
 
 /// The names, in order.

@@ -5,7 +5,7 @@ ghost use Rattle.canary_base.specs.Names.{is_name};
 ghost use Rattle.serde_json.specs.View.{view};
 ghost use Rattle.canary_canonical.specs.Texts.{data_or_null, list_data};
 ghost use Rattle.canary_canonical.specs.Texts.{step_data, background_data, service_data};
-ghost use Rattle.canary_canonical.specs.Laws.{is_word, all_of};
+ghost use Rattle.canary_canonical.specs.Laws.{is_starting_step, all_of};
 ghost use Rattle.canary_canonical.specs.Laws.{keeps_step, keeps_background, keeps_service};
 
 use crate::parts::{names, only, seconds_or_null};
@@ -46,10 +46,10 @@ fn background_or_null(alloc: Global, background: &Option<Background>) -> Result<
 fn background_value(alloc: Global, background: &Background) -> Result<Value, AllocError>
     ensures value { IfOk result (λ value. view value ≡ background_data background.now) }
     ensures names { IfOk result (λ _. IsTrue (list_all is_name background.now.templates)) }
-    ensures step { IfOk result (λ _. IsTrue (is_word background.now.starting_step)) }
+    ensures step { IfOk result (λ _. IsTrue (is_starting_step background.now.starting_step)) }
 {
     let templates = names(alloc, background.templates.as_slice())?;
-    json!(in alloc; {"startingStep": background.starting_step, "templates": templates})
+    json!(in alloc; {"startingStep": background.starting_step.get(), "templates": templates})
 }
 
 fn step_values(alloc: Global, steps: &[Step]) -> Result<Value, AllocError>
@@ -69,7 +69,7 @@ fn step_value(alloc: Global, step: &Step) -> Result<Value, AllocError>
     ensures kept { IfOk result (λ _. IsTrue (keeps_step step.now)) }
 {
     match step {
-        Step::SetWeight(percent) => only(alloc, "setWeight", Value::from(*percent)),
+        Step::SetWeight(percent) => only(alloc, "setWeight", Value::from(percent.get())),
         Step::Pause(duration) => only(alloc, "pause", seconds_or_null(*duration)),
         Step::Analysis(templates) => only(alloc, "analysis", names(alloc, templates.as_slice())?),
     }

@@ -6,7 +6,8 @@ ghost use Rattle.canary_canonical.specs.Readings.{step_of_kind, step_in, backgro
 ghost use Rattle.canary_canonical.specs.Reads.{IsRead};
 
 use crate::form::{
-    FormFault, label_at, name_at, name_in, number_at, number_up_to, only_member, seconds_or_null,
+    FormFault, label_at, name_at, name_in, only_member, seconds_or_null, starting_step_at,
+    weight_in,
 };
 use canary_base::lists::Listed;
 use canary_base::names::Name;
@@ -72,7 +73,7 @@ fn step_of_kind(alloc: Global, kind: &str, value: &Value) -> Result<Step, FormFa
     ensures { IsRead (step_of_kind kind.now (view value.now)) result }
 {
     match kind {
-        "setWeight" => match number_up_to(value, u32::MAX) {
+        "setWeight" => match weight_in(value) {
             Some(percent) => Ok(Step::SetWeight(percent)),
             None => Err(FormFault::Unreadable),
         },
@@ -100,7 +101,7 @@ fn background_in(alloc: Global, value: &Value) -> Result<Background, FormFault>
 {
     let templates = value.get("templates").ok_or(FormFault::Unreadable)?;
     let templates = names_of(alloc, templates)?;
-    let starting_step = number_at(value, "startingStep", u32::MAX).ok_or(FormFault::Unreadable)?;
+    let starting_step = starting_step_at(value, "startingStep").ok_or(FormFault::Unreadable)?;
     Ok(Background {
         templates,
         starting_step,

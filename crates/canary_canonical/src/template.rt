@@ -6,7 +6,7 @@ ghost use Rattle.canary_canonical.specs.Texts.{list_data, metric_data, metric_da
 ghost use Rattle.canary_canonical.specs.Texts.{template_data};
 ghost use Rattle.canary_canonical.specs.Laws.{keeps_metric, keeps_template};
 
-use crate::parts::{number_or_null, seconds_or_null, text_or_null, texts};
+use crate::parts::{dry_run_names, number_or_null, seconds_or_null, text_or_null};
 use canary_plan::template_spec::{MetricSpec, TemplateSpec};
 use serde_json::{Value, json};
 use std::alloc::{AllocError, Global};
@@ -17,7 +17,7 @@ pub fn template_value(alloc: Global, template: &TemplateSpec) -> Result<Value, A
     ensures value { IfOk result (λ value. view value ≡ template_data template.now) }
     ensures kept { IfOk result (λ _. IsTrue (keeps_template template.now)) }
 {
-    let dry_run = texts(alloc, template.dry_run.as_slice())?;
+    let dry_run = dry_run_names(alloc, template.dry_run.as_slice())?;
     let metrics = metric_values(alloc, template.metrics.as_slice())?;
     json!(in alloc; {"dryRun": dry_run, "metrics": metrics, "name": template.name.as_str()})
 }

@@ -5,16 +5,17 @@ ghost use Rattle.serde_json.specs.View.{view, items_view};
 ghost use Rattle.canary_plan.specs.Limits.{is_condition_asked, is_count};
 ghost use Rattle.canary_canonical.specs.Forms.{at, at_if, each, list_of, null_or};
 ghost use Rattle.canary_canonical.specs.Readings.{seconds_in, word_in, metric_with, metric_in};
-ghost use Rattle.canary_canonical.specs.Readings.{template_with, template_in};
+ghost use Rattle.canary_canonical.specs.Readings.{dry_run_name_in, template_with, template_in};
 ghost use Rattle.canary_canonical.specs.Reads.{IsRead};
 
 use crate::form::{
-    FormFault, label_at, name_at, number_at, number_up_to, seconds_at, seconds_or_null, text_in,
+    FormFault, dry_run_name_in, label_at, name_at, number_at, number_up_to, seconds_at,
+    seconds_or_null, text_in,
 };
 use canary_base::durations::Seconds;
 use canary_base::lists::{Listed, Text};
 use canary_base::names::{Label, Name};
-use canary_plan::template_spec::{MetricSpec, TemplateSpec};
+use canary_plan::template_spec::{DryRunName, MetricSpec, TemplateSpec};
 use serde_json::Value;
 use std::alloc::Global;
 
@@ -36,7 +37,7 @@ pub fn template_in(alloc: Global, value: &Value) -> Result<TemplateSpec, FormFau
     let metrics = value.get("metrics").ok_or(FormFault::Unreadable)?;
     let metrics = metrics_of(alloc, metrics)?;
     let dry_run = value.get("dryRun").ok_or(FormFault::Unreadable)?;
-    let dry_run = texts_of(alloc, dry_run)?;
+    let dry_run = dry_run_of(alloc, dry_run)?;
     template_with(name, metrics, dry_run).ok_or(FormFault::Unreadable)
 }
 
@@ -44,7 +45,7 @@ pub fn template_in(alloc: Global, value: &Value) -> Result<TemplateSpec, FormFau
 pub fn template_with(
     name: Name,
     metrics: Listed<MetricSpec>,
-    dry_run: Listed<Text>,
+    dry_run: Listed<DryRunName>,
 ) -> Option<TemplateSpec>
     ensures { result ≡ template_with name metrics dry_run }
 {
@@ -212,23 +213,23 @@ fn number_at_if(value: &Value, key: &str) -> Option<Option<u32>>
     }
 }
 
-fn texts_of(alloc: Global, value: &Value) -> Result<Listed<Text>, FormFault>
-    ensures { IsRead (list_of as_str (view value.now)) result }
+fn dry_run_of(alloc: Global, value: &Value) -> Result<Listed<DryRunName>, FormFault>
+    ensures { IsRead (list_of dry_run_name_in (view value.now)) result }
 {
     match value.as_array() {
-        Some(list) => texts_in(alloc, list),
+        Some(list) => dry_run_in(alloc, list),
         None => Err(FormFault::Unreadable),
     }
 }
 
 #[tactic(auto, using(crate::proofs::Items::read_in_turn))]
-fn texts_in(alloc: Global, list: &Vec<Value>) -> Result<Listed<Text>, FormFault>
-    ensures { IsRead (each as_str (items_view list.now.items)) result }
+fn dry_run_in(alloc: Global, list: &Vec<Value>) -> Result<Listed<DryRunName>, FormFault>
+    ensures { IsRead (each dry_run_name_in (items_view list.now.items)) result }
 {
-    let mut texts = Vec::new(alloc);
+    let mut names = Vec::new(alloc);
     for item in list {
-        let text = text_in(alloc, item)?;
-        texts.push(text)?;
+        let name = dry_run_name_in(alloc, item)?;
+        names.push(name)?;
     }
-    Ok(Listed::of(texts))
+    Ok(Listed::of(names))
 }

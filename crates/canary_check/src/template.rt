@@ -6,13 +6,14 @@ use crate::place::Place;
 use crate::text::instead_of_kind;
 use crate::trial::refusal_of_names;
 use canary_base::error::Memory;
-use canary_base::lists::{Listed, Text};
+use canary_base::lists::Listed;
 use canary_base::names::Label;
 use canary_canonical::form::{FormFault, name_in};
 use canary_manifest::member::{is_no_empty_list, is_other_text, member_of};
 use canary_manifest::template::dry_run_name;
 use canary_plan::analysis::{LEAST_METRICS, MOST_METRICS};
 use canary_plan::refusal::Refusal;
+use canary_plan::template_spec::DryRunName;
 use serde_json::Value;
 use std::alloc::Global;
 
@@ -188,7 +189,7 @@ fn is_mark(alloc: Global, item: &Value, names: &[Label]) -> Result<bool, Memory>
     }
 }
 
-fn is_known(alloc: Global, name: Text, names: &[Label]) -> Result<bool, Memory> {
+fn is_known(alloc: Global, name: DryRunName, names: &[Label]) -> Result<bool, Memory> {
     let dry_run = Listed::of(vec![in alloc; name]?);
     let refusal = refusal_of_names(alloc, names, dry_run)?;
     Ok(refusal.is_none())

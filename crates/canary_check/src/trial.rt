@@ -3,13 +3,13 @@
 use crate::alone::{plain_metric, refusal_among, template_refusal};
 use canary_base::durations::Seconds;
 use canary_base::error::Memory;
-use canary_base::lists::{Listed, Text};
+use canary_base::lists::Listed;
 use canary_base::names::{Label, Name};
 use canary_canonical::template_reading::{metric_with, template_with};
 use canary_plan::refusal::Refusal;
 use canary_plan::service::{Background, ServiceSpec};
 use canary_plan::step::Step;
-use canary_plan::template_spec::MetricSpec;
+use canary_plan::template_spec::{DryRunName, MetricSpec};
 use std::alloc::Global;
 
 /// Why a template is refused whose only metric has this interval and this count, or `Memory`.
@@ -46,7 +46,7 @@ pub(crate) fn refusal_of_times(
 pub(crate) fn refusal_of_names(
     alloc: Global,
     names: &[Label],
-    dry_run: Listed<Text>,
+    dry_run: Listed<DryRunName>,
 ) -> Result<Option<Refusal>, Memory> {
     let mut metrics = Vec::new(alloc);
     for name in names {
@@ -58,7 +58,7 @@ pub(crate) fn refusal_of_names(
 fn refusal_of(
     alloc: Global,
     metrics: Listed<MetricSpec>,
-    dry_run: Listed<Text>,
+    dry_run: Listed<DryRunName>,
 ) -> Result<Option<Refusal>, Memory> {
     let Some(name) = Name::read("template".as_bytes()) else {
         return Ok(None);

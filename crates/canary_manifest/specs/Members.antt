@@ -1,6 +1,6 @@
 -- The members of a manifest, as `kubectl get -o json` prints it: a null member is as if absent, and
 -- a member that no form asks for is passed over.
-use Rattle.std.specs.Prelude.{ℕ, List, [], ◌∷◌, length, Bool, true, false, not, ◌&&◌, ◌||◌, nat_le, nat_lt, ◌==◌, Option, Some, None, option_map, option_and_then, is_some, unwrap_or, if◌then◌else◌}
+use Rattle.std.specs.Prelude.{ℕ, List, [], ◌∷◌, length, Bool, true, false, not, ◌&&◌, ◌||◌, nat_lt, ◌==◌, Option, Some, None, option_map, option_and_then, is_some, unwrap_or, if◌then◌else◌}
 use Rattle.std.specs.Option.{option_or}
 use Rattle.std.specs.List.{list_all}
 use Rattle.std.specs.Char.{is_ascii_digit}
@@ -93,13 +93,6 @@ delay_in value = option_map (λ duration. unwrap_or duration 0) (duration_in val
 abbrev pub pause_seconds : Data → Option ℕ
 pause_seconds value =
     option_or (count_up_to 31536000 value) (option_and_then seconds_of (as_str value))
-
--- 1 to 63 bytes
-abbrev pub is_short : List ℕ → Bool
-is_short text = nat_lt 0 (length text) && nat_le (length text) 63
-
-abbrev pub short_text : Data → Option (List ℕ)
-short_text value = option_and_then (some_if is_short) (as_str value)
 
 -- ---- tests
 

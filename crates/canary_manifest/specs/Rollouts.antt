@@ -6,8 +6,8 @@ use Rattle.canary_plan.specs.declared.step.Step.TheVariants.{SetWeight, Pause, A
 use Rattle.canary_plan.specs.declared.service.Background.{Background}
 use Rattle.serde_json.specs.Data.{Data, Members, no_members, member}
 use Rattle.serde_json.specs.Find.{as_object}
-use Rattle.canary_canonical.specs.Forms.{◌⊛◌, name_in, number_up_to, list_of}
-use Rattle.canary_canonical.specs.Readings.{background_with}
+use Rattle.canary_canonical.specs.Forms.{◌⊛◌, name_in, list_of}
+use Rattle.canary_canonical.specs.Readings.{weight_in, starting_step_in, background_with}
 use Rattle.canary_manifest.specs.Members.{unless_null, member_of, in_member, in_member_or, in_object, has, anything, pause_seconds, is_true, is_other_text, is_no_empty_list, some_item}
 
 -- ---- what a manifest says
@@ -27,7 +27,7 @@ templates_in = in_member (codes "templates") (list_of (in_member (codes "templat
 
 -- exactly one of the three is there
 abbrev pub only_step : Option Data → Option Data → Option Data → Option Step
-only_step (Some weight) None None = option_map SetWeight (number_up_to 1000000 weight)
+only_step (Some weight) None None = option_map SetWeight (weight_in weight)
 only_step None (Some pause) None = option_map Pause (pause_in pause)
 only_step None None (Some analysis) = option_map Analysis (templates_in analysis)
 only_step weight pause analysis = None
@@ -41,7 +41,7 @@ step_in step =
 unfoldable pub background_in : Data → Option Background
 background_in analysis = Some background_with
     ⊛ templates_in analysis
-    ⊛ in_member_or (codes "startingStep") 0 (number_up_to 64) analysis
+    ⊛ in_member_or (codes "startingStep") 0 starting_step_in analysis
 
 abbrev pub canary_steps : Data → Option (List Step)
 canary_steps = in_object (in_member_or (codes "steps") [] (list_of step_in))

@@ -5,8 +5,8 @@ use Rattle.serde_json.specs.Data.{Data}
 use Rattle.canary_plan.specs.declared.template_spec.MetricSpec.{MetricSpec}
 use Rattle.canary_plan.specs.declared.template_spec.TemplateSpec.{TemplateSpec}
 use Rattle.canary_canonical.specs.Forms.{◌⊛◌, name_in, label_in, list_of}
-use Rattle.canary_canonical.specs.Readings.{metric_with, template_with}
-use Rattle.canary_manifest.specs.Members.{in_member, in_member_or, has, anything, limit_in, count_in, condition_in, duration_in, delay_in, short_text, is_other_text, is_no_empty_list, is_negative, some_item}
+use Rattle.canary_canonical.specs.Readings.{dry_run_name_in, metric_with, template_with}
+use Rattle.canary_manifest.specs.Members.{in_member, in_member_or, has, anything, limit_in, count_in, condition_in, duration_in, delay_in, is_other_text, is_no_empty_list, is_negative, some_item}
 
 -- ---- what a manifest says
 
@@ -26,7 +26,7 @@ metric_of metric = option_flatten (Some metric_with
 
 -- the name of a metric that is dry-run, or `.*`
 abbrev pub dry_run_name : Data → Option (List ℕ)
-dry_run_name = in_member (codes "metricName") short_text
+dry_run_name = in_member (codes "metricName") dry_run_name_in
 
 unfoldable pub template_of : Data → Option TemplateSpec
 template_of manifest = option_flatten (Some template_with

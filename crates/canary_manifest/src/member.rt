@@ -12,7 +12,7 @@ ghost use Rattle.canary_canonical.specs.Reads.{IsRead};
 ghost use Rattle.canary_manifest.specs.Members.{member_of, in_member_or};
 ghost use Rattle.canary_manifest.specs.Members.{is_digits, digits_up_to, count_up_to, limit_in};
 ghost use Rattle.canary_manifest.specs.Members.{count_in, condition_in, duration_in, delay_in};
-ghost use Rattle.canary_manifest.specs.Members.{pause_seconds, short_text, is_true};
+ghost use Rattle.canary_manifest.specs.Members.{pause_seconds, is_true};
 ghost use Rattle.canary_manifest.specs.Members.{is_other_text, is_no_empty_list};
 ghost use Rattle.canary_manifest.specs.Members.{is_negative_text, is_negative};
 
@@ -162,21 +162,6 @@ pub fn pause_seconds(value: &Value) -> Option<Seconds>
     match count_up_to(value, LONGEST_PAUSE) {
         Some(seconds) => Seconds::new(u64::from(seconds)),
         None => Seconds::read(value.as_str()?),
-    }
-}
-
-/// A text of 1 to 63 bytes.
-///
-/// # Errors
-/// `Unreadable` where it is none; `Memory`.
-pub fn short_text(alloc: Global, value: &Value) -> Result<Text, FormFault>
-    ensures { IsRead (short_text (view value.now)) result }
-{
-    match value.as_str() {
-        Some(text) if !text.is_empty() && text.len() <= 63 => {
-            Ok(Text::of(String::from_str(alloc, text)?))
-        }
-        _ => Err(FormFault::Unreadable),
     }
 }
 

@@ -1,7 +1,8 @@
 //! Rollout manifests of Argo Rollouts.
 ghost use Rattle.std.specs.Prelude.{◌≡◌, Some, option_map, codes};
 ghost use Rattle.serde_json.specs.View.{view, items_view, members_view};
-ghost use Rattle.canary_canonical.specs.Forms.{name_in, number_up_to, each, list_of};
+ghost use Rattle.canary_canonical.specs.Forms.{name_in, each, list_of};
+ghost use Rattle.canary_canonical.specs.Readings.{starting_step_in};
 ghost use Rattle.canary_canonical.specs.Reads.{IsRead};
 ghost use Rattle.canary_manifest.specs.Members.{in_member, in_member_or, has, is_true};
 ghost use Rattle.canary_manifest.specs.Members.{any_item, some_item};
@@ -17,17 +18,11 @@ use crate::member::{is_no_empty_list, is_other_text, is_true, member_of, pause_s
 use canary_base::durations::Seconds;
 use canary_base::lists::Listed;
 use canary_base::names::Name;
-use canary_canonical::form::{FormFault, name_in, number_up_to};
-use canary_plan::service::Background;
+use canary_canonical::form::{self, FormFault, name_in, weight_in};
+use canary_plan::service::{Background, StartingStep};
 use canary_plan::step::Step;
 use serde_json::{Map, Value};
 use std::alloc::Global;
-
-// The greatest weight and the greatest starting step that are read. What a strategy takes may be
-// less, and is checked later.
-const GREATEST_WEIGHT_READ: u32 = 1_000_000;
-
-const GREATEST_STARTING_STEP: u32 = 64;
 
 // The name in a manifest.
 pub(crate) fn rollout_name(manifest: &Value) -> Option<Name>
@@ -112,7 +107,7 @@ pub fn step_in(alloc: Global, step: &Value) -> Result<Step, FormFault>
         member_of(step, "pause"),
         member_of(step, "analysis"),
     ) {
-        (Some(weight), None, None) => match number_up_to(weight, GREATEST_WEIGHT_READ) {
+        (Some(weight), None, None) => match weight_in(weight) {
             Some(percent) => Ok(Step::SetWeight(percent)),
             None => Err(FormFault::Unreadable),
         },
@@ -198,13 +193,13 @@ pub fn background_in(alloc: Global, analysis: &Value) -> Result<Background, Form
 }
 
 /// The step from which on the analysis runs, 0 to 64; the first where it does not say so.
-pub fn starting_step_in(analysis: &Value) -> Option<u32>
+pub fn starting_step_in(analysis: &Value) -> Option<StartingStep>
     ensures { result
-        ≡ in_member_or (codes "startingStep") 0 (number_up_to 64) (view analysis.now) }
+        ≡ in_member_or (codes "startingStep") 0 starting_step_in (view analysis.now) }
 {
     match member_of(analysis, "startingStep") {
-        Some(step) => number_up_to(step, GREATEST_STARTING_STEP),
-        None => Some(0),
+        Some(step) => form::starting_step_in(step),
+        None => StartingStep::new(0),
     }
 }
 

@@ -10,12 +10,12 @@ ghost use Rattle.canary_manifest.specs.Templates.{is_unsupported_analysis_spec};
 
 use crate::member::{
     condition_at, count_at, delay_at, duration_at, is_negative, is_no_empty_list, is_other_text,
-    limit_at, member_of, short_text,
+    limit_at, member_of,
 };
-use canary_base::lists::{Listed, Text};
-use canary_canonical::form::{FormFault, label_in, name_in};
+use canary_base::lists::Listed;
+use canary_canonical::form::{FormFault, dry_run_name_in, label_in, name_in};
 use canary_canonical::template_reading::{metric_with, template_with};
-use canary_plan::template_spec::{MetricSpec, TemplateSpec};
+use canary_plan::template_spec::{DryRunName, MetricSpec, TemplateSpec};
 use serde_json::Value;
 use std::alloc::Global;
 
@@ -87,7 +87,7 @@ fn metric_of(alloc: Global, metric: &Value) -> Result<MetricSpec, FormFault>
 }
 
 // The names of the metrics that are dry-run; none where the member is absent.
-fn dry_run_at(alloc: Global, spec: &Value) -> Result<Listed<Text>, FormFault>
+fn dry_run_at(alloc: Global, spec: &Value) -> Result<Listed<DryRunName>, FormFault>
     ensures { IsRead (in_member_or (codes "dryRun") [] (list_of dry_run_name) (view spec.now))
         result }
 {
@@ -97,7 +97,7 @@ fn dry_run_at(alloc: Global, spec: &Value) -> Result<Listed<Text>, FormFault>
     }
 }
 
-fn dry_run_of(alloc: Global, value: &Value) -> Result<Listed<Text>, FormFault>
+fn dry_run_of(alloc: Global, value: &Value) -> Result<Listed<DryRunName>, FormFault>
     ensures { IsRead (list_of dry_run_name (view value.now)) result }
 {
     match value.as_array() {
@@ -107,7 +107,7 @@ fn dry_run_of(alloc: Global, value: &Value) -> Result<Listed<Text>, FormFault>
 }
 
 #[tactic(auto, using(crate::proofs::Items::read_in_turn))]
-fn dry_run_in(alloc: Global, list: &Vec<Value>) -> Result<Listed<Text>, FormFault>
+fn dry_run_in(alloc: Global, list: &Vec<Value>) -> Result<Listed<DryRunName>, FormFault>
     ensures { IsRead (each dry_run_name (items_view list.now.items)) result }
 {
     let mut names = Vec::new(alloc);
@@ -122,11 +122,11 @@ fn dry_run_in(alloc: Global, list: &Vec<Value>) -> Result<Listed<Text>, FormFaul
 ///
 /// # Errors
 /// `Unreadable` where it is no text of 1 to 63 bytes; `Memory`.
-pub fn dry_run_name(alloc: Global, value: &Value) -> Result<Text, FormFault>
+pub fn dry_run_name(alloc: Global, value: &Value) -> Result<DryRunName, FormFault>
     ensures { IsRead (dry_run_name (view value.now)) result }
 {
     let name = member_of(value, "metricName").ok_or(FormFault::Unreadable)?;
-    short_text(alloc, name)
+    dry_run_name_in(alloc, name)
 }
 
 // Whether a manifest asks for what the desk does not do: another kind of manifest, templates in a

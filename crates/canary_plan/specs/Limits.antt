@@ -23,6 +23,10 @@ are_metric_limits success failure count passes failed inconclusive errors =
     && (is_count count
     && (is_count passes && (is_limit failed && (is_limit inconclusive && is_limit errors)))))
 
+-- 1 to 63 bytes: a name under `dryRun`
+abbrev pub is_dry_run_name : List ℕ → Bool
+is_dry_run_name name = nat_le 1 (length name) && nat_le (length name) 63
+
 -- 1 to 32 metrics of a template, or entries of a report
 abbrev pub is_metric_count : ℕ → Bool
 is_metric_count n = nat_le 1 n && nat_le n 32

@@ -153,7 +153,7 @@ fn is_within_limits(step: &Step) -> bool
     ensures { result ≡ is_within_limits step.now }
 {
     match step {
-        Step::SetWeight(percent) => *percent <= GREATEST_WEIGHT,
+        Step::SetWeight(percent) => percent.get() <= GREATEST_WEIGHT,
         Step::Pause(_) => true,
         Step::Analysis(names) => analysis::are_templates_of_run(names.as_slice()),
     }

@@ -12,7 +12,7 @@ ghost use Rattle.canary_plan.specs.Commands.{same_value, same_outcome, same_entr
 use crate::report::{Entry, Report};
 use crate::service::{Background, ServiceSpec};
 use crate::step::Step;
-use crate::template_spec::{MetricSpec, TemplateSpec};
+use crate::template_spec::{DryRunName, MetricSpec, TemplateSpec};
 use canary_base::lists::Text;
 use canary_base::names::Name;
 use canary_condition::outcome::{Outcome, Value};
@@ -60,7 +60,7 @@ fn is_same_template(ours: &TemplateSpec, theirs: &TemplateSpec) -> bool
 {
     ours.name == theirs.name
         && are_same_metrics(ours.metrics.as_slice(), theirs.metrics.as_slice())
-        && are_same_texts(ours.dry_run.as_slice(), theirs.dry_run.as_slice())
+        && are_same_dry_run(ours.dry_run.as_slice(), theirs.dry_run.as_slice())
 }
 
 fn are_same_metrics(ours: &[MetricSpec], theirs: &[MetricSpec]) -> bool
@@ -77,7 +77,7 @@ fn are_same_metrics(ours: &[MetricSpec], theirs: &[MetricSpec]) -> bool
     true
 }
 
-fn are_same_texts(ours: &[Text], theirs: &[Text]) -> bool
+fn are_same_dry_run(ours: &[DryRunName], theirs: &[DryRunName]) -> bool
     ensures { result ≡ same_names ours.now theirs.now }
 {
     if ours.len() != theirs.len() {

@@ -1,18 +1,60 @@
 //! Services as they are asked for.
-ghost use Rattle.std.specs.Prelude.{◌≡◌, IfOk};
+ghost use Rattle.std.specs.Prelude.{◌≡◌, ◌≤◌, ℕ, IfOk};
+ghost use Rattle.std.specs.Option.{SomeIff};
 
 use crate::step::{Step, copy_steps};
 use canary_base::error::Memory;
 use canary_base::lists::Listed;
 use canary_base::names::{Label, Name};
 use std::alloc::Global;
+use std::marker::Model;
+
+/// The last step at which a background analysis can be asked to begin, from 0.
+pub const LAST_STARTING_STEP: u32 = 64;
+
+/// The step at which a background analysis begins: from 0 to 64.
+#[derive(Clone, Copy, Debug, PartialEq, Eq)]
+pub struct StartingStep {
+    step: u32,
+}
+
+impl Model for StartingStep {
+    ghost Value = { ℕ };
+
+    ghost view = { λ s. s.step };
+
+    ghost invariant = { λ s. s.step ≤ 64 };
+
+    ghost inverse = { λ n. record { step = n } };
+}
+
+impl StartingStep {
+    /// That step, or none above 64.
+    pub fn new(step: u64) -> Option<StartingStep>
+        ensures { SomeIff result (step ≤ LAST_STARTING_STEP) step }
+    {
+        let step = u32::try_from(step).ok()?;
+        if step <= LAST_STARTING_STEP {
+            Some(StartingStep { step })
+        } else {
+            None
+        }
+    }
+
+    /// The step, from 0.
+    pub fn get(self) -> u32
+        ensures value { result ≡ self }
+        ensures limit { result ≤ LAST_STARTING_STEP }
+    {
+        self.step
+    }
+}
 
 /// A background analysis, which begins at a step or at a later one.
 #[derive(Drop)]
 pub struct Background {
     pub templates: Listed<Name>,
-    /// `startingStep`, from 0.
-    pub starting_step: u32,
+    pub starting_step: StartingStep,
 }
 
 impl Background {

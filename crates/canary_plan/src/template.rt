@@ -15,7 +15,7 @@ use crate::fault::BindFault;
 use crate::labels::has_duplicate;
 use crate::laws;
 use crate::refusal::Refusal;
-use crate::template_spec::{MetricSpec, TemplateSpec};
+use crate::template_spec::{DryRunName, MetricSpec, TemplateSpec};
 use canary_base::error::Memory;
 use canary_base::lists::{Listed, Text};
 use canary_base::names::Label;
@@ -153,7 +153,7 @@ fn copy_metrics(alloc: Global, metrics: &[Metric]) -> Result<Listed<Metric>, Mem
 fn bound_metrics(
     alloc: Global,
     specs: &[MetricSpec],
-    dry_run: &[Text],
+    dry_run: &[DryRunName],
 ) -> Result<Listed<Metric>, BindFault>
     ensures { IsReadUnless (list_any has_bad_condition specs.now)
         (map (bound_metric dry_run.now) specs.now) result }
@@ -166,7 +166,11 @@ fn bound_metrics(
 }
 
 // A metric with its conditions read, and its mark.
-fn bound_metric(alloc: Global, spec: &MetricSpec, dry_run: &[Text]) -> Result<Metric, BindFault>
+fn bound_metric(
+    alloc: Global,
+    spec: &MetricSpec,
+    dry_run: &[DryRunName],
+) -> Result<Metric, BindFault>
     ensures { IsReadUnless (has_bad_condition spec.now) (bound_metric dry_run.now spec.now) result }
 {
     let success = read(alloc, &spec.success)?;
@@ -195,13 +199,13 @@ fn metric_of(settings: MetricSettings) -> Metric
 }
 
 // Whether these names mark that metric as dry-run.
-fn is_marked(dry_run: &[Text], name: Label) -> bool
+fn is_marked(dry_run: &[DryRunName], name: Label) -> bool
     ensures { result ≡ is_marked dry_run.now name }
 {
     dry_run.iter().any(|marked| marks(marked, name))
 }
 
-fn marks(marked: &Text, name: Label) -> bool
+fn marks(marked: &DryRunName, name: Label) -> bool
     ensures { result ≡ (bytes_eq marked.now all_metrics || bytes_eq marked.now name) }
 {
     marked.as_str() == ALL_METRICS || marked.as_str() == name.as_str()
@@ -291,13 +295,13 @@ fn some_is_foreign(spec: &TemplateSpec) -> bool
 }
 
 // Whether that name is neither a metric's nor the one for all.
-fn is_foreign(spec: &TemplateSpec, name: &Text) -> bool
+fn is_foreign(spec: &TemplateSpec, name: &DryRunName) -> bool
     ensures { result ≡ is_foreign spec.now name.now }
 {
     !(name.as_str() == ALL_METRICS || is_metric(spec.metrics.as_slice(), name))
 }
 
-fn is_metric(metrics: &[MetricSpec], name: &Text) -> bool
+fn is_metric(metrics: &[MetricSpec], name: &DryRunName) -> bool
     ensures { result ≡ list_any (λ (m : MetricSpec). bytes_eq m.name name.now) metrics.now }
 {
     metrics

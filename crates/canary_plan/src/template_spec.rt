@@ -1,12 +1,65 @@
 //! Templates as they are asked for.
 ghost use Rattle.std.specs.Prelude.{◌≡◌, IsTrue, IfOk, length};
-ghost use Rattle.canary_plan.specs.Limits.{are_metric_limits, is_metric_count};
+ghost use Rattle.std.specs.Option.{SomeIff};
+ghost use Rattle.canary_plan.specs.Limits.{are_metric_limits, is_metric_count, is_dry_run_name};
 
 use canary_base::durations::Seconds;
 use canary_base::error::Memory;
 use canary_base::lists::{Listed, Text};
 use canary_base::names::{Label, Name};
 use std::alloc::Global;
+use std::marker::Model;
+
+/// The most bytes of a name under `dryRun`.
+pub const MOST_DRY_RUN_BYTES: usize = 63;
+
+/// The name of a metric that is to be dry-run, or `.*` for all: 1 to 63 bytes.
+#[derive(Debug, Drop)]
+pub struct DryRunName {
+    text: Text,
+}
+
+impl Model for DryRunName {
+    ghost use Rattle.std.specs.Prelude.{List, ℕ, IsTrue};
+    ghost use Rattle.canary_plan.specs.Limits.{is_dry_run_name};
+
+    ghost Value = { List ℕ };
+
+    ghost view = { λ n. n.text };
+
+    ghost invariant = { λ n. IsTrue (is_dry_run_name n.text) };
+}
+
+impl DryRunName {
+    /// This name, or none outside 1 to 63 bytes.
+    pub fn of(text: Text) -> Option<DryRunName>
+        ensures { SomeIff result (IsTrue (is_dry_run_name text)) text }
+    {
+        let len = text.as_str().len();
+        if 1 <= len && len <= MOST_DRY_RUN_BYTES {
+            Some(DryRunName { text })
+        } else {
+            None
+        }
+    }
+
+    /// The name.
+    pub fn as_str(&self) -> &str
+        ensures value { result.now ≡ self.now }
+        ensures limits { IsTrue (is_dry_run_name self.now) }
+    {
+        self.text.as_str()
+    }
+
+    /// A copy of it, or `Memory`.
+    pub fn copy(&self, alloc: Global) -> Result<DryRunName, Memory>
+        ensures { IfOk result (λ copy. copy ≡ self.now) }
+    {
+        Ok(DryRunName {
+            text: self.text.copy(alloc)?,
+        })
+    }
+}
 
 /// A metric as a template asks for it, with its defaults filled in. A condition is not empty, a
 /// count and a number of successes in a row are not 0, and these and the limits are at most
@@ -58,7 +111,7 @@ impl MetricSpec {
 pub struct TemplateSpec {
     pub name: Name,
     pub metrics: Listed<MetricSpec>,
-    pub dry_run: Listed<Text>,
+    pub dry_run: Listed<DryRunName>,
     ghost within: { IsTrue (is_metric_count (length metrics)) },
 }
 
@@ -68,7 +121,7 @@ impl TemplateSpec {
         ensures { IfOk result (λ copy. copy ≡ self.now) }
     {
         let metrics = copy_metric_specs(alloc, self.metrics.as_slice())?;
-        let dry_run = copy_texts(alloc, self.dry_run.as_slice())?;
+        let dry_run = copy_dry_run(alloc, self.dry_run.as_slice())?;
         Ok(TemplateSpec {
             name: self.name,
             metrics,
@@ -87,12 +140,12 @@ fn copy_metric_specs(alloc: Global, metrics: &[MetricSpec]) -> Result<Listed<Met
     Ok(copies)
 }
 
-fn copy_texts(alloc: Global, texts: &[Text]) -> Result<Listed<Text>, Memory>
-    ensures { IfOk result (λ copies. copies ≡ texts.now) }
+fn copy_dry_run(alloc: Global, names: &[DryRunName]) -> Result<Listed<DryRunName>, Memory>
+    ensures { IfOk result (λ copies. copies ≡ names.now) }
 {
     let mut copies = Listed::of(Vec::new(alloc));
-    for text in texts {
-        copies.push(text.copy(alloc)?)?;
+    for name in names {
+        copies.push(name.copy(alloc)?)?;
     }
     Ok(copies)
 }

@@ -126,7 +126,7 @@ impl Draft {
     {
         match entered {
             Some(Step::SetWeight(weight)) => {
-                let weight = *weight;
+                let weight = weight.get();
                 self.tell(at, LineEvent::WeightEntered { step, weight })
             }
             Some(Step::Pause(None)) => self.tell(at, LineEvent::PauseEntered { step }),

@@ -189,7 +189,7 @@ impl Stand {
         ensures { result ≡ begins_background self.now.strategy.background step self.now.background }
     {
         match self.strategy.background() {
-            Some(background) => background.starting_step <= step && !self.background,
+            Some(background) => background.starting_step.get() <= step && !self.background,
             None => false,
         }
     }
@@ -217,7 +217,7 @@ fn last_weight(steps: &[Step]) -> Option<u32>
     let mut last = None;
     for step in steps {
         if let Step::SetWeight(percent) = step {
-            last = Some(*percent);
+            last = Some(percent.get());
         }
     }
     last

@@ -20,9 +20,9 @@ use canary_base::numbers::Number;
 use canary_condition::outcome::{FailureText, Outcome, Value};
 use canary_plan::command::Command;
 use canary_plan::report::{Entry, Report};
-use canary_plan::service::{Background, ServiceSpec};
-use canary_plan::step::Step;
-use canary_plan::template_spec::{MetricSpec, TemplateSpec};
+use canary_plan::service::{Background, ServiceSpec, StartingStep};
+use canary_plan::step::{Step, Weight};
+use canary_plan::template_spec::{DryRunName, MetricSpec, TemplateSpec};
 use std::alloc::{AllocError, Global};
 
 /// 2026-01-01T00:00:00Z
@@ -119,13 +119,15 @@ fn metrics(alloc: Global, words: &str) -> Option<Vec<MetricSpec>> {
     Some(metrics)
 }
 
-fn dry_run(alloc: Global, words: &str) -> Option<Listed<Text>> {
+fn dry_run_name(alloc: Global, name: &str) -> Option<DryRunName> {
+    DryRunName::of(Text::of(String::from_str(alloc, name).ok()?))
+}
+
+fn dry_run(alloc: Global, words: &str) -> Option<Listed<DryRunName>> {
     let mut names = Vec::new(alloc);
     for word in words.split(' ') {
         if let Some(name) = word.strip_prefix("dryRun:") {
-            names
-                .push(Text::of(String::from_str(alloc, name).ok()?))
-                .ok()?;
+            names.push(dry_run_name(alloc, name)?).ok()?;
         }
     }
     Some(Listed::of(names))
@@ -153,7 +155,7 @@ fn templates(alloc: Global, template: &str) -> Option<Listed<Name>> {
 fn step(alloc: Global, word: &str) -> Option<Step> {
     let (kind, of) = cut(word, ':');
     if kind == "setWeight" {
-        return Some(Step::SetWeight(of.parse().ok()?));
+        return Some(Step::SetWeight(Weight::new(of.parse().ok()?)?));
     }
     if kind == "analysis" {
         return Some(Step::Analysis(templates(alloc, of)?));
@@ -191,9 +193,12 @@ fn background(alloc: Global, words: &str) -> Result<Option<Background>, AllocErr
     let Some(name) = name(template) else {
         return Ok(None);
     };
+    let Some(starting_step) = StartingStep::new(0) else {
+        return Ok(None);
+    };
     Ok(Some(Background {
         templates: Listed::of(Vec::from_slice(alloc, &[name])?),
-        starting_step: 0,
+        starting_step,
     }))
 }
 

@@ -357,7 +357,7 @@ fn is_strategy(steps: &[Step]) -> bool {
             Step::SetWeight(weight),
             Step::Analysis(names),
             Step::Pause(Some(seconds)),
-        ] => { *weight == 20 && names.as_slice().len() == 1 && seconds.get() == 300 }
+        ] => { weight.get() == 20 && names.as_slice().len() == 1 && seconds.get() == 300 }
         _ => false,
     }
 }

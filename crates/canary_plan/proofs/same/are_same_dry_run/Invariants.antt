@@ -1,6 +1,6 @@
 use Rattle.std.proofs.Common.{◌≡◌, length}
 use Rattle.canary_plan.specs.Commands.{same_names}
-use Rattle.canary_plan.proofs.same.are_same_texts.Given as goal
+use Rattle.canary_plan.proofs.same.are_same_dry_run.Given as goal
 
 -- what is left says what the whole says
 abbrev pub invariant-loop-ours : goal.invariant-loop-ours

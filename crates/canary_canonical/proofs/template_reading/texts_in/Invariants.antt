@@ -1,9 +1,0 @@
-use Rattle.std.proofs.Common.{◌≡◌, drop}
-use Rattle.serde_json.specs.Find.{as_str}
-use Rattle.serde_json.specs.View.{items_view}
-use Rattle.canary_canonical.specs.Forms.{each}
-use Rattle.canary_canonical.proofs.Items.{with_front}
-use Rattle.canary_canonical.proofs.template_reading.texts_in.Given as goal
-
-abbrev pub invariant-loop-item : goal.invariant-loop-item
-invariant-loop-item l = with_front l.texts.items (each as_str (items_view (drop l.item-index l.list.items))) ≡ each as_str (items_view l.list.items)
