@@ -1,5 +1,5 @@
 -- Which rows stand in meta, by whether the texts that look for some show any.
-use Rattle.std.proofs.Common.{◌≡◌, ◌<◌, ◌==◌, ◌&&◌, ℕ, ℤ, zero, suc, pos, List, [], ◌∷◌, ◌++◌, length, map, slice_index_or, codes, Bool, true, false, not, IsTrue, refl, sym, ap, ap₂, subst, ◌∙◌, arith}
+use Rattle.std.proofs.Common.{◌≡◌, ◌==◌, ◌&&◌, ℕ, ℤ, zero, suc, pos, List, [], ◌∷◌, length, map, codes, Bool, true, false, not, IsTrue, refl, sym, ap, ap₂, subst, ◌∙◌, arith}
 use Rattle.std.specs.List.{AllByRecursion}
 use Rattle.std.specs.Ordering.{is_eq, is_ne, int_eq, int_cmp}
 use Rattle.std.specs.declared.cmp.Ordering.{Ordering}
@@ -39,7 +39,7 @@ use Rattle.canary_reads.proofs.FirstTexts.{rising_in}
 use Rattle.canary_reads.proofs.Holdings.{Holding, number, raw_cells, and_second}
 use Rattle.canary_reads.proofs.Seeking.{SeeksIn, none_passes, one_passes}
 use Rattle.canary_reads.proofs.TableRows.{AreRaw, counted_row}
-use Rattle.canary_reads.proofs.Tests.{as_truth, and_true, and_first, numbers_same}
+use Rattle.canary_reads.proofs.Tests.{as_truth, and_true, and_first}
 
 -- What the texts ask for.
 

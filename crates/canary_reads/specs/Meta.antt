@@ -1,5 +1,5 @@
 -- Which rows stand in meta.
-use Rattle.std.specs.Prelude.{◌≡◌, ℕ, Bool, true, false, List, [], ◌∷◌, map, Contains}
+use Rattle.std.specs.Prelude.{ℕ, Bool, true, false, List, [], ◌∷◌, map, Contains}
 use Rattle.sqlite.specs.State.{State, Shown}
 use Rattle.sqlite_value.specs.Order.{Row}
 use Rattle.canary_schema.specs.Cells.{whole}
