@@ -206,22 +206,25 @@ def try_no_desk(program, folder):
 
 
 def try_other_desks(program, file):
-    """Databases of another program, and of desks whose table meta has another number."""
+    """Databases of another program, and of desks whose table meta has other rows."""
     make(file, "CREATE TABLE note (title TEXT) STRICT")
     want_refused(program, file, "another program's file")
     make_first(file, "story")
     want("a desk's", migrate(program, file), printed("migrated"))
+    change(file, "INSERT INTO meta VALUES (2, 2)")
+    want_refused(program, file, "a second row in meta", "broken-row")
+    change(file, "DELETE FROM meta WHERE id = 2")
     for statement in ("UPDATE meta SET schema = 1", "UPDATE meta SET schema = 3",
                       "DELETE FROM meta"):
         change(file, statement)
         want_refused(program, file, statement)
 
 
-def want_refused(program, file, row):
-    """The file is of neither schema, and stays as it is."""
+def want_refused(program, file, row, word="other-schema"):
+    """The file is refused, as one of neither schema or for this word, and stays as it is."""
     found = contents(file)
     for words in ((), ("--dry-run",)):
-        want(row, migrate(program, file, *words), refused("other-schema"))
+        want(row, migrate(program, file, *words), refused(word))
         want(f"{row}: what it leaves", contents(file), found)
 
 

@@ -27,8 +27,8 @@ pub type FileBook = TableBook<FileStore<File>>;
 /// # Errors
 /// `InUse` where another program has it open; `Memory` where an allocation was refused; `Storage`
 /// where it cannot be opened, is no database, or fails; `OtherSchema` where it has tables, indexes
-/// or views, and not just a desk's, or its table meta has other rows than a desk's; `BrokenRow`
-/// where its rows are not those that a desk leaves.
+/// or views, and not just a desk's, or its table meta lacks a desk's row; `BrokenRow` where its
+/// rows are not those that a desk leaves.
 pub fn open<F: Write>(
     rt: &HostRuntime,
     file: &str,

@@ -2,11 +2,12 @@
 use Rattle.std.proofs.Common.{◌≡◌, List, sym, ap, subst, ◌∙◌}
 use Rattle.sqlite.specs.Effect.{Database}
 use Rattle.sqlite.specs.State.{State}
-use Rattle.canary_schema.specs.First.{first_schema, HasFirstMeta}
+use Rattle.canary_schema.specs.First.{first_schema}
 use Rattle.canary_schema.specs.Numbered.{IsOpenedAnew}
 use Rattle.canary_schema.specs.Stores.{IsUsable}
 use Rattle.canary_judging.specs.Laws.{JudgingIsExact}
-use Rattle.canary_migrate.specs.Migrates.{IsOfFirst, HasSoundFirstRows, HasJudgedFirstRows, IsMigrated, IsRewritten}
+use Rattle.canary_reads.specs.Meta.{HasMetaRow}
+use Rattle.canary_migrate.specs.Migrates.{HasFirstTables, HasSoundFirstRows, HasJudgedFirstRows, IsMigrated, IsRewritten}
 
 pub migrated_so : JudgingIsExact → (old mid new : State) → (IsUsable mid → IsOpenedAnew old mid) → (IsUsable new → IsUsable mid) → (IsUsable new → IsRewritten mid.now new.now) → IsUsable new → IsMigrated old new
 migrated_so exact old mid new opened held done usable =
@@ -18,16 +19,16 @@ migrated_so exact old mid new opened held done usable =
 none_sound : JudgingIsExact → (db : Database) → ¬ HasJudgedFirstRows db → ¬ HasSoundFirstRows db
 none_sound exact db none f = none (f.0, (f.1.0, (f.1.1.0, (exact _).1 f.1.1.1)))
 
-pub other_so : (old mid new : State) → (IsUsable mid → IsOpenedAnew old mid) → (IsUsable new → IsUsable mid) → (IsUsable new → ¬ HasFirstMeta (mid.now.trees 0)) → IsUsable new → ¬ IsOfFirst old.now
+pub other_so : (old mid new : State) → (IsUsable mid → IsOpenedAnew old mid) → (IsUsable new → IsUsable mid) → (IsUsable new → ¬ HasMetaRow 1 (mid.now.trees 0)) → IsUsable new → ¬ HasFirstTables old.now
 other_so old mid new opened held other usable first =
     let o = opened (held usable) in
-    other usable (subst (λ (db : Database). HasFirstMeta (db.trees 0)) (sym o.same) first.1)
+    other usable (subst (λ (db : Database). HasMetaRow 1 (db.trees 0)) (sym o.same) first.1)
 
-pub broken_so : JudgingIsExact → (old mid new : State) → old.now.schema ≡ first_schema → (IsUsable mid → IsOpenedAnew old mid) → (IsUsable new → IsUsable mid) → (IsUsable new → HasFirstMeta (mid.now.trees 0) × ¬ HasJudgedFirstRows mid.now) → IsUsable new
-    → IsOfFirst old.now × ¬ HasSoundFirstRows old.now
+pub broken_so : JudgingIsExact → (old mid new : State) → old.now.schema ≡ first_schema → (IsUsable mid → IsOpenedAnew old mid) → (IsUsable new → IsUsable mid) → (IsUsable new → HasMetaRow 1 (mid.now.trees 0) × ¬ HasJudgedFirstRows mid.now) → IsUsable new
+    → HasFirstTables old.now × ¬ HasSoundFirstRows old.now
 broken_so exact old mid new schema opened held broken usable =
     let o = opened (held usable) in
-    let b = subst (λ (db : Database). HasFirstMeta (db.trees 0) × ¬ HasJudgedFirstRows db) o.same (broken usable) in
+    let b = subst (λ (db : Database). HasMetaRow 1 (db.trees 0) × ¬ HasJudgedFirstRows db) o.same (broken usable) in
     ((schema, b.0), none_sound exact old.now b.1)
 
 pub left_so : (old mid new : State) → (IsUsable mid → IsOpenedAnew old mid) → (IsUsable new → IsUsable mid) → (IsUsable new → new.now ≡ mid.now) → IsUsable new → IsUsable old × (new.now ≡ old.now)

@@ -10,9 +10,14 @@ use Rattle.canary_judging.specs.Soundness.{AreSoundTables}
 use Rattle.canary_reads.specs.declared.first.TemplateRow.{TemplateRow}
 use Rattle.canary_reads.specs.declared.first.FirstTally.{FirstTally}
 use Rattle.canary_reads.specs.First.{IsFirst, AreTemplatesIn, AreTalliesIn}
+use Rattle.canary_reads.specs.Meta.{HasMetaRow}
 use Rattle.canary_migrate.specs.Migrated.{FirstTables, HoldsFirst, migrated}
 
--- just the tables and indexes of the first schema are there, and meta has its one row
+-- just the tables and indexes of the first schema are there, and its row stands in meta
+abbrev pub HasFirstTables : Database → Type 0
+HasFirstTables db = (db.schema ≡ first_schema) × HasMetaRow 1 (db.trees 0)
+
+-- so, and no other row stands in meta
 abbrev pub IsOfFirst : Database → Type 0
 IsOfFirst db = (db.schema ≡ first_schema) × HasFirstMeta (db.trees 0)
 

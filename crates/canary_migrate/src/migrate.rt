@@ -4,10 +4,11 @@ ghost use Rattle.sqlite.specs.Held.{state};
 ghost use Rattle.canary_schema.specs.First.{HasFirstMeta};
 ghost use Rattle.canary_schema.specs.Stores.{IsUsable};
 ghost use Rattle.canary_reads.specs.First.{IsFirst};
+ghost use Rattle.canary_reads.specs.Meta.{HasMetaRow};
 ghost use Rattle.canary_tables.specs.Adopts.{TellsTables, LeavesRows, IsLeftBy, IsOutside};
 ghost use Rattle.canary_tables.specs.declared.fault.TableFault.TheVariants as fault;
 ghost use Rattle.canary_reads.specs.Reader.{IsKept, seen_inside};
-ghost use Rattle.canary_migrate.specs.Migrates.{IsOfFirst, HasSoundFirstRows, IsMigrated};
+ghost use Rattle.canary_migrate.specs.Migrates.{HasFirstTables, HasSoundFirstRows, IsMigrated};
 ghost use Rattle.canary_migrate.specs.Migrates.{HasJudgedFirstRows, IsRead, IsRewritten};
 
 use crate::fill::{fill, make_tables};
@@ -16,6 +17,7 @@ use canary_adopting::progress::Progress;
 use canary_judging::laws as judging_laws;
 use canary_reads::fault::ReadFault;
 use canary_reads::first::{self, FirstTally, TemplateRow};
+use canary_reads::meta::{MetaRow, first_row};
 use canary_reads::typed::typed;
 use canary_schema::anew::open_anew;
 use canary_schema::fault::fault_of;
@@ -34,10 +36,10 @@ use std::alloc::Global;
 /// # Errors
 ///
 /// `OtherSchema` where the database has other tables, indexes or views than the first schema, or
-/// its table meta has other rows; `BrokenRow` where the rows do not become those of a desk;
-/// `Memory` where an allocation was refused; `Storage` where the store failed, or the connection
-/// stands inside a transaction. What is left of the connection is handed back, with the database as
-/// it was.
+/// its table meta lacks the row 1, 1; `BrokenRow` where the rows do not become those of a desk, as
+/// with a second row in meta; `Memory` where an allocation was refused; `Storage` where the store
+/// failed, or the connection stands inside a transaction. What is left of the connection is handed
+/// back, with the database as it was.
 pub fn migrate<S: Alter + Drop, G: Progress>(
     alloc: Global,
     conn: Connection<S>,
@@ -47,9 +49,9 @@ pub fn migrate<S: Alter + Drop, G: Progress>(
         → IsMigrated (state S.Store conn) (state S.Store it)) }
     ensures autocommit { IfOk result (λ it. it.in_transaction ≡ false) }
     ensures other { IfErr result (λ e. e.0 ≡ fault.OtherSchema → TellsTables S.Store e.1
-        → ¬ IsOfFirst (state S.Store conn).now) }
+        → ¬ HasFirstTables (state S.Store conn).now) }
     ensures broken { IfErr result (λ e. e.0 ≡ fault.BrokenRow → TellsTables S.Store e.1
-        → IsOfFirst (state S.Store conn).now × ¬ HasSoundFirstRows (state S.Store conn).now) }
+        → HasFirstTables (state S.Store conn).now × ¬ HasSoundFirstRows (state S.Store conn).now) }
     ensures left { IfErr result (λ e. LeavesRows S.Store (state S.Store conn) e.1) }
     ensures store { IfErr result (λ e. IsLeftBy e.0 e.1) }
     ensures mode { IfErr result (λ e. conn.in_transaction ≡ false → IsOutside e.1) }
@@ -88,22 +90,24 @@ fn migrate_rows<S: Alter, G: Progress>(
     ensures done { IsUsable (state S.Store conn.new)
         → OnOk result (IsRewritten (state S.Store conn.old).now (state S.Store conn.new).now) }
     ensures other { IsUsable (state S.Store conn.new) → result ≡ Err fault.OtherSchema
-        → ¬ HasFirstMeta ((state S.Store conn.old).now.trees 0) }
+        → ¬ HasMetaRow 1 ((state S.Store conn.old).now.trees 0) }
     ensures broken { IsUsable (state S.Store conn.new) → result ≡ Err fault.BrokenRow
-        → HasFirstMeta ((state S.Store conn.old).now.trees 0)
+        → HasMetaRow 1 ((state S.Store conn.old).now.trees 0)
         × ¬ HasJudgedFirstRows (state S.Store conn.old).now }
     ensures failed { IsUsable (state S.Store conn.new)
         → OnErr result ((state S.Store conn.new).now ≡ (state S.Store conn.old).now) }
     ensures opened { result ≢ Err fault.InUse }
 {
-    if !first::has_first_meta(conn)? {
-        return Err(TableFault::OtherSchema);
+    match first_row(conn)? {
+        MetaRow::Alone => {}
+        MetaRow::WithOthers => return Err(TableFault::BrokenRow),
+        MetaRow::Missing => return Err(TableFault::OtherSchema),
     }
     rewrite(conn, alloc, progress)?;
     Ok(())
 }
 
-// The same where meta has its one row.
+// The same where meta has the row of the first schema alone.
 fn rewrite<S: Alter, G: Progress>(
     conn: &mut Connection<S>,
     alloc: Global,

@@ -1,7 +1,7 @@
 //! A desk's file becomes one of the present schema.
 use crate::migrate::migrate;
 use canary_adopting::progress::Progress;
-use canary_reads::typed::has_meta;
+use canary_reads::meta::{MetaRow, desk_row};
 use canary_schema::fault::fault_of;
 use canary_schema::known::is_desk;
 use canary_tables::fault::TableFault;
@@ -30,16 +30,16 @@ pub fn upgrade<G: Progress>(
     closed(conn)
 }
 
-// Whether the tables are a desk's of the present schema. With other rows in meta they are of no
-// schema.
+// Whether the tables are a desk's of the present schema. Without its row of meta they are of no
+// schema; with others beside it they are none that a desk leaves.
 fn is_current(conn: &mut Connection<FileStore<File>>) -> Result<bool, TableFault> {
     if !conn.is_autocommit() || !is_desk(conn.schema()) {
         return Ok(false);
     }
-    if has_meta(conn)? {
-        Ok(true)
-    } else {
-        Err(TableFault::OtherSchema)
+    match desk_row(conn)? {
+        MetaRow::Alone => Ok(true),
+        MetaRow::WithOthers => Err(TableFault::BrokenRow),
+        MetaRow::Missing => Err(TableFault::OtherSchema),
     }
 }
 

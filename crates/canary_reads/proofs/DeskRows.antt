@@ -55,11 +55,11 @@ module _ {X : Type 0} (cells : X → Row) (front : Row) (ks : List Holding) (mak
   assured : AllByRecursion (AreRaw front ks) (old.now.trees tree) → Shown text_of [] old new [] → HasCells cells (old.now.trees tree)
   assured raw shown =
       are_told cells front ks make made tell told (old.now.trees tree) raw
-      (all_weaker _ (λ row. has_negative row (numbers_at (suc (length front)) ks) ≡ false) (λ row e. sym (passing row) ∙ e) (old.now.trees tree) (none_passes text_of tree (or_below (below at) others) old new layout schema asks shown))
+      (all_weaker _ (λ row. has_negative row (numbers_at (suc (length front)) ks) ≡ false) (λ row e. sym (passing row) ∙ e) (old.now.trees tree) (none_passes text_of tree (or_below (below at) others ∷ []) old new (schema_at layout) schema asks shown))
 
   denied : (row : Row) (rows : List Row) → Shown text_of [] old new (row ∷ rows) → HasCells cells (old.now.trees tree) → ⊥
   denied row rows shown has =
-      one_passes text_of tree (or_below (below at) others) old new row rows layout schema asks shown
+      one_passes text_of tree (or_below (below at) others ∷ []) old new row rows (schema_at layout) schema asks shown
       (all_weaker _ (λ row. passes (or_below (below at) others ∷ []) [] row ≡ false) (λ row e. passing row ∙ e) (old.now.trees tree) (are_fine cells front ks make made tell told (old.now.trees tree) has))
 
 abbrev callers_columns : List Holding

@@ -1,9 +1,9 @@
 -- What the queries on the first schema find.
-use Rattle.std.proofs.Common.{◌≡◌, ◌↔◌, ◌<◌, ℕ, zero, suc, pos, List, [], ◌∷◌, length, map, filter, take, get_or, codes, true, false, Option, Some, None, refl, sym, ap, ap₂, subst, ◌∙◌, arith}
+use Rattle.std.proofs.Common.{◌≡◌, ◌<◌, ℕ, zero, suc, pos, List, [], ◌∷◌, length, map, get_or, codes, false, Option, Some, None, refl, ap, subst, ◌∙◌, arith}
 use Rattle.std.specs.List.{AllByRecursion}
 use Rattle.sqlite.specs.declared.types.Value.TheVariants.{Null, Int, Text as Words}
-use Rattle.sqlite.specs.Order.{Row, column}
-use Rattle.sqlite.specs.Term.{Term, lit, col}
+use Rattle.sqlite.specs.Order.{Row}
+use Rattle.sqlite.specs.Term.{Term, col}
 use Rattle.sqlite.specs.Effect.{Database}
 use Rattle.sqlite.specs.Schema.{Schema}
 use Rattle.sqlite.specs.Table.{Table}
@@ -12,40 +12,23 @@ use Rattle.sqlite.specs.State.{State, Shown}
 use Rattle.sqlite.specs.Command.TheVariants.{Select}
 use Rattle.sqlite.proofs.Callers.{IsPlain, command_of, reads_as}
 use Rattle.sqlite_tied.specs.Compute.{everything}
-use Rattle.canary_schema.specs.Cells.{whole, whole_or_null, number_or_null}
-use Rattle.canary_schema.specs.First.{first_schema, meta_shown, HasFirstMeta}
+use Rattle.canary_schema.specs.Cells.{whole_or_null, number_or_null}
+use Rattle.canary_schema.specs.First.{first_schema}
 use Rattle.canary_schema.specs.Stores.{IsNumbered}
 use Rattle.canary_reads.specs.declared.first.TemplateRow.{TemplateRow}
 use Rattle.canary_reads.specs.declared.first.FirstTally.{FirstTally}
 use Rattle.canary_reads.specs.First.{IsFirst, template_shown, tally_shown, template_cells, first_tally_cells}
 use Rattle.canary_reads.specs.Queries.{IsQuery}
-use Rattle.canary_reads.proofs.Answer.{query_of, no_limit, from_start, by_column, shows, rowid_answer}
-use Rattle.canary_reads.proofs.Holding.{all_pass, map_itself}
+use Rattle.canary_reads.proofs.Answer.{query_of, no_limit, from_start, by_column, rowid_answer}
+use Rattle.canary_reads.proofs.Holding.{all_pass}
 use Rattle.canary_reads.proofs.TypedRows.{same_rows}
 
--- under the first schema a text asks for these columns of all rows of a tree, or of so many
-record AsksFirst (text : List ℕ) (tree : ℕ) (shown : List Term) (limit : Term) : Type 0 where
+-- under the first schema a text asks for these columns of all rows of a tree
+record AsksFirst (text : List ℕ) (tree : ℕ) (shown : List Term) : Type 0 where
   names : List (List ℕ)
-  is : command_of (understood first_schema text) ≡ Select (record { lets = []; body = query_of tree [] shown (by_column 0) limit from_start }) names
+  is : command_of (understood first_schema text) ≡ Select (record { lets = []; body = query_of tree [] shown (by_column 0) no_limit from_start }) names
   plain : IsPlain (understood first_schema text)
   unlisted : reads_listing first_schema text ≡ false
-
-abbrev meta_text : List ℕ
-meta_text = codes "SELECT id, schema FROM meta ORDER BY id LIMIT 2"
-
-abbrev two : Term
-two = lit (Int (pos 2))
-
-abbrev meta_columns : List Term
-meta_columns = col 1 0 ∷ col 1 2 ∷ []
-
-pub meta_query : IsQuery meta_text
-unfolding everything
-meta_query = tt
-
-asks_meta : AsksFirst meta_text 0 meta_columns two
-unfolding understood everything
-asks_meta = record { names = _; is = refl; plain = (refl, refl); unlisted = refl }
 
 abbrev pub templates_text : List ℕ
 templates_text = codes "SELECT name, spec FROM template ORDER BY rowid"
@@ -57,7 +40,7 @@ pub templates_query : IsQuery templates_text
 unfolding everything
 templates_query = tt
 
-asks_templates : AsksFirst templates_text 5 template_columns no_limit
+asks_templates : AsksFirst templates_text 5 template_columns
 unfolding understood everything
 asks_templates = record { names = _; is = refl; plain = (refl, refl); unlisted = refl }
 
@@ -71,19 +54,14 @@ pub tallies_query : IsQuery tallies_text
 unfolding everything
 tallies_query = tt
 
-asks_tallies : AsksFirst tallies_text 11 tally_columns no_limit
+asks_tallies : AsksFirst tallies_text 11 tally_columns
 unfolding understood everything
 asks_tallies = record { names = _; is = refl; plain = (refl, refl); unlisted = refl }
 
-rising_in : (db : Database) → IsFirst db → AllByRecursion (λ (t : Table). IsNumbered (db.trees t.tree)) first_schema.tables
+pub rising_in : (db : Database) → IsFirst db → AllByRecursion (λ (t : Table). IsNumbered (db.trees t.tree)) first_schema.tables
 rising_in db first = subst (λ (s : Schema). AllByRecursion (λ (t : Table). IsNumbered (db.trees t.tree)) s.tables) first.schema first.rising
 
 module _ (old new : State) (rows : List Row) (first : IsFirst old.now) where
-  pub two_shown : Shown meta_text [] old new rows → rows ≡ take 2 (map meta_shown (old.now.trees 0))
-  two_shown h =
-      rowid_answer Null 0 [] meta_columns two from_start old.now.trees [] rows (rising_in old.now first).0 ((reads_as meta_text [] old new first_schema first.schema _ asks_meta.is asks_meta.plain asks_meta.unlisted rows h).answer Null)
-      ∙ ap (λ (rs : List Row). take 2 (map meta_shown rs)) (all_pass (old.now.trees 0))
-
   pub templates_shown : Shown templates_text [] old new rows → rows ≡ map template_shown (old.now.trees 5)
   templates_shown h =
       rowid_answer Null 5 [] template_columns no_limit from_start old.now.trees [] rows (rising_in old.now first).1.1.1.0 ((reads_as templates_text [] old new first_schema first.schema _ asks_templates.is asks_templates.plain asks_templates.unlisted rows h).answer Null)
@@ -93,18 +71,6 @@ module _ (old new : State) (rows : List Row) (first : IsFirst old.now) where
   tallies_shown h =
       rowid_answer Null 11 [] tally_columns no_limit from_start old.now.trees [] rows (rising_in old.now first).1.1.1.1.1.1.0 ((reads_as tallies_text [] old new first_schema first.schema _ asks_tallies.is asks_tallies.plain asks_tallies.unlisted rows h).answer Null)
       ∙ ap (map tally_shown) (all_pass (old.now.trees 11))
-
--- meta has one row exactly if the first two that are shown are that one
-
-one_of_two : (xs : List Row) (x : Row) → take 2 xs ≡ x ∷ [] → xs ≡ x ∷ []
-one_of_two [] x e = absurd (cc)
-one_of_two (a ∷ []) x e = e
-one_of_two (a ∷ b ∷ xs) x e = absurd (cc)
-
-pub meta_is : (old new : State) (rows : List Row) → IsFirst old.now → Shown meta_text [] old new rows → (rows ≡ (whole 1 ∷ whole 1 ∷ []) ∷ []) ↔ HasFirstMeta (old.now.trees 0)
-meta_is old new rows first h =
-    let shown = two_shown old new rows first h in
-    (λ is. one_of_two (map meta_shown (old.now.trees 0)) (whole 1 ∷ whole 1 ∷ []) (sym shown ∙ is), λ meta. shown ∙ ap (take 2) meta)
 
 -- what is read of the rows that are shown
 

@@ -26,6 +26,6 @@ pub mod StrictRows
 pub mod TableRows
 pub mod DeskRows
 pub mod Sequence
-pub mod Meta
+pub mod MetaRows
 mod FirstTexts
 mod FoundMetrics

@@ -1,4 +1,4 @@
--- Texts that show a row where one passes a test.
+-- Texts that show a row where one passes the tests.
 use Rattle.std.proofs.Common.{◌≡◌, ◌==◌, ℕ, suc, pos, List, [], ◌∷◌, length, map, filter, take, if◌then◌else◌, Bool, true, false, refl, sym, ap, ◌∙◌, arith}
 use Rattle.std.specs.List.{AllByRecursion}
 use Rattle.std.proofs.lemmas.List.Sorted.{length_permutation}
@@ -6,6 +6,7 @@ use Rattle.sqlite_keyed.proofs.ListLemmas.{filter_none}
 use Rattle.sqlite.specs.declared.types.Value.TheVariants.{Null, Int}
 use Rattle.sqlite.specs.Order.{Row}
 use Rattle.sqlite.specs.Term.{Term, lit, col, op2}
+use Rattle.sqlite.specs.Schema.{Schema}
 use Rattle.sqlite.specs.Listing.{understood, reads_listing}
 use Rattle.sqlite.specs.Query.{Output}
 use Rattle.sqlite.specs.State.{State, Shown}
@@ -30,12 +31,16 @@ or_below test (at ∷ places) = or_below (op2 Or test (below at)) places
 abbrev pub only_one : Term
 only_one = lit (Int (pos 1))
 
--- in a layout a text asks for 1 where a row of the tree passes the test
-pub record SeeksAt (at : Layout) (text : List ℕ) (tree : ℕ) (test : Term) : Type 0 where
+-- under a schema a text asks for 1 where a row of the tree passes the tests
+pub record SeeksIn (schema : Schema) (text : List ℕ) (tree : ℕ) (tests : List Term) : Type 0 where
   pub names : List (List ℕ)
-  pub is : command_of (understood (schema_at at) text) ≡ Select (record { lets = []; body = query_of tree (test ∷ []) (only_one ∷ []) [] only_one from_start }) names
-  pub plain : IsPlain (understood (schema_at at) text)
-  pub unlisted : reads_listing (schema_at at) text ≡ false
+  pub is : command_of (understood schema text) ≡ Select (record { lets = []; body = query_of tree tests (only_one ∷ []) [] only_one from_start }) names
+  pub plain : IsPlain (understood schema text)
+  pub unlisted : reads_listing schema text ≡ false
+
+-- so in a layout, with one test
+abbrev pub SeeksAt : Layout → List ℕ → ℕ → Term → Type 0
+SeeksAt at text tree test = SeeksIn (schema_at at) text tree (test ∷ [])
 
 -- so in each layout
 abbrev pub Seeks : List ℕ → (Layout → ℕ) → Term → Type 0
@@ -61,32 +66,32 @@ mapped_length : {A B : Type 0} (f : A → B) (xs : List A) → length (map f xs)
 mapped_length f [] = refl
 mapped_length f (x ∷ xs) = ap suc (mapped_length f xs)
 
-module _ (text : List ℕ) (tree : ℕ) (test : Term) (old new : State) (rows : List Row) where
-  -- the rows that are shown are the first of those that pass the test
+module _ (text : List ℕ) (tree : ℕ) (tests : List Term) (old new : State) (rows : List Row) where
+  -- the rows that are shown are the first of those that pass the tests
   abbrev IsSought : Type 0
-  IsSought = IsOrdered Null tree (test ∷ []) (only_one ∷ []) [] only_one from_start old.now.trees [] rows
+  IsSought = IsOrdered Null tree tests (only_one ∷ []) [] only_one from_start old.now.trees [] rows
 
-  sought : (at : Layout) → old.now.schema ≡ schema_at at → SeeksAt at text tree test → Shown text [] old new rows → IsSought
-  sought at is asks h =
-      is_ordered Null tree (test ∷ []) (only_one ∷ []) [] only_one from_start old.now.trees [] rows ((reads_as text [] old new (schema_at at) is _ asks.is asks.plain asks.unlisted rows h).answer Null)
+  sought : (schema : Schema) → old.now.schema ≡ schema → SeeksIn schema text tree tests → Shown text [] old new rows → IsSought
+  sought schema is asks h =
+      is_ordered Null tree tests (only_one ∷ []) [] only_one from_start old.now.trees [] rows ((reads_as text [] old new schema is _ asks.is asks.plain asks.unlisted rows h).answer Null)
 
-  as_many : (s : IsSought) → length (filter (passes (test ∷ []) []) (old.now.trees tree)) ≡ length s.ordered
-  as_many s = sym (mapped_length (put_out Null tree (test ∷ []) (only_one ∷ []) [] only_one from_start old.now.trees [] rows) (filter (passes (test ∷ []) []) (old.now.trees tree))) ∙ sym (length_permutation _ s.ordered s.same)
+  as_many : (s : IsSought) → length (filter (passes tests []) (old.now.trees tree)) ≡ length s.ordered
+  as_many s = sym (mapped_length (put_out Null tree tests (only_one ∷ []) [] only_one from_start old.now.trees [] rows) (filter (passes tests []) (old.now.trees tree))) ∙ sym (length_permutation _ s.ordered s.same)
 
 -- where no row is shown, none passes
-pub none_passes : (text : List ℕ) (tree : ℕ) (test : Term) (old new : State) (at : Layout) → old.now.schema ≡ schema_at at → SeeksAt at text tree test → Shown text [] old new [] → AllByRecursion (λ row. passes (test ∷ []) [] row ≡ false) (old.now.trees tree)
-none_passes text tree test old new at schema asks h =
-    let s = sought text tree test old new [] at schema asks h in
+pub none_passes : (text : List ℕ) (tree : ℕ) (tests : List Term) (old new : State) (schema : Schema) → old.now.schema ≡ schema → SeeksIn schema text tree tests → Shown text [] old new [] → AllByRecursion (λ row. passes tests [] row ≡ false) (old.now.trees tree)
+none_passes text tree tests old new schema is asks h =
+    let s = sought text tree tests old new [] schema is asks h in
     let cut : [] ≡ take 1 (map (λ (o : Output). o.1) s.ordered) = s.shown_are in
-    none_kept (passes (test ∷ []) []) (old.now.trees tree) (as_many text tree test old new [] s ∙ empty_by (λ (o : Output). o.1) s.ordered cut)
+    none_kept (passes tests []) (old.now.trees tree) (as_many text tree tests old new [] s ∙ empty_by (λ (o : Output). o.1) s.ordered cut)
 
 -- where a row is shown, one passes
-pub one_passes : (text : List ℕ) (tree : ℕ) (test : Term) (old new : State) (row : Row) (rows : List Row) (at : Layout) → old.now.schema ≡ schema_at at → SeeksAt at text tree test → Shown text [] old new (row ∷ rows)
-    → AllByRecursion (λ row. passes (test ∷ []) [] row ≡ false) (old.now.trees tree) → ⊥
-one_passes text tree test old new row rows at schema asks h none =
-    let s = sought text tree test old new (row ∷ rows) at schema asks h in
+pub one_passes : (text : List ℕ) (tree : ℕ) (tests : List Term) (old new : State) (row : Row) (rows : List Row) (schema : Schema) → old.now.schema ≡ schema → SeeksIn schema text tree tests → Shown text [] old new (row ∷ rows)
+    → AllByRecursion (λ row. passes tests [] row ≡ false) (old.now.trees tree) → ⊥
+one_passes text tree tests old new row rows schema is asks h none =
+    let s = sought text tree tests old new (row ∷ rows) schema is asks h in
     let cut : row ∷ rows ≡ take 1 (map (λ (o : Output). o.1) s.ordered) = s.shown_are in
-    full_by (λ (o : Output). o.1) row rows s.ordered cut (sym (as_many text tree test old new (row ∷ rows) s) ∙ ap length (filter_none (passes (test ∷ []) []) (old.now.trees tree) none))
+    full_by (λ (o : Output). o.1) row rows s.ordered cut (sym (as_many text tree tests old new (row ∷ rows) s) ∙ ap length (filter_none (passes tests []) (old.now.trees tree) none))
 
 -- where rows are shown, there is a first
 pub some_row : (text : List ℕ) (old new : State) (rows : List Row) → (length rows == 0) ≡ false → Shown text [] old new rows → (row : Row) × (rest : List Row) × Shown text [] old new (row ∷ rest)

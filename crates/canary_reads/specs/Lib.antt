@@ -8,6 +8,7 @@ pub mod Readable
 pub mod Breaks
 pub mod Faults
 pub mod Told
+pub mod Meta
 pub mod Reader
 pub mod First
 pub mod Metrics

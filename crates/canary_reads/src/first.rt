@@ -1,10 +1,8 @@
-//! What the tables of the first schema hold that a desk's no longer do: its row of `meta`, its
-//! templates, and its tallies.
-ghost use Rattle.std.specs.Prelude.{◌≡◌, ◌≢◌, ◌∷◌, ◌↔◌, [], List, IsTrue, IfOk, Err, map};
+//! What the tables of the first schema hold that a desk's no longer do: its templates and its
+//! tallies.
+ghost use Rattle.std.specs.Prelude.{◌≡◌, List, IfOk, Err, map};
 ghost use Rattle.std.specs.List.{AllByRecursion};
 ghost use Rattle.sqlite.specs.Order.{Row as Cells};
-ghost use Rattle.canary_schema.specs.Cells.{whole};
-ghost use Rattle.canary_schema.specs.First.{HasFirstMeta};
 ghost use Rattle.canary_schema.specs.Stores.{IsUsable};
 ghost use Rattle.canary_reads.specs.declared.first.TemplateRow.{TemplateRow as OfTemplate};
 ghost use Rattle.canary_reads.specs.declared.first.FirstTally.{FirstTally as OfTally};
@@ -16,7 +14,6 @@ ghost use Rattle.canary_reads.specs.Reader.{IsKept};
 use crate::columns;
 use crate::fault::ReadFault;
 use crate::reader::Reader;
-use crate::typed::is_at;
 use canary_base::lists::{Listed, Text};
 use canary_base::moments::Moment;
 use canary_base::names::Name;
@@ -111,33 +108,6 @@ fn all<R: Told>(alloc: Global, rows: &[Row]) -> Result<Listed<R>, ReadFault>
         all.push(R::read(row)?)?;
     }
     Ok(all)
-}
-
-/// Whether `meta` has just the row that a desk of the first schema wrote, which is 1, 1. `Memory`
-/// where there is not enough, `Storage` where the database fails; never `Broken`.
-pub fn has_first_meta<Q: Reader>(conn: &mut Q) -> Result<bool, ReadFault>
-    requires ready { Q.IsReady conn.old }
-    ensures mode { Q.IsReady conn.new }
-    ensures place { Q.place conn.new ≡ Q.place conn.old }
-    ensures kept { IsKept (Q.below conn.old) (Q.below conn.new) }
-    ensures same { IsSame (Q.shows conn.old) (Q.shows conn.new) }
-    ensures found { IsUsable (Q.shows conn.new) → IsFirst (Q.shows conn.old).now
-        → IfOk result (λ has. IsTrue has ↔ HasFirstMeta ((Q.shows conn.old).now.trees 0)) }
-    ensures whole { result ≢ Err ReadFault.Broken }
-{
-    let rows = conn.ask("SELECT id, schema FROM meta ORDER BY id LIMIT 2", &[])?;
-    Ok(is_first_meta(rows.as_slice()))
-}
-
-// That the rows are one, of two columns, which are 1 and 1.
-fn is_first_meta(rows: &[Row]) -> bool
-    ensures { IsTrue result ↔ (rows.now ≡ (whole 1 ∷ whole 1 ∷ []) ∷ []) }
-{
-    if rows.len() != 1 {
-        return false;
-    }
-    let row = &rows[0];
-    row.column_count() == 2 && is_at(row, 0, 1) && is_at(row, 1, 1)
 }
 
 /// The templates of a database of the first schema, in the order in which they were added. `Memory`

@@ -19,6 +19,7 @@ pub mod first;
 mod held;
 pub mod histories;
 pub mod lists;
+pub mod meta;
 pub mod metrics;
 pub mod pages;
 pub mod reader;

@@ -1,13 +1,11 @@
 //! Whether the rows of a desk's database are those of tables at all.
-ghost use Rattle.std.specs.Prelude.{◌≡◌, ◌≢◌, ◌∷◌, ◌↔◌, [], false, List, IsTrue, IfOk, OnOk, Err};
-ghost use Rattle.sqlite.specs.Order.{Row as Cells, column};
+ghost use Rattle.std.specs.Prelude.{◌≡◌, ◌∷◌, [], List, OnOk, Err};
+ghost use Rattle.sqlite.specs.Order.{Row as Cells};
 ghost use Rattle.sqlite.specs.State.{Shown};
 ghost use Rattle.canary_schema.specs.Layout.{service_at, run_at, measurement_at, history_at};
 ghost use Rattle.canary_schema.specs.Layout.{revision_at, binding_at, tally_at};
 ghost use Rattle.canary_schema.specs.Stores.{IsUsable};
-ghost use Rattle.canary_schema.specs.Formed.{IsDeskSchema, IsRising, IsFormed};
-ghost use Rattle.canary_schema.specs.Formed.{HasRows, HasWholeTallies};
-ghost use Rattle.canary_schema.specs.Cells.{whole, meta_rows};
+ghost use Rattle.canary_schema.specs.Formed.{IsFormed, HasRows, HasWholeTallies};
 ghost use Rattle.canary_schema.specs.Cells.{caller_cells, kept_cells, service_cells, run_cells};
 ghost use Rattle.canary_schema.specs.Cells.{measurement_cells, history_cells};
 ghost use Rattle.canary_schema.specs.Cells.{revision_cells, binding_cells, tally_cells};
@@ -18,8 +16,6 @@ ghost use Rattle.canary_reads.specs.Reader.{IsKept};
 
 use crate::fault::ReadFault;
 use crate::reader::Reader;
-use sqlite::Row;
-use sqlite::types::ValueRef;
 
 /// That the rows of a formed database are those of tables: each number is one from 0 on. `Memory`
 /// where there is not enough, `Storage` where the database fails, `Broken` where a number is
@@ -39,46 +35,6 @@ pub fn typed<Q: Reader>(conn: &mut Q) -> Result<(), ReadFault>
     conn.look();
     early_typed(conn)?;
     late_typed(conn)
-}
-
-/// Whether `meta` has just the row that a desk writes. `Memory` where there is not enough,
-/// `Storage` where the database fails; never `Broken`.
-pub fn has_meta<Q: Reader>(conn: &mut Q) -> Result<bool, ReadFault>
-    requires ready { Q.IsReady conn.old }
-    ensures mode { Q.IsReady conn.new }
-    ensures place { Q.place conn.new ≡ Q.place conn.old }
-    ensures kept { IsKept (Q.below conn.old) (Q.below conn.new) }
-    ensures same { IsSame (Q.shows conn.old) (Q.shows conn.new) }
-    ensures found { IsUsable (Q.shows conn.new)
-        → IsDeskSchema (Q.shows conn.old).now.schema
-        → IsRising (Q.shows conn.old).now
-        → IfOk result (λ has. IsTrue has ↔ ((Q.shows conn.old).now.trees 0 ≡ meta_rows)) }
-    ensures whole { result ≢ Err ReadFault.Broken }
-{
-    conn.look();
-    let rows = conn.ask("SELECT id, schema FROM meta ORDER BY id LIMIT 2", &[])?;
-    Ok(is_meta(rows.as_slice()))
-}
-
-// That the rows are one, of two columns, which are 1 and 2.
-fn is_meta(rows: &[Row]) -> bool
-    ensures { IsTrue result ↔ (rows.now ≡ (whole 1 ∷ whole 2 ∷ []) ∷ []) }
-{
-    if rows.len() != 1 {
-        return false;
-    }
-    let row = &rows[0];
-    row.column_count() == 2 && is_at(row, 0, 1) && is_at(row, 1, 2)
-}
-
-// That the number stands in this column.
-pub(crate) fn is_at(row: &Row, at: usize, number: u32) -> bool
-    ensures { IsTrue result ↔ (column row.now at ≡ whole number) }
-{
-    match row.get_ref(at) {
-        Ok(ValueRef::Int(found)) => found == i64::from(number),
-        _ => false,
-    }
 }
 
 // That no number in the tables of callers, of their requests, of services and of their runs is

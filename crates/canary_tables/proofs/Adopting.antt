@@ -17,7 +17,7 @@ use Rattle.canary_judging.specs.Laws.{JudgingIsExact}
 use Rattle.canary_judging.specs.Services.{IsJudged}
 use Rattle.canary_reads.specs.Finds.{IsSame}
 use Rattle.canary_stored.specs.Reading.{contents_of, HoldsContents}
-use Rattle.canary_tables.specs.Adopts.{HasSoundRowsWithin, IsBelieved, IsAdopted}
+use Rattle.canary_tables.specs.Adopts.{HasDeskTables, HasSoundRowsWithin, IsBelieved, IsAdopted}
 use Rattle.canary_tables.specs.Desk.{IsDesk}
 
 -- Rows of tallies have ten values.
@@ -108,5 +108,5 @@ left_as_it_was old mid new opened same usable =
 pub left_anew : (old mid : State) → (IsUsable mid → IsOpenedAnew old mid) → IsUsable mid → IsUsable old × (mid.now ≡ old.now)
 left_anew old mid opened usable = let o = opened usable in (o.was, o.same)
 
-pub broken_before : (old mid new : State) → (IsUsable mid → IsOpenedAnew old mid) → IsSame mid new → (IsUsable new → IsFormed mid.now × ¬ HasSoundRowsWithin mid.now) → IsUsable new → IsFormed old.now × ¬ HasSoundRowsWithin old.now
-broken_before old mid new opened same broken usable = subst (λ (db : Database). IsFormed db × ¬ HasSoundRowsWithin db) (opened (same usable).0).same (broken usable)
+pub broken_before : (old mid new : State) → (IsUsable mid → IsOpenedAnew old mid) → IsSame mid new → (IsUsable new → HasDeskTables mid.now × IsRising mid.now × ¬ HasSoundRowsWithin mid.now) → IsUsable new → HasDeskTables old.now × IsRising old.now × ¬ HasSoundRowsWithin old.now
+broken_before old mid new opened same broken usable = subst (λ (db : Database). HasDeskTables db × IsRising db × ¬ HasSoundRowsWithin db) (opened (same usable).0).same (broken usable)

@@ -6,21 +6,21 @@ use Rattle.sqlite.specs.State.{State}
 use Rattle.sqlite_trees.specs.declared.store.Store.{Ghosts}
 use Rattle.canary_rows.specs.Limits.{AreWithin}
 use Rattle.canary_rows.specs.Tables.{Tables}
-use Rattle.canary_schema.specs.Cells.{meta_rows}
 use Rattle.canary_schema.specs.declared.fault.StoreFault.{StoreFault}
 use Rattle.canary_schema.specs.Formed.{IsDeskSchema, IsFormed}
 use Rattle.canary_schema.specs.Numbered.{IsLeft}
 use Rattle.canary_schema.specs.Stores.{IsUsable, IsHeld}
 use Rattle.canary_judging.specs.Soundness.{AreSoundTables}
+use Rattle.canary_reads.specs.Meta.{HasMetaRow}
 use Rattle.canary_tables.specs.declared.fault.Left.{Left}
 use Rattle.canary_tables.specs.declared.fault.Left.TheVariants as left
 use Rattle.canary_tables.specs.declared.fault.TableFault.{TableFault}
 use Rattle.canary_tables.specs.Desk.{contents_in}
 use Rattle.canary_tables.specs.Faults.{fault_of_store}
 
--- just a desk's tables and indexes are there, and meta has its one row
+-- just a desk's tables and indexes are there, and the row of its schema stands in meta
 abbrev pub HasDeskTables : Database → Type 0
-HasDeskTables db = IsDeskSchema db.schema × (db.trees 0 ≡ meta_rows)
+HasDeskTables db = IsDeskSchema db.schema × HasMetaRow 2 (db.trees 0)
 
 -- the rows of tables of sound contents stand in it
 abbrev pub HasSoundRows : Database → Type 0

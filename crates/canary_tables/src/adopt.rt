@@ -15,7 +15,8 @@ use crate::fault::{Left, TableFault};
 use canary_adopting::judge::judge;
 use canary_adopting::progress::Progress;
 use canary_judging::laws as judging_laws;
-use canary_reads::typed::{has_meta, typed};
+use canary_reads::meta::{MetaRow, desk_row};
+use canary_reads::typed::typed;
 use canary_schema::anew::open_anew;
 use canary_schema::known::is_desk;
 use canary_schema::laws as schema_laws;
@@ -39,11 +40,14 @@ fn has_rows<S: Alter>(conn: &mut Connection<S>, is_whole: bool) -> Result<(), Ta
     ensures other { IsUsable (state S.Store conn.new) → result ≡ Err fault.OtherSchema
         → ¬ HasDeskTables (state S.Store conn.old).now }
     ensures broken { IsUsable (state S.Store conn.new) → result ≡ Err fault.BrokenRow
-        → IsFormed (state S.Store conn.old).now × ¬ HasRows (state S.Store conn.old).now }
+        → HasDeskTables (state S.Store conn.old).now × IsRising (state S.Store conn.old).now
+        × ¬ HasRows (state S.Store conn.old).now }
     ensures opened { result ≢ Err fault.InUse }
 {
-    if !has_meta(conn)? {
-        return Err(TableFault::OtherSchema);
+    match desk_row(conn)? {
+        MetaRow::Alone => {}
+        MetaRow::WithOthers => return Err(TableFault::BrokenRow),
+        MetaRow::Missing => return Err(TableFault::OtherSchema),
     }
     if !is_whole {
         return Err(TableFault::BrokenRow);
@@ -72,7 +76,7 @@ fn believe<S: Alter, G: Progress>(
     ensures other { IsUsable (state S.Store conn.new) → result ≡ Err fault.OtherSchema
         → ¬ HasDeskTables (state S.Store conn.old).now }
     ensures broken { IsUsable (state S.Store conn.new) → result ≡ Err fault.BrokenRow
-        → IsFormed (state S.Store conn.old).now
+        → HasDeskTables (state S.Store conn.old).now × IsRising (state S.Store conn.old).now
         × ¬ HasSoundRowsWithin (state S.Store conn.old).now }
     ensures opened { result ≢ Err fault.InUse }
 {
@@ -91,10 +95,10 @@ impl<S: Alter + Drop> TableBook<S> {
     /// # Errors
     ///
     /// `OtherSchema` where the database has other tables, indexes or views than a desk's, or its
-    /// table meta has other rows; `BrokenRow` where the rows are not those that a desk leaves;
-    /// `Memory` where an allocation was refused; `Storage` where the store failed, or the
-    /// connection stands inside a transaction. What is left of the connection is handed back, with
-    /// the database as it was.
+    /// table meta lacks the row 1, 2; `BrokenRow` where the rows are not those that a desk leaves,
+    /// as with a second row in meta; `Memory` where an allocation was refused; `Storage` where the
+    /// store failed, or the connection stands inside a transaction. What is left of the connection
+    /// is handed back, with the database as it was.
     pub fn adopt<G: Progress>(
         alloc: Global,
         conn: Connection<S>,
@@ -105,7 +109,8 @@ impl<S: Alter + Drop> TableBook<S> {
         ensures other { IfErr result (λ e. e.0 ≡ fault.OtherSchema → TellsTables S.Store e.1
             → ¬ HasDeskTables (state S.Store conn).now) }
         ensures broken { IfErr result (λ e. e.0 ≡ fault.BrokenRow → TellsTables S.Store e.1
-            → IsFormed (state S.Store conn).now × ¬ HasSoundRowsWithin (state S.Store conn).now) }
+            → HasDeskTables (state S.Store conn).now × IsRising (state S.Store conn).now
+            × ¬ HasSoundRowsWithin (state S.Store conn).now) }
         ensures left { IfErr result (λ e. LeavesRows S.Store (state S.Store conn) e.1) }
         ensures store { IfErr result (λ e. IsLeftBy e.0 e.1) }
         ensures mode { IfErr result

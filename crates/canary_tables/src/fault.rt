@@ -16,7 +16,7 @@ pub enum TableFault {
     /// Another program has the file open.
     #[error("the file is in use")]
     InUse,
-    /// The database has other tables, indexes or views than a desk's, or other rows in meta.
+    /// The database has other tables, indexes or views than a desk's, or lacks its row of meta.
     #[error("the database has another schema")]
     OtherSchema,
     /// The tables hold a row that no desk leaves in them, or lack one.

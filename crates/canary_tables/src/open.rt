@@ -17,8 +17,9 @@ impl TableBook<FileStore<File>> {
     ///
     /// `InUse` where another program has the file open; `Memory` where an allocation was refused;
     /// `Storage` where the file cannot be opened, is no database, or fails; `OtherSchema` where it
-    /// has tables, indexes or views, and not just a desk's, or its table meta has other rows than a
-    /// desk's; `BrokenRow` where the rows of a desk's tables are not those that a desk leaves.
+    /// has tables, indexes or views, and not just a desk's, or its table meta lacks the row 1, 2;
+    /// `BrokenRow` where the rows of a desk's tables are not those that a desk leaves, as with a
+    /// second row in meta.
     pub fn open<G: Progress>(
         rt: &HostRuntime,
         path: &str,

@@ -1,5 +1,5 @@
 -- What a book over tables is, without a definition of canary_tables.
-use Rattle.std.specs.Prelude.{◌≡◌, IsTrue}
+use Rattle.std.specs.Prelude.{◌≡◌, IsTrue, [], ◌∷◌, map, Contains}
 use Rattle.sqlite.specs.Effect.{Database}
 use Rattle.sqlite.specs.Held.{Held, state}
 use Rattle.sqlite.specs.State.{State, HasCleanDisk}
@@ -8,7 +8,8 @@ use Rattle.canary_once.specs.Books.{BookState}
 use Rattle.canary_once.specs.Contents.{Contents, no_contents}
 use Rattle.canary_rows.specs.Limits.{AreWithin}
 use Rattle.canary_rows.specs.Tables.{Tables}
-use Rattle.canary_schema.specs.Cells.{meta_rows, tables_in}
+use Rattle.canary_schema.specs.Cells.{tables_in, whole}
+use Rattle.canary_schema.specs.First.{meta_shown}
 use Rattle.canary_schema.specs.Formed.{IsDeskSchema}
 use Rattle.canary_schema.specs.Schema.{no_schema}
 use Rattle.canary_schema.specs.Stores.{IsHeld}
@@ -63,9 +64,10 @@ abbrev pub ShowsTables : {S : Type 0} → Ghosts S → Left S → Type 0
 ShowsTables g (left.Connection conn) = IsIntact (state g conn)
 ShowsTables g (left.Store store) = Unit {0}
 
--- just a desk's tables and indexes are there, and meta has its one row
+-- just a desk's tables and indexes are there, and meta shows a row 1, 2, among others or alone
 abbrev pub IsDeskWithMeta : Database → Type 0
-IsDeskWithMeta db = IsDeskSchema db.schema × (db.trees 0 ≡ meta_rows)
+IsDeskWithMeta db =
+    IsDeskSchema db.schema × Contains (map meta_shown (db.trees 0)) (whole 1 ∷ whole 2 ∷ [])
 
 -- rows of sound contents stand in it, each of which a program can hold
 abbrev pub HoldsSoundRows : Database → Type 0

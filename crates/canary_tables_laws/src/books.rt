@@ -34,7 +34,7 @@ pub fn create<S: Alter>(
 
 /// `TableBook::adopt`: the book is honest and contains what the database held, which was sound; a
 /// database with a desk's schema and its row of `meta` is never refused as another schema's, nor
-/// one with sound rows as broken.
+/// one without them, or with sound rows, as broken.
 ///
 /// # Errors
 /// Those of `TableBook::adopt`.
@@ -48,7 +48,7 @@ pub fn adopt<S: Alter + Drop, G: Progress>(
     ensures other { IfErr result (λ e. e.0 ≡ fault.OtherSchema → ShowsTables S.Store e.1
         → ¬ IsDeskWithMeta (state S.Store conn).now) }
     ensures broken { IfErr result (λ e. e.0 ≡ fault.BrokenRow → ShowsTables S.Store e.1
-        → ¬ HoldsSoundRows (state S.Store conn).now) }
+        → IsDeskWithMeta (state S.Store conn).now × ¬ HoldsSoundRows (state S.Store conn).now) }
 {
     TableBook::adopt(alloc, conn, progress)
 }
