@@ -167,6 +167,12 @@ shown_inside sql params old new rows query u h =
           (plain.0, plain.1, plain.2, seen_unchanged old new (inl plain.3) u.is_open),
     )
 
+-- a query inside a transaction is never too late
+pub fails_inside : (sql : List ℕ) (params : Row) (old new : State) (e : Error) → IsQuery sql → FailsToQuery sql params old new e ⊎ IsTooLate sql params old new e → FailsToQuery sql params old new e
+fails_inside sql params old new e query (inl h) = h
+fails_inside sql params old new e query (inr h) =
+    let none = subst ReturnsNothing h.1.is (reads_only old.now.schema sql query) in absurd (false≢true (ap is_some (sym none) ∙ h.2))
+
 -- whatever a query answers, the database is as it was
 pub keeps : (sql : List ℕ) (params : Row) (old new : State) (r : Result (Vec Row Global) Error) (P : _) → IsQuery sql → (IsTrue old.is_open → old.now ≡ old.committed) → Survives old new P
     → (HasCleanDisk new → IfOk r (λ rows. Shown sql params old new rows.items)) → (HasCleanDisk new → IfErr r (FailsToQuery sql params old new)) → IsSame old new
