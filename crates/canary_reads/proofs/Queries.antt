@@ -1,5 +1,5 @@
 -- A query leaves the database as it is, whatever tables there are and whatever it answers.
-use Rattle.std.proofs.Common.{◌≡◌, ◌⊎◌, if◌then◌else◌, inl, inr, ℕ, List, Bool, true, false, Vec, Global, Option, Some, None, Ok, Err, Result, IfOk, IfErr, IsTrue, ◌&&◌, refl, sym, subst, ◌∙◌, arith}
+use Rattle.std.proofs.Common.{◌≡◌, ◌⊎◌, if◌then◌else◌, inl, inr, ℕ, List, Bool, true, false, Vec, Global, Option, Some, None, Ok, Err, Result, IfOk, IfErr, IsTrue, is_some, ◌&&◌, refl, sym, ap, subst, ◌∙◌, arith}
 use Rattle.std.proofs.lemmas.Bool.{false≢true}
 use Rattle.sqlite_ast.specs.declared.Statement.{Statement}
 use Rattle.sqlite_ast.specs.declared.Statement.TheVariants as written
