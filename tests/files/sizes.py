@@ -1,17 +1,19 @@
 """Files with more than the stories have: sizes.py PROGRAM FOLDER. A desk of 150 services with a
-closed run and an open one each, a service of 150 runs, and a report of 32 entries on a template of
-32 metrics. Each file is opened again: each request that is sent once more has the bytes of its
-reply, and the programs show what the rules give."""
+closed run and an open one each, a service of 150 runs, a report of 32 entries on a template of 32
+metrics, and a run of 33,000 measurements with a history of 33,000 lines, which is more than a desk
+reads at once as it opens a file. Each file is opened again: each request that is sent once more has
+the bytes of its reply, and the programs show what the rules give."""
 import os
 import re
 import socket
+import sqlite3
 import subprocess
 import sys
 
 from conversation import STILL_AT_B
 from story_words import B, Wrong, answer, command, expect, get, put, query, replies, reply
 
-MANY, WIDE = 150, 32
+MANY, WIDE, LONG = 150, 32, 33_000
 LISTENING = re.compile(rb"listening 127\.0\.0\.1:(\d+)\n")
 AT_B_TEXT = "2026-01-01T00:00:00Z"
 BEGIN = ["service v1 setWeight:20 pause background:errs", "start v2"]
@@ -148,10 +150,47 @@ def try_wide_report(program, file):
     serve(program, file, row, messages)
 
 
+def lengthen(file):
+    """Writes measurements and lines of a history behind those of a run with one measurement, so
+    that there are LONG of each."""
+    opened = sqlite3.connect(file)
+    with opened:
+        opened.executemany(
+            "INSERT INTO measurement (service, run, metric, ordinal, taken, phase, outcome)"
+            " VALUES ('web', 1, 0, ?, ?, 1, '5')", ((at, B) for at in range(2, LONG + 1)))
+        opened.execute("UPDATE tally SET counted = ?1, passes = ?1", (LONG,))
+        lines, = opened.execute("SELECT count(*) FROM history").fetchone()
+        opened.executemany("INSERT INTO history (service, moment, line)"
+                           " VALUES ('web', ?, 'promote')", ((B,) for _ in range(lines, LONG)))
+    opened.close()
+
+
+def try_many_rows(program, file):
+    """A run of more measurements, and a history of more lines, than are read at once."""
+    row = f"{LONG} measurements and lines"
+    report = "[web Paused 1 20 | 1 Successful | Running]"
+    messages = numbered([("web", text) for text in BEGIN])
+    messages.append((put("agent", 1, command("report 1 m:1:0:5")), answer(report)))
+    tell(program, file, row, messages)
+    lengthen(file)
+    tell(program, file, row, messages)
+    rows = ["caller,number,service,run,metric,ordinal,taken,result,failure"]
+    rows += [f"agent,{at},web,1,m,{at},{B},5," for at in range(1, LONG + 1)]
+    want(f"{row}: export", run(program, ["export", "--db", file, "--caller", "agent", "web"]),
+         "\n".join([*rows, ""]).encode())
+    lines = ["created v1", "start v2", "background run 1", "step 0 setWeight 20", "step 1 pause"]
+    lines += ["promote"] * (LONG - len(lines))
+    want(f"{row}: history", run(program, ["history", "--db", file, "web"]),
+         "".join(f"{AT_B_TEXT} {line}\n" for line in lines).encode())
+    next_one = put("agent", 2, command(f"report 1 m:{LONG + 1}:0:5"))
+    tell(program, file, f"{row}, and one more", [*messages, (next_one, answer(report))])
+
+
 def main():
     program, folder = sys.argv[1:]
     try:
-        for at, part in enumerate((try_many_services, try_many_runs, try_wide_report)):
+        for at, part in enumerate((try_many_services, try_many_runs, try_wide_report,
+                                   try_many_rows)):
             part(program, os.path.join(folder, f"sized-{at}"))
     except (Wrong, subprocess.TimeoutExpired) as fault:
         sys.exit(f"files: {fault}")

@@ -15,18 +15,20 @@ use Rattle.canary_stored.specs.Finding.{AreRead}
 use Rattle.canary_stored.specs.declared.fault.RowFault.{RowFault}
 use Rattle.canary_stored.specs.declared.fault.RowFault.TheVariants as row_fault
 use Rattle.canary_reads.specs.declared.fault.ReadFault.{ReadFault}
-use Rattle.canary_reads.specs.declared.fault.ReadFault.TheVariants.{Broken, Memory}
+use Rattle.canary_reads.specs.declared.fault.ReadFault.TheVariants.{Broken, Memory, Storage}
 use Rattle.canary_judging.specs.Services.{IsRunJudged}
 
 -- there is such a value in the tables
 abbrev pub HasSuch : {A : Type 0} → (Tables → A → Type 0) → Tables → Type 0
 HasSuch {A} such t = (value : A) × such t value
 
--- the value that there is, or it tells that there is none, or why it cannot tell
+-- the value that there is, or it tells that there is none; out of memory at any point, and the
+-- store is not asked
 abbrev pub IsTold : {A : Type 0} → Option A → Result A ReadFault → Type 0
 IsTold value (Ok found) = value ≡ Some found
 IsTold value (Err Broken) = value ≡ None
-IsTold value (Err fault) = Unit {0}
+IsTold value (Err Memory) = Unit {0}
+IsTold value (Err Storage) = ⊥
 
 -- what a row that is not read tells of the tables
 abbrev pub read_fault : RowFault → ReadFault

@@ -5,6 +5,7 @@ ghost use Rattle.std.specs.Prelude.{option_map};
 ghost use Rattle.std.specs.FinMap.{get};
 ghost use Rattle.canary_plan.specs.Plans.{distinct};
 ghost use Rattle.canary_rows.specs.Limits.{AreWithin};
+ghost use Rattle.canary_stored.specs.Values.{revision_of_row};
 ghost use Rattle.canary_reads.specs.Breaks.{BreaksUnless};
 ghost use Rattle.canary_reads.specs.Finds.{IsSame, FindsSuch};
 ghost use Rattle.canary_adopting.specs.OfService.{HasSuch};
@@ -24,7 +25,7 @@ use canary_plan::templates::Templates;
 use canary_reads::fault::ReadFault;
 use canary_reads::reader::Reader;
 use canary_reads::services;
-use canary_rows::rows::BindingRow;
+use canary_rows::rows::{BindingRow, RevisionRow};
 use canary_stored::fault::RowFault;
 use canary_stored::reading;
 use std::alloc::Global;
@@ -115,10 +116,17 @@ pub(crate) fn template_of<Q: Reader>(
     let Some(found) = services::revision(conn, &row.template, row.revision)? else {
         return Ok(None);
     };
-    match reading::revision(alloc, &found) {
+    Ok(template_in(alloc, &found)?)
+}
+
+// The template of that row; none where it is read as no accepted template.
+fn template_in(alloc: Global, row: &RevisionRow) -> Result<Option<Template>, Memory>
+    ensures { IfOk result (λ found. found ≡ revision_of_row row.now) }
+{
+    match reading::revision(alloc, row) {
         Ok(template) => Ok(Some(template)),
         Err(RowFault::Broken) => Ok(None),
-        Err(RowFault::Memory) => Err(ReadFault::Memory),
+        Err(RowFault::Memory) => Err(Memory),
     }
 }
 

@@ -1,9 +1,9 @@
 //! Callers, and what is kept of their requests.
-ghost use Rattle.std.specs.Prelude.{◌≡◌, ◌<◌, ◌≤◌, ◌↔◌, suc, Some, IsTrue, IfOk, OnOk, Err};
+ghost use Rattle.std.specs.Prelude.{◌≡◌, ◌≢◌, ◌<◌, ◌≤◌, ◌↔◌, suc, Some, IsTrue, IfOk, OnOk, Err};
 ghost use Rattle.std.specs.List.{AllByRecursion, sum_by};
 ghost use Rattle.canary_stored.specs.Values.{receipt_of_row};
 ghost use Rattle.canary_judging.specs.Judged.{AreCallersJudged, IsCallerJudged};
-ghost use Rattle.canary_reads.specs.declared.fault.ReadFault.TheVariants.{Broken};
+ghost use Rattle.canary_reads.specs.declared.fault.ReadFault.TheVariants.{Broken, Storage};
 ghost use Rattle.canary_reads.specs.Finds.{IsSame, FindsSuch};
 ghost use Rattle.canary_adopting.specs.Alone.{HasValue, only};
 ghost use Rattle.canary_adopting.specs.Judges.{FindsThat, RefusesUnless};
@@ -190,6 +190,7 @@ fn judge_page<Q: Reader>(
 fn are_receipts(alloc: Global, rows: &[KeptRow], before: u32, last: u32) -> Result<(), ReadFault>
     ensures judged { OnOk result (AreReceipts before last rows.now) }
     ensures refused { result ≡ Err Broken → ¬ AreReceipts before last rows.now }
+    ensures unasked { result ≢ Err Storage }
 {
     let mut number = before;
     for row in rows {
@@ -216,6 +217,7 @@ fn follows(number: u32, row: &KeptRow) -> bool
 fn read_receipt(alloc: Global, row: &KeptRow) -> Result<(), ReadFault>
     ensures judged { OnOk result (HasValue receipt_of_row row.now) }
     ensures refused { result ≡ Err Broken → ¬ HasValue receipt_of_row row.now }
+    ensures unasked { result ≢ Err Storage }
 {
     let row = copy(alloc, row)?;
     match reading::receipt(alloc, row) {

@@ -1,5 +1,5 @@
 //! The tallies and the rows of binding of a service's runs, counted.
-ghost use Rattle.std.specs.Prelude.{◌≡◌, ◌≢◌, ◌+◌, IfOk, Err, length};
+ghost use Rattle.std.specs.Prelude.{◌≡◌, ◌≢◌, ◌+◌, ◌^◌, ◌≤◌, IfOk, IfErr, Err, length};
 ghost use Rattle.std.specs.List.{sum_by};
 ghost use Rattle.canary_plan.specs.Plans.{all_revisions, distinct};
 ghost use Rattle.canary_once.specs.declared.record.RunRecord.{RunRecord};
@@ -21,6 +21,8 @@ use std::alloc::Global;
 pub(crate) fn tally_count(runs: &[RunRecord]) -> Result<u64, ReadFault>
     ensures value { IfOk result (λ count. count
         ≡ sum_by (λ (r : RunRecord). length r.tallies) runs.now) }
+    ensures full { IfErr result (λ told. (told ≡ fault.Storage)
+        × (2 ^ 64 ≤ sum_by (λ (r : RunRecord). length r.tallies) runs.now)) }
     ensures whole { result ≢ Err fault.Broken }
 {
     let mut count = 0_u64;
@@ -44,6 +46,9 @@ pub(crate) fn binding_count(
 ) -> Result<u64, ReadFault>
     ensures value { IfOk result (λ count. count ≡ length (distinct (all_revisions bound.now))
         + sum_by (λ (r : RunRecord). length (distinct r.analysis.revisions)) runs.now) }
+    ensures full { result ≡ Err fault.Storage
+        → 2 ^ 64 ≤ length (distinct (all_revisions bound.now))
+        + sum_by (λ (r : RunRecord). length (distinct r.analysis.revisions)) runs.now }
     ensures whole { result ≢ Err fault.Broken }
 {
     let revisions = bound.revisions(alloc)?;
@@ -56,6 +61,8 @@ pub(crate) fn binding_count(
 fn bindings_of_runs(alloc: Global, runs: &[RunRecord]) -> Result<u64, ReadFault>
     ensures value { IfOk result (λ count. count
         ≡ sum_by (λ (r : RunRecord). length (distinct r.analysis.revisions)) runs.now) }
+    ensures full { result ≡ Err fault.Storage
+        → 2 ^ 64 ≤ sum_by (λ (r : RunRecord). length (distinct r.analysis.revisions)) runs.now }
     ensures whole { result ≢ Err fault.Broken }
 {
     let mut count = 0_u64;

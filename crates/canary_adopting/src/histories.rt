@@ -1,5 +1,5 @@
 //! The lines of a service's history, read in pages.
-ghost use Rattle.std.specs.Prelude.{◌≡◌, ◌↔◌, ◌≤◌, false, Err, IsTrue, IfOk, OnOk, length};
+ghost use Rattle.std.specs.Prelude.{◌≡◌, ◌↔◌, ◌≤◌, false, Err, IsTrue, IfOk, IfErr, OnOk, length};
 ghost use Rattle.std.specs.List.{AllByRecursion};
 ghost use Rattle.canary_reads.specs.declared.fault.ReadFault.TheVariants.{Broken};
 ghost use Rattle.canary_reads.specs.Finds.{IsSame, FindsSuch};
@@ -76,6 +76,7 @@ fn page_of_lines<Q: Reader>(
 fn are_lines(rows: &[HistoryRow]) -> Result<(), ReadFault>
     ensures lines { OnOk result (AllByRecursion IsLineRow rows.now) }
     ensures broken { result ≡ Err Broken → ¬ AllByRecursion IsLineRow rows.now }
+    ensures compared { IfErr result (λ fault. fault ≡ Broken) }
 {
     for row in rows {
         if !is_line(row) {

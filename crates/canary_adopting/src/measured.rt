@@ -1,9 +1,9 @@
 //! The measurements of a service, read in pages and counted one after another.
-ghost use Rattle.std.specs.Prelude.{◌≡◌, ◌≤◌, ◌∷◌, [], IfOk, Err, length, map};
+ghost use Rattle.std.specs.Prelude.{◌≡◌, ◌≢◌, ◌≤◌, ◌∷◌, [], IfOk, IfErr, Err, length, map};
 ghost use Rattle.canary_once.specs.declared.record.RunRecord.{RunRecord};
 ghost use Rattle.canary_stored.specs.Values.{measurement_of_row};
 ghost use Rattle.canary_judging.specs.Services.{metrics_of_runs};
-ghost use Rattle.canary_reads.specs.declared.fault.ReadFault.TheVariants.{Broken};
+ghost use Rattle.canary_reads.specs.declared.fault.ReadFault.TheVariants.{Broken, Storage};
 ghost use Rattle.canary_reads.specs.Finds.{IsSame, FindsSuch};
 ghost use Rattle.canary_reads.specs.Reader.{IsKept};
 ghost use Rattle.canary_adopting.specs.Judges.{RefusesUnless};
@@ -84,6 +84,7 @@ fn tallied(runs: &[RunRecord], so_far: &SoFar) -> Result<u64, ReadFault>
         × (map (λ (r : RunRecord). r.tallies) runs.now ≡ so_far.now.counts)) }
     ensures broken { result ≡ Err Broken
         → ¬ (map (λ (r : RunRecord). r.tallies) runs.now ≡ so_far.now.counts) }
+    ensures compared { IfErr result (λ fault. fault ≡ Broken) }
 {
     if so_far.counts.are_of(runs) {
         Ok(so_far.count)
@@ -129,6 +130,7 @@ fn count_rows(
         (λ last. AreCountedTo (metrics_of_runs runs.now) first rows.now last) }
     ensures refused { result ≡ Err Broken → (last : _)
         → ¬ AreCountedTo (metrics_of_runs runs.now) first rows.now last }
+    ensures unasked { result ≢ Err Storage }
 {
     let mut counts = first;
     for row in rows {
@@ -147,6 +149,7 @@ fn count_row(
         (λ last. AreCountedTo (metrics_of_runs runs.now) first (row.now ∷ []) last) }
     ensures refused { result ≡ Err Broken → (last : _)
         → ¬ AreCountedTo (metrics_of_runs runs.now) first (row.now ∷ []) last }
+    ensures unasked { result ≢ Err Storage }
 {
     let measurement = measurement_of(alloc, row)?;
     let mut counts = first;

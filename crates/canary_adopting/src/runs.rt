@@ -6,7 +6,7 @@ ghost use Rattle.std.specs.FinMap.{empty};
 ghost use Rattle.canary_rows.specs.declared.rows.TallyRow.{TallyRow};
 ghost use Rattle.canary_rows.specs.Tables.{Tables, is_tally_of};
 ghost use Rattle.canary_stored.specs.Finding.{record_of_row};
-ghost use Rattle.canary_reads.specs.declared.fault.ReadFault.TheVariants.{Broken};
+ghost use Rattle.canary_reads.specs.declared.fault.ReadFault.TheVariants.{Broken, Storage};
 ghost use Rattle.canary_reads.specs.Finds.{IsSame, FindsSuch};
 ghost use Rattle.canary_reads.specs.Reader.{IsKept};
 ghost use Rattle.canary_reads.specs.Sorts.{Sorts, metric_of};
@@ -203,6 +203,7 @@ fn tallies(alloc: Global, rows: &[TallyRow]) -> Result<Listed<Tally>, ReadFault>
     ensures broken { (t : Tables) (name : List ℕ) (number : ℕ)
         → Sorts metric_of (filter (is_tally_of name number) t.tallies) rows.now
         → result ≡ Err Broken → ¬ HasSuch (AreTalliesOf name number) t }
+    ensures unasked { result ≢ Err Storage }
 {
     if !are_placed(rows) {
         return Err(ReadFault::Broken);

@@ -7,7 +7,7 @@ ghost use Rattle.canary_release.specs.Parts.{is_broken};
 ghost use Rattle.canary_rows.specs.Tables.{is_service};
 ghost use Rattle.canary_stored.specs.Values.{made_from, stand_of};
 ghost use Rattle.canary_judging.specs.Services.{IsServiceJudged, open_of_record, open_runs_in};
-ghost use Rattle.canary_reads.specs.declared.fault.ReadFault.TheVariants.{Broken};
+ghost use Rattle.canary_reads.specs.declared.fault.ReadFault.TheVariants.{Broken, Storage};
 ghost use Rattle.canary_reads.specs.Finds.{IsSame, FindsSuch};
 ghost use Rattle.canary_adopting.specs.OneService.{FindsJudged, RefusesJudged, IsPastJudged};
 ghost use Rattle.canary_adopting.specs.OneService.{totals_of, totals_bound, IsServiceUnder};
@@ -92,6 +92,7 @@ fn made_by(alloc: Global, row: &ServiceRow) -> Result<ServiceSpec, ReadFault>
         (made_from (canonical_in row.now.spec) ≡ Some made) × (made.name ≡ row.now.name)) }
     ensures broken { result ≡ Err Broken → (made : ServiceSpec)
         → made_from (canonical_in row.now.spec) ≡ Some made → made.name ≢ row.now.name }
+    ensures unasked { result ≢ Err Storage }
 {
     let made = spec_of(alloc, row.spec.as_str())?;
     if made.name == row.name {
@@ -104,6 +105,7 @@ fn made_by(alloc: Global, row: &ServiceRow) -> Result<ServiceSpec, ReadFault>
 fn spec_of(alloc: Global, text: &str) -> Result<ServiceSpec, ReadFault>
     ensures made { IfOk result (λ made. made_from (canonical_in text.now) ≡ Some made) }
     ensures broken { result ≡ Err Broken → made_from (canonical_in text.now) ≡ None }
+    ensures unasked { result ≢ Err Storage }
 {
     reading::made(alloc, text).map_err(read_fault)
 }
@@ -114,6 +116,7 @@ fn stand_by(row: &ServiceRow, strategy: &Strategy, bound: &Bound) -> Result<Stan
         stand_of row.now.name strategy.now bound.now row.now.standing ≡ Some stand) }
     ensures broken { result ≡ Err Broken
         → stand_of row.now.name strategy.now bound.now row.now.standing ≡ None }
+    ensures unasked { result ≢ Err Storage }
 {
     reading::stand(row.name, strategy, bound, &row.standing).map_err(read_fault)
 }
@@ -161,6 +164,7 @@ fn judge_parts(alloc: Global, stand: Stand, count: u32, runs: &[RunRecord]) -> R
       stand = stand;
       runs = record { count = count; open_runs = open_runs_in runs.now };
     }) ≢ false }
+    ensures unasked { result ≢ Err Storage }
 {
     let open_runs = open_among(alloc, runs)?;
     let runs = Runs { count, open_runs };

@@ -1,5 +1,5 @@
 //! The strategy of a service, which templates that are judged accept.
-ghost use Rattle.std.specs.Prelude.{◌≡◌, false, None, IfOk, Err};
+ghost use Rattle.std.specs.Prelude.{◌≡◌, ◌≢◌, false, None, IfOk, Err};
 ghost use Rattle.std.specs.FinMap.{get};
 ghost use Rattle.canary_plan.specs.Plans.{strategy_of};
 ghost use Rattle.canary_plan.specs.PlanRefusals.{analyses, strategy_refusal};
@@ -8,7 +8,7 @@ ghost use Rattle.canary_rows.specs.Tables.{Tables};
 ghost use Rattle.canary_rows.specs.Limits.{AreWithin};
 ghost use Rattle.canary_schema.specs.Stores.{IsUsable, Stores};
 ghost use Rattle.canary_judging.specs.Judged.{AreTemplatesJudged};
-ghost use Rattle.canary_reads.specs.declared.fault.ReadFault.TheVariants.{Broken};
+ghost use Rattle.canary_reads.specs.declared.fault.ReadFault.TheVariants.{Broken, Storage};
 ghost use Rattle.canary_reads.specs.Finds.{IsSame};
 ghost use Rattle.canary_adopting.specs.Strategies.{newest_in, known_among, IsStrategyAccepted};
 ghost use Rattle.canary_adopting.specs.Strategies.{IsStrategyOf};
@@ -70,6 +70,7 @@ fn checked(alloc: Global, spec: &ServiceSpec, known: &Templates) -> Result<Strat
     ensures strategy { IfOk result (λ strategy. (strategy_refusal (get known.now) spec.now ≡ None)
         × (strategy ≡ strategy_of spec.now)) }
     ensures broken { result ≡ Err Broken → ¬ (strategy_refusal (get known.now) spec.now ≡ None) }
+    ensures unasked { result ≢ Err Storage }
 {
     match Strategy::check(alloc, spec, known) {
         Ok(strategy) => Ok(strategy),

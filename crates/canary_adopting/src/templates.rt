@@ -1,9 +1,9 @@
 //! Templates, revision by revision.
-ghost use Rattle.std.specs.Prelude.{◌≡◌, ◌↔◌, false, IsTrue, IfOk, OnOk, Err};
+ghost use Rattle.std.specs.Prelude.{◌≡◌, ◌≢◌, ◌↔◌, false, IsTrue, IfOk, OnOk, Err};
 ghost use Rattle.std.specs.List.{AllByRecursion};
 ghost use Rattle.canary_plan.specs.declared.template.Template.{Template};
 ghost use Rattle.canary_judging.specs.Judged.{AreTemplatesJudged};
-ghost use Rattle.canary_reads.specs.declared.fault.ReadFault.TheVariants.{Broken};
+ghost use Rattle.canary_reads.specs.declared.fault.ReadFault.TheVariants.{Broken, Storage};
 ghost use Rattle.canary_reads.specs.Finds.{IsSame};
 ghost use Rattle.canary_adopting.specs.Alone.{IsAlone};
 ghost use Rattle.canary_adopting.specs.Judges.{FindsThat, RefusesUnless};
@@ -85,6 +85,7 @@ fn judge_one<Q: Reader>(conn: &mut Q, alloc: Global, key: &RevisionKey) -> Resul
 fn read_revision(alloc: Global, rows: Listed<RevisionRow>) -> Result<(), ReadFault>
     ensures judged { OnOk result (IsAlone IsAccepted rows) }
     ensures refused { result ≡ Err Broken → ¬ IsAlone IsAccepted rows }
+    ensures unasked { result ≢ Err Storage }
 {
     let Some(row) = alone::only(rows) else {
         return Err(ReadFault::Broken);
@@ -136,6 +137,7 @@ pub(crate) fn read(alloc: Global, row: &RevisionRow) -> Result<Template, ReadFau
     ensures found { IfOk result (IsAcceptedAs row.now) }
     ensures broken { result ≡ Err Broken
         → (template : Template) → ¬ IsAcceptedAs row.now template }
+    ensures unasked { result ≢ Err Storage }
 {
     match reading::revision(alloc, row) {
         Ok(template) => Ok(template),

@@ -1,6 +1,6 @@
 //! Whether rows that were found one by one are all.
-ghost use Rattle.std.specs.Prelude.{◌≡◌, ◌≢◌, ◌+◌, ℕ, min, Err, IfOk, OnOk};
-ghost use Rattle.canary_reads.specs.declared.fault.ReadFault.TheVariants.{Broken};
+ghost use Rattle.std.specs.Prelude.{◌≡◌, ◌≢◌, ◌+◌, ◌^◌, ◌<◌, ◌≤◌, ℕ, min, Err, IfOk, IfErr, OnOk};
+ghost use Rattle.canary_reads.specs.declared.fault.ReadFault.TheVariants.{Broken, Memory, Storage};
 
 use canary_reads::fault::ReadFault;
 
@@ -41,6 +41,12 @@ impl Totals {
           measurements = self.measurements + more.measurements;
           lines = self.lines + more.lines;
         }) }
+        ensures full { IfErr result (λ fault. (fault ≡ Storage) × ¬ (
+          (self.runs + more.runs < 2 ^ 64)
+          × (self.bindings + more.bindings < 2 ^ 64)
+          × (self.tallies + more.tallies < 2 ^ 64)
+          × (self.measurements + more.measurements < 2 ^ 64)
+          × (self.lines + more.lines < 2 ^ 64))) }
         ensures whole { result ≢ Err Broken }
     {
         Ok(Totals {
@@ -69,6 +75,8 @@ pub(crate) fn are_all(found: u64, count: u64) -> Result<(), ReadFault>
         ((rows : ℕ) → count ≡ min rows 9223372036854775807 → found ≡ rows) }
     ensures broken { result ≡ Err Broken
         → (rows : ℕ) → count ≡ min rows 9223372036854775807 → found ≢ rows }
+    ensures full { result ≡ Err Storage → 9223372036854775807 ≤ count }
+    ensures compared { result ≢ Err Memory }
 {
     if count >= MOST_ROWS {
         return Err(ReadFault::Storage);
@@ -82,6 +90,7 @@ pub(crate) fn are_all(found: u64, count: u64) -> Result<(), ReadFault>
 /// One number more. `Storage` where the sum is beyond what is counted.
 pub(crate) fn sum(so_far: u64, more: u64) -> Result<u64, ReadFault>
     ensures sum { IfOk result (λ sum. sum ≡ so_far + more) }
+    ensures full { IfErr result (λ fault. (fault ≡ Storage) × (2 ^ 64 ≤ so_far + more)) }
     ensures whole { result ≢ Err Broken }
 {
     so_far.checked_add(more).ok_or(ReadFault::Storage)

@@ -1,5 +1,5 @@
 //! What happens to a service, one thing after another, as rows inside a transaction.
-ghost use Rattle.std.specs.Prelude.{◌≡◌, length, Some, IfOk, OnOk};
+ghost use Rattle.std.specs.Prelude.{◌≡◌, length, Some, Err, IfOk, IfErr, OnOk};
 ghost use Rattle.std.specs.List.{AllByRecursion};
 ghost use Rattle.sqlite.specs.Held.{state};
 ghost use Rattle.canary_condition.specs.PhaseTexts.{phase_of_number};
@@ -19,6 +19,7 @@ use crate::bindings::bind_all;
 use canary_base::error::Memory;
 use canary_base::lists::Listed;
 use canary_base::names::Name;
+use canary_condition::outcome::Phase;
 use canary_plan::analysis_parts::{Revision, distinct};
 use canary_plan::line::Line;
 use canary_release::effect::{Closing, Effect, Opening, Recorded};
@@ -106,6 +107,19 @@ fn open_run<S: Alter>(
     Ok(())
 }
 
+// The number of a phase in a row. `Pending`, at which no run is closed, and of which no measurement
+// is, has none, and is not stored.
+fn number_of(phase: Phase) -> Result<u32, StoreFault>
+    ensures number { IfOk result (λ number. number ≡ phase_column phase) }
+    ensures read { OnOk result (phase_of_number (phase_column phase) ≡ Some phase) }
+    ensures pending { IfErr result (λ fault. (fault ≡ StoreFault.Storage) × (phase ≡ Phase.Pending)) }
+{
+    match phase_number(phase) {
+        Some(number) => Ok(number),
+        None => Err(StoreFault::Storage),
+    }
+}
+
 // The row of a measurement. One that is Pending, as none is, is not stored.
 fn measurement_row(
     alloc: Global,
@@ -114,10 +128,9 @@ fn measurement_row(
 ) -> Result<MeasurementRow, StoreFault>
     ensures value { IfOk result (λ row. row ≡ measurement_row service.now recorded.now) }
     ensures readable { OnOk result (IsReadableMeasurement recorded.now) }
+    ensures pending { result ≡ Err StoreFault.Storage → recorded.now.phase ≡ Phase.Pending }
 {
-    let Some(phase) = phase_number(recorded.phase) else {
-        return Err(StoreFault::Storage);
-    };
+    let phase = number_of(recorded.phase)?;
     let outcome = recorded.outcome.text(alloc)?;
     Ok(MeasurementRow {
         service: *service,
@@ -171,9 +184,7 @@ fn close<S: Alter>(
     ensures kept { StaysCommitted (state S.Store tx.old.conn.now) (state S.Store tx.new.conn.now) }
     ensures survives { SurvivesCut (state S.Store tx.old.conn.now) (state S.Store tx.new.conn.now) }
 {
-    let Some(verdict) = phase_number(closing.verdict) else {
-        return Err(StoreFault::Storage);
-    };
+    let verdict = number_of(closing.verdict)?;
     let outside = u32::from(closing.outside);
     close_run(tx, service, closing.run, closing.at, outside, verdict).map_err(fault_of)?;
     Ok(())

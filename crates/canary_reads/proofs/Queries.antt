@@ -1,5 +1,5 @@
 -- A query leaves the database as it is, whatever tables there are and whatever it answers.
-use Rattle.std.proofs.Common.{◌≡◌, ◌⊎◌, if◌then◌else◌, inl, inr, ℕ, List, Bool, true, false, Vec, Global, Option, Some, None, Ok, Err, Result, IfOk, IfErr, IsTrue, ◌&&◌, refl, sym, subst, ◌∙◌, arith}
+use Rattle.std.proofs.Common.{◌≡◌, ◌⊎◌, if◌then◌else◌, inl, inr, ℕ, List, Bool, true, false, Vec, Global, Option, Some, None, Ok, Err, Result, IfOk, IfErr, IsTrue, is_some, ◌&&◌, refl, sym, ap, subst, ◌∙◌, arith}
 use Rattle.std.proofs.lemmas.Bool.{false≢true}
 use Rattle.sqlite_ast.specs.declared.Statement.{Statement}
 use Rattle.sqlite_ast.specs.declared.Statement.TheVariants as written
@@ -166,6 +166,12 @@ shown_inside sql params old new rows query u h =
       subst (ShowsRows (seen_inside old) (seen_inside new) sql h.0 (at_time params h.0.formats h.1.now) rows) (sym none)
           (plain.0, plain.1, plain.2, seen_unchanged old new (inl plain.3) u.is_open),
     )
+
+-- a query inside a transaction is never too late
+pub fails_inside : (sql : List ℕ) (params : Row) (old new : State) (e : Error) → IsQuery sql → FailsToQuery sql params old new e ⊎ IsTooLate sql params old new e → FailsToQuery sql params old new e
+fails_inside sql params old new e query (inl h) = h
+fails_inside sql params old new e query (inr h) =
+    let none = subst ReturnsNothing h.1.is (reads_only old.now.schema sql query) in absurd (false≢true (ap is_some (sym none) ∙ h.2))
 
 -- whatever a query answers, the database is as it was
 pub keeps : (sql : List ℕ) (params : Row) (old new : State) (r : Result (Vec Row Global) Error) (P : _) → IsQuery sql → (IsTrue old.is_open → old.now ≡ old.committed) → Survives old new P

@@ -1,4 +1,7 @@
--- What the faults of the store and of a read come to.
+-- What the faults of the store, of a read and of a column come to.
+use Rattle.sqlite.specs.declared.error.Error.{Error}
+use Rattle.sqlite.specs.declared.error.Error.TheVariants.{SqliteFailure}
+use Rattle.sqlite.specs.declared.error.ErrorCode.TheVariants.{OutOfMemory}
 use Rattle.canary_schema.specs.declared.fault.StoreFault.{StoreFault}
 use Rattle.canary_schema.specs.declared.fault.StoreFault.TheVariants as store
 use Rattle.canary_reads.specs.declared.fault.ReadFault.{ReadFault}
@@ -13,3 +16,8 @@ read_fault store.Storage = read.Storage
 abbrev pub store_fault : ReadFault → StoreFault
 store_fault read.Memory = store.Memory
 store_fault fault = store.Storage
+
+-- a column that is not read, where memory was not refused, holds what no desk writes
+abbrev pub column_fault : Error → ReadFault
+column_fault (SqliteFailure OutOfMemory) = read.Memory
+column_fault error = read.Broken

@@ -1,12 +1,13 @@
 //! The values in the columns of a row that a query shows. A value that a program cannot hold is
 //! broken.
-ghost use Rattle.std.specs.Prelude.{◌≡◌, ◌≢◌, ◌<◌, ℕ, List, Option, Err, IfOk, IfSome, OnErr, OnOk};
+ghost use Rattle.std.specs.Prelude.{◌≡◌, ◌≢◌, ◌<◌, ℕ, List, Option, Err, IfOk, IfErr, IfSome, OnOk};
 ghost use Rattle.std.specs.Prelude.{length, IsTrue, IsUtf8};
 ghost use Rattle.sqlite.specs.Order.{column};
 ghost use Rattle.sqlite.specs.declared.types.Value.TheVariants.{Text as Words};
 ghost use Rattle.canary_base.specs.Names.{is_label, is_name};
 ghost use Rattle.canary_rows.specs.Limits.{FitsNumber, FitsMoment};
 ghost use Rattle.canary_schema.specs.Cells.{whole, whole_or_null};
+ghost use Rattle.canary_reads.specs.Faults.{column_fault};
 
 use crate::fault::ReadFault;
 use canary_base::lists::Text;
@@ -18,7 +19,8 @@ use sqlite::{Error, ErrorCode, Row};
 /// That the row has so many columns, or `Broken`.
 pub(crate) fn has_width(row: &Row, width: usize) -> Result<(), ReadFault>
     ensures found { OnOk result (length row.now ≡ width) }
-    ensures broken { OnErr result (length row.now ≢ width) }
+    ensures broken { IfErr result (λ fault. (fault ≡ ReadFault.Broken)
+        × (length row.now ≢ width)) }
 {
     if row.column_count() == width {
         Ok(())
@@ -29,7 +31,7 @@ pub(crate) fn has_width(row: &Row, width: usize) -> Result<(), ReadFault>
 
 // Why a column was not read.
 fn fault_of(error: Error) -> ReadFault
-    ensures { result ≡ ReadFault.Broken → error ≢ Error.SqliteFailure ErrorCode.OutOfMemory }
+    ensures { result ≡ column_fault error }
 {
     match error {
         Error::SqliteFailure(ErrorCode::OutOfMemory) => ReadFault::Memory,
@@ -42,6 +44,7 @@ pub(crate) fn number_at(row: &Row, at: usize) -> Result<u32, ReadFault>
     ensures found { IfOk result (λ number. column row.now at ≡ whole number) }
     ensures broken { result ≡ Err ReadFault.Broken
         → (number : ℕ) → column row.now at ≡ whole number → ¬ FitsNumber number }
+    ensures unasked { result ≢ Err ReadFault.Storage }
 {
     row.get::<u32>(at).map_err(fault_of)
 }
@@ -51,6 +54,7 @@ pub(crate) fn maybe_number_at(row: &Row, at: usize) -> Result<Option<u32>, ReadF
     ensures found { IfOk result (λ number. column row.now at ≡ whole_or_null number) }
     ensures broken { result ≡ Err ReadFault.Broken → (number : Option ℕ)
         → column row.now at ≡ whole_or_null number → ¬ IfSome number FitsNumber }
+    ensures unasked { result ≢ Err ReadFault.Storage }
 {
     row.get::<Option<u32>>(at).map_err(fault_of)
 }
@@ -60,6 +64,7 @@ pub(crate) fn moment_at(row: &Row, at: usize) -> Result<Moment, ReadFault>
     ensures found { IfOk result (λ moment. column row.now at ≡ whole moment) }
     ensures broken { result ≡ Err ReadFault.Broken
         → (moment : ℕ) → column row.now at ≡ whole moment → ¬ FitsMoment moment }
+    ensures unasked { result ≢ Err ReadFault.Storage }
 {
     let seconds = row.get::<u64>(at).map_err(fault_of)?;
     Moment::new(seconds).ok_or(ReadFault::Broken)
@@ -70,6 +75,7 @@ pub(crate) fn maybe_moment_at(row: &Row, at: usize) -> Result<Option<Moment>, Re
     ensures found { IfOk result (λ moment. column row.now at ≡ whole_or_null moment) }
     ensures broken { result ≡ Err ReadFault.Broken → (moment : Option ℕ)
         → column row.now at ≡ whole_or_null moment → ¬ IfSome moment FitsMoment }
+    ensures unasked { result ≢ Err ReadFault.Storage }
 {
     let Some(seconds) = row.get::<Option<u64>>(at).map_err(fault_of)? else {
         return Ok(None);
@@ -85,6 +91,7 @@ pub(crate) fn text_at(row: &Row, at: usize) -> Result<Text, ReadFault>
     ensures found { IfOk result (λ text. column row.now at ≡ Words text) }
     ensures broken { result ≡ Err ReadFault.Broken
         → (text : List ℕ) → column row.now at ≡ Words text → ¬ IsUtf8 text }
+    ensures unasked { result ≢ Err ReadFault.Storage }
 {
     Ok(Text::of(row.get::<String>(at).map_err(fault_of)?))
 }
@@ -94,6 +101,7 @@ pub(crate) fn label_at(row: &Row, at: usize) -> Result<Label, ReadFault>
     ensures found { IfOk result (λ label. column row.now at ≡ Words label) }
     ensures broken { result ≡ Err ReadFault.Broken
         → (label : List ℕ) → column row.now at ≡ Words label → ¬ IsTrue (is_label label) }
+    ensures unasked { result ≢ Err ReadFault.Storage }
 {
     let ValueRef::Text(bytes) = row.get_ref(at).map_err(fault_of)? else {
         return Err(ReadFault::Broken);
@@ -106,6 +114,7 @@ pub(crate) fn name_at(row: &Row, at: usize) -> Result<Name, ReadFault>
     ensures found { IfOk result (λ name. column row.now at ≡ Words name) }
     ensures broken { result ≡ Err ReadFault.Broken
         → (name : List ℕ) → column row.now at ≡ Words name → ¬ IsTrue (is_name name) }
+    ensures unasked { result ≢ Err ReadFault.Storage }
 {
     let ValueRef::Text(bytes) = row.get_ref(at).map_err(fault_of)? else {
         return Err(ReadFault::Broken);

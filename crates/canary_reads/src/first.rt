@@ -54,7 +54,8 @@ pub(crate) trait Told: Drop {
     fn read(row: &Row) -> Result<Self, ReadFault>
         ensures found { IfOk result (λ read. cells read ≡ row.now) }
         ensures broken { result ≡ Err ReadFault.Broken
-            → (read : Self) → cells read ≡ row.now → ¬ Within read };
+            → (read : Self) → cells read ≡ row.now → ¬ Within read }
+        ensures unasked { result ≢ Err ReadFault.Storage };
 }
 
 impl Told for TemplateRow {
@@ -102,6 +103,7 @@ fn all<R: Told>(alloc: Global, rows: &[Row]) -> Result<Listed<R>, ReadFault>
     ensures found { IfOk result (λ all. map R.cells all ≡ rows.now) }
     ensures broken { result ≡ Err ReadFault.Broken → (all : List R)
         → map R.cells all ≡ rows.now → ¬ AllByRecursion R.Within all }
+    ensures unasked { result ≢ Err ReadFault.Storage }
 {
     let mut all = Listed::of(Vec::new(alloc));
     for row in rows {

@@ -91,6 +91,7 @@ pub(crate) fn all<R: Held>(alloc: Global, rows: &[Row]) -> Result<Listed<R>, Rea
     ensures found { IfOk result (λ all. map Some all ≡ map R.held rows.now) }
     ensures broken { result ≡ Err ReadFault.Broken
         → (all : List R) → map R.held rows.now ≢ map Some all }
+    ensures unasked { result ≢ Err ReadFault.Storage }
 {
     let mut all = Listed::of(Vec::new(alloc));
     for row in rows {

@@ -1,5 +1,5 @@
 //! What happened to a service: its history, and the measurements of its runs.
-ghost use Rattle.std.specs.Prelude.{◌≡◌, false, filter, take, drop};
+ghost use Rattle.std.specs.Prelude.{◌≡◌, ◌≤◌, ◌^◌, pos, false, filter, take, drop, IfOk, IfErr};
 ghost use Rattle.std.specs.List.{AllByRecursion};
 ghost use Rattle.canary_rows.specs.Tables.{is_line_of, is_measurement_of};
 ghost use Rattle.canary_rows.specs.Limits.{IsLineWithin, IsMeasurementWithin};
@@ -40,6 +40,17 @@ pub fn history<Q: Reader>(
     shown::all(alloc, service, rows.as_slice())
 }
 
+// The number of rows to pass over, as SQLite takes it.
+fn offset_of(from: u64) -> Result<i64, ReadFault>
+    ensures offset { IfOk result (λ offset. offset ≡ pos from) }
+    ensures beyond { IfErr result (λ fault. (fault ≡ ReadFault.Storage) × (2 ^ 63 ≤ from)) }
+{
+    match i64::try_from(from) {
+        Ok(offset) => Ok(offset),
+        Err(_) => Err(ReadFault::Storage),
+    }
+}
+
 /// The lines of the service's history, in their order: from that one on, counted from 0, at most
 /// so many. `Memory` where there is not enough, `Storage` where the database fails, and where
 /// `from` is 2^63 or more, `Broken` where a line of these is none that a program can hold.
@@ -61,9 +72,7 @@ pub fn lines<Q: Reader>(
     ensures broken { BreaksUnless (λ t. AllByRecursion IsLineWithin t.history)
         (Q.shows conn.old) (Q.shows conn.new) result }
 {
-    let Ok(offset) = i64::try_from(from) else {
-        return Err(ReadFault::Storage);
-    };
+    let offset = offset_of(from)?;
     let rows = conn.ask(
         "SELECT moment, line FROM history WHERE service = ?1 ORDER BY place LIMIT ?3 OFFSET ?2",
         params![service.as_str(), offset, most],
@@ -92,9 +101,7 @@ pub fn measurements<Q: Reader>(
     ensures broken { BreaksUnless (λ t. AllByRecursion IsMeasurementWithin t.measurements)
         (Q.shows conn.old) (Q.shows conn.new) result }
 {
-    let Ok(offset) = i64::try_from(from) else {
-        return Err(ReadFault::Storage);
-    };
+    let offset = offset_of(from)?;
     let rows = conn.ask(
         "SELECT run, metric, ordinal, taken, phase, outcome FROM measurement \
          WHERE service = ?1 ORDER BY place LIMIT ?3 OFFSET ?2",

@@ -1,6 +1,6 @@
 //! What a desk asks of a file that it adopts: all callers, the keys of all revisions, the names of
 //! all services, and how many rows the other tables have.
-ghost use Rattle.std.specs.Prelude.{◌≡◌, ◌≢◌, false, List, [], IfOk, IfSome, Err};
+ghost use Rattle.std.specs.Prelude.{◌≡◌, ◌≢◌, false, ℕ, List, [], None, IfOk, IfSome, Err};
 ghost use Rattle.std.specs.Prelude.{length, map, min, slice_index_or};
 ghost use Rattle.std.specs.List.{AllByRecursion};
 ghost use Rattle.sqlite.specs.Order.{Row as Cells, column};
@@ -198,7 +198,8 @@ fn count_of<Q: Reader>(conn: &mut Q, text: &str) -> Result<u64, ReadFault>
 }
 
 fn first_number(rows: &[Row]) -> Option<u64>
-    ensures { IfSome result (λ n. column (slice_index_or rows.now 0 []) 0 ≡ whole n) }
+    ensures some { IfSome result (λ n. column (slice_index_or rows.now 0 []) 0 ≡ whole n) }
+    ensures none { result ≡ None → (n : ℕ) → column (slice_index_or rows.now 0 []) 0 ≢ whole n }
 {
     let row = rows.first()?;
     match row.get_ref(0) {

@@ -1,12 +1,12 @@
 //! What reads a desk's tables: a connection outside of a transaction, or a transaction.
-ghost use Rattle.std.specs.Prelude.{◌≡◌, false, ℕ, IfOk};
-ghost use Rattle.sqlite.specs.State.{State, Shown};
+ghost use Rattle.std.specs.Prelude.{◌≡◌, false, ℕ, IfOk, IfErr};
+ghost use Rattle.sqlite.specs.State.{State, Shown, HasCleanDisk};
 ghost use Rattle.sqlite.specs.Effect.{IsDatabase};
 ghost use Rattle.sqlite.specs.Values.{bound};
 ghost use Rattle.canary_schema.specs.Stores.{IsUsable};
 ghost use Rattle.canary_reads.specs.Queries.{IsQuery};
 ghost use Rattle.canary_reads.specs.Finds.{IsSame};
-ghost use Rattle.canary_reads.specs.Reader.{IsKept};
+ghost use Rattle.canary_reads.specs.Reader.{IsKept, FailsAs};
 
 use canary_schema::fault::{StoreFault, fault_of};
 use sqlite::types::ValueRef;
@@ -41,7 +41,9 @@ pub trait Reader {
         ensures kept { IsKept (below self.old) (below self.new) }
         ensures same { IsSame (shows self.old) (shows self.new) }
         ensures shown { IsUsable (shows self.new) → IfOk result (λ rows. Shown text.now
-            (bound params.now) (shows self.old) (shows self.new) rows.items) };
+            (bound params.now) (shows self.old) (shows self.new) rows.items) }
+        ensures failed { HasCleanDisk (below self.new) → IfErr result (FailsAs text.now
+            (bound params.now) (below self.old) (below self.new)) };
 
     /// That what it shows is a database, for the prover.
     fn look(&self)

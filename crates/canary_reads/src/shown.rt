@@ -1,5 +1,5 @@
 //! Rows of tables, each read from the columns that a query shows to one who knows its name.
-ghost use Rattle.std.specs.Prelude.{◌≡◌, ◌∷◌, ℕ, List, IfOk, Err, length, map, option_map};
+ghost use Rattle.std.specs.Prelude.{◌≡◌, ◌≢◌, ◌∷◌, ℕ, List, IfOk, Err, length, map, option_map};
 ghost use Rattle.std.specs.Prelude.{slice_get};
 ghost use Rattle.std.specs.List.{AllByRecursion};
 ghost use Rattle.sqlite.specs.Order.{Row as Cells, column};
@@ -39,7 +39,8 @@ pub(crate) trait Shown: Drop {
     fn read(name: &Name, row: &Row) -> Result<Self, ReadFault>
         ensures found { IfOk result (λ read. cells read ≡ whole name.now row.now) }
         ensures broken { result ≡ Err ReadFault.Broken
-            → (read : Self) → cells read ≡ whole name.now row.now → ¬ Within read };
+            → (read : Self) → cells read ≡ whole name.now row.now → ¬ Within read }
+        ensures unasked { result ≢ Err ReadFault.Storage };
 }
 
 impl Shown for CallerRow {
@@ -138,6 +139,7 @@ fn standing(row: &Row) -> Result<Standing, ReadFault>
     ensures broken { result ≡ Err ReadFault.Broken → (service : OfService)
         → row.now ≡ Words service.spec ∷ standing_cells service.standing
         → ¬ IsServiceWithin service }
+    ensures unasked { result ≢ Err ReadFault.Storage }
 {
     Ok(Standing {
         stable: columns::label_at(row, 1)?,
@@ -234,6 +236,7 @@ fn counts(row: &Row) -> Result<Tally, ReadFault>
     ensures broken { result ≡ Err ReadFault.Broken → (tally : OfTally)
         → row.now ≡ number tally.run ∷ number tally.metric ∷ counts_cells tally.counts
         → ¬ IsTallyWithin tally }
+    ensures unasked { result ≢ Err ReadFault.Storage }
 {
     laws::consistent();
     let counted = columns::number_at(row, 2)?;
@@ -312,6 +315,7 @@ pub(crate) fn first<R: Shown>(name: &Name, rows: &[Row]) -> Result<Option<R>, Re
         ≡ option_map (R.whole name.now) (slice_get rows.now 0)) }
     ensures broken { result ≡ Err ReadFault.Broken → (all : List R)
         → map R.cells all ≡ map (R.whole name.now) rows.now → ¬ AllByRecursion R.Within all }
+    ensures unasked { result ≢ Err ReadFault.Storage }
 {
     match rows.first() {
         Some(row) => Ok(Some(R::read(name, row)?)),
@@ -329,6 +333,7 @@ pub(crate) fn all<R: Shown>(
     ensures found { IfOk result (λ all. map R.cells all ≡ map (R.whole name.now) rows.now) }
     ensures broken { result ≡ Err ReadFault.Broken → (all : List R)
         → map R.cells all ≡ map (R.whole name.now) rows.now → ¬ AllByRecursion R.Within all }
+    ensures unasked { result ≢ Err ReadFault.Storage }
 {
     let mut all = Listed::of(Vec::new(alloc));
     for row in rows {

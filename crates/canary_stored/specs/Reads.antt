@@ -20,6 +20,12 @@ IsRowRead value (Ok found) = value ≡ Some found
 IsRowRead value (Err Broken) = value ≡ None
 IsRowRead value (Err Memory) = Unit {0}
 
+-- so, of what takes no memory
+abbrev pub IsRowTold : {A : Type 0} → Option A → Result A RowFault → Type 0
+IsRowTold value (Ok found) = value ≡ Some found
+IsRowTold value (Err Broken) = value ≡ None
+IsRowTold value (Err Memory) = ⊥
+
 -- a command's template is read as that revision, if nothing refuses it
 abbrev pub IsRevisionRead : ℕ → Option Command → Result Template RowFault → Type 0
 IsRevisionRead revision (Some (command.Template spec)) (Ok template) =

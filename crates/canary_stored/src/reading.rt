@@ -8,7 +8,7 @@ ghost use Rattle.canary_canonical.specs.Readings.{canonical_in};
 ghost use Rattle.canary_stored.specs.Numbers.{state_of, truth_of, hold_of, status_of};
 ghost use Rattle.canary_stored.specs.Values.{receipt_of_row, made_from, stand_of, closing_of};
 ghost use Rattle.canary_stored.specs.Values.{measurement_of_row, line_of_row};
-ghost use Rattle.canary_stored.specs.Reads.{IsRowRead, IsRevisionRead};
+ghost use Rattle.canary_stored.specs.Reads.{IsRowRead, IsRowTold, IsRevisionRead};
 
 use crate::fault::RowFault;
 use canary_base::lists::Text;
@@ -51,7 +51,7 @@ pub fn receipt(alloc: Global, row: KeptRow) -> Result<Receipt, RowFault>
 }
 
 fn status_of(number: u32) -> Result<ReplyStatus, RowFault>
-    ensures { IsRowRead (status_of number) result }
+    ensures { IsRowTold (status_of number) result }
 {
     match number {
         200 => Ok(ReplyStatus::Accepted),
@@ -129,7 +129,7 @@ pub fn stand(
 }
 
 fn state_of(number: u32) -> Result<State, RowFault>
-    ensures { IsRowRead (state_of number) result }
+    ensures { IsRowTold (state_of number) result }
 {
     match number {
         0 => Ok(State::InProgress),
@@ -141,7 +141,7 @@ fn state_of(number: u32) -> Result<State, RowFault>
 
 // The hold of the step, and that of the background.
 fn hold_of(number: u32) -> Result<(bool, bool), RowFault>
-    ensures { IsRowRead (hold_of number) result }
+    ensures { IsRowTold (hold_of number) result }
 {
     match number {
         0 => Ok((false, false)),
@@ -153,7 +153,7 @@ fn hold_of(number: u32) -> Result<(bool, bool), RowFault>
 }
 
 fn truth_of(number: u32) -> Result<bool, RowFault>
-    ensures { IsRowRead (truth_of number) result }
+    ensures { IsRowTold (truth_of number) result }
 {
     match number {
         0 => Ok(false),
@@ -163,7 +163,7 @@ fn truth_of(number: u32) -> Result<bool, RowFault>
 }
 
 fn phase_of(number: u32) -> Result<Phase, RowFault>
-    ensures { IsRowRead (phase_of_number number) result }
+    ensures { IsRowTold (phase_of_number number) result }
 {
     match number {
         0 => Ok(Phase::Running),
@@ -180,7 +180,7 @@ fn phase_of(number: u32) -> Result<Phase, RowFault>
 /// # Errors
 /// `Broken` where a number is of no truth value or phase, or an open run has an outcome.
 pub fn closing(number: u32, ending: &Ending) -> Result<Option<Closing>, RowFault>
-    ensures { IsRowRead (closing_of number ending.now) result }
+    ensures { IsRowTold (closing_of number ending.now) result }
 {
     match ending.closed {
         None if ending.outside == 0 && ending.verdict == 0 => Ok(None),
@@ -220,7 +220,7 @@ pub fn measurement(alloc: Global, row: &MeasurementRow) -> Result<Recorded, RowF
 /// # Errors
 /// `Broken` where the words are of no event.
 pub fn line(row: &HistoryRow) -> Result<Line, RowFault>
-    ensures { IsRowRead (line_of_row row.now) result }
+    ensures { IsRowTold (line_of_row row.now) result }
 {
     match Line::read(row.moment, row.line.as_str()) {
         Some(line) => Ok(line),

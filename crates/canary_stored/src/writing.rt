@@ -1,5 +1,5 @@
 //! The rows of values.
-ghost use Rattle.std.specs.Prelude.{◌≡◌, Some, IfSome};
+ghost use Rattle.std.specs.Prelude.{◌≡◌, Some, None, IfSome};
 ghost use Rattle.canary_condition.specs.PhaseTexts.{phase_of_number};
 ghost use Rattle.canary_stored.specs.Numbers.{state_number, hold_number, bit, phase_column};
 ghost use Rattle.canary_stored.specs.Values.{standing_of};
@@ -52,6 +52,7 @@ fn hold_number(step: bool, background: bool) -> u32
 pub fn phase_number(phase: Phase) -> Option<u32>
     ensures value { IfSome result (λ number. number ≡ phase_column phase) }
     ensures read { IfSome result (λ number. phase_of_number number ≡ Some phase) }
+    ensures pending { result ≡ None → phase ≡ Phase.Pending }
 {
     phase.number().map(u32::from)
 }

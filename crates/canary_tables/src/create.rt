@@ -1,5 +1,5 @@
 //! A book over an empty database.
-ghost use Rattle.std.specs.Prelude.{◌≡◌, ◌≢◌, false, IfOk, IfErr};
+ghost use Rattle.std.specs.Prelude.{◌≡◌, ◌≢◌, true, false, IfOk, IfErr, IsErrAnd};
 ghost use Rattle.sqlite.specs.Held.{state};
 ghost use Rattle.canary_once.specs.Contents.{no_contents};
 ghost use Rattle.canary_schema.specs.Schema.{no_schema};
@@ -38,6 +38,8 @@ impl<S: Alter> TableBook<S> {
             (λ e. e.0 ≡ fault.OtherSchema → (state S.Store conn).now.schema ≢ no_schema) }
         ensures taken { conn.in_transaction ≡ false → (state S.Store conn).now.schema ≢ no_schema
             → IfErr result (λ e. e.0 ≡ fault.OtherSchema) }
+        ensures inside { conn.in_transaction ≡ true
+            → IsErrAnd result (λ e. e.0 ≡ fault.Storage) }
         ensures unread { IfErr result (λ e. e.0 ≢ fault.BrokenRow) }
         ensures opened { IfErr result (λ e. e.0 ≢ fault.InUse) }
         ensures same { IfErr result (λ e. IsUsable (state S.Store e.1)

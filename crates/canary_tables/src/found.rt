@@ -1,5 +1,5 @@
 //! What is kept of callers, as the tables tell it.
-ghost use Rattle.std.specs.Prelude.{◌≡◌, false, Some, option_map, IfOk};
+ghost use Rattle.std.specs.Prelude.{◌≡◌, false, Some, None, Err, option_map, IfOk};
 ghost use Rattle.sqlite.specs.Held.{state};
 ghost use Rattle.canary_once.specs.Contents.{count_of, receipt_at};
 ghost use Rattle.canary_schema.specs.Stores.{IsUsable};
@@ -71,9 +71,11 @@ pub(crate) fn receipt<S: Alter>(
     receipt_of(alloc, row)
 }
 
-// The receipt of a row, if there is one.
+// The receipt of a row, if there is one. `Storage` only where the row stands for none.
 fn receipt_of(alloc: Global, row: Option<KeptRow>) -> Result<Option<Receipt>, StoreFault>
-    ensures { IfOk result (λ found. option_map receipt_of_row row ≡ option_map Some found) }
+    ensures found { IfOk result
+        (λ found. option_map receipt_of_row row ≡ option_map Some found) }
+    ensures storage { result ≡ Err StoreFault.Storage → option_map receipt_of_row row ≡ Some None }
 {
     let Some(row) = row else {
         return Ok(None);

@@ -1,9 +1,9 @@
 //! Templates and strategies, as the tables tell them.
-ghost use Rattle.std.specs.Prelude.{◌≡◌, false, Some, IfOk, IfSome};
+ghost use Rattle.std.specs.Prelude.{◌≡◌, ◌≢◌, false, Some, None, Ok, Err, IfOk, IfSome};
 ghost use Rattle.std.specs.FinMap.{get};
 ghost use Rattle.sqlite.specs.Held.{state};
 ghost use Rattle.canary_plan.specs.Plans.{strategy_of, bound_of};
-ghost use Rattle.canary_plan.specs.PlanRefusals.{analyses};
+ghost use Rattle.canary_plan.specs.PlanRefusals.{analyses, strategy_refusal};
 ghost use Rattle.canary_plan.specs.Commands.{all_names};
 ghost use Rattle.canary_canonical.specs.Readings.{canonical_in};
 ghost use Rattle.canary_release.specs.Desks.{newest};
@@ -58,9 +58,10 @@ pub(crate) fn template<S: Alter>(
     Ok(Some(revision(alloc, &row)?))
 }
 
-// The revision of a template in this row.
+// The revision of a template in this row. `Storage` only where the row stands for none.
 fn revision(alloc: Global, row: &RevisionRow) -> Result<Template, StoreFault>
-    ensures { IfOk result (λ found. revision_of_row row.now ≡ Some found) }
+    ensures found { IfOk result (λ found. revision_of_row row.now ≡ Some found) }
+    ensures storage { result ≡ Err StoreFault.Storage → revision_of_row row.now ≡ None }
 {
     match reading::revision(alloc, row) {
         Ok(template) => Ok(template),
@@ -99,7 +100,8 @@ pub(crate) fn templates<S: Alter>(
 /// # Errors
 /// `Memory` where there is not enough, `Storage` where the text makes no service.
 pub(crate) fn made(alloc: Global, spec: &str) -> Result<ServiceSpec, StoreFault>
-    ensures { IfOk result (λ made. made_from (canonical_in spec.now) ≡ Some made) }
+    ensures made { IfOk result (λ made. made_from (canonical_in spec.now) ≡ Some made) }
+    ensures storage { result ≡ Err StoreFault.Storage → made_from (canonical_in spec.now) ≡ None }
 {
     reading::made(alloc, spec).map_err(store_fault)
 }
@@ -113,13 +115,23 @@ fn names_of(alloc: Global, made: &ServiceSpec) -> Result<Listed<Name>, Memory>
 
 // Its strategy, if these templates are all that it names.
 fn checked(alloc: Global, made: &ServiceSpec, known: &Templates) -> Result<Option<Strategy>, Memory>
-    ensures { IfOk result (λ found. IfSome found (λ strategy. strategy ≡ strategy_of made.now)) }
+    ensures found { IfOk result
+        (λ found. IfSome found (λ strategy. strategy ≡ strategy_of made.now)) }
+    ensures refused { result ≡ Ok None → strategy_refusal (get known.now) made.now ≢ None }
 {
     match Strategy::check(alloc, made, known) {
         Ok(strategy) => Ok(Some(strategy)),
         Err(CheckFault::Refused(_)) => Ok(None),
         Err(CheckFault::Memory) => Err(Memory),
     }
+}
+
+// Its strategy. `Storage` only where these templates refuse it.
+fn accepted(alloc: Global, made: &ServiceSpec, known: &Templates) -> Result<Strategy, StoreFault>
+    ensures found { IfOk result (λ strategy. strategy ≡ strategy_of made.now) }
+    ensures storage { result ≡ Err StoreFault.Storage → strategy_refusal (get known.now) made.now ≢ None }
+{
+    checked(alloc, made, known)?.ok_or(StoreFault::Storage)
 }
 
 // Its strategy, which the newest templates accept.
@@ -136,10 +148,7 @@ fn strategy<S: Alter>(
 {
     let names = names_of(alloc, made)?;
     let known = templates(conn, alloc, names.as_slice())?;
-    match checked(alloc, made, &known)? {
-        Some(strategy) => Ok(strategy),
-        None => Err(StoreFault::Storage),
-    }
+    accepted(alloc, made, &known)
 }
 
 // The same. Those to which it is bound are mostly all that it names, and are read already.

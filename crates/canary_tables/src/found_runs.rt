@@ -1,5 +1,5 @@
 //! Runs, as the tables tell them.
-ghost use Rattle.std.specs.Prelude.{◌≡◌, false, map, Some, IfOk};
+ghost use Rattle.std.specs.Prelude.{◌≡◌, false, map, Some, None, Err, IfOk};
 ghost use Rattle.sqlite.specs.Held.{state};
 ghost use Rattle.canary_plan.specs.Plans.{strategy_of, bound_of, analysis_or_none};
 ghost use Rattle.canary_once.specs.Records.{run_of};
@@ -14,6 +14,7 @@ ghost use Rattle.canary_tables.specs.Desk.{IsDesk, IsMadeBy, contents_in};
 
 use crate::found::store_fault;
 use crate::found_plans::{made, plan};
+use canary_base::error::Memory;
 use canary_base::lists::Listed;
 use canary_base::names::Name;
 use canary_base::numbers::Number;
@@ -50,10 +51,10 @@ pub(crate) fn tallies<S: Alter>(
 {
     laws::tallies_found();
     let rows = runs::tallies(conn, alloc, name, number)?;
-    counts_of(alloc, rows.as_slice())
+    Ok(counts_of(alloc, rows.as_slice())?)
 }
 
-fn counts_of(alloc: Global, rows: &[TallyRow]) -> Result<Listed<Tally>, StoreFault>
+fn counts_of(alloc: Global, rows: &[TallyRow]) -> Result<Listed<Tally>, Memory>
     ensures { IfOk result (λ found. found ≡ map (λ (row : TallyRow). row.counts) rows.now) }
 {
     let mut found = Listed::of(Vec::new(alloc));
@@ -135,14 +136,17 @@ fn bound_at<S: Alter>(
     Ok(bound)
 }
 
+// The record of a run. `Storage` only where the row stands for none.
 fn record_of(
     alloc: Global,
     row: &RunRow,
     bound: &Bound,
     tallies: Listed<Tally>,
 ) -> Result<RunRecord, StoreFault>
-    ensures { IfOk result (λ told. record_of_row
+    ensures told { IfOk result (λ told. record_of_row
         (analysis_or_none bound.now row.now.step) tallies row.now ≡ Some told) }
+    ensures storage { result ≡ Err StoreFault.Storage → record_of_row
+        (analysis_or_none bound.now row.now.step) tallies row.now ≡ None }
 {
     let closed = reading::closing(row.number, &row.ending).map_err(store_fault)?;
     let analysis = bound.analysis_or_none(alloc, row.step)?;

@@ -1,6 +1,8 @@
 //! Services, as the tables tell them.
-ghost use Rattle.std.specs.Prelude.{◌≡◌, false, Some, option_map, IfOk};
+ghost use Rattle.std.specs.Prelude.{◌≡◌, false, true, Some, Err, option_map, IfOk};
 ghost use Rattle.sqlite.specs.Held.{state};
+ghost use Rattle.canary_release.specs.declared.service.ServiceParts.{ServiceParts};
+ghost use Rattle.canary_release.specs.Parts.{is_broken};
 ghost use Rattle.canary_release.specs.Shapes.{seen};
 ghost use Rattle.canary_schema.specs.Stores.{IsUsable};
 ghost use Rattle.canary_stored.specs.Values.{stand_of};
@@ -51,15 +53,20 @@ pub(crate) fn service<S: Alter>(
     Ok(Some(service_of(&row, &strategy, &bound, open_runs)?))
 }
 
-// The service of a row, with its strategy, what it is bound to, and its open runs.
+// The service of a row, with its strategy, what it is bound to, and its open runs. `Storage` only
+// where the row stands for none, or for parts that make none.
 fn service_of(
     row: &ServiceRow,
     strategy: &Strategy,
     bound: &Bound,
     open_runs: Listed<OpenRun>,
 ) -> Result<Service, StoreFault>
-    ensures { IfOk result (λ service. option_map (parts_standing row.now open_runs)
+    ensures found { IfOk result (λ service. option_map (parts_standing row.now open_runs)
         (stand_of row.now.name strategy.now bound.now row.now.standing) ≡ Some service) }
+    ensures storage { result ≡ Err StoreFault.Storage → (parts : ServiceParts)
+        → option_map (parts_standing row.now open_runs)
+        (stand_of row.now.name strategy.now bound.now row.now.standing) ≡ Some parts
+        → is_broken parts ≡ true }
 {
     let stand = reading::stand(row.name, strategy, bound, &row.standing).map_err(store_fault)?;
     let count = row.standing.runs;

@@ -1,7 +1,9 @@
 //! Lists of what is kept of a service, as the tables tell them.
-ghost use Rattle.std.specs.Prelude.{◌≡◌, ◌∷◌, ◌++◌, [], false, Some, map, IfOk};
+ghost use Rattle.std.specs.Prelude.{◌≡◌, ◌≢◌, ◌∷◌, ◌++◌, [], false, List, Some, None, Err, map, IfOk};
 ghost use Rattle.sqlite.specs.Held.{state};
+ghost use Rattle.canary_plan.specs.declared.line.Line.{Line};
 ghost use Rattle.canary_plan.specs.Lines.{line_at};
+ghost use Rattle.canary_release.specs.declared.effect.Recorded.{Recorded};
 ghost use Rattle.canary_once.specs.Records.{history_of, measurements_of};
 ghost use Rattle.canary_schema.specs.Stores.{IsUsable};
 ghost use Rattle.canary_reads.specs.Finds.{IsSame};
@@ -9,6 +11,7 @@ ghost use Rattle.canary_stored.specs.Values.{line_of_row, measurement_of_row};
 ghost use Rattle.canary_tables.specs.Desk.{IsDesk, contents_in};
 
 use crate::found::store_fault;
+use canary_base::error::Memory;
 use canary_base::lists::Listed;
 use canary_base::moments::Moment;
 use canary_base::names::Name;
@@ -43,9 +46,11 @@ pub(crate) fn history<S: Alter>(
     lines_of(alloc, rows.as_slice())
 }
 
-// The lines of rows, in their order.
+// The lines of rows, in their order. `Storage` only where one stands for none.
 fn lines_of(alloc: Global, rows: &[HistoryRow]) -> Result<Listed<Line>, StoreFault>
-    ensures { IfOk result (λ lines. map Some lines ≡ map line_of_row rows.now) }
+    ensures found { IfOk result (λ lines. map Some lines ≡ map line_of_row rows.now) }
+    ensures storage { result ≡ Err Storage
+        → (lines : List Line) → map Some lines ≢ map line_of_row rows.now }
 {
     let mut lines = Listed::of(Vec::new(alloc));
     for row in rows {
@@ -55,10 +60,12 @@ fn lines_of(alloc: Global, rows: &[HistoryRow]) -> Result<Listed<Line>, StoreFau
 }
 
 fn with_line(lines: Listed<Line>, row: &HistoryRow) -> Result<Listed<Line>, StoreFault>
-    ensures { IfOk result (λ longer. map Some longer ≡ map Some lines ++ line_of_row row.now ∷ []) }
+    ensures found { IfOk result
+        (λ longer. map Some longer ≡ map Some lines ++ line_of_row row.now ∷ []) }
+    ensures storage { result ≡ Err StoreFault.Storage → line_of_row row.now ≡ None }
 {
     match reading::line(row) {
-        Ok(line) => push_line(lines, line.moment, line.event),
+        Ok(line) => Ok(push_line(lines, line.moment, line.event)?),
         Err(fault) => Err(store_fault(fault)),
     }
 }
@@ -67,7 +74,7 @@ fn push_line(
     lines: Listed<Line>,
     moment: Moment,
     event: LineEvent,
-) -> Result<Listed<Line>, StoreFault>
+) -> Result<Listed<Line>, Memory>
     ensures { IfOk result (λ longer. longer ≡ lines ++ line_at moment event ∷ []) }
 {
     let mut lines = lines;
@@ -101,9 +108,11 @@ pub(crate) fn measurements<S: Alter>(
     measurements_of(alloc, rows.as_slice())
 }
 
-// The measurements of rows, in their order.
+// The measurements of rows, in their order. `Storage` only where one stands for none.
 fn measurements_of(alloc: Global, rows: &[MeasurementRow]) -> Result<Listed<Recorded>, StoreFault>
-    ensures { IfOk result (λ page. map Some page ≡ map measurement_of_row rows.now) }
+    ensures found { IfOk result (λ page. map Some page ≡ map measurement_of_row rows.now) }
+    ensures storage { result ≡ Err Storage
+        → (page : List Recorded) → map Some page ≢ map measurement_of_row rows.now }
 {
     let mut page = Listed::of(Vec::new(alloc));
     for row in rows {

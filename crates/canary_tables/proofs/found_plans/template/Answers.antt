@@ -12,4 +12,4 @@ returns-in_default-clause-found g c usable =
 pub returns-clause-found : goal.returns-clause-found
 returns-clause-found g c usable =
     template_told (state g.S.Store c.args.conn.now) (state g.S.Store c.newest.new.conn) c.args.name.now c.in_ok-row.field-0 (Some c.in_ok-revision.field-0) c.newest_found.ensures c.requires.desk c.newest.ensures.same usable (λ t has. c.in_ok-row.ensures.found usable t has)
-    (ap (option_and_then revision_of_row) c.in-Some.is ∙ c.in_ok-revision.ensures)
+    (ap (option_and_then revision_of_row) c.in-Some.is ∙ c.in_ok-revision.ensures.found)

@@ -15,5 +15,5 @@ returns-clause-found g c usable =
     let old = state g.S.Store c.args.conn.now in
     let shown = state g.S.Store c.service.new.conn in
     let midway = (c.run_of.ensures.same usable).0 in
-    let by = made_by old shown c.args.name.now c.in-Some.row c.in_ok-made.made c.requires.desk c.service.ensures.same midway (λ t has. sym c.in-Some.is ∙ c.in_ok-row.ensures.found midway t has) (ap (λ (text : List ℕ). made_from (canonical_in text)) (sym c.as_str.ensures) ∙ c.in_ok-made.ensures) in
+    let by = made_by old shown c.args.name.now c.in-Some.row c.in_ok-made.made c.requires.desk c.service.ensures.same midway (λ t has. sym c.in-Some.is ∙ c.in_ok-row.ensures.found midway t has) (ap (λ (text : List ℕ). made_from (canonical_in text)) (sym c.as_str.ensures) ∙ c.in_ok-made.ensures.made) in
     IfOk-weaker c.run_of.result _ _ (λ found is. run_before old shown c.args.name.now c.args.number c.get.result found c.service.ensures.same midway is c.get.ensures.value) (c.run_of.ensures.found usable by)

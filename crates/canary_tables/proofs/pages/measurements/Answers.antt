@@ -14,4 +14,4 @@ returns-clause-found g c usable =
     let desk : IsDesk old = c.requires.desk (c.in_ok-rows.ensures.same usable).0 in
     IfOk-weaker c.measurements_of.result _ _
     (λ page told. all_found measurement_of_row c.as_slice.result.now _ page (measurements_of (contents_in old) c.args.name.now c.args.from c.args.most) told (c.as_slice.ensures ∙ c.in_ok-rows.ensures.found usable (tables_in old.now) desk.stores) (c.measurements_found.ensures (tables_in old.now) desk.holds c.args.name.now c.args.from c.args.most))
-    c.measurements_of.ensures
+    c.measurements_of.ensures.found

@@ -3,7 +3,7 @@ use Rattle.std.proofs.lemmas.Result.{IfOk-weaker}
 use Rattle.sqlite.specs.Held.{state}
 use Rattle.sqlite.specs.Effect.{Database, IsDatabase}
 use Rattle.canary_reads.specs.Reader.{seen_inside}
-use Rattle.canary_reads.proofs.Queries.{keeps_inside, same_inside, shown_inside}
+use Rattle.canary_reads.proofs.Queries.{keeps_inside, same_inside, shown_inside, fails_inside}
 use Rattle.canary_reads.proofs.reader.TransactionReader.ask.Goals as goal
 
 pub returns-in-Ok-clause-mode : goal.returns-in-Ok-clause-mode
@@ -35,3 +35,9 @@ returns-in-Err-clause-same g c =
 pub returns-in-Ok-clause-shown : goal.returns-in-Ok-clause-shown
 returns-in-Ok-clause-shown g c usable =
     shown_inside _ _ (state g.S.Store c.args.self.now.conn.now) (state g.S.Store c.query_all.new.self.conn.now) c.in-Ok.rows.items c.requires.query usable (c.in-Ok.ensures.ok usable.clean)
+
+pub returns-in-Err-clause-failed : goal.returns-in-Err-clause-failed
+returns-in-Err-clause-failed g c clean = (
+  c.in-Err.error,
+  (fails_inside _ _ (state g.S.Store c.args.self.now.conn.now) (state g.S.Store c.query_all.new.self.conn.now) c.in-Err.error c.requires.query (c.in-Err.ensures.err clean), c.fault_of.ensures),
+)
