@@ -89,6 +89,18 @@ def try_judging(program, place):
     return len(rows)
 
 
+def try_drawing(program, place):
+    """How many services of a page are drawn is shown, behind the judging of the desk's rows."""
+    words = ["page", "--db", "desk.db", "desk.html"]
+    written, shown = run_showing(program, words, place)
+    expect(words, written, b"")
+    found = counts(words, judged(words, shown), rb"canary: (\d+) of 2 services drawn")
+    expect(f"{words}: services", found, [1, 2])
+    with open(os.path.join(place, "desk.html"), "rb") as page:
+        expect(f"{words}: the page's end", page.read()[-8:], b"</html>\n")
+    return 1
+
+
 def try_reading(program, place):
     """How much of a measurement file is read: of so many megabytes, if that is known. Its two
     rows are too long for any, and refused."""
@@ -115,8 +127,8 @@ def try_reading(program, place):
 
 def try_missing(program, place):
     """A name under which there is no file. `import`, `history` and `export` make the file, and say
-    so on a terminal alone; `pipe` makes it and says nothing; `status` and `backup` make nothing. A
-    new desk has no rows, and nothing is shown of them."""
+    so on a terminal alone; `pipe` makes it and says nothing; `status`, `page` and `backup` make
+    nothing. A new desk has no rows, and nothing is shown of them."""
     new = ["--db", "new.db"]
     unknown, missing = b"canary: unknown-service\n", b"canary: file\n"
     about = b": a file is missing, cannot be read or written, is too long, or exists already\n"
@@ -128,6 +140,7 @@ def try_missing(program, place):
         (["export", *new, "--caller", "agent", "web"], 1, MADE + unknown, unknown),
         (["pipe", "--at", "0", "--step", "0", *new], 0, b"", b""),
         (["status", *new], 1, missing + b"new.db" + about, missing),
+        (["page", *new, "out.html"], 1, missing + b"new.db, out.html" + about, missing),
         (["backup", *new, "copy.db"], 1, missing + b"new.db, copy.db" + about, missing),
     )
     before = {*os.listdir(place), "input", "output"}
@@ -166,6 +179,7 @@ def try_faults(program, place):
         (["status", "--db", "text"], b"storage", b"text" + cannot),
         (["backup", "--db", "text", "copy"], b"other-schema", b"text, copy" + no_desk),
         (["import", "--db", "desk.db", "none.csv"], b"file", b"desk.db, none.csv" + unfound),
+        (["page", "--db", "desk.db", "no/out"], b"file", b"desk.db, no/out" + unfound),
         (["check", "none.json"], b"file", b"none.json" + unfound),
         (["check", "--request", "none.json"], b"file", b"none.json" + unfound),
         (["export", "--db", "desk.db", "--caller", " ", "web"], b"bad-name", b""),
@@ -218,5 +232,5 @@ def try_watching(program, place):
 
 def try_terminals(program, new_place):
     """Each of these in a new folder with a desk's file."""
-    parts = (try_judging, try_reading, try_missing, try_faults, try_watching)
+    parts = (try_judging, try_drawing, try_reading, try_missing, try_faults, try_watching)
     return sum(part(program, new_place()) for part in parts)

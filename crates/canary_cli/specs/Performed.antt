@@ -18,7 +18,7 @@ use Rattle.canary_cli.specs.declared.perform.Outcome.TheVariants.{Done, Findings
 use Rattle.canary_listen.specs.declared.limits.Limits.{Limits}
 use Rattle.canary_words.specs.declared.words.AskedLimits.{AskedLimits}
 use Rattle.canary_words.specs.declared.words.Program.{Program}
-use Rattle.canary_words.specs.declared.words.Program.TheVariants.{Pipe, Serve, Import, History, Export, Status, Backup, Migrate, Check}
+use Rattle.canary_words.specs.declared.words.Program.TheVariants.{Pipe, Serve, Import, History, Export, Status, Page, Backup, Migrate, Check}
 use Rattle.canary_words.specs.declared.words.WordsFault.{WordsFault}
 use Rattle.canary_words.specs.declared.words.WordsFault.TheVariants.{Help, Usage, Memory as NoMemory}
 use Rattle.canary_words.specs.CommandLine.{IsFor, faults_of, program_of}
@@ -108,7 +108,8 @@ IsRun r new_r w new_w (Serve listen db connections limits) done = new_r ≡ r
 IsRun r new_r w new_w (Import db csv) done = Unit {0}
 IsRun r new_r w new_w (History db service) done = new_r ≡ r
 IsRun r new_r w new_w (Export db caller service) done = new_r ≡ r
-IsRun r new_r w new_w (Status db watch) done = new_r ≡ r
+IsRun r new_r w new_w (Status db watch json) done = new_r ≡ r
+IsRun r new_r w new_w (Page db out watch) done = new_r ≡ r
 IsRun r new_r w new_w (Backup db copy) done = new_r ≡ r
 IsRun r new_r w new_w (Migrate db dry_run) done = new_r ≡ r
 IsRun r new_r w new_w (Check file request) done = (new_r ≡ r) × IsChecked w new_w done

@@ -18,11 +18,13 @@ use canary_database::export::export;
 use canary_database::history::history;
 use canary_database::import::import;
 use canary_database::migrate::migrate;
+use canary_database::page::page;
 use canary_database::status::status;
 use canary_database::{pipe, serve};
 use canary_listen::limits::Limits;
 use canary_once::clock::StepClock;
 use canary_once::memory::MemoryBook;
+use canary_overview::overview::Form;
 use canary_programs::fault::{Fault, done_of};
 use canary_programs::overview::Drawing;
 use canary_programs::show::show;
@@ -210,9 +212,13 @@ fn run<R: Read, W: Write, F: Write>(
             let (db, caller, service) = (db.as_str(), caller.as_str(), service.as_str());
             done(export(rt, db, caller, service, output, errors, shows))
         }
-        Program::Status { db, watch } => {
-            let drawing = drawing(watch, terminals);
+        Program::Status { db, watch, json } => {
+            let drawing = drawing(watch, json, terminals);
             done(status(rt, db.as_str(), drawing, output, errors, shows))
+        }
+        Program::Page { db, out, watch } => {
+            let (db, out) = (db.as_str(), out.as_str());
+            done(page(rt, db, out, watch, output, errors, shows))
         }
     }
 }
@@ -241,9 +247,10 @@ fn run_pipe<R: Read, W: Write, F: Write>(
     }
 }
 
-// How often a status is printed, and whether on a terminal.
-fn drawing(every: Option<u64>, terminals: Terminals) -> Drawing {
+// How often a status is printed, in which form, and whether on a terminal.
+fn drawing(every: Option<u64>, is_json: bool, terminals: Terminals) -> Drawing {
     Drawing {
+        form: if is_json { Form::Json } else { Form::Tables },
         every,
         is_terminal: terminals.output,
     }

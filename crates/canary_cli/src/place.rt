@@ -101,6 +101,7 @@ fn files_of(alloc: Global, program: &Program) -> Result<String, AllocError> {
         Program::History { db, .. } => listed(alloc, Some(db), None),
         Program::Export { db, .. } => listed(alloc, Some(db), None),
         Program::Status { db, .. } => listed(alloc, Some(db), None),
+        Program::Page { db, out, .. } => listed(alloc, Some(db), Some(out)),
         Program::Backup { db, copy } => listed(alloc, Some(db), Some(copy)),
         Program::Migrate { db, .. } => listed(alloc, Some(db), None),
         Program::Check { file, request } => listed(alloc, file.as_ref(), request.as_ref()),
@@ -113,6 +114,7 @@ fn db_of(alloc: Global, program: &Program) -> Result<String, AllocError> {
         Program::Pipe { db, .. } | Program::Serve { db, .. } => listed(alloc, db.as_ref(), None),
         Program::Import { db, .. } | Program::History { db, .. } => listed(alloc, Some(db), None),
         Program::Export { db, .. } | Program::Status { db, .. } => listed(alloc, Some(db), None),
+        Program::Page { db, .. } => listed(alloc, Some(db), None),
         Program::Backup { db, .. } | Program::Migrate { db, .. } => listed(alloc, Some(db), None),
         Program::Check { .. } => listed(alloc, None, None),
     }

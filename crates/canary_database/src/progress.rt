@@ -1,7 +1,8 @@
 //! Showing on a terminal how far a program has come, and that it made a file.
 ghost use Rattle.std.specs.Prelude.{◌≡◌, false};
 
-use canary_adopting::progress::Progress;
+use canary_adopting::progress as judging;
+use canary_page::progress as drawing;
 use std::alloc::{AllocError, Global};
 use std::io::{self, Read, Write};
 
@@ -18,6 +19,8 @@ enum Unit {
     Rows,
     /// Bytes of a file, which are read.
     Bytes,
+    /// Services, which are drawn.
+    Services,
 }
 
 /// Shows on a terminal how far a program has come, in one line that is written anew as it goes, and
@@ -53,6 +56,11 @@ impl<'a, F: Write> Shown<'a, F> {
         Shown::of(alloc, errors, is_terminal, Unit::Bytes, whole)
     }
 
+    /// Shows how many services are drawn.
+    pub fn services(alloc: Global, errors: &'a mut F, is_terminal: bool) -> Shown<'a, F> {
+        Shown::of(alloc, errors, is_terminal, Unit::Services, None)
+    }
+
     fn of(
         alloc: Global,
         errors: &'a mut F,
@@ -70,6 +78,13 @@ impl<'a, F: Write> Shown<'a, F> {
             next: 0,
             is_drawn: false,
         }
+    }
+
+    // So much is to be done, and nothing of it is done yet.
+    fn begin_whole(&mut self, whole: u64) {
+        self.done = 0;
+        self.whole = Some(whole);
+        self.next = 0;
     }
 
     /// So much more is done.
@@ -103,6 +118,9 @@ impl<'a, F: Write> Shown<'a, F> {
             (Unit::Rows, _) => {
                 format!(in self.alloc; "\rcanary: {done} of {whole} rows judged")?
             }
+            (Unit::Services, _) => {
+                format!(in self.alloc; "\rcanary: {done} of {whole} services drawn")?
+            }
             (Unit::Bytes, Some(_)) => format!(in self.alloc;
                 "\rcanary: {} of {} MB read",
                 done / MEGABYTE,
@@ -125,15 +143,23 @@ impl<'a, F: Write> Shown<'a, F> {
     }
 }
 
-impl<F: Write> Progress for Shown<'_, F> {
+impl<F: Write> judging::Progress for Shown<'_, F> {
     fn begin(&mut self, rows: u64) {
-        self.done = 0;
-        self.whole = Some(rows);
-        self.next = 0;
+        self.begin_whole(rows);
     }
 
     fn judged(&mut self, rows: u64) {
         self.more(rows);
+    }
+}
+
+impl<F: Write> drawing::Progress for Shown<'_, F> {
+    fn begin(&mut self, services: u64) {
+        self.begin_whole(services);
+    }
+
+    fn drawn(&mut self) {
+        self.more(1);
     }
 }
 

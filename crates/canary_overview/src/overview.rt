@@ -1,4 +1,5 @@
 //! The services of a desk at a glance, and their open runs.
+use crate::json::add_value;
 use crate::table::Table;
 use canary_base::error::Memory;
 use canary_base::moments::Moment;
@@ -29,12 +30,23 @@ const RUN_TITLES: [&str; 9] = [
 // How many cells the bar of a weight has.
 const BAR_CELLS: u32 = 10;
 
-/// Two tables: of services, and of their open runs.
+/// What the text of an overview is.
+#[derive(Clone, Copy, Debug, PartialEq, Eq)]
+pub enum Form {
+    /// Two tables for people: of services, and of their open runs.
+    Tables,
+    /// A line for each service, which is one JSON value.
+    Json,
+}
+
+/// An overview of services, and of their open runs.
 #[derive(Drop)]
 pub struct Overview {
     alloc: Global,
+    form: Form,
     services: Table,
     runs: Table,
+    values: String,
 }
 
 impl Overview {
@@ -42,13 +54,15 @@ impl Overview {
     ///
     /// # Errors
     /// `Memory` where an allocation was refused.
-    pub fn new(alloc: Global) -> Result<Overview, Memory> {
+    pub fn new(alloc: Global, form: Form) -> Result<Overview, Memory> {
         let services = Table::new(alloc, &SERVICE_TITLES)?;
         let runs = Table::new(alloc, &RUN_TITLES)?;
         Ok(Overview {
             alloc,
+            form,
             services,
             runs,
+            values: String::new(alloc),
         })
     }
 
@@ -58,10 +72,13 @@ impl Overview {
     /// `Memory` where an allocation was refused; some of its rows may be there then.
     pub fn add(&mut self, service: &Service, now: Moment) -> Result<(), Memory> {
         let passed = service.passed(self.alloc, now)?;
-        self.add_passed(&passed.service)
+        match self.form {
+            Form::Tables => self.add_rows(&passed.service),
+            Form::Json => add_value(self.alloc, &mut self.values, &passed.service),
+        }
     }
 
-    fn add_passed(&mut self, service: &Service) -> Result<(), Memory> {
+    fn add_rows(&mut self, service: &Service) -> Result<(), Memory> {
         self.services.push(service_row(self.alloc, service)?)?;
         for run in service.open_runs() {
             add_run(self.alloc, service, run, &mut self.runs)?;
@@ -69,11 +86,18 @@ impl Overview {
         Ok(())
     }
 
-    /// Its text: the second table stands behind an empty line, where it has rows.
+    /// Its text. Of two tables, the second one follows an empty line, if it has rows.
     ///
     /// # Errors
     /// `Memory` where an allocation was refused.
     pub fn text(&self) -> Result<String, Memory> {
+        match self.form {
+            Form::Tables => self.tables(),
+            Form::Json => Ok(String::from_str(self.alloc, self.values.as_str())?),
+        }
+    }
+
+    fn tables(&self) -> Result<String, Memory> {
         let text = self.services.text()?;
         if self.runs.has_rows() {
             with_table(text, &self.runs)

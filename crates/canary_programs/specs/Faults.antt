@@ -10,6 +10,8 @@ use Rattle.canary_files.specs.declared.export.ExportFault.{ExportFault}
 use Rattle.canary_files.specs.declared.export.ExportFault.TheVariants as exporting
 use Rattle.canary_listen.specs.declared.listener.ListenFault.{ListenFault}
 use Rattle.canary_listen.specs.declared.listener.ListenFault.TheVariants as listening
+use Rattle.canary_page.specs.declared.fault.PageFault.{PageFault}
+use Rattle.canary_page.specs.declared.fault.PageFault.TheVariants as page
 use Rattle.canary_wire.specs.declared.serve.Ended.{Ended}
 use Rattle.canary_wire.specs.declared.serve.Ended.TheVariants as ended
 use Rattle.canary_wire.specs.declared.serve.ServeFault.{ServeFault}
@@ -70,6 +72,11 @@ abbrev pub of_listen : ListenFault → Fault
 of_listen listening.Memory = fault.Memory
 of_listen listening.Listen = fault.Listen
 of_listen listening.Accept = fault.Accept
+
+abbrev pub of_page : PageFault → Fault
+of_page page.Memory = fault.Memory
+of_page page.Storage = fault.Storage
+of_page page.Write = fault.Write
 
 -- whether a stream that was served so was served to its end, or the fault
 abbrev pub done_of : Result Ended ServeFault → Result (Unit {0}) Fault

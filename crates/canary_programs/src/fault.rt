@@ -8,6 +8,7 @@ use canary_files::export::ExportFault;
 use canary_files::import::ImportFault;
 use canary_listen::listener::ListenFault;
 use canary_once::book::BookFault;
+use canary_page::fault::PageFault;
 use canary_wire::serve::{Ended, ServeFault};
 use std::alloc::AllocError;
 use std::error::Error;
@@ -196,6 +197,20 @@ impl From<ListenFault> for Fault {
             ListenFault::Memory => Fault::Memory,
             ListenFault::Listen => Fault::Listen,
             ListenFault::Accept => Fault::Accept,
+        }
+    }
+}
+
+impl From<PageFault> for Fault {
+    ghost use Rattle.canary_programs.specs.Faults.{of_page};
+
+    ghost from_gives = { λ fault made. made ≡ of_page fault };
+
+    fn from(fault: PageFault) -> Fault {
+        match fault {
+            PageFault::Memory => Fault::Memory,
+            PageFault::Storage => Fault::Storage,
+            PageFault::Write => Fault::Write,
         }
     }
 }

@@ -6,16 +6,18 @@ use crate::show::show;
 use canary_base::moments::Moment;
 use canary_base::names::Name;
 use canary_once::book::Book;
-use canary_overview::overview::Overview;
+use canary_overview::overview::{Form, Overview};
 use std::alloc::Global;
 use std::io::Write;
 
 // Goes to the upper left corner of a terminal and erases all of it.
 const CLEARED: &str = "\x1b[H\x1b[2J";
 
-/// How often the status is drawn, and on what.
+/// How often the status is drawn, in which form, and on what.
 #[derive(Clone, Copy, Debug, PartialEq, Eq)]
 pub struct Drawing {
+    /// Tables, or JSON.
+    pub form: Form,
     /// The seconds from one drawing to the next; none where it is drawn once.
     pub every: Option<u64>,
     /// The output is a terminal: it is erased before each drawing where there are more than one.
@@ -46,10 +48,11 @@ pub fn text_of_book<B: Book>(
     book: &mut B,
     names: &[Name],
     now: Moment,
+    form: Form,
 ) -> Result<String, Fault>
     ensures { Stays (B.state book.old) (B.state book.new) }
 {
-    let mut overview = Overview::new(alloc)?;
+    let mut overview = Overview::new(alloc, form)?;
     add_services(book, names, now, &mut overview)?;
     Ok(overview.text()?)
 }

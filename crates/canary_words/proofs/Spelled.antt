@@ -22,9 +22,9 @@ use Rattle.std.specs.Str.{bytes_eq}
 use Rattle.std.proofs.lemmas.Slice.Eq.{bytes_eq-Decides}
 use Rattle.clap.proofs.WalkLemmas.{first_value-rows, one_text-rows}
 use Rattle.clap.proofs.ValueTestLemmas.{accepts-Accepts}
-use Rattle.canary_words.specs.CommandLine.{desk_command, pipe_command, faults_of, exported, export_of, flag_given, limits_of, number_given, of_two, pipe_of, piped, program_in, program_of, text_given, with_db, HasExport, HasListener, HasMigrate, HasMoment, HasMoments, HasProgram, HasStatus, HasText, HasTexts, MayHaveFlag, MayHaveNumber, HasNothing, IsTrueOrFalse}
+use Rattle.canary_words.specs.CommandLine.{desk_command, pipe_command, faults_of, exported, export_of, flag_given, limits_of, number_given, of_two, pipe_of, piped, program_in, program_of, text_given, with_db, HasExport, HasListener, HasMigrate, HasMoment, HasMoments, HasPage, HasProgram, HasStatus, HasText, HasTexts, MayHaveFlag, MayHaveNumber, HasNothing, IsTrueOrFalse}
 use Rattle.canary_words.specs.declared.words.Program.{Program}
-use Rattle.canary_words.specs.declared.words.Program.TheVariants.{Serve, Import, History, Status, Backup, Migrate}
+use Rattle.canary_words.specs.declared.words.Program.TheVariants.{Serve, Import, History, Status, Page, Backup, Migrate}
 use Rattle.canary_words.proofs.Chains.{ok_then}
 use Rattle.canary_words.proofs.Walks.{AreOptions, IsNoHelp, below_none, given_text, optional_text, read-level, stop-no_help}
 
@@ -53,17 +53,20 @@ export = built_at 4
 abbrev status : Shape
 status = built_at 5
 
+abbrev page : Shape
+page = built_at 6
+
 abbrev backup : Shape
-backup = built_at 6
+backup = built_at 7
 
 abbrev migrate : Shape
-migrate = built_at 7
+migrate = built_at 8
 
 abbrev check : Shape
-check = built_at 8
+check = built_at 9
 
 abbrev help : Shape
-help = built_at 9
+help = built_at 10
 
 pub desk_is_simple : is_simple_and_free desk_command ≡ true
 desk_is_simple = refl
@@ -86,7 +89,10 @@ export_options : AreOptions export.rules export.rules
 export_options = (record { own = refl; default = tt; takes = inl (refl, refl) }, (record { own = refl; default = tt; takes = inl (refl, refl) }, (record { own = refl; default = tt; takes = inl (refl, refl) }, (record { own = refl; default = tt; takes = inr (inr refl) }, tt))))
 
 status_options : AreOptions status.rules status.rules
-status_options = (record { own = refl; default = tt; takes = inl (refl, refl) }, (record { own = refl; default = tt; takes = inl (refl, refl) }, (record { own = refl; default = tt; takes = inr (inr refl) }, tt)))
+status_options = (record { own = refl; default = tt; takes = inl (refl, refl) }, (record { own = refl; default = tt; takes = inl (refl, refl) }, (record { own = refl; default = refl; takes = inr (inl (refl, tt)) }, (record { own = refl; default = tt; takes = inr (inr refl) }, tt))))
+
+page_options : AreOptions page.rules page.rules
+page_options = (record { own = refl; default = tt; takes = inl (refl, refl) }, (record { own = refl; default = tt; takes = inl (refl, refl) }, (record { own = refl; default = tt; takes = inl (refl, refl) }, (record { own = refl; default = tt; takes = inr (inr refl) }, tt))))
 
 backup_options : AreOptions backup.rules backup.rules
 backup_options = (record { own = refl; default = tt; takes = inl (refl, refl) }, (record { own = refl; default = tt; takes = inl (refl, refl) }, (record { own = refl; default = tt; takes = inr (inr refl) }, tt)))
@@ -196,8 +202,20 @@ status_rows : (words : List Text) → level_fault status [] nothing_held words f
 status_rows words none =
     let level = read-level status [] words false [] status_options none in
     let rows : List Row = rows_after status.rules [] words in
-    let db = given_text status.rules (codes "db") _ rows refl level.0 (one_given (is_given (codes "db") rows) level.1) in
-    ((db.0, db.2), number_passed 86400 (one_of (codes "watch") rows) (optional_text status.rules (codes "watch") _ rows refl level.0))
+    let db = given_text status.rules (codes "db") _ rows refl level.0 (one_given (is_given (codes "db") rows) level.1) in (
+      (db.0, db.2),
+      number_passed 86400 (one_of (codes "watch") rows) (optional_text status.rules (codes "watch") _ rows refl level.0),
+      flag_passed (one_of (codes "json") rows) (optional_text status.rules (codes "json") _ rows refl level.0),
+    )
+
+-- the rows of `page`
+page_rows : (words : List Text) → level_fault page [] nothing_held words false [] ≡ [] → HasPage (rows_after page.rules [] words)
+page_rows words none =
+    let level = read-level page [] words false [] page_options none in
+    let rows : List Row = rows_after page.rules [] words in (
+      two_texts page (codes "out") _ _ words page_options refl refl (both_given (is_given (codes "db") rows) (is_given (codes "out") rows)) none,
+      number_passed 86400 (one_of (codes "watch") rows) (optional_text page.rules (codes "watch") _ rows refl level.0),
+    )
 
 -- the rows of `migrate`
 migrate_rows : (words : List Text) → level_fault migrate [] nothing_held words false [] ≡ [] → HasMigrate (rows_after migrate.rules [] words)
@@ -222,24 +240,25 @@ no_help name other = go (bytes_eq (codes "help") name) (bytes_eq-Decides (codes 
     go false same = refl
 
 -- the first of the desk's commands whose test holds
-abbrev first_met : Bool → Bool → Bool → Bool → Bool → Bool → Bool → Bool → Bool → Bool → Option Shape
-first_met is_pipe is_serve is_import is_history is_export is_status is_backup is_migrate is_check is_help = cond is_pipe (Some pipe) (cond is_serve (Some serve) (cond is_import (Some import) (cond is_history (Some history) (cond is_export (Some export) (cond is_status (Some status) (cond is_backup (Some backup) (cond is_migrate (Some migrate) (cond is_check (Some check) (cond is_help (Some help) None)))))))))
+abbrev first_met : Bool → Bool → Bool → Bool → Bool → Bool → Bool → Bool → Bool → Bool → Bool → Option Shape
+first_met is_pipe is_serve is_import is_history is_export is_status is_page is_backup is_migrate is_check is_help = cond is_pipe (Some pipe) (cond is_serve (Some serve) (cond is_import (Some import) (cond is_history (Some history) (cond is_export (Some export) (cond is_status (Some status) (cond is_page (Some page) (cond is_backup (Some backup) (cond is_migrate (Some migrate) (cond is_check (Some check) (cond is_help (Some help) None))))))))))
 
-named : (is_pipe is_serve is_import is_history is_export is_status is_backup is_migrate is_check is_help : Bool) (words : List Text) (rows : List Row) → is_help ≡ false
-    → check_fault desk rows (is_some (option_map (λ s. rows_at s words) (first_met is_pipe is_serve is_import is_history is_export is_status is_backup is_migrate is_check is_help))) ≡ []
-    → option_map_or (λ s. level_fault s [] nothing_held words false []) (first_met is_pipe is_serve is_import is_history is_export is_status is_backup is_migrate is_check is_help) [] ≡ []
-    → HasProgram (option_map (λ s. rows_at s words) (first_met is_pipe is_serve is_import is_history is_export is_status is_backup is_migrate is_check is_help))
-named true is_serve is_import is_history is_export is_status is_backup is_migrate is_check is_help words rows other checks none = inl (rows_after pipe.rules [] words, refl, pipe_rows words none)
-named false true is_import is_history is_export is_status is_backup is_migrate is_check is_help words rows other checks none = inr (inl (rows_after serve.rules [] words, refl, serve_rows words none))
-named false false true is_history is_export is_status is_backup is_migrate is_check is_help words rows other checks none = inr (inr (inl (inl (rows_after import.rules [] words, refl, import_rows words none))))
-named false false false true is_export is_status is_backup is_migrate is_check is_help words rows other checks none = inr (inr (inl (inr (inl (rows_after history.rules [] words, refl, history_rows words none)))))
-named false false false false true is_status is_backup is_migrate is_check is_help words rows other checks none = inr (inr (inl (inr (inr (inl (rows_after export.rules [] words, refl, export_rows words none))))))
-named false false false false false true is_backup is_migrate is_check is_help words rows other checks none = inr (inr (inl (inr (inr (inr (inl (rows_after status.rules [] words, refl, status_rows words none)))))))
-named false false false false false false true is_migrate is_check is_help words rows other checks none = inr (inr (inl (inr (inr (inr (inr (inl (rows_after backup.rules [] words, refl, backup_rows words none))))))))
-named false false false false false false false true is_check is_help words rows other checks none = inr (inr (inl (inr (inr (inr (inr (inr (rows_after migrate.rules [] words, refl, migrate_rows words none))))))))
-named false false false false false false false false true is_help words rows other checks none = inr (inr (inr (rows_after check.rules [] words, refl, tt)))
-named false false false false false false false false false true words rows other checks none = cc
-named false false false false false false false false false false words rows other checks none = cc
+named : (is_pipe is_serve is_import is_history is_export is_status is_page is_backup is_migrate is_check is_help : Bool) (words : List Text) (rows : List Row) → is_help ≡ false
+    → check_fault desk rows (is_some (option_map (λ s. rows_at s words) (first_met is_pipe is_serve is_import is_history is_export is_status is_page is_backup is_migrate is_check is_help))) ≡ []
+    → option_map_or (λ s. level_fault s [] nothing_held words false []) (first_met is_pipe is_serve is_import is_history is_export is_status is_page is_backup is_migrate is_check is_help) [] ≡ []
+    → HasProgram (option_map (λ s. rows_at s words) (first_met is_pipe is_serve is_import is_history is_export is_status is_page is_backup is_migrate is_check is_help))
+named true is_serve is_import is_history is_export is_status is_page is_backup is_migrate is_check is_help words rows other checks none = inl (rows_after pipe.rules [] words, refl, pipe_rows words none)
+named false true is_import is_history is_export is_status is_page is_backup is_migrate is_check is_help words rows other checks none = inr (inl (rows_after serve.rules [] words, refl, serve_rows words none))
+named false false true is_history is_export is_status is_page is_backup is_migrate is_check is_help words rows other checks none = inr (inr (inl (inl (rows_after import.rules [] words, refl, import_rows words none))))
+named false false false true is_export is_status is_page is_backup is_migrate is_check is_help words rows other checks none = inr (inr (inl (inr (inl (rows_after history.rules [] words, refl, history_rows words none)))))
+named false false false false true is_status is_page is_backup is_migrate is_check is_help words rows other checks none = inr (inr (inl (inr (inr (inl (rows_after export.rules [] words, refl, export_rows words none))))))
+named false false false false false true is_page is_backup is_migrate is_check is_help words rows other checks none = inr (inr (inl (inr (inr (inr (inl (rows_after status.rules [] words, refl, status_rows words none)))))))
+named false false false false false false true is_backup is_migrate is_check is_help words rows other checks none = inr (inr (inl (inr (inr (inr (inr (inl (rows_after page.rules [] words, refl, page_rows words none))))))))
+named false false false false false false false true is_migrate is_check is_help words rows other checks none = inr (inr (inl (inr (inr (inr (inr (inr (inl (rows_after backup.rules [] words, refl, backup_rows words none)))))))))
+named false false false false false false false false true is_check is_help words rows other checks none = inr (inr (inl (inr (inr (inr (inr (inr (inr (rows_after migrate.rules [] words, refl, migrate_rows words none)))))))))
+named false false false false false false false false false true is_help words rows other checks none = inr (inr (inr (rows_after check.rules [] words, refl, tt)))
+named false false false false false false false false false false true words rows other checks none = cc
+named false false false false false false false false false false false words rows other checks none = cc
 
 met : (o : Option (Text × List Text)) (words : List Text) → IsNoHelp o
     → level_fault desk (names_of (built desk_command)) nothing_held words (is_some (entered (built desk_command) o)) (entered_fault (built desk_command) o) ≡ []
@@ -249,7 +268,7 @@ met None words other none =
     never MissingSubcommand checks
 met (Some p) words other none =
     let top = below_none desk (names_of (built desk_command)) words _ _ none in
-    named (answers_to p.0 (codes "pipe", [])) (answers_to p.0 (codes "serve", [])) (answers_to p.0 (codes "import", [])) (answers_to p.0 (codes "history", [])) (answers_to p.0 (codes "export", [])) (answers_to p.0 (codes "status", [])) (answers_to p.0 (codes "backup", [])) (answers_to p.0 (codes "migrate", [])) (answers_to p.0 (codes "check", [])) (answers_to p.0 (codes "help", [])) p.1
+    named (answers_to p.0 (codes "pipe", [])) (answers_to p.0 (codes "serve", [])) (answers_to p.0 (codes "import", [])) (answers_to p.0 (codes "history", [])) (answers_to p.0 (codes "export", [])) (answers_to p.0 (codes "status", [])) (answers_to p.0 (codes "page", [])) (answers_to p.0 (codes "backup", [])) (answers_to p.0 (codes "migrate", [])) (answers_to p.0 (codes "check", [])) (answers_to p.0 (codes "help", [])) p.1
     (rows_after desk.rules (names_of (built desk_command)) words) (no_help p.0 other) top.1 top.0
 
 -- ---- numbers and texts
@@ -371,9 +390,11 @@ program_met met (inr (inr (inl (inl h)))) = met_so met _ h.0 h.1 (two_made Impor
 program_met met (inr (inr (inl (inr (inl h))))) = met_so met _ h.0 h.1 (two_made History (codes "service") h.0 h.2)
 program_met met (inr (inr (inl (inr (inr (inl h)))))) = met_so met _ h.0 h.1 (export_spelled h.0 h.2)
 program_met met (inr (inr (inl (inr (inr (inr (inl h))))))) =
-    met_so met _ h.0 h.1 (made (λ db. Status db (number_given (codes "watch") h.0)) (codes "db") h.0 h.2.0)
-program_met met (inr (inr (inl (inr (inr (inr (inr (inl h)))))))) = met_so met _ h.0 h.1 (two_made Backup (codes "copy") h.0 h.2)
-program_met met (inr (inr (inl (inr (inr (inr (inr (inr h)))))))) =
+    met_so met _ h.0 h.1 (made (λ db. Status db (number_given (codes "watch") h.0) (flag_given (codes "json") h.0)) (codes "db") h.0 h.2.0)
+program_met met (inr (inr (inl (inr (inr (inr (inr (inl h)))))))) =
+    met_so met _ h.0 h.1 (two_made (λ db out. Page db out (number_given (codes "watch") h.0)) (codes "out") h.0 h.2.0)
+program_met met (inr (inr (inl (inr (inr (inr (inr (inr (inl h))))))))) = met_so met _ h.0 h.1 (two_made Backup (codes "copy") h.0 h.2)
+program_met met (inr (inr (inl (inr (inr (inr (inr (inr (inr h))))))))) =
     met_so met _ h.0 h.1 (made (λ db. Migrate db (flag_given (codes "dry-run") h.0)) (codes "db") h.0 h.2.0)
 program_met met (inr (inr (inr h))) = met_so met _ h.0 h.1 refl
 
@@ -395,9 +416,10 @@ IsGivenFor name rows = choose (bytes_eq name (codes "pipe")) (HasMoments rows)
     (choose (bytes_eq name (codes "history")) (HasTexts (codes "service") rows)
     (choose (bytes_eq name (codes "export")) (HasExport rows)
     (choose (bytes_eq name (codes "status")) (HasStatus rows)
+    (choose (bytes_eq name (codes "page")) (HasPage rows)
     (choose (bytes_eq name (codes "backup")) (HasTexts (codes "copy") rows)
     (choose (bytes_eq name (codes "migrate")) (HasMigrate rows)
-    (choose (bytes_eq name (codes "check")) (HasNothing rows) ⊥))))))))
+    (choose (bytes_eq name (codes "check")) (HasNothing rows) ⊥)))))))))
 
 -- what was met is met under one name
 given_as : (o : Option (Text × List Row)) (n name : Text) (r rows : List Row) → o ≡ Some (n, r) → o ≡ Some (name, rows) → IsGivenFor n r → IsGivenFor name rows
@@ -410,8 +432,9 @@ given_for o name rows (inr (inr (inl (inl h)))) is = given_as o (codes "import")
 given_for o name rows (inr (inr (inl (inr (inl h))))) is = given_as o (codes "history") name h.0 rows h.1 is h.2
 given_for o name rows (inr (inr (inl (inr (inr (inl h)))))) is = given_as o (codes "export") name h.0 rows h.1 is h.2
 given_for o name rows (inr (inr (inl (inr (inr (inr (inl h))))))) is = given_as o (codes "status") name h.0 rows h.1 is h.2
-given_for o name rows (inr (inr (inl (inr (inr (inr (inr (inl h)))))))) is = given_as o (codes "backup") name h.0 rows h.1 is h.2
-given_for o name rows (inr (inr (inl (inr (inr (inr (inr (inr h)))))))) is = given_as o (codes "migrate") name h.0 rows h.1 is h.2
+given_for o name rows (inr (inr (inl (inr (inr (inr (inr (inl h)))))))) is = given_as o (codes "page") name h.0 rows h.1 is h.2
+given_for o name rows (inr (inr (inl (inr (inr (inr (inr (inr (inl h))))))))) is = given_as o (codes "backup") name h.0 rows h.1 is h.2
+given_for o name rows (inr (inr (inl (inr (inr (inr (inr (inr (inr h))))))))) is = given_as o (codes "migrate") name h.0 rows h.1 is h.2
 given_for o name rows (inr (inr (inr h))) is = given_as o (codes "check") name h.0 rows h.1 is h.2
 
 named_so : {B : Type 0} (o : Option B) (f : B → Text × List Row) (name : Text) (rows : List Row) → option_map (λ b. (f b).0) o ≡ Some name → option_map (λ p. p.1) (option_map f o) ≡ Some rows

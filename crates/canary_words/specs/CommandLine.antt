@@ -15,7 +15,7 @@ use Rattle.clap.specs.declared.error.kind.ErrorKind.TheVariants.{DisplayHelp, Di
 use Rattle.canary_words.specs.declared.words.AskedLimits.{AskedLimits}
 use Rattle.canary_words.specs.declared.words.Program.{Program}
 use Rattle.canary_words.specs.declared.words.Program.TheVariants.{Pipe, Serve, Import, History}
-use Rattle.canary_words.specs.declared.words.Program.TheVariants.{Export, Status, Backup}
+use Rattle.canary_words.specs.declared.words.Program.TheVariants.{Export, Status, Page, Backup}
 use Rattle.canary_words.specs.declared.words.Program.TheVariants.{Migrate, Check}
 use Rattle.canary_words.specs.declared.words.WordsFault.{WordsFault}
 use Rattle.canary_words.specs.declared.words.WordsFault.TheVariants.{Help, Usage, Memory}
@@ -106,10 +106,19 @@ abbrev pub export_command : App
 export_command = with_rule (with_rule (with_rule (new_app (codes "export")) db_option)
     (text_option (codes "caller") true)) (text_word (codes "service"))
 
--- `status --db FILE --watch SECONDS`
+-- `--watch SECONDS`, from one time to the next
+abbrev pub watch_option : Rule
+watch_option = number_option (codes "watch") 86400
+
+-- `status --db FILE --watch SECONDS --json`
 abbrev pub status_command : App
-status_command =
-    with_rule (with_rule (new_app (codes "status")) db_option) (number_option (codes "watch") 86400)
+status_command = with_rule (with_rule (with_rule (new_app (codes "status")) db_option) watch_option)
+    (flag (codes "json"))
+
+-- `page --db FILE --watch SECONDS OUT`
+abbrev pub page_command : App
+page_command = with_rule (with_rule (with_rule (new_app (codes "page")) db_option) watch_option)
+    (text_word (codes "out"))
 
 -- `backup --db FILE COPY`
 abbrev pub backup_command : App
@@ -129,8 +138,9 @@ check_command = with_rule (with_rule (new_app (codes "check"))
 -- with the commands that work on the file of a desk's records
 abbrev pub with_records_commands : App → App
 with_records_commands a = with_subcommand (with_subcommand (with_subcommand (with_subcommand
-    (with_subcommand (with_subcommand a import_command.top) history_command.top)
-    export_command.top) status_command.top) backup_command.top) migrate_command.top
+    (with_subcommand (with_subcommand (with_subcommand a import_command.top) history_command.top)
+    export_command.top) status_command.top) page_command.top) backup_command.top)
+    migrate_command.top
 
 -- the desk without its commands, behind no name of the program; `--version` is taken too
 abbrev pub bare_desk : App
@@ -211,8 +221,12 @@ export_of rows = exported (text_given (codes "db") rows) (text_given (codes "cal
     (text_given (codes "service") rows)
 
 abbrev pub status_of : List Row → Option Program
-status_of rows = option_map (λ db. Status db (number_given (codes "watch") rows))
-    (text_given (codes "db") rows)
+status_of rows = option_map (λ db. Status db (number_given (codes "watch") rows)
+    (flag_given (codes "json") rows)) (text_given (codes "db") rows)
+
+abbrev pub page_of : List Row → Option Program
+page_of rows =
+    with_db (λ db out. Page db out (number_given (codes "watch") rows)) (codes "out") rows
 
 abbrev pub backup_of : List Row → Option Program
 backup_of = with_db Backup (codes "copy")
@@ -232,6 +246,7 @@ program_in p = if bytes_eq p.0 (codes "pipe") then pipe_of p.1
     else if bytes_eq p.0 (codes "history") then history_of p.1
     else if bytes_eq p.0 (codes "export") then export_of p.1
     else if bytes_eq p.0 (codes "status") then status_of p.1
+    else if bytes_eq p.0 (codes "page") then page_of p.1
     else if bytes_eq p.0 (codes "backup") then backup_of p.1
     else if bytes_eq p.0 (codes "migrate") then migrate_of p.1
     else if bytes_eq p.0 (codes "check") then check_of p.1 else None
@@ -303,6 +318,10 @@ HasExport rows = HasText (codes "db") rows × HasText (codes "caller") rows
 
 abbrev pub HasStatus : List Row → Type 0
 HasStatus rows = HasText (codes "db") rows × MayHaveNumber (codes "watch") 86400 rows
+    × MayHaveFlag (codes "json") rows
+
+abbrev pub HasPage : List Row → Type 0
+HasPage rows = HasTexts (codes "out") rows × MayHaveNumber (codes "watch") 86400 rows
 
 abbrev pub HasMigrate : List Row → Type 0
 HasMigrate rows = HasText (codes "db") rows × MayHaveFlag (codes "dry-run") rows
@@ -320,8 +339,8 @@ abbrev pub HasRecordsProgram : Option (Text × List Row) → Type 0
 HasRecordsProgram met = Meets (codes "import") (HasTexts (codes "csv")) met
     ⊎ (Meets (codes "history") (HasTexts (codes "service")) met
     ⊎ (Meets (codes "export") HasExport met ⊎ (Meets (codes "status") HasStatus met
-    ⊎ (Meets (codes "backup") (HasTexts (codes "copy")) met
-    ⊎ Meets (codes "migrate") HasMigrate met))))
+    ⊎ (Meets (codes "page") HasPage met ⊎ (Meets (codes "backup") (HasTexts (codes "copy")) met
+    ⊎ Meets (codes "migrate") HasMigrate met)))))
 
 -- one of the commands was met, with all that it has to be given
 abbrev pub HasProgram : Option (Text × List Row) → Type 0

@@ -4,8 +4,8 @@ ghost use Rattle.clap.specs.Words.{App, app_of, rule_of, with_rule, with_subcomm
 ghost use Rattle.canary_words.specs.CommandLine.{desk_command, with_records_commands};
 ghost use Rattle.canary_words.specs.CommandLine.{pipe_command, serve_command, import_command};
 ghost use Rattle.canary_words.specs.CommandLine.{history_command, export_command, status_command};
-ghost use Rattle.canary_words.specs.CommandLine.{backup_command, migrate_command};
-ghost use Rattle.canary_words.specs.CommandLine.{check_command, flag};
+ghost use Rattle.canary_words.specs.CommandLine.{page_command, backup_command, migrate_command};
+ghost use Rattle.canary_words.specs.CommandLine.{check_command, flag, watch_option};
 ghost use Rattle.canary_words.specs.CommandLine.{moment_option, number_option, text_option};
 ghost use Rattle.canary_words.specs.CommandLine.{text_word, with_limits, with_numbers};
 ghost use Rattle.canary_words.specs.CommandLine.{optional_word, with_unsent, with_value};
@@ -61,6 +61,7 @@ fn with_records_commands<'a>(alloc: Global, desk: Command<'a>) -> Result<Command
     let desk = with_command(desk, history_command(alloc))?;
     let desk = with_command(desk, export_command(alloc))?;
     let desk = with_command(desk, status_command(alloc))?;
+    let desk = with_command(desk, page_command(alloc))?;
     let desk = with_command(desk, backup_command(alloc))?;
     with_command(desk, migrate_command(alloc))
 }
@@ -198,7 +199,7 @@ fn export_command<'a>(alloc: Global) -> Result<Command<'a>, AllocError>
     with_word(alloc, export, "service", "SERVICE", help::SERVICE_HELP)
 }
 
-// `status --db FILE` and its further option.
+// `status --db FILE` and its further options.
 fn status_command<'a>(alloc: Global) -> Result<Command<'a>, AllocError>
     ensures { IfOk result (λ c. app_of c ≡ status_command) }
 {
@@ -206,14 +207,20 @@ fn status_command<'a>(alloc: Global) -> Result<Command<'a>, AllocError>
         .about(help::STATUS_ABOUT)
         .after_help(help::STATUS_HELP);
     let status = with_text(alloc, status, "db", "FILE", true, help::DB_HELP)?;
-    with_number(
-        alloc,
-        status,
-        "watch",
-        "SECONDS",
-        MOST_WATCH,
-        help::WATCH_HELP,
-    )
+    let status = with_watch(alloc, status)?;
+    with_flag(alloc, status, "json", help::JSON_HELP)
+}
+
+// `page --db FILE OUT` and its further option.
+fn page_command<'a>(alloc: Global) -> Result<Command<'a>, AllocError>
+    ensures { IfOk result (λ c. app_of c ≡ page_command) }
+{
+    let page = Command::new(alloc, "page")
+        .about(help::PAGE_ABOUT)
+        .after_help(help::PAGE_HELP);
+    let page = with_text(alloc, page, "db", "FILE", true, help::DB_HELP)?;
+    let page = with_watch(alloc, page)?;
+    with_word(alloc, page, "out", "OUT", help::OUT_HELP)
 }
 
 // `backup --db FILE COPY`.
@@ -275,6 +282,20 @@ fn with_number<'a>(
         ≡ with_rule (app_of command.entry) (number_option name.entry.now most)) }
 {
     command.arg(number_option(alloc, name, value, most, help))
+}
+
+// A command with the option `--watch SECONDS`.
+fn with_watch<'a>(alloc: Global, command: Command<'a>) -> Result<Command<'a>, AllocError>
+    ensures { IfOk result (λ c. app_of c ≡ with_rule (app_of command.entry) watch_option) }
+{
+    with_number(
+        alloc,
+        command,
+        "watch",
+        "SECONDS",
+        MOST_WATCH,
+        help::WATCH_HELP,
+    )
 }
 
 // A command with the flag `--NAME`.

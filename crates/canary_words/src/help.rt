@@ -34,6 +34,9 @@ pub(crate) const DB_OR_MADE_HELP: &str =
 
 pub(crate) const SERVICE_HELP: &str = "The name of the service";
 
+pub(crate) const WATCH_HELP: &str =
+    "Seconds from one time to the next, 1 to 86400 [default: only once]";
+
 // ---- pipe
 
 pub(crate) const PIPE_ABOUT: &str = "Answers HTTP requests from standard input on standard output";
@@ -182,13 +185,13 @@ pub(crate) const EXPORT_HELP: &str = with_records_faults!(
 
 pub(crate) const STATUS_ABOUT: &str = "Prints a table of the services and their open runs";
 
-pub(crate) const WATCH_HELP: &str =
-    "Seconds from one table to the next, 1 to 86400 [default: one table]";
+pub(crate) const JSON_HELP: &str = "Print a line of JSON for each service, in place of the table";
 
 pub(crate) const STATUS_HELP: &str = concat!(
+    "With --json, each line is the JSON value of one service, with its keys in ascending order.\n",
     "With --watch, status goes on until it is stopped or has a fault. While a desk has FILE\n",
     "open, status reads a copy, which it makes beside FILE and removes again.\n\n",
-    "Exit status: 0 if status printed the table, 2 for an invalid command line, and 1 for a\n",
+    "Exit status: 0 if status printed all services, 2 for an invalid command line, and 1 for a\n",
     "fault, which a line on standard error names:\n",
     "  canary: write            the output failed or was closed\n",
     "  canary: memory           out of memory\n",
@@ -197,7 +200,35 @@ pub(crate) const STATUS_HELP: &str = concat!(
     "  canary: in-use           FILE changes too fast for a copy\n",
     "  canary: other-schema     the tables of FILE are not a desk's\n",
     "  canary: broken-row       FILE has a row that no desk writes\n",
-    "\nExample: canary status --db desk.db --watch 5"
+    "\nExamples:\n",
+    "  canary status --db desk.db --watch 5\n",
+    "  canary status --db desk.db --json"
+);
+
+// ---- page
+
+pub(crate) const PAGE_ABOUT: &str = "Draws the services and their runs as a page of HTML";
+
+pub(crate) const OUT_HELP: &str = "The file to write the page to; - is standard output";
+
+pub(crate) const PAGE_HELP: &str = concat!(
+    "The page is one file, which has no script and fetches nothing. page writes it beside OUT\n",
+    "and renames it to OUT, so OUT is always a whole page. With --watch, page goes on until it\n",
+    "is stopped or has a fault, and a browser loads the page anew as often. While a desk has\n",
+    "FILE open, page reads a copy, which it makes beside FILE and removes again.\n\n",
+    "Exit status: 0 if page wrote the page, 2 for an invalid command line, and 1 for a fault,\n",
+    "which a line on standard error names:\n",
+    "  canary: write         the page cannot be written to its end\n",
+    "  canary: memory        out of memory\n",
+    "  canary: file          FILE does not exist, or no copy can be made beside it, or OUT\n",
+    "                        cannot be made\n",
+    "  canary: storage       cannot open, read or write FILE, or it is not a database\n",
+    "  canary: in-use        FILE changes too fast for a copy\n",
+    "  canary: other-schema  the tables of FILE are not a desk's\n",
+    "  canary: broken-row    FILE has a row that no desk writes\n",
+    "\nExamples:\n",
+    "  canary page --db desk.db desk.html\n",
+    "  canary page --db desk.db --watch 5 /var/www/html/desk.html"
 );
 
 // ---- backup

@@ -6,8 +6,8 @@ ghost use Rattle.clap.specs.Words.{HasKind, Kinds};
 ghost use Rattle.canary_words.specs.CommandLine.{faults_of, program_of, program_in, number_given};
 ghost use Rattle.canary_words.specs.CommandLine.{text_given, limits_of, pipe_of, serve_of};
 ghost use Rattle.canary_words.specs.CommandLine.{import_of, history_of, export_of, status_of};
-ghost use Rattle.canary_words.specs.CommandLine.{backup_of, migrate_of, check_of};
-ghost use Rattle.canary_words.specs.CommandLine.{flag_given, MayHaveFlag, HasMigrate};
+ghost use Rattle.canary_words.specs.CommandLine.{page_of, backup_of, migrate_of, check_of};
+ghost use Rattle.canary_words.specs.CommandLine.{flag_given, MayHaveFlag, HasPage, HasMigrate};
 ghost use Rattle.canary_words.specs.CommandLine.{IsFor, HasProgram, HasMoment, HasText};
 ghost use Rattle.canary_words.specs.CommandLine.{MayHaveNumber, HasMoments, HasListener, HasLimits};
 ghost use Rattle.canary_words.specs.CommandLine.{HasTexts, HasExport, HasStatus};
@@ -72,9 +72,18 @@ pub enum Program {
         caller: Text,
         service: Text,
     },
-    /// How the services stand, once, or again each time after so many seconds.
+    /// How the services stand, once, or again each time after so many seconds: a table, or with
+    /// `json` one JSON value for each service.
     Status {
         db: Text,
+        watch: Option<u64>,
+        json: bool,
+    },
+    /// How the services stand, as a page in the file of the name `out`, or on standard output where
+    /// it is `-`: once, or again each time after so many seconds.
+    Page {
+        db: Text,
+        out: Text,
         watch: Option<u64>,
     },
     /// A copy of the records in the file of the name `copy`.
@@ -155,6 +164,9 @@ fn program_of(alloc: Global, matches: &ArgMatches<'_>) -> Result<Program, AllocE
     if let Some(status) = matches.subcommand_matches("status") {
         return status_of(alloc, status);
     }
+    if let Some(page) = matches.subcommand_matches("page") {
+        return page_of(alloc, page);
+    }
     if let Some(backup) = matches.subcommand_matches("backup") {
         return backup_of(alloc, backup);
     }
@@ -231,6 +243,19 @@ fn status_of(alloc: Global, status: &ArgMatches<'_>) -> Result<Program, AllocErr
     Ok(Program::Status {
         db: text_given(alloc, status, "db")?,
         watch: number_given(status, "watch"),
+        json: flag_given(status, "json"),
+    })
+}
+
+// The program of `page` with these matches.
+fn page_of(alloc: Global, page: &ArgMatches<'_>) -> Result<Program, AllocError>
+    requires { HasPage (rows_of (found_of page.now)) }
+    ensures { IfOk result (λ p. page_of (rows_of (found_of page.now)) ≡ Some p) }
+{
+    Ok(Program::Page {
+        db: text_given(alloc, page, "db")?,
+        out: text_given(alloc, page, "out")?,
+        watch: number_given(page, "watch"),
     })
 }
 

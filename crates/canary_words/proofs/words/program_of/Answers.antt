@@ -63,27 +63,37 @@ returns-in-Some-subcommand_matches-5 c =
     let met = met_by c.args.matches.now (codes "status") c.subcommand_matches-6.result c.in-Some-subcommand_matches-5.status c.subcommand_matches-6.ensures.found c.subcommand_matches-6.ensures.rows c.in-Some-subcommand_matches-5.is in
     program_so (subcommand_rows_of c.args.matches.now) (codes "status") (rows_of (found_of c.in-Some-subcommand_matches-5.status.now)) c.status_of.result met c.status_of.ensures
 
-pub backup_of-requires : goal.backup_of-requires
-backup_of-requires c =
-    let met = met_by c.args.matches.now (codes "backup") c.subcommand_matches-7.result c.in-Some-subcommand_matches-6.backup c.subcommand_matches-7.ensures.found c.subcommand_matches-7.ensures.rows c.in-Some-subcommand_matches-6.is in
-    given_for (subcommand_rows_of c.args.matches.now) (codes "backup") (rows_of (found_of c.in-Some-subcommand_matches-6.backup.now)) c.requires met
+pub page_of-requires : goal.page_of-requires
+page_of-requires c =
+    let met = met_by c.args.matches.now (codes "page") c.subcommand_matches-7.result c.in-Some-subcommand_matches-6.page c.subcommand_matches-7.ensures.found c.subcommand_matches-7.ensures.rows c.in-Some-subcommand_matches-6.is in
+    given_for (subcommand_rows_of c.args.matches.now) (codes "page") (rows_of (found_of c.in-Some-subcommand_matches-6.page.now)) c.requires met
 
 pub returns-in-Some-subcommand_matches-6 : goal.returns-in-Some-subcommand_matches-6
 returns-in-Some-subcommand_matches-6 c =
-    let met = met_by c.args.matches.now (codes "backup") c.subcommand_matches-7.result c.in-Some-subcommand_matches-6.backup c.subcommand_matches-7.ensures.found c.subcommand_matches-7.ensures.rows c.in-Some-subcommand_matches-6.is in
-    program_so (subcommand_rows_of c.args.matches.now) (codes "backup") (rows_of (found_of c.in-Some-subcommand_matches-6.backup.now)) c.backup_of.result met c.backup_of.ensures
+    let met = met_by c.args.matches.now (codes "page") c.subcommand_matches-7.result c.in-Some-subcommand_matches-6.page c.subcommand_matches-7.ensures.found c.subcommand_matches-7.ensures.rows c.in-Some-subcommand_matches-6.is in
+    program_so (subcommand_rows_of c.args.matches.now) (codes "page") (rows_of (found_of c.in-Some-subcommand_matches-6.page.now)) c.page_of.result met c.page_of.ensures
 
-pub migrate_of-requires : goal.migrate_of-requires
-migrate_of-requires c =
-    let met = met_by c.args.matches.now (codes "migrate") c.subcommand_matches-8.result c.in-Some-subcommand_matches-7.migrate c.subcommand_matches-8.ensures.found c.subcommand_matches-8.ensures.rows c.in-Some-subcommand_matches-7.is in
-    given_for (subcommand_rows_of c.args.matches.now) (codes "migrate") (rows_of (found_of c.in-Some-subcommand_matches-7.migrate.now)) c.requires met
+pub backup_of-requires : goal.backup_of-requires
+backup_of-requires c =
+    let met = met_by c.args.matches.now (codes "backup") c.subcommand_matches-8.result c.in-Some-subcommand_matches-7.backup c.subcommand_matches-8.ensures.found c.subcommand_matches-8.ensures.rows c.in-Some-subcommand_matches-7.is in
+    given_for (subcommand_rows_of c.args.matches.now) (codes "backup") (rows_of (found_of c.in-Some-subcommand_matches-7.backup.now)) c.requires met
 
 pub returns-in-Some-subcommand_matches-7 : goal.returns-in-Some-subcommand_matches-7
 returns-in-Some-subcommand_matches-7 c =
-    let met = met_by c.args.matches.now (codes "migrate") c.subcommand_matches-8.result c.in-Some-subcommand_matches-7.migrate c.subcommand_matches-8.ensures.found c.subcommand_matches-8.ensures.rows c.in-Some-subcommand_matches-7.is in
-    program_so (subcommand_rows_of c.args.matches.now) (codes "migrate") (rows_of (found_of c.in-Some-subcommand_matches-7.migrate.now)) c.migrate_of.result met c.migrate_of.ensures
+    let met = met_by c.args.matches.now (codes "backup") c.subcommand_matches-8.result c.in-Some-subcommand_matches-7.backup c.subcommand_matches-8.ensures.found c.subcommand_matches-8.ensures.rows c.in-Some-subcommand_matches-7.is in
+    program_so (subcommand_rows_of c.args.matches.now) (codes "backup") (rows_of (found_of c.in-Some-subcommand_matches-7.backup.now)) c.backup_of.result met c.backup_of.ensures
+
+pub migrate_of-requires : goal.migrate_of-requires
+migrate_of-requires c =
+    let met = met_by c.args.matches.now (codes "migrate") c.subcommand_matches-9.result c.in-Some-subcommand_matches-8.migrate c.subcommand_matches-9.ensures.found c.subcommand_matches-9.ensures.rows c.in-Some-subcommand_matches-8.is in
+    given_for (subcommand_rows_of c.args.matches.now) (codes "migrate") (rows_of (found_of c.in-Some-subcommand_matches-8.migrate.now)) c.requires met
+
+pub returns-in-Some-subcommand_matches-8 : goal.returns-in-Some-subcommand_matches-8
+returns-in-Some-subcommand_matches-8 c =
+    let met = met_by c.args.matches.now (codes "migrate") c.subcommand_matches-9.result c.in-Some-subcommand_matches-8.migrate c.subcommand_matches-9.ensures.found c.subcommand_matches-9.ensures.rows c.in-Some-subcommand_matches-8.is in
+    program_so (subcommand_rows_of c.args.matches.now) (codes "migrate") (rows_of (found_of c.in-Some-subcommand_matches-8.migrate.now)) c.migrate_of.result met c.migrate_of.ensures
 
 pub returns : goal.returns
 returns c =
-    let met = met_by c.args.matches.now (codes "check") c.subcommand_matches-9.result c.unwrap.result c.subcommand_matches-9.ensures.found c.subcommand_matches-9.ensures.rows c.unwrap.ensures in
+    let met = met_by c.args.matches.now (codes "check") c.subcommand_matches-10.result c.unwrap.result c.subcommand_matches-10.ensures.found c.subcommand_matches-10.ensures.rows c.unwrap.ensures in
     program_so (subcommand_rows_of c.args.matches.now) (codes "check") (rows_of (found_of c.unwrap.result.now)) c.check_of.result met c.check_of.ensures

@@ -1,0 +1,132 @@
+//! Looking at a desk in a file, also while it serves.
+use crate::open::{FileBook, names_of, open_found};
+use crate::progress::Shown;
+use canary_backup::copying::{OwnFolder, Pair, copy_database};
+use canary_base::moments::Moment;
+use canary_listen::wall_clock::WallClock;
+use canary_page::page::View;
+use canary_page::progress::Progress;
+use canary_programs::fault::Fault;
+use canary_programs::overview::{Drawing, text_of_book};
+use canary_programs::page::draw_page;
+use canary_tables::book::TableBook;
+use sqlite::Alter;
+use std::io::Write;
+
+/// What is shown of a desk, as it stands at the present moment.
+#[derive(Clone, Copy)]
+pub(crate) enum Sight {
+    /// A table of its services, or a JSON value for each.
+    Status(Drawing),
+    /// A page, which loads itself anew after so many seconds, or does not.
+    Page { every: Option<u64> },
+}
+
+/// Looks at the desk in a file, once. A page is written to the output meanwhile, part by part, and
+/// a terminal shows how far it has come. Of a status this gives the text, to be drawn once the file
+/// is closed; of a page, none. The file is opened as `open_found` does it, and no row of it is
+/// changed. If a desk has it open, a copy is read, which stands beside the file meanwhile, in a
+/// folder that its owner alone may read.
+///
+/// # Errors
+/// `File` if there is no such file, and nothing is made then, or if no copy can be made beside it.
+/// What `open` answers, but `InUse` only if the file changes too fast to be copied. `Write` if the
+/// output failed.
+pub(crate) fn look<W: Write, F: Write>(
+    rt: &HostRuntime,
+    file: &str,
+    sight: Sight,
+    output: &mut W,
+    errors: &mut F,
+    is_terminal: bool,
+) -> Result<String, Fault> {
+    match open_found(rt, file, errors, is_terminal) {
+        Ok(book) => look_at_opened(rt, book, sight, output, errors, is_terminal),
+        Err(Fault::InUse) => look_at_copy(rt, file, sight, output, errors, is_terminal),
+        Err(fault) => Err(fault),
+    }
+}
+
+// The same of a file that a desk has open.
+fn look_at_copy<W: Write, F: Write>(
+    rt: &HostRuntime,
+    file: &str,
+    sight: Sight,
+    output: &mut W,
+    errors: &mut F,
+    is_terminal: bool,
+) -> Result<String, Fault> {
+    let folder = OwnFolder::beside(rt, file, "status-copy")?;
+    let looked = look_at_own_copy(rt, file, folder.copy(), sight, output, errors, is_terminal);
+    folder.remove(rt);
+    looked
+}
+
+// The same, by a copy of these names.
+fn look_at_own_copy<W: Write, F: Write>(
+    rt: &HostRuntime,
+    file: &str,
+    copy: &Pair,
+    sight: Sight,
+    output: &mut W,
+    errors: &mut F,
+    is_terminal: bool,
+) -> Result<String, Fault> {
+    copy_database(rt, file, copy)?;
+    let book = open_found(rt, copy.database(), errors, is_terminal)?;
+    look_at_opened(rt, book, sight, output, errors, is_terminal)
+}
+
+fn look_at_opened<W: Write, F: Write>(
+    rt: &HostRuntime,
+    book: FileBook,
+    sight: Sight,
+    output: &mut W,
+    errors: &mut F,
+    is_terminal: bool,
+) -> Result<String, Fault> {
+    look_at_tables(rt, book, sight, output, errors, is_terminal)
+}
+
+fn look_at_tables<S: Alter + Drop, W: Write, F: Write>(
+    rt: &HostRuntime,
+    book: TableBook<S>,
+    sight: Sight,
+    output: &mut W,
+    errors: &mut F,
+    is_terminal: bool,
+) -> Result<String, Fault> {
+    let mut book = book;
+    let now = WallClock::new(rt).tell();
+    match sight {
+        Sight::Status(drawing) => status_of(rt, &mut book, drawing, now),
+        Sight::Page { every } => {
+            let mut shown = Shown::services(rt.alloc(), errors, is_terminal);
+            let drawn = page_of(rt, &mut book, View { now, every }, output, &mut shown);
+            shown.end();
+            drawn?;
+            Ok(String::new(rt.alloc()))
+        }
+    }
+}
+
+fn status_of<S: Alter + Drop>(
+    rt: &HostRuntime,
+    book: &mut TableBook<S>,
+    drawing: Drawing,
+    now: Moment,
+) -> Result<String, Fault> {
+    let names = names_of(book)?;
+    text_of_book(rt.alloc(), book, names.as_slice(), now, drawing.form)
+}
+
+fn page_of<S: Alter + Drop, W: Write, P: Progress>(
+    rt: &HostRuntime,
+    book: &mut TableBook<S>,
+    view: View,
+    output: &mut W,
+    progress: &mut P,
+) -> Result<(), Fault> {
+    let names = names_of(book)?;
+    draw_page(rt.alloc(), book, names.as_slice(), view, output, progress)
+}

@@ -1,0 +1,5 @@
+use Rattle.canary_page.proofs.DrawnLemmas.{none_drawn}
+use Rattle.canary_page.proofs.page.draw.Goals as goal
+
+pub returns-in_err-placed-clause-drawn : goal.returns-in_err-placed-clause-drawn
+returns-in_err-placed-clause-drawn g c = none_drawn (g.W.Write.contents c.args.out.now) _

@@ -1,0 +1,71 @@
+//! A service as a card.
+use crate::figure::{badge, counted};
+use crate::history::history;
+use crate::run::run;
+use crate::shown::{Shown, ShownRun};
+use crate::track::{bar, track};
+use crate::waits::waits;
+use canary_base::error::Memory;
+use canary_base::moments::Moment;
+use canary_markup::element::{Attribute, Element};
+use canary_markup::markup::Markup;
+use canary_release::service::Service;
+use std::alloc::Global;
+
+// The card of a service that is not done, with the runs of its attempt, the newest first.
+pub(crate) fn card(alloc: Global, shown: &Shown, now: Moment) -> Result<Markup, Memory> {
+    let mut page = Markup::new(alloc);
+    draw_card(alloc, &mut page, shown, now)?;
+    Ok(page)
+}
+
+fn draw_card(alloc: Global, page: &mut Markup, shown: &Shown, now: Moment) -> Result<(), Memory> {
+    let service = &shown.service;
+    page.start(Element::Article);
+    page.attribute(Attribute::Class, service.status().text());
+    page.attribute(Attribute::Id, service.name().as_str());
+    page.start_end();
+    heading(page, service);
+    track(page, service);
+    waits(page, shown, now);
+    runs(alloc, page, shown.runs.as_slice(), now)?;
+    older(page, service, shown.runs.len());
+    history(page, service.name(), shown.lines.as_slice());
+    page.end(Element::Article);
+    Ok(())
+}
+
+fn heading(page: &mut Markup, service: &Service) {
+    page.begin(Element::Header);
+    page.begin(Element::Heading2);
+    page.text(service.name().as_str());
+    page.end(Element::Heading2);
+    badge(page, service.status().text());
+    page.open(Element::Span, "attempt");
+    page.text(service.stable().as_str());
+    page.text(" → ");
+    page.begin(Element::Strong);
+    page.text(service.version().as_str());
+    page.end(Element::Strong);
+    page.end(Element::Span);
+    bar(page, service);
+    page.end(Element::Header);
+}
+
+fn runs(alloc: Global, page: &mut Markup, runs: &[ShownRun], now: Moment) -> Result<(), Memory> {
+    for shown in runs.iter().rev() {
+        run(alloc, page, shown, now)?;
+    }
+    Ok(())
+}
+
+// How many runs of earlier attempts are not drawn.
+fn older(page: &mut Markup, service: &Service, drawn: usize) {
+    let older = u64::from(service.run_count()).saturating_sub(drawn as u64);
+    if older > 0 {
+        page.open(Element::Paragraph, "older");
+        counted(page, older, " run");
+        page.text(" of earlier attempts not drawn.");
+        page.end(Element::Paragraph);
+    }
+}

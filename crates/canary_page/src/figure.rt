@@ -1,0 +1,309 @@
+//! A metric of a run: its chart, its conditions, and its numbers.
+use crate::bounds::bounds_of;
+use crate::chart::Chart;
+use crate::conditions::Conditions;
+use crate::numbers::Span;
+use crate::plot::{Frame, axis, bounds, curve, outcome, points};
+use crate::time::clock;
+use canary_base::error::Memory;
+use canary_base::lists::Text;
+use canary_base::moments::Moment;
+use canary_condition::outcome::Phase;
+use canary_markup::element::{Attribute, Element};
+use canary_markup::markup::Markup;
+use canary_metric::metric::{Metric, effective_count};
+use canary_metric::tally::Tally;
+use canary_metric::verdict::is_completed;
+use std::alloc::Global;
+
+/// A metric of a run, with all that is shown of it.
+#[derive(Clone, Copy)]
+pub(crate) struct Measured<'a> {
+    pub(crate) metric: &'a Metric,
+    pub(crate) tally: &'a Tally,
+    pub(crate) chart: &'a Chart,
+    pub(crate) conditions: &'a Conditions,
+    pub(crate) started: Moment,
+    pub(crate) end: Moment,
+    pub(crate) is_closed: bool,
+    pub(crate) now: Moment,
+}
+
+// Draws it.
+pub(crate) fn figure(alloc: Global, page: &mut Markup, shown: &Measured<'_>) -> Result<(), Memory> {
+    let success = bounds_in(alloc, &shown.conditions.success)?;
+    let failure = bounds_in(alloc, &shown.conditions.failure)?;
+    let span = span_of(shown.chart, success.as_slice(), failure.as_slice());
+    let frame = Frame {
+        from: shown.started,
+        to: last_of(shown),
+        span,
+    };
+    page.open(Element::Figure, "metric");
+    caption(page, shown);
+    begin_drawing(page, shown);
+    axis(page, &frame);
+    bounds(
+        page,
+        &frame,
+        "limit good",
+        success.as_slice(),
+        text_of(&shown.conditions.success),
+    );
+    bounds(
+        page,
+        &frame,
+        "limit bad",
+        failure.as_slice(),
+        text_of(&shown.conditions.failure),
+    );
+    curve(page, &frame, shown.chart);
+    points(page, &frame, shown.chart);
+    page.end(Element::Drawing);
+    notes(page, shown);
+    page.end(Element::Figure);
+    Ok(())
+}
+
+fn bounds_in(alloc: Global, condition: &Option<Text>) -> Result<Vec<i64>, Memory> {
+    bounds_of(alloc, text_of(condition))
+}
+
+fn text_of(condition: &Option<Text>) -> &str {
+    match condition {
+        Some(text) => text.as_str(),
+        None => "",
+    }
+}
+
+// The numbers that a chart has, and those of the bounds.
+fn span_of(chart: &Chart, success: &[i64], failure: &[i64]) -> Option<Span> {
+    with_numbers(with_numbers(chart.span(), success), failure)
+}
+
+fn with_numbers(span: Option<Span>, numbers: &[i64]) -> Option<Span> {
+    let mut span = span;
+    for number in numbers {
+        span = Some(Span::with(span, *number));
+    }
+    span
+}
+
+// The end of the run, or what came after it: its start, where the present moment is before that, or
+// its last measurement.
+fn last_of(shown: &Measured<'_>) -> Moment {
+    let end = shown.end.max(shown.started);
+    match shown.tally.last() {
+        Some(last) => end.max(last),
+        None => end,
+    }
+}
+
+fn phase_of(shown: &Measured<'_>) -> Phase {
+    shown.tally.phase(shown.metric, shown.is_closed)
+}
+
+fn caption(page: &mut Markup, shown: &Measured<'_>) {
+    page.begin(Element::Caption);
+    page.begin(Element::Strong);
+    page.text(shown.metric.name().as_str());
+    page.end(Element::Strong);
+    if shown.metric.dry_run() {
+        page.text(" ");
+        page.leaf(Element::Span, "dry", "dry run");
+    }
+    page.text(" ");
+    badge(page, phase_of(shown).text());
+    page.end(Element::Caption);
+}
+
+// A phase or a status.
+pub(crate) fn badge(page: &mut Markup, word: &str) {
+    page.start(Element::Span);
+    page.value(Attribute::Class);
+    page.text("badge ");
+    page.text(word);
+    page.value_end();
+    page.start_end();
+    page.text(word);
+    page.end(Element::Span);
+}
+
+// The start of the drawing, with its numbers in words.
+fn begin_drawing(page: &mut Markup, shown: &Measured<'_>) {
+    page.start(Element::Drawing);
+    page.attribute(Attribute::Class, "plot");
+    page.attribute(Attribute::View, "0 0 3000 900");
+    page.attribute(Attribute::Width, "300");
+    page.attribute(Attribute::Height, "90");
+    page.attribute(Attribute::Role, "img");
+    page.value(Attribute::Spoken);
+    in_words(page, shown);
+    page.value_end();
+    page.start_end();
+}
+
+fn in_words(page: &mut Markup, shown: &Measured<'_>) {
+    page.text(shown.metric.name().as_str());
+    page.text(": ");
+    counted(page, shown.chart.whole(), " measurement");
+    let tally = shown.tally;
+    let bad = tally.failed().saturating_add(tally.inconclusive());
+    phase_count(page, tally.counted().saturating_sub(bad), Phase::Successful);
+    phase_count(page, tally.failed(), Phase::Failed);
+    phase_count(page, tally.inconclusive(), Phase::Inconclusive);
+    phase_count(page, tally.errors(), Phase::Error);
+    if let Some(span) = shown.chart.span() {
+        page.text("; results from ");
+        page.whole(span.low);
+        page.text(" to ");
+        page.whole(span.high);
+    }
+    if let Some(last) = shown.chart.points().last() {
+        page.text("; the last ");
+        page.text(last.phase.text());
+        page.text(": ");
+        outcome(page, &last.outcome);
+    }
+}
+
+fn phase_count(page: &mut Markup, count: u32, phase: Phase) {
+    if count > 0 {
+        page.text(", ");
+        page.number(u64::from(count));
+        page.text(" ");
+        page.text(phase.text());
+    }
+}
+
+// So many of a thing, whose plural ends in `s`.
+pub(crate) fn counted(page: &mut Markup, count: u64, thing: &str) {
+    page.number(count);
+    page.text(thing);
+    if count != 1 {
+        page.text("s");
+    }
+}
+
+// The conditions, and the numbers by which the metric is judged.
+fn notes(page: &mut Markup, shown: &Measured<'_>) {
+    page.open(Element::Block, "notes");
+    conditions(page, shown.conditions);
+    page.begin(Element::Paragraph);
+    wanted(page, shown);
+    limits(page, shown);
+    due(page, shown);
+    page.text(".");
+    thinned(page, shown.chart);
+    page.end(Element::Paragraph);
+    page.end(Element::Block);
+}
+
+fn conditions(page: &mut Markup, conditions: &Conditions) {
+    if !conditions.is_known {
+        sentence(
+            page,
+            "The template was revised since, so its conditions are not shown.",
+        );
+    }
+    condition(page, "success: ", &conditions.success);
+    condition(page, "failure: ", &conditions.failure);
+    if conditions.is_known && conditions.success.is_none() && conditions.failure.is_none() {
+        sentence(page, "No condition: each result is a success.");
+    }
+}
+
+fn sentence(page: &mut Markup, text: &str) {
+    page.begin(Element::Paragraph);
+    page.text(text);
+    page.end(Element::Paragraph);
+}
+
+fn condition(page: &mut Markup, kind: &str, text: &Option<Text>) {
+    if let Some(text) = text {
+        page.begin(Element::Paragraph);
+        page.text(kind);
+        page.begin(Element::Code);
+        page.text(text.as_str());
+        page.end(Element::Code);
+        page.end(Element::Paragraph);
+    }
+}
+
+fn wanted(page: &mut Markup, shown: &Measured<'_>) {
+    page.number(u64::from(shown.tally.counted()));
+    if let Some(count) = effective_count(shown.metric) {
+        page.text(" of ");
+        page.number(u64::from(count));
+    }
+    page.text(" counted");
+    if let Some(passes) = shown.metric.pass_after() {
+        page.text(", ");
+        page.number(u64::from(shown.tally.passes()));
+        page.text(" of ");
+        page.number(u64::from(passes));
+        page.text(" successes in a row");
+    }
+}
+
+fn limits(page: &mut Markup, shown: &Measured<'_>) {
+    let (tally, metric) = (shown.tally, shown.metric);
+    allowed(page, tally.failed(), " failed", metric.failure_limit());
+    allowed(
+        page,
+        tally.inconclusive(),
+        " inconclusive",
+        metric.inconclusive_limit(),
+    );
+    if tally.errors() > 0 {
+        page.text(", ");
+        counted(page, u64::from(tally.errors()), " error");
+        allowed(
+            page,
+            tally.consecutive(),
+            " in a row",
+            metric.consecutive_error_limit(),
+        );
+    }
+}
+
+fn allowed(page: &mut Markup, count: u32, thing: &str, limit: u32) {
+    if count > 0 {
+        page.text(", ");
+        page.number(u64::from(count));
+        page.text(thing);
+        page.text(" (");
+        page.number(u64::from(limit));
+        page.text(" allowed)");
+    }
+}
+
+// When the next measurement is due, if one is wanted.
+fn due(page: &mut Markup, shown: &Measured<'_>) {
+    if shown.is_closed || is_completed(phase_of(shown)) {
+        return;
+    }
+    let Some(due) = Moment::new(shown.tally.due(shown.metric, shown.started)) else {
+        return;
+    };
+    page.text(", due ");
+    clock(page, due);
+    if due.get() < shown.now.get() {
+        page.text(", late");
+    }
+}
+
+fn thinned(page: &mut Markup, chart: &Chart) {
+    let drawn = chart.points().len() as u64;
+    if drawn < chart.whole() {
+        page.text(" ");
+        page.number(drawn);
+        page.text(" of ");
+        page.number(chart.whole());
+        page.text(" are drawn: the first, the last, ");
+        if chart.has_all_bad() {
+            page.text("those that are not Successful, ");
+        }
+        page.text("and evenly some of the others.");
+    }
+}

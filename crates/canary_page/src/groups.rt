@@ -1,0 +1,94 @@
+//! Which service stands in which part of a page.
+ghost use Rattle.canary_files.specs.Exporting.{Stays};
+
+use crate::fault::PageFault;
+use crate::reading::passed_of;
+use crate::shown::Standing;
+use canary_base::error::Memory;
+use canary_base::moments::Moment;
+use canary_base::names::Name;
+use canary_once::book::Book;
+use canary_release::stand::Status;
+use std::alloc::Global;
+
+/// A service, by its name, and how it stands.
+#[derive(Clone, Copy)]
+pub(crate) struct Placed {
+    pub(crate) name: Name,
+    pub(crate) standing: Standing,
+    pub(crate) status: Status,
+}
+
+// Those of these names that there are, in order.
+pub(crate) fn placed_of<B: Book>(
+    alloc: Global,
+    book: &mut B,
+    names: &[Name],
+    now: Moment,
+) -> Result<Vec<Placed>, PageFault>
+    ensures { Stays (B.state book.old) (B.state book.new) }
+{
+    let mut placed = Vec::new(alloc);
+    for name in names {
+        place(alloc, book, name, now, &mut placed)?;
+    }
+    Ok(placed)
+}
+
+fn place<B: Book>(
+    alloc: Global,
+    book: &mut B,
+    name: &Name,
+    now: Moment,
+    placed: &mut Vec<Placed>,
+) -> Result<(), PageFault>
+    ensures { Stays (B.state book.old) (B.state book.new) }
+{
+    let found = passed_of(alloc, book, name, now)?;
+    if let Some(passed) = &found {
+        push_placed(
+            placed,
+            *name,
+            Standing::of(&passed.service),
+            passed.service.status(),
+        )?;
+    }
+    Ok(())
+}
+
+fn push_placed(
+    placed: &mut Vec<Placed>,
+    name: Name,
+    standing: Standing,
+    status: Status,
+) -> Result<(), Memory> {
+    placed.push(Placed {
+        name,
+        standing,
+        status,
+    })?;
+    Ok(())
+}
+
+// How many of these stand so.
+pub(crate) fn count_standing(placed: &[Placed], standing: Standing) -> u64 {
+    placed
+        .iter()
+        .filter(|placed| placed.standing == standing)
+        .count() as u64
+}
+
+// How many of these wait for somebody.
+pub(crate) fn count_waiting(placed: &[Placed]) -> u64 {
+    count_standing(placed, Standing::Aborted)
+        .saturating_add(count_standing(placed, Standing::Held))
+        .saturating_add(count_standing(placed, Standing::Waits))
+}
+
+// How many of these have that status.
+pub(crate) fn count_status(placed: &[Placed], status: Status) -> u64 {
+    placed
+        .iter()
+        .filter(|placed| placed.status == status)
+        .count() as u64
+}

@@ -1,0 +1,39 @@
+//! The services of a desk as one page of HTML for people: what `canary page` draws.
+//!
+//! Callers may rest on this: a page is made of the tags and the attributes of two closed lists, of
+//! numbers, of the page's own head and style sheet, and of escaped texts. So whatever texts a book
+//! has, `<`, `>`, `&` and quotes come from the page's own writing alone; a page has no script, and
+//! nothing in it is fetched. What a page shows no contract says.
+//!
+//! In use (canary_programs, src/page.rt):
+//!
+//!     match draw(alloc, book, names, view, out, progress) {
+//!         Ok(()) => Ok(()),
+//!         Err(fault) => Err(fault.into()),
+//!     }
+#![tactic(auto)]
+
+mod bounds;
+mod card;
+mod chart;
+mod conditions;
+pub mod fault;
+mod figure;
+mod frame;
+mod groups;
+mod history;
+mod jobs;
+mod key;
+mod numbers;
+pub mod page;
+mod plot;
+pub mod progress;
+mod reading;
+mod run;
+mod shown;
+mod table;
+mod time;
+mod track;
+mod waits;
+mod words;
+mod writing;

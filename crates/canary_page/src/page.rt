@@ -1,0 +1,206 @@
+//! Drawing a page.
+ghost use Rattle.canary_files.specs.Exporting.{Stays};
+ghost use Rattle.canary_page.specs.Drawn.{IsDrawn};
+
+use crate::card::card;
+use crate::fault::PageFault;
+use crate::frame::{foot, head, part};
+use crate::groups::{count_standing, count_waiting, placed_of};
+use crate::jobs::{Job, Plan, jobs_of};
+use crate::progress::Progress;
+use crate::reading::{lines_of, passed_of, shown_of};
+use crate::shown::Standing;
+use crate::table::{begin_table, end_table, row};
+use crate::writing::write_all;
+use canary_base::moments::Moment;
+use canary_base::names::Name;
+use canary_markup::markup::Markup;
+use canary_once::book::Book;
+use canary_release::service::Passed;
+use std::alloc::Global;
+use std::io::Write;
+
+/// When a page is drawn, and how often it is to be loaded anew.
+#[derive(Clone, Copy, Debug, PartialEq, Eq)]
+pub struct View {
+    /// The moment to which services are passed.
+    pub now: Moment,
+    /// The seconds after which the page loads itself anew; none if it does not.
+    pub every: Option<u64>,
+}
+
+/// Draws the services of these names, as they stand at a moment, as one page of HTML (HTML Living
+/// Standard), service by service, and says how far it has come. The book is unchanged.
+///
+/// # Errors
+/// `Write` if the output failed; `Memory` if an allocation was refused; `Storage` if the store
+/// failed. What was written before are the first bytes of pieces of a page.
+pub fn draw<W: Write, B: Book, P: Progress>(
+    alloc: Global,
+    book: &mut B,
+    names: &[Name],
+    view: View,
+    out: &mut W,
+    progress: &mut P,
+) -> Result<(), PageFault>
+    ensures stays { Stays (B.state book.old) (B.state book.new) }
+    ensures drawn { IsDrawn (W.contents out.old) (W.contents out.new) result }
+{
+    let placed = placed_of(alloc, book, names, view.now)?;
+    let plan = Plan {
+        placed: placed.as_slice(),
+        now: view.now,
+        every: view.every,
+    };
+    draw_planned(alloc, book, &plan, out, progress)
+}
+
+fn draw_planned<W: Write, B: Book, P: Progress>(
+    alloc: Global,
+    book: &mut B,
+    plan: &Plan<'_>,
+    out: &mut W,
+    progress: &mut P,
+) -> Result<(), PageFault>
+    ensures stays { Stays (B.state book.old) (B.state book.new) }
+    ensures drawn { IsDrawn (W.contents out.old) (W.contents out.new) result }
+{
+    let jobs = jobs_of(alloc, plan.placed)?;
+    progress.begin(plan.placed.len() as u64);
+    draw_jobs(alloc, book, plan, jobs.as_slice(), out, progress)
+}
+
+fn draw_jobs<W: Write, B: Book, P: Progress>(
+    alloc: Global,
+    book: &mut B,
+    plan: &Plan<'_>,
+    jobs: &[Job],
+    out: &mut W,
+    progress: &mut P,
+) -> Result<(), PageFault>
+    ensures stays { Stays (B.state book.old) (B.state book.new) }
+    ensures drawn { IsDrawn (W.contents out.old) (W.contents out.new) result }
+{
+    for job in jobs {
+        put_job(alloc, book, plan, job, out)?;
+        if job.is_service() {
+            progress.drawn();
+        }
+    }
+    Ok(())
+}
+
+fn put_job<W: Write, B: Book>(
+    alloc: Global,
+    book: &mut B,
+    plan: &Plan<'_>,
+    job: &Job,
+    out: &mut W,
+) -> Result<(), PageFault>
+    ensures stays { Stays (B.state book.old) (B.state book.new) }
+    ensures drawn { IsDrawn (W.contents out.old) (W.contents out.new) result }
+{
+    let page = markup_of(alloc, book, plan, job)?;
+    put_out(&page, out)
+}
+
+// Writes a part of a page.
+fn put_out<W: Write>(page: &Markup, out: &mut W) -> Result<(), PageFault>
+    ensures drawn { IsDrawn (W.contents out.old) (W.contents out.new) result }
+{
+    let bytes = page.bytes()?;
+    match write_all(out, bytes) {
+        Ok(()) => Ok(()),
+        Err(_) => Err(PageFault::Write),
+    }
+}
+
+// A part of a page.
+fn markup_of<B: Book>(
+    alloc: Global,
+    book: &mut B,
+    plan: &Plan<'_>,
+    job: &Job,
+) -> Result<Markup, PageFault>
+    ensures stays { Stays (B.state book.old) (B.state book.new) }
+{
+    match job {
+        Job::Card(name) => card_of(alloc, book, name, plan.now),
+        Job::Row(name) => row_of(alloc, book, name, plan.now),
+        _ => Ok(frame_of(alloc, plan, job)),
+    }
+}
+
+// What stands between the services.
+fn frame_of(alloc: Global, plan: &Plan<'_>, job: &Job) -> Markup {
+    let mut page = Markup::new(alloc);
+    let placed = plan.placed;
+    match job {
+        Job::Head => head(&mut page, placed, plan.now, plan.every),
+        Job::Waiting => part(&mut page, "Waits for somebody", count_waiting(placed)),
+        Job::Going => {
+            let count = count_standing(placed, Standing::Goes);
+            part(&mut page, "Goes on by itself", count);
+        }
+        Job::Done => part(&mut page, "Done", count_standing(placed, Standing::Done)),
+        Job::Table => begin_table(&mut page),
+        Job::TableEnd => end_table(&mut page),
+        _ => foot(&mut page),
+    }
+    page
+}
+
+// The card of a service.
+fn card_of<B: Book>(
+    alloc: Global,
+    book: &mut B,
+    name: &Name,
+    now: Moment,
+) -> Result<Markup, PageFault>
+    ensures stays { Stays (B.state book.old) (B.state book.new) }
+{
+    match passed_of(alloc, book, name, now)? {
+        Some(passed) => card_of_passed(alloc, book, name, passed, now),
+        None => Ok(Markup::new(alloc)),
+    }
+}
+
+fn card_of_passed<B: Book>(
+    alloc: Global,
+    book: &mut B,
+    name: &Name,
+    passed: Passed,
+    now: Moment,
+) -> Result<Markup, PageFault>
+    ensures stays { Stays (B.state book.old) (B.state book.new) }
+{
+    let shown = shown_of(alloc, book, name, passed)?;
+    Ok(card(alloc, &shown, now)?)
+}
+
+// The row of a service that is done.
+fn row_of<B: Book>(
+    alloc: Global,
+    book: &mut B,
+    name: &Name,
+    now: Moment,
+) -> Result<Markup, PageFault>
+    ensures stays { Stays (B.state book.old) (B.state book.new) }
+{
+    match passed_of(alloc, book, name, now)? {
+        Some(passed) => row_of_passed(alloc, book, name, &passed),
+        None => Ok(Markup::new(alloc)),
+    }
+}
+
+fn row_of_passed<B: Book>(
+    alloc: Global,
+    book: &mut B,
+    name: &Name,
+    passed: &Passed,
+) -> Result<Markup, PageFault>
+    ensures stays { Stays (B.state book.old) (B.state book.new) }
+{
+    let lines = lines_of(book, name, passed.effects.as_slice())?;
+    Ok(row(alloc, &passed.service, lines.as_slice()))
+}

@@ -1,0 +1,10 @@
+//! How far the drawing of a page has come.
+
+/// Is told how far the drawing of a page has come.
+pub trait Progress {
+    /// So many services are to be drawn.
+    fn begin(&mut self, services: u64);
+
+    /// One more service was drawn.
+    fn drawn(&mut self);
+}

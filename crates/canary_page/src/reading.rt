@@ -1,0 +1,304 @@
+//! What is read of a book.
+ghost use Rattle.canary_files.specs.Exporting.{Stays};
+
+use crate::chart::Chart;
+use crate::conditions::{Conditions, conditions_of};
+use crate::fault::PageFault;
+use crate::shown::{Shown, ShownRun, runs_of_attempt};
+use canary_base::error::Memory;
+use canary_base::moments::Moment;
+use canary_base::names::Name;
+use canary_base::numbers::Number;
+use canary_metric::tally::Tally;
+use canary_once::book::Book;
+use canary_once::record::RunRecord;
+use canary_plan::analysis_parts::Revision;
+use canary_plan::line::{Line, LineEvent};
+use canary_plan::templates::Templates;
+use canary_release::effect::{Effect, Opening, Recorded};
+use canary_release::runs::new_tallies;
+use canary_release::service::Passed;
+use std::alloc::Global;
+
+// How many measurements are read at once.
+const PAGE: u32 = 256;
+
+// The service of this name, passed to a moment; none where there is no such service.
+pub(crate) fn passed_of<B: Book>(
+    alloc: Global,
+    book: &mut B,
+    name: &Name,
+    now: Moment,
+) -> Result<Option<Passed>, PageFault>
+    ensures { Stays (B.state book.old) (B.state book.new) }
+{
+    match book.service(name)? {
+        Some(service) => Ok(Some(service.passed(alloc, now)?)),
+        None => Ok(None),
+    }
+}
+
+// The history of a service, with what these effects tell at its end.
+pub(crate) fn lines_of<B: Book>(
+    book: &mut B,
+    name: &Name,
+    effects: &[Effect],
+) -> Result<Vec<Line>, PageFault>
+    ensures { Stays (B.state book.old) (B.state book.new) }
+{
+    let lines = book.history(name)?;
+    Ok(with_told(lines.into_vec(), effects)?)
+}
+
+fn with_told(lines: Vec<Line>, effects: &[Effect]) -> Result<Vec<Line>, Memory> {
+    let mut lines = lines;
+    for effect in effects {
+        if let Effect::Told(line) = effect {
+            push_line(&mut lines, line)?;
+        }
+    }
+    Ok(lines)
+}
+
+fn push_line(lines: &mut Vec<Line>, line: &Line) -> Result<(), Memory> {
+    let Line { moment, event } = *line;
+    push_made(lines, moment, event)
+}
+
+// The line is made where it is put into the list.
+fn push_made(lines: &mut Vec<Line>, moment: Moment, event: LineEvent) -> Result<(), Memory> {
+    lines.push(Line { moment, event })?;
+    Ok(())
+}
+
+// What is shown of a service that was passed to a moment.
+pub(crate) fn shown_of<B: Book>(
+    alloc: Global,
+    book: &mut B,
+    name: &Name,
+    passed: Passed,
+) -> Result<Shown, PageFault>
+    ensures { Stays (B.state book.old) (B.state book.new) }
+{
+    let Passed { service, effects } = passed;
+    let lines = lines_of(book, name, effects.as_slice())?;
+    let runs = runs_of(alloc, book, name, lines.as_slice(), effects.as_slice())?;
+    Ok(Shown {
+        service,
+        lines,
+        runs,
+    })
+}
+
+// The runs of the last attempt that these lines have, with their measurements.
+fn runs_of<B: Book>(
+    alloc: Global,
+    book: &mut B,
+    name: &Name,
+    lines: &[Line],
+    effects: &[Effect],
+) -> Result<Vec<ShownRun>, PageFault>
+    ensures { Stays (B.state book.old) (B.state book.new) }
+{
+    let numbers = runs_of_attempt(alloc, lines)?;
+    let mut runs = Vec::new(alloc);
+    for number in numbers.as_slice() {
+        read_run(alloc, book, name, *number, effects, &mut runs)?;
+    }
+    if !runs.is_empty() {
+        read_measurements(alloc, book, name, &mut runs)?;
+    }
+    Ok(runs)
+}
+
+// Adds the run of that number, without its measurements.
+fn read_run<B: Book>(
+    alloc: Global,
+    book: &mut B,
+    name: &Name,
+    number: u32,
+    effects: &[Effect],
+    runs: &mut Vec<ShownRun>,
+) -> Result<(), PageFault>
+    ensures { Stays (B.state book.old) (B.state book.new) }
+{
+    let Some(asked) = Number::new(number) else {
+        return Ok(());
+    };
+    let found = book.run(name, asked)?;
+    let Some(record) = run_after(alloc, number, found, effects)? else {
+        return Ok(());
+    };
+    let templates = templates_of(alloc, book, record.analysis.revisions())?;
+    Ok(push_run(alloc, runs, record, &templates)?)
+}
+
+fn push_run(
+    alloc: Global,
+    runs: &mut Vec<ShownRun>,
+    record: RunRecord,
+    templates: &Templates,
+) -> Result<(), Memory> {
+    runs.push(shown_run(alloc, record, templates)?)?;
+    Ok(())
+}
+
+fn templates_of<B: Book>(
+    alloc: Global,
+    book: &mut B,
+    revisions: &[Revision],
+) -> Result<Templates, PageFault>
+    ensures { Stays (B.state book.old) (B.state book.new) }
+{
+    let names = names_of(alloc, revisions)?;
+    Ok(book.templates(names.as_slice())?)
+}
+
+fn names_of(alloc: Global, revisions: &[Revision]) -> Result<Vec<Name>, Memory> {
+    let mut names = Vec::new(alloc);
+    for revision in revisions {
+        names.push(revision.template)?;
+    }
+    Ok(names)
+}
+
+fn shown_run(alloc: Global, record: RunRecord, templates: &Templates) -> Result<ShownRun, Memory> {
+    let charts = empty_charts(alloc, record.tallies.as_slice())?;
+    let conditions = all_conditions(alloc, &record, templates)?;
+    Ok(ShownRun {
+        record,
+        charts,
+        conditions,
+    })
+}
+
+fn empty_charts(alloc: Global, tallies: &[Tally]) -> Result<Vec<Chart>, Memory> {
+    let mut charts = Vec::new(alloc);
+    for tally in tallies {
+        charts.push(Chart::new(alloc, tally))?;
+    }
+    Ok(charts)
+}
+
+fn all_conditions(
+    alloc: Global,
+    record: &RunRecord,
+    templates: &Templates,
+) -> Result<Vec<Conditions>, Memory> {
+    let revisions = record.analysis.revisions();
+    let mut conditions = Vec::new(alloc);
+    for metric in record.analysis.metrics() {
+        conditions.push(conditions_of(alloc, templates, revisions, metric.name())?)?;
+    }
+    Ok(conditions)
+}
+
+// The run of that number after these effects: one of them may have opened it, or closed it.
+fn run_after(
+    alloc: Global,
+    number: u32,
+    found: Option<RunRecord>,
+    effects: &[Effect],
+) -> Result<Option<RunRecord>, Memory> {
+    let mut record = found;
+    for effect in effects {
+        record = run_then(alloc, number, record, effect)?;
+    }
+    Ok(record)
+}
+
+fn run_then(
+    alloc: Global,
+    number: u32,
+    found: Option<RunRecord>,
+    effect: &Effect,
+) -> Result<Option<RunRecord>, Memory> {
+    match (effect, found) {
+        (Effect::Opened(opening), None) if opening.run == number => {
+            Ok(Some(opened(alloc, opening)?))
+        }
+        (Effect::Closed { closing, .. }, Some(run)) if closing.run == number => {
+            Ok(Some(RunRecord {
+                closed: Some(*closing),
+                ..run
+            }))
+        }
+        (_, found) => Ok(found),
+    }
+}
+
+fn opened(alloc: Global, opening: &Opening) -> Result<RunRecord, Memory> {
+    Ok(RunRecord {
+        number: opening.run,
+        step: opening.step,
+        analysis: opening.analysis.copy()?,
+        started: opening.started,
+        closed: None,
+        tallies: new_tallies(alloc, opening.analysis.metrics().len() as u32)?,
+    })
+}
+
+// Adds the measurements of these runs to their charts, page by page.
+fn read_measurements<B: Book>(
+    alloc: Global,
+    book: &mut B,
+    name: &Name,
+    runs: &mut Vec<ShownRun>,
+) -> Result<(), PageFault>
+    ensures { Stays (B.state book.old) (B.state book.new) }
+{
+    let mut from = 0;
+    for _ in 0..u64::MAX {
+        let count = read_page(alloc, book, name, from, runs)?;
+        if count == 0 {
+            return Ok(());
+        }
+        from = count.saturating_add(from);
+    }
+    Ok(())
+}
+
+// Adds those of one page, and says how many it has.
+fn read_page<B: Book>(
+    alloc: Global,
+    book: &mut B,
+    name: &Name,
+    from: u64,
+    runs: &mut Vec<ShownRun>,
+) -> Result<u64, PageFault>
+    ensures { Stays (B.state book.old) (B.state book.new) }
+{
+    let page = book.measurements(name, from, PAGE)?;
+    add_all(alloc, page.as_slice(), runs)?;
+    Ok(page.as_slice().len() as u64)
+}
+
+fn add_all(alloc: Global, page: &[Recorded], runs: &mut Vec<ShownRun>) -> Result<(), Memory> {
+    for recorded in page {
+        add_measurement(alloc, recorded, runs)?;
+    }
+    Ok(())
+}
+
+// Adds a measurement to its chart, if its run is one of these.
+fn add_measurement(
+    alloc: Global,
+    recorded: &Recorded,
+    runs: &mut Vec<ShownRun>,
+) -> Result<(), Memory> {
+    let Some(place) = runs
+        .as_slice()
+        .iter()
+        .position(|run| run.record.number == recorded.run)
+    else {
+        return Ok(());
+    };
+    let metric = recorded.metric as usize;
+    match runs.get_mut(place) {
+        Some(run) => match run.charts.get_mut(metric) {
+            Some(chart) => chart.add(alloc, recorded),
+            None => Ok(()),
+        },
+        None => Ok(()),
+    }
+}

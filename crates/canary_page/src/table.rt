@@ -1,0 +1,75 @@
+//! The services that are done.
+use crate::figure::badge;
+use crate::time::stamp;
+use crate::track::bar;
+use crate::words;
+use canary_markup::element::{Attribute, Element};
+use canary_markup::markup::Markup;
+use canary_plan::line::Line;
+use canary_release::service::Service;
+use std::alloc::Global;
+
+// The start of the table, with its heading.
+pub(crate) fn begin_table(page: &mut Markup) {
+    page.open(Element::Table, "done");
+    page.begin(Element::Row);
+    heading(page, "Service");
+    heading(page, "Status");
+    heading(page, "Version");
+    heading(page, "Weight");
+    heading(page, "Steps");
+    heading(page, "Last");
+    page.end(Element::Row);
+}
+
+fn heading(page: &mut Markup, text: &str) {
+    page.start(Element::Heading);
+    page.attribute(Attribute::Scope, "col");
+    page.start_end();
+    page.text(text);
+    page.end(Element::Heading);
+}
+
+pub(crate) fn end_table(page: &mut Markup) {
+    page.end(Element::Table);
+}
+
+// The row of a service.
+pub(crate) fn row(alloc: Global, service: &Service, lines: &[Line]) -> Markup {
+    let mut page = Markup::new(alloc);
+    draw_row(&mut page, service, lines);
+    page
+}
+
+fn draw_row(page: &mut Markup, service: &Service, lines: &[Line]) {
+    page.start(Element::Row);
+    page.attribute(Attribute::Id, service.name().as_str());
+    page.start_end();
+    page.start(Element::Heading);
+    page.attribute(Attribute::Scope, "row");
+    page.start_end();
+    page.text(service.name().as_str());
+    page.end(Element::Heading);
+    page.begin(Element::Cell);
+    badge(page, service.status().text());
+    page.end(Element::Cell);
+    page.leaf(Element::Cell, "version", service.version().as_str());
+    page.begin(Element::Cell);
+    bar(page, service);
+    page.end(Element::Cell);
+    page.begin(Element::Cell);
+    page.number(service.strategy().steps().len() as u64);
+    page.end(Element::Cell);
+    last(page, lines);
+    page.end(Element::Row);
+}
+
+fn last(page: &mut Markup, lines: &[Line]) {
+    page.begin(Element::Cell);
+    if let Some(line) = lines.last() {
+        words::line(page, line);
+        page.text(", ");
+        stamp(page, line.moment);
+    }
+    page.end(Element::Cell);
+}

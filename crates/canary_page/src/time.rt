@@ -1,0 +1,74 @@
+//! Moments and spans of time, for people.
+use canary_base::moments::Moment;
+use canary_markup::element::{Attribute, Element};
+use canary_markup::markup::Markup;
+
+const MINUTE: u64 = 60;
+
+const HOUR: u64 = 3_600;
+
+const DAY: u64 = 86_400;
+
+// A moment as an element, with its date.
+pub(crate) fn stamp(page: &mut Markup, moment: Moment) {
+    page.start(Element::Time);
+    page.value(Attribute::Moment);
+    page.moment(moment);
+    page.value_end();
+    page.start_end();
+    page.moment(moment);
+    page.end(Element::Time);
+}
+
+// The time of the day, in UTC: `HH:MM:SS`.
+pub(crate) fn clock(page: &mut Markup, moment: Moment) {
+    let second = moment.get() % DAY;
+    two_digits(page, second / HOUR);
+    page.text(":");
+    two_digits(page, second % HOUR / MINUTE);
+    page.text(":");
+    two_digits(page, second % MINUTE);
+}
+
+fn two_digits(page: &mut Markup, number: u64) {
+    if number < 10 {
+        page.text("0");
+    }
+    page.number(number);
+}
+
+// So many seconds, as manifests write durations: `1h30m`.
+pub(crate) fn span(page: &mut Markup, seconds: u64) {
+    part(page, seconds / HOUR, "h");
+    part(page, seconds % HOUR / MINUTE, "m");
+    part(page, seconds % MINUTE, "s");
+    if seconds == 0 {
+        page.text("0s");
+    }
+}
+
+fn part(page: &mut Markup, number: u64, unit: &str) {
+    if number > 0 {
+        page.number(number);
+        page.text(unit);
+    }
+}
+
+// How long ago that was, in one unit.
+pub(crate) fn since(page: &mut Markup, moment: Moment, now: Moment) {
+    let seconds = now.get().saturating_sub(moment.get());
+    if seconds < 2 * MINUTE {
+        counted(page, seconds, " s");
+    } else if seconds < 2 * HOUR {
+        counted(page, seconds / MINUTE, " min");
+    } else if seconds < 2 * DAY {
+        counted(page, seconds / HOUR, " h");
+    } else {
+        counted(page, seconds / DAY, " days");
+    }
+}
+
+fn counted(page: &mut Markup, number: u64, unit: &str) {
+    page.number(number);
+    page.text(unit);
+}

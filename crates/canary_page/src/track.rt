@@ -1,0 +1,150 @@
+//! The steps of a strategy, and the weight.
+use crate::time::span;
+use canary_base::names::Name;
+use canary_markup::element::{Attribute, Element};
+use canary_markup::markup::Markup;
+use canary_plan::step::Step;
+use canary_release::service::Service;
+use canary_release::stand::State;
+
+// Draws the steps as a row of marks, of which the present one is marked.
+pub(crate) fn track(page: &mut Markup, service: &Service) {
+    page.open(Element::Steps, "track");
+    for (place, step) in service.strategy().steps().iter().enumerate() {
+        mark(page, service, place as u64, step);
+    }
+    let end = if service.state() == State::Done {
+        "end past"
+    } else {
+        "end ahead"
+    };
+    page.open(Element::Item, end);
+    page.leaf(Element::Span, "word", "done");
+    page.end(Element::Item);
+    page.end(Element::Steps);
+}
+
+fn mark(page: &mut Markup, service: &Service, place: u64, step: &Step) {
+    let (state, present) = (service.state(), u64::from(service.step()));
+    let is_here = place == present && state != State::Done;
+    page.start(Element::Item);
+    page.value(Attribute::Class);
+    page.text(kind_of(step));
+    page.text(place_of(service, place));
+    page.value_end();
+    page.value(Attribute::Title);
+    page.text("step ");
+    page.number(place);
+    page.text(": ");
+    words(page, step);
+    page.value_end();
+    if is_here {
+        page.attribute(Attribute::Present, "step");
+    }
+    page.start_end();
+    page.open(Element::Span, "word");
+    short_words(page, step);
+    page.end(Element::Span);
+    page.end(Element::Item);
+}
+
+fn kind_of(step: &Step) -> &'static str {
+    match step {
+        Step::SetWeight(_) => "set ",
+        Step::Pause(_) => "pause ",
+        Step::Analysis(_) => "analysis ",
+    }
+}
+
+// Whether a step is past, present or to come, and how the release stands at the present one.
+fn place_of(service: &Service, place: u64) -> &'static str {
+    let present = u64::from(service.step());
+    if place < present || service.state() == State::Done {
+        return "past";
+    }
+    if place > present {
+        return "ahead";
+    }
+    if service.state() == State::Aborted {
+        return "here stopped";
+    }
+    if service.step_hold() || service.background_hold() {
+        return "here held";
+    }
+    "here"
+}
+
+fn words(page: &mut Markup, step: &Step) {
+    match step {
+        Step::SetWeight(weight) => {
+            page.text("setWeight ");
+            page.number(u64::from(*weight));
+        }
+        Step::Pause(Some(seconds)) => {
+            page.text("pause of ");
+            span(page, u64::from(seconds.get()));
+        }
+        Step::Pause(None) => page.text("pause until it is promoted"),
+        Step::Analysis(templates) => {
+            page.text("analysis by ");
+            names(page, templates.as_slice());
+        }
+    }
+}
+
+fn short_words(page: &mut Markup, step: &Step) {
+    match step {
+        Step::SetWeight(weight) => {
+            page.number(u64::from(*weight));
+            page.text("%");
+        }
+        Step::Pause(Some(seconds)) => span(page, u64::from(seconds.get())),
+        Step::Pause(None) => page.text("pause"),
+        Step::Analysis(templates) => names(page, templates.as_slice()),
+    }
+}
+
+fn names(page: &mut Markup, names: &[Name]) {
+    let mut between = "";
+    for name in names {
+        page.text(between);
+        page.text(name.as_str());
+        between = ", ";
+    }
+}
+
+// The weight as a bar, and in percent.
+pub(crate) fn bar(page: &mut Markup, service: &Service) {
+    let weight = u64::from(service.weight());
+    page.open(Element::Span, "weight");
+    page.start(Element::Drawing);
+    page.attribute(Attribute::Class, "bar");
+    page.attribute(Attribute::View, "0 0 100 8");
+    page.attribute(Attribute::Width, "150");
+    page.attribute(Attribute::Height, "12");
+    page.attribute(Attribute::Role, "img");
+    page.value(Attribute::Spoken);
+    page.text(service.version().as_str());
+    page.text(" has ");
+    page.number(weight);
+    page.text(" percent");
+    page.value_end();
+    page.start_end();
+    block(page, "rest", 100);
+    block(page, "part", weight);
+    page.end(Element::Drawing);
+    page.begin(Element::Strong);
+    page.number(weight);
+    page.text("%");
+    page.end(Element::Strong);
+    page.end(Element::Span);
+}
+
+fn block(page: &mut Markup, class: &str, width: u64) {
+    page.start(Element::Rectangle);
+    page.attribute(Attribute::Class, class);
+    page.measure(Attribute::Width, width);
+    page.measure(Attribute::Height, 8);
+    page.start_end();
+    page.end(Element::Rectangle);
+}

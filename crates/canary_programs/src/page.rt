@@ -1,0 +1,32 @@
+//! The services of a desk as a page.
+ghost use Rattle.canary_files.specs.Exporting.{Stays};
+ghost use Rattle.canary_page.specs.Drawn.{IsDrawn};
+
+use crate::fault::Fault;
+use canary_base::names::Name;
+use canary_once::book::Book;
+use canary_page::page::{View, draw};
+use canary_page::progress::Progress;
+use std::alloc::Global;
+use std::io::Write;
+
+/// Draws the page of these services of a book, as canary_page does. The book is unchanged.
+///
+/// # Errors
+/// `Write`, `Memory` and `Storage`, each where canary_page answers the same.
+pub fn draw_page<W: Write, B: Book, P: Progress>(
+    alloc: Global,
+    book: &mut B,
+    names: &[Name],
+    view: View,
+    out: &mut W,
+    progress: &mut P,
+) -> Result<(), Fault>
+    ensures stays { Stays (B.state book.old) (B.state book.new) }
+    ensures drawn { IsDrawn (W.contents out.old) (W.contents out.new) result }
+{
+    match draw(alloc, book, names, view, out, progress) {
+        Ok(()) => Ok(()),
+        Err(fault) => Err(fault.into()),
+    }
+}

@@ -1,0 +1,202 @@
+"""Draws the pages of some desks, and looks at them: pages.py PROGRAM FOLDER [CASE..]. The comment at
+the top of tests/page/run says what is tried."""
+import json
+import os
+import re
+import shutil
+import subprocess
+import sys
+import time
+
+import stories
+from outline import Broken, outline, tree_of
+
+HERE = os.path.dirname(os.path.abspath(__file__))
+LIMIT = 300
+
+
+def fail(what):
+    print(f"tests/page: {what}", file=sys.stderr)
+    sys.exit(1)
+
+
+def run(words, row, **more):
+    """What a program that ends with status 0 writes."""
+    done = subprocess.run(words, capture_output=True, timeout=LIMIT, check=False, **more)
+    if done.returncode != 0:
+        fail(f"{row}: status {done.returncode}: {done.stderr.decode(errors='replace')[:500]}")
+    return done.stdout
+
+
+def make_desk(program, file, row, desk):
+    """A desk's file, whose requests are all accepted."""
+    words = [program, "pipe", "--at", str(stories.AT), "--step", str(desk.step), "--db", file]
+    replies = run(words, row, input=desk.stream())
+    accepted = replies.count(b"HTTP/1.1 200 OK\r\n")
+    if accepted != len(desk.messages):
+        other = re.findall(rb"HTTP/1.1 (?!200)[^\r]*\r\n(?:[^\r]+\r\n)*\r\n[^H]*", replies)
+        fail(f"{row}: {accepted} of {len(desk.messages)} requests accepted; {other[:2]}")
+
+
+def without_now(page):
+    """The page, but for the moment at which it was drawn."""
+    return re.sub(rb"as it stood at <time .*?</time>", b"", page, count=1)
+
+
+def look(page, row):
+    """The page as a tree, whose tags close in turn."""
+    if not page.startswith(b"<!DOCTYPE html>") or not page.endswith(b"</html>\n"):
+        fail(f"{row}: no whole page")
+    try:
+        return tree_of(page.decode())
+    except (Broken, UnicodeDecodeError) as error:
+        fail(f"{row}: {error}")
+
+
+def want_outline(root, name):
+    """The outline of a page is the one that was written by hand."""
+    told = "".join(line + "\n" for line in outline(root))
+    with open(os.path.join(HERE, "cases", name), encoding="utf-8") as file:
+        wanted = file.read()
+    if told != wanted:
+        lines = zip(told.splitlines() + [""], wanted.splitlines() + [""])
+        place, (here, there) = next((n, pair) for n, pair in enumerate(lines, 1)
+                                    if pair[0] != pair[1])
+        fail(f"{name}, line {place}: {here!r} in place of {there!r}")
+
+
+def tidy(page, row):
+    """tidy finds no error, if it is there."""
+    if shutil.which("tidy"):
+        done = subprocess.run(["tidy", "-q", "-e"], input=page, capture_output=True, check=False)
+        if done.returncode > 1:
+            fail(f"{row}: tidy: {done.stderr.decode()[:500]}")
+
+
+def keys_ascend(pairs):
+    keys = [key for key, _ in pairs]
+    if keys != sorted(keys):
+        raise ValueError(f"keys {keys}")
+    return dict(pairs)
+
+
+def look_at_values(values, root, row):
+    """A JSON value for each service, that says what the page says."""
+    said = {}
+    for line in values.decode().splitlines():
+        value = json.loads(line, object_pairs_hook=keys_ascend)
+        said[value["name"]] = value
+    shown = {}
+    for article in root.all("article"):
+        names = article.first("span", "attempt").text().split(" → ")
+        shown[article.attributes["id"]] = (article.first("span", "badge").text(), *names)
+    for table in root.all("table", "done"):
+        for line in [row for row in table.all("tr") if "id" in row.attributes]:
+            cells = [cell.text() for cell in line.inside]
+            shown[cells[0]] = (cells[1], cells[2], cells[2])
+    told = {name: (value["status"], value["stable"], value["version"])
+            for name, value in said.items()}
+    if told != shown or list(said) != sorted(said):
+        fail(f"{row}: status --json says {told}, and the page {shown}")
+
+
+def try_case(program, folder, case):
+    """The page of a desk, in a file and on standard output, and the same as JSON."""
+    name = case.__name__
+    file, out = os.path.join(folder, f"{name}.db"), os.path.join(folder, f"{name}.html")
+    make_desk(program, file, name, case())
+    run([program, "page", "--db", file, out], name)
+    with open(out, "rb") as drawn:
+        page = drawn.read()
+    if without_now(page) != without_now(run([program, "page", "--db", file, "-"], name)):
+        fail(f"{name}: another page on standard output")
+    if os.path.exists(out + ".part"):
+        fail(f"{name}: a part of a page is left")
+    root = look(page, name)
+    tidy(page, name)
+    want_outline(root, name)
+    look_at_values(run([program, "status", "--json", "--db", file], name), root, name)
+
+
+def shown_text(text):
+    """A text as a page shows it."""
+    return re.sub("[\x00-\x1f\x7f]", "\ufffd", text)
+
+
+def try_breaking(program, folder):
+    """Each text that tries to get out of its place is the text of its point, and nothing else."""
+    file = os.path.join(folder, "breaking.db")
+    page = run([program, "page", "--db", file, "-"], "breaking")
+    root = look(page, "breaking")
+    titles = [point.first("title").inside[0] for point in root.all("rect", "Error")]
+    wanted = [shown_text(text) for text in stories.BREAKING]
+    told = [title.split(": ", 1)[1] for title in titles]
+    if told != wanted:
+        fail(f"breaking: points say {told}, in place of {wanted}")
+    if re.search(rb"[\x00-\x09\x0b-\x1f\x7f]", page):
+        fail("breaking: a control byte in the page")
+
+
+def try_watch(program, folder):
+    """A page that is drawn again and again, while a desk serves the file, is always whole."""
+    file, out = os.path.join(folder, "states.db"), os.path.join(folder, "watched.html")
+    desk = subprocess.Popen([program, "serve", "--listen", "127.0.0.1:0", "--db", file],
+                            stdout=subprocess.PIPE, stderr=subprocess.DEVNULL)
+    desk.stdout.readline()
+    watch = subprocess.Popen([program, "page", "--db", file, "--watch", "1", out])
+    try:
+        drawn = set()
+        end = time.monotonic() + LIMIT
+        while len(drawn) < 3 and time.monotonic() < end:
+            if os.path.exists(out):
+                with open(out, "rb") as read:
+                    page = read.read()
+                root = look(page, "watch")
+                drawn.add(root.first("header", "top").first("time").text())
+                if b'<meta http-equiv="refresh" content="1">' not in page:
+                    fail("watch: the page does not load itself anew")
+        if len(drawn) < 3:
+            fail("watch: the page is not drawn again")
+        if watch.poll() is not None or desk.poll() is not None:
+            fail("watch: a program ended")
+    finally:
+        for process in (watch, desk):
+            process.kill()
+            process.wait()
+
+
+def try_faults(program, folder):
+    """What is not drawn leaves the page as it was, and no part beside it."""
+    file, out = os.path.join(folder, "states.db"), os.path.join(folder, "kept.html")
+    with open(out, "w", encoding="utf-8") as kept:
+        kept.write("kept")
+    missing = os.path.join(folder, "missing.db")
+    for words, fault in ((["--db", missing, out], "file"),
+                         (["--db", file, os.path.join(folder, "none", "out.html")], "file"),
+                         (["--db", __file__, out], "storage")):
+        done = subprocess.run([program, "page", *words], capture_output=True, timeout=LIMIT,
+                              check=False)
+        if done.returncode != 1 or done.stderr != f"canary: {fault}\n".encode() or done.stdout:
+            fail(f"page {words}: status {done.returncode}, {done.stderr}")
+    with open(out, encoding="utf-8") as kept:
+        if kept.read() != "kept" or os.path.exists(out + ".part") or os.path.exists(missing):
+            fail("a fault changed a file")
+
+
+def main(program, folder, names):
+    known = {case.__name__: case for case in stories.CASES}
+    for name in names:
+        if name not in known:
+            fail(f"no case {name}")
+    for case in stories.CASES:
+        if not names or case.__name__ in names:
+            try_case(program, folder, case)
+    if not names:
+        try_breaking(program, folder)
+        try_watch(program, folder)
+        try_faults(program, folder)
+    print(f"page: {len(names or known)} desks drawn", file=sys.stderr)
+
+
+if __name__ == "__main__":
+    main(sys.argv[1], sys.argv[2], sys.argv[3:])
