@@ -78,7 +78,7 @@ fn words(page: &mut Markup, step: &Step) {
     match step {
         Step::SetWeight(weight) => {
             page.text("setWeight ");
-            page.number(u64::from(*weight));
+            page.number(u64::from(weight.get()));
         }
         Step::Pause(Some(seconds)) => {
             page.text("pause of ");
@@ -95,7 +95,7 @@ fn words(page: &mut Markup, step: &Step) {
 fn short_words(page: &mut Markup, step: &Step) {
     match step {
         Step::SetWeight(weight) => {
-            page.number(u64::from(*weight));
+            page.number(u64::from(weight.get()));
             page.text("%");
         }
         Step::Pause(Some(seconds)) => span(page, u64::from(seconds.get())),

@@ -11,7 +11,7 @@
 //! In use (canary_tables, src/pages.rt):
 //!
 //!     match reading::line(row) {
-//!         Ok(line) => push_line(lines, line.moment, line.event),
+//!         Ok(line) => Ok(push_line(lines, line.moment, line.event)?),
 //!         Err(fault) => Err(store_fault(fault)),
 //!     }
 #![tactic(auto)]
