@@ -1,6 +1,6 @@
 //! What the tables of the first schema hold that a desk's no longer do: its templates and its
 //! tallies.
-ghost use Rattle.std.specs.Prelude.{◌≡◌, List, IfOk, Err, map};
+ghost use Rattle.std.specs.Prelude.{◌≡◌, ◌≢◌, List, IfOk, Err, map};
 ghost use Rattle.std.specs.List.{AllByRecursion};
 ghost use Rattle.sqlite.specs.Order.{Row as Cells};
 ghost use Rattle.canary_schema.specs.Stores.{IsUsable};
