@@ -1,6 +1,6 @@
 -- The templates that rows of binding name, found one after another.
 use Rattle.std.proofs.Common.{◌≡◌, Bor, inl, inr, ℕ, zero, suc, ◌+◌, ◌<◌, ◌≤◌, ◌==◌, List, [], ◌∷◌, ◌++◌, length, take, get_or, Bool, true, false, Some, None, refl, sym, ap, ◌∙◌, subst}
-use Rattle.std.specs.Prelude.{Option, ◌&&◌, cond, Ok, Err, filter, is_some, is_none, option_map, option_and_then, slice_get}
+use Rattle.std.specs.Prelude.{Option, ◌&&◌, cond, filter, is_some, is_none, option_map, option_and_then, slice_get}
 use Rattle.std.specs.Option.{option_copied}
 use Rattle.std.specs.Str.{bytes_eq}
 use Rattle.std.specs.List.{AllByRecursion}
@@ -15,22 +15,19 @@ use Rattle.canary_plan.specs.declared.bound.BoundParts.{BoundParts}
 use Rattle.canary_plan.specs.declared.strategy.CheckedStrategy.{CheckedStrategy}
 use Rattle.canary_plan.specs.declared.template.Template.{Template}
 use Rattle.canary_plan.specs.Plans.{Templates, bound_of, analysis_at}
-use Rattle.canary_canonical.specs.Readings.{canonical_in}
 use Rattle.canary_rows.specs.declared.rows.BindingRow.{BindingRow}
 use Rattle.canary_rows.specs.declared.rows.RevisionRow.{RevisionRow}
 use Rattle.canary_rows.specs.Tables.{Tables, is_revision, is_binding, is_binding_of}
 use Rattle.canary_schema.specs.Stores.{IsUsable, Stores}
-use Rattle.canary_stored.specs.declared.fault.RowFault.TheVariants.{Broken}
-use Rattle.canary_stored.specs.Reads.{IsRevisionRead}
 use Rattle.canary_stored.specs.Values.{revision_of_row}
 use Rattle.canary_stored.specs.Reading.{first_row, revision_bound, known_in}
 use Rattle.canary_judging.specs.Judged.{AreTemplatesJudged, IsRevisionJudged}
 use Rattle.canary_judging.specs.Laws.{NameRevisions, AttemptsNameRevisions, RunsNameRevisions}
 use Rattle.canary_reads.specs.Finds.{IsSame}
 use Rattle.canary_adopting.specs.Bindings.{IsBinding, IsTemplateOf, known_of, AreBindings, IsKnownBy, IsBoundWhole, IsKnownIn, IsAttemptBound, IsRunBound}
-use Rattle.canary_adopting.specs.Templates.{IsAcceptedAs}
+use Rattle.canary_adopting.specs.Templates.{IsReadAs}
 use Rattle.canary_adopting.proofs.Each.{one_of_all}
-use Rattle.canary_adopting.proofs.JudgedStrategies.{row_read, row_refused, kept_judged, judged_at}
+use Rattle.canary_adopting.proofs.JudgedStrategies.{kept_judged, judged_at}
 use Rattle.canary_adopting.proofs.KnownAmong.{Found, got_more}
 use Rattle.canary_adopting.proofs.PlacedLemmas.{filter_twice}
 use Rattle.canary_adopting.proofs.Names.{equal_names, same_name}
@@ -38,14 +35,12 @@ use Rattle.canary_adopting.proofs.Standing.{same_then, stores_then}
 
 -- One row.
 
-pub template_told : (t : Tables) (row : BindingRow) (found : RevisionRow) (template : Template) → Some found ≡ first_row (filter (is_revision row.template row.revision) t.revisions) → IsRevisionRead found.revision (canonical_in found.spec) (Ok template) → IsTemplateOf row t (Some template)
-template_told t row found template there read = ap (option_and_then revision_of_row) (sym there) ∙ (row_read found template read).is
-
 pub no_template_there : (t : Tables) (row : BindingRow) → None ≡ first_row (filter (is_revision row.template row.revision) t.revisions) → IsTemplateOf row t None
 no_template_there t row none is = let no_value : None ≡ Some is.template = ap (option_and_then revision_of_row) none ∙ is.is in cc
 
-pub template_refused : (t : Tables) (row : BindingRow) (found : RevisionRow) → Some found ≡ first_row (filter (is_revision row.template row.revision) t.revisions) → IsRevisionRead found.revision (canonical_in found.spec) (Err Broken) → IsTemplateOf row t None
-template_refused t row found there refused is = row_refused found is.template refused (record { is = ap (option_and_then revision_of_row) there ∙ is.is; accepted = is.accepted })
+pub template_found : (t : Tables) (row : BindingRow) (found : RevisionRow) (read : Option Template) → Some found ≡ first_row (filter (is_revision row.template row.revision) t.revisions) → IsReadAs found read → IsTemplateOf row t read
+template_found t row found (Some template) there read = ap (option_and_then revision_of_row) (sym there) ∙ read.is
+template_found t row found None there read = λ is. read is.template (record { is = ap (option_and_then revision_of_row) there ∙ is.is; accepted = is.accepted })
 
 -- Row after row.
 

@@ -1,5 +1,5 @@
 -- Templates, revision by revision.
-use Rattle.std.specs.Prelude.{◌≡◌, ℕ, ◌-◌, ◌≤◌, true, List, Some, None}
+use Rattle.std.specs.Prelude.{◌≡◌, ℕ, ◌-◌, ◌≤◌, true, List, Option, Some, None}
 use Rattle.canary_plan.specs.declared.template.Template.{Template}
 use Rattle.canary_plan.specs.PlanRefusals.{template_refusal}
 use Rattle.canary_rows.specs.declared.rows.RevisionRow.{RevisionRow}
@@ -13,6 +13,11 @@ use Rattle.canary_judging.specs.Judged.{has_revision, IsRevisionJudged}
 pub record IsAcceptedAs (row : RevisionRow) (template : Template) : Type 0 where
   pub is : revision_of_row row ≡ Some template
   pub accepted : template_refusal template.spec ≡ None
+
+-- a row is read as this template, which nothing refuses; none if there is no such one
+abbrev pub IsReadAs : RevisionRow → Option Template → Type 0
+IsReadAs row (Some template) = IsAcceptedAs row template
+IsReadAs row None = (template : Template) → ¬ IsAcceptedAs row template
 
 -- a row is read as an accepted template of its name
 pub record IsAccepted (row : RevisionRow) : Type 0 where

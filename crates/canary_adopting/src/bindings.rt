@@ -5,13 +5,13 @@ ghost use Rattle.std.specs.Prelude.{option_map};
 ghost use Rattle.std.specs.FinMap.{get};
 ghost use Rattle.canary_plan.specs.Plans.{distinct};
 ghost use Rattle.canary_rows.specs.Limits.{AreWithin};
-ghost use Rattle.canary_stored.specs.Values.{revision_of_row};
 ghost use Rattle.canary_reads.specs.Breaks.{BreaksUnless};
 ghost use Rattle.canary_reads.specs.Finds.{IsSame, FindsSuch};
 ghost use Rattle.canary_adopting.specs.OfService.{HasSuch};
 ghost use Rattle.canary_adopting.specs.OneService.{RefusesJudged};
 ghost use Rattle.canary_adopting.specs.Bindings.{IsTemplateOf, IsKnownBy, IsKnownIn, IsBindingOf};
 ghost use Rattle.canary_adopting.specs.Bindings.{IsBoundWhole, IsAttemptBound};
+ghost use Rattle.canary_adopting.specs.Templates.{IsReadAs};
 ghost use Rattle.canary_reads.specs.Reader.{IsKept};
 
 use canary_base::error::Memory;
@@ -121,7 +121,7 @@ pub(crate) fn template_of<Q: Reader>(
 
 // The template of that row; none where it is read as no accepted template.
 fn template_in(alloc: Global, row: &RevisionRow) -> Result<Option<Template>, Memory>
-    ensures { IfOk result (λ found. found ≡ revision_of_row row.now) }
+    ensures { IfOk result (IsReadAs row.now) }
 {
     match reading::revision(alloc, row) {
         Ok(template) => Ok(Some(template)),

@@ -42,11 +42,11 @@ impl Totals {
           lines = self.lines + more.lines;
         }) }
         ensures full { IfErr result (λ fault. (fault ≡ Storage) × ¬ (
-          (self.runs + more.runs < 2 ^ 64)
-          × (self.bindings + more.bindings < 2 ^ 64)
-          × (self.tallies + more.tallies < 2 ^ 64)
-          × (self.measurements + more.measurements < 2 ^ 64)
-          × (self.lines + more.lines < 2 ^ 64))) }
+            (self.runs + more.runs < 2 ^ 64)
+            × (self.bindings + more.bindings < 2 ^ 64)
+            × (self.tallies + more.tallies < 2 ^ 64)
+            × (self.measurements + more.measurements < 2 ^ 64)
+            × (self.lines + more.lines < 2 ^ 64))) }
         ensures whole { result ≢ Err Broken }
     {
         Ok(Totals {

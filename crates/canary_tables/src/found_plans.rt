@@ -12,6 +12,8 @@ ghost use Rattle.canary_schema.specs.Cells.{tables_in};
 ghost use Rattle.canary_schema.specs.Stores.{IsUsable};
 ghost use Rattle.canary_stored.specs.Values.{revision_of_row, made_from};
 ghost use Rattle.canary_stored.specs.Reading.{known_in};
+ghost use Rattle.canary_stored.specs.declared.fault.RowFault.TheVariants.{Broken};
+ghost use Rattle.canary_stored.specs.Reads.{IsRevisionRead};
 ghost use Rattle.canary_reads.specs.Finds.{IsSame};
 ghost use Rattle.canary_tables.specs.Desk.{IsDesk, contents_in};
 
@@ -58,10 +60,11 @@ pub(crate) fn template<S: Alter>(
     Ok(Some(revision(alloc, &row)?))
 }
 
-// The revision of a template in this row. `Storage` only where the row stands for none.
+// The revision of a template in this row. `Storage` only where the row is read as none.
 fn revision(alloc: Global, row: &RevisionRow) -> Result<Template, StoreFault>
     ensures found { IfOk result (λ found. revision_of_row row.now ≡ Some found) }
-    ensures storage { result ≡ Err StoreFault.Storage → revision_of_row row.now ≡ None }
+    ensures storage { result ≡ Err StoreFault.Storage → IsRevisionRead row.now.revision
+        (canonical_in row.now.spec) (Err Broken) }
 {
     match reading::revision(alloc, row) {
         Ok(template) => Ok(template),

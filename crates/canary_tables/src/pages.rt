@@ -70,11 +70,7 @@ fn with_line(lines: Listed<Line>, row: &HistoryRow) -> Result<Listed<Line>, Stor
     }
 }
 
-fn push_line(
-    lines: Listed<Line>,
-    moment: Moment,
-    event: LineEvent,
-) -> Result<Listed<Line>, Memory>
+fn push_line(lines: Listed<Line>, moment: Moment, event: LineEvent) -> Result<Listed<Line>, Memory>
     ensures { IfOk result (λ longer. longer ≡ lines ++ line_at moment event ∷ []) }
 {
     let mut lines = lines;
