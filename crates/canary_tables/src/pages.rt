@@ -112,7 +112,15 @@ fn measurements_of(alloc: Global, rows: &[MeasurementRow]) -> Result<Listed<Reco
 {
     let mut page = Listed::of(Vec::new(alloc));
     for row in rows {
-        page.push(reading::measurement(alloc, row).map_err(store_fault)?)?;
+        page.push(measurement_of(alloc, row)?)?;
     }
     Ok(page)
+}
+
+// The measurement of a row. `Storage` only where it stands for none.
+fn measurement_of(alloc: Global, row: &MeasurementRow) -> Result<Recorded, StoreFault>
+    ensures found { IfOk result (λ recorded. measurement_of_row row.now ≡ Some recorded) }
+    ensures storage { result ≡ Err StoreFault.Storage → measurement_of_row row.now ≡ None }
+{
+    reading::measurement(alloc, row).map_err(store_fault)
 }
