@@ -16,6 +16,9 @@ use Rattle.canary_schema.specs.Stores.{IsUsable, IsHeld, Stores}
 use Rattle.canary_judging.specs.Laws.{JudgingIsExact}
 use Rattle.canary_judging.specs.Services.{IsJudged}
 use Rattle.canary_reads.specs.Finds.{IsSame}
+use Rattle.canary_reads.specs.Meta.{HasMetaRow, Stands}
+use Rattle.canary_reads.specs.declared.meta.MetaRow.{MetaRow}
+use Rattle.canary_reads.specs.declared.meta.MetaRow.TheVariants.{Alone}
 use Rattle.canary_stored.specs.Reading.{contents_of, HoldsContents}
 use Rattle.canary_tables.specs.Adopts.{HasDeskTables, HasSoundRowsWithin, IsBelieved, IsAdopted}
 use Rattle.canary_tables.specs.Desk.{IsDesk}
@@ -59,6 +62,14 @@ whole db h =
 -- the tables are there, and meta has its one row
 pub formed : (db : Database) → IsDeskSchema db.schema → IsRising db → db.trees 0 ≡ meta_rows → IsFormed db
 formed db known rises meta = record { layout = known.0; schema = known.1; numbered = rises known.0 known.1; meta = meta }
+
+-- meta has its one row where the row of the schema is found alone
+pub alone_row : (rows : List Row) (row : MetaRow) → row ≡ Alone → Stands 2 (rows ≡ meta_rows) rows row → rows ≡ meta_rows
+alone_row rows row is stands = subst (Stands 2 (rows ≡ meta_rows) rows) is stands
+
+-- then the tables of a desk are there
+pub has_tables : (db : Database) → IsDeskSchema db.schema → db.trees 0 ≡ meta_rows → HasDeskTables db
+has_tables db known meta = (known, subst (HasMetaRow 2) (sym meta) (0, omega arith, refl))
 
 -- rows that are judged are believed
 pub believes : JudgingIsExact → (old mid new : State) → IsSame old mid → IsSame mid new → (IsUsable mid → IsFormed old.now) → (IsUsable mid → HasRows old.now) → (IsUsable new → (t : Tables) → Stores mid t → IsJudged t) → IsUsable new → IsBelieved old.now

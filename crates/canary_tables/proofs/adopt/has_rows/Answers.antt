@@ -3,29 +3,33 @@ use Rattle.sqlite.specs.Held.{state}
 use Rattle.sqlite.specs.Effect.{Database}
 use Rattle.canary_schema.specs.Formed.{IsFormed, HasRows, HasWholeTallies}
 use Rattle.canary_reads.specs.declared.fault.ReadFault.TheVariants.{Broken}
-use Rattle.canary_tables.proofs.Adopting.{formed, whole}
+use Rattle.canary_tables.proofs.Adopting.{alone_row, formed, has_tables, whole}
 use Rattle.canary_tables.proofs.adopt.has_rows.Goals as goal
 
 pub returns-then-not-is_whole-clause-broken : goal.returns-then-not-is_whole-clause-broken
 returns-then-not-is_whole-clause-broken g c = λ usable _.
-    let was = (c.has_meta.ensures.same usable).0 in
-    let rises = c.requires.numbered was in (
-      formed (state g.S.Store c.args.conn.now).now c.requires.known rises ((c.in_ok-has_meta.ensures.found usable c.requires.known rises).0 (search rules)),
-      λ rows. let w : IsTrue c.args.is_whole = (c.requires.whole was).1 (whole _ rows) in search rules,
-    )
+    let db = (state g.S.Store c.args.conn.now).now in
+    let was = (c.desk_row.ensures.same usable).0 in
+    let rises = c.requires.numbered was in
+    let meta = alone_row (db.trees 0) c.in_ok-desk_row.field-0 c.in-Alone.is (c.in_ok-desk_row.ensures.found usable c.requires.known rises) in
+    (has_tables db c.requires.known meta, rises, λ rows. let w : IsTrue c.args.is_whole = (c.requires.whole was).1 (whole _ rows) in search rules)
 
 pub returns-clause-formed : goal.returns-clause-formed
 returns-clause-formed g c = λ usable.
+    let db = (state g.S.Store c.args.conn.now).now in
     let mid = (c.typed.ensures.same usable).0 in
-    let rises = c.requires.numbered (c.has_meta.ensures.same mid).0 in
-    formed (state g.S.Store c.args.conn.now).now c.requires.known rises ((c.in_ok-has_meta.ensures.found mid c.requires.known rises).0 (search rules))
+    let rises = c.requires.numbered (c.desk_row.ensures.same mid).0 in
+    let meta = alone_row (db.trees 0) c.in_ok-desk_row.field-0 c.in-Alone.is (c.in_ok-desk_row.ensures.found mid c.requires.known rises) in
+    formed db c.requires.known rises meta
 
 pub returns-clause-rows : goal.returns-clause-rows
 returns-clause-rows g c = λ usable.
+    let db = (state g.S.Store c.args.conn.now).now in
     let mid = (c.typed.ensures.same usable).0 in
-    let was = c.has_meta.ensures.same mid in
+    let was = c.desk_row.ensures.same mid in
     let rises = c.requires.numbered was.0 in
-    let is = formed (state g.S.Store c.args.conn.now).now c.requires.known rises ((c.in_ok-has_meta.ensures.found mid c.requires.known rises).0 (search rules)) in
+    let meta = alone_row (db.trees 0) c.in_ok-desk_row.field-0 c.in-Alone.is (c.in_ok-desk_row.ensures.found mid c.requires.known rises) in
+    let is = formed db c.requires.known rises meta in
     let w : IsTrue c.args.is_whole = search rules in
     subst (λ (db : Database). HasRows db) was.1
     (c.in_ok-typed.ensures.typed usable (subst (λ (db : Database). IsFormed db) (sym was.1) is) (subst (λ (db : Database). HasWholeTallies db) (sym was.1) ((c.requires.whole was.0).0 w)))
@@ -33,8 +37,13 @@ returns-clause-rows g c = λ usable.
 pub returns-in_err-typed-clause-broken : goal.returns-in_err-typed-clause-broken
 returns-in_err-typed-clause-broken g c = λ usable is.
     let broken : c.typed.result ≡ Err Broken = search rules in
+    let db = (state g.S.Store c.args.conn.now).now in
     let mid = (c.typed.ensures.same usable).0 in
-    let was = c.has_meta.ensures.same mid in
+    let was = c.desk_row.ensures.same mid in
     let rises = c.requires.numbered was.0 in
-    let form = formed (state g.S.Store c.args.conn.now).now c.requires.known rises ((c.in_ok-has_meta.ensures.found mid c.requires.known rises).0 (search rules)) in
-    (form, λ rows. c.typed.ensures.broken usable (subst (λ (db : Database). IsFormed db) (sym was.1) form) broken (subst (λ (db : Database). HasRows db) (sym was.1) rows))
+    let meta = alone_row (db.trees 0) c.in_ok-desk_row.field-0 c.in-Alone.is (c.in_ok-desk_row.ensures.found mid c.requires.known rises) in
+    let form = formed db c.requires.known rises meta in (
+      has_tables db c.requires.known meta,
+      rises,
+      λ rows. c.typed.ensures.broken usable (subst (λ (db : Database). IsFormed db) (sym was.1) form) broken (subst (λ (db : Database). HasRows db) (sym was.1) rows),
+    )

@@ -10,4 +10,4 @@ pub returns-clause-other : goal.returns-clause-other
 returns-clause-other g c = IfErr-weaker c.adopt.result _ _ (λ e h is shown has. h is (shows g.S.Store e.1 shown) has) c.adopt.ensures.other
 
 pub returns-clause-broken : goal.returns-clause-broken
-returns-clause-broken g c = IfErr-weaker c.adopt.result _ _ (λ e h is shown. let broken = h is (shows g.S.Store e.1 shown) in (broken.0, broken.1.1)) c.adopt.ensures.broken
+returns-clause-broken g c = IfErr-weaker c.adopt.result _ _ (λ e h is shown. let broken = h is (shows g.S.Store e.1 shown) in (broken.0, broken.2)) c.adopt.ensures.broken
