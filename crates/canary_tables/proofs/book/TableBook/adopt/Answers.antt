@@ -27,7 +27,7 @@ returns-in-Ok-believe-clause-adopted g c =
 
 pub returns-in-Err-believe-clause-broken : goal.returns-in-Err-believe-clause-broken
 returns-in-Err-believe-clause-broken g c =
-    λ is. broken_before (state g.S.Store c.args.conn) (state g.S.Store c.in-Ok.opened.0) (state g.S.Store c.believe.new.conn) (search rules) c.believe.ensures.same (search rules)
+    λ is. broken_before (state g.S.Store c.args.conn) (state g.S.Store c.in-Ok.opened.0) (state g.S.Store c.believe.new.conn) (search rules) c.believe.ensures.same (λ usable. c.believe.ensures.broken usable (search rules))
 
 pub returns-in-Err-believe-clause-left : goal.returns-in-Err-believe-clause-left
 returns-in-Err-believe-clause-left g c =
