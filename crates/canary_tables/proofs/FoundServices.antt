@@ -1,5 +1,5 @@
 -- What is found of services.
-use Rattle.std.proofs.Common.{◌≡◌, ℕ, List, filter, Some, None, option_map, sym, ap, ◌∙◌}
+use Rattle.std.proofs.Common.{◌≡◌, ℕ, List, filter, true, Option, Some, None, option_map, sym, ap, subst, ◌∙◌}
 use Rattle.std.specs.Prelude.{option_and_then}
 use Rattle.sqlite.specs.State.{State}
 use Rattle.canary_plan.specs.declared.bound.BoundParts.{BoundParts}
@@ -9,6 +9,8 @@ use Rattle.canary_plan.specs.Plans.{Templates, strategy_of, bound_of}
 use Rattle.canary_canonical.specs.Readings.{canonical_in}
 use Rattle.canary_release.specs.declared.runs.OpenRun.{OpenRun}
 use Rattle.canary_release.specs.declared.service.ServiceParts.{ServiceParts}
+use Rattle.canary_release.specs.declared.stand.Stand.{Stand}
+use Rattle.canary_release.specs.Parts.{is_broken}
 use Rattle.canary_release.specs.Shapes.{seen}
 use Rattle.canary_once.specs.Contents.{Contents}
 use Rattle.canary_rows.specs.declared.rows.ServiceRow.{ServiceRow}
@@ -51,3 +53,12 @@ service_told old shown planned new name row made strategy bound open_runs told l
     ∙ sym (ap (option_and_then (parts_made known opens row)) made_is)
     ∙ ap (option_and_then (parts_of_row known opens)) (read after_row _ d.stores)
     ∙ (law _ d.holds name).value
+
+-- the parts that a row stands for are those of its stand
+pub parts_broken : (row : ServiceRow) (open_runs : List OpenRun) (o : Option Stand) (stand : Stand) (parts : ServiceParts) → o ≡ Some stand → is_broken (parts_standing row open_runs stand) ≡ true → option_map (parts_standing row open_runs) o ≡ Some parts → is_broken parts ≡ true
+parts_broken row open_runs o stand parts is broken same =
+    let made : Some (parts_standing row open_runs stand) ≡ Some parts = sym (ap (option_map (parts_standing row open_runs)) is) ∙ same in
+    let here : parts_standing row open_runs stand ≡ parts = one made in subst (λ (p : ServiceParts). is_broken p ≡ true) here broken
+  where
+    one : {x y : ServiceParts} → Some x ≡ Some y → x ≡ y
+    one e = cc

@@ -49,7 +49,7 @@ pub(crate) fn history<S: Alter>(
 // The lines of rows, in their order. `Storage` only where one stands for none.
 fn lines_of(alloc: Global, rows: &[HistoryRow]) -> Result<Listed<Line>, StoreFault>
     ensures found { IfOk result (λ lines. map Some lines ≡ map line_of_row rows.now) }
-    ensures storage { result ≡ Err Storage
+    ensures storage { result ≡ Err StoreFault.Storage
         → (lines : List Line) → map Some lines ≢ map line_of_row rows.now }
 {
     let mut lines = Listed::of(Vec::new(alloc));
@@ -107,7 +107,7 @@ pub(crate) fn measurements<S: Alter>(
 // The measurements of rows, in their order. `Storage` only where one stands for none.
 fn measurements_of(alloc: Global, rows: &[MeasurementRow]) -> Result<Listed<Recorded>, StoreFault>
     ensures found { IfOk result (λ page. map Some page ≡ map measurement_of_row rows.now) }
-    ensures storage { result ≡ Err Storage
+    ensures storage { result ≡ Err StoreFault.Storage
         → (page : List Recorded) → map Some page ≢ map measurement_of_row rows.now }
 {
     let mut page = Listed::of(Vec::new(alloc));
