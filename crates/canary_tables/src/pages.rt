@@ -112,7 +112,14 @@ fn measurements_of(alloc: Global, rows: &[MeasurementRow]) -> Result<Listed<Reco
 {
     let mut page = Listed::of(Vec::new(alloc));
     for row in rows {
-        page.push(reading::measurement(alloc, row).map_err(store_fault)?)?;
+        page.push(measurement_in(alloc, row)?)?;
     }
     Ok(page)
+}
+
+fn measurement_in(alloc: Global, row: &MeasurementRow) -> Result<Recorded, StoreFault>
+    ensures found { IfOk result (λ found. measurement_of_row row.now ≡ Some found) }
+    ensures storage { result ≡ Err StoreFault.Storage → measurement_of_row row.now ≡ None }
+{
+    reading::measurement(alloc, row).map_err(store_fault)
 }
