@@ -182,8 +182,10 @@ def try_many_rows(program, file):
     lines += ["promote"] * (LONG - len(lines))
     want(f"{row}: history", run(program, ["history", "--db", file, "web"]),
          "".join(f"{AT_B_TEXT} {line}\n" for line in lines).encode())
-    next_one = put("agent", 2, command(f"report 1 m:{LONG + 1}:0:5"))
-    tell(program, file, f"{row}, and one more", [*messages, (next_one, answer(report))])
+    # The next ordinal is in its turn, 60 seconds after the last.
+    soon = put("agent", 2, command(f"report 1 m:{LONG + 1}:0:5"))
+    early = answer(f'422 {{"at":0,"code":"too-early","due":{B + 60}}}')
+    tell(program, file, f"{row}, and one more", [*messages, (soon, early)])
 
 
 def main():
