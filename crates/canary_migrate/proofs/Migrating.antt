@@ -1,13 +1,25 @@
 -- From a connection over a store that is opened anew, and then over one that is migrated.
-use Rattle.std.proofs.Common.{◌≡◌, List, sym, ap, subst, ◌∙◌}
+use Rattle.std.proofs.Common.{◌≡◌, List, [], ◌∷◌, refl, sym, ap, subst, ◌∙◌, arith}
+use Rattle.std.specs.List.{Contains}
 use Rattle.sqlite.specs.Effect.{Database}
 use Rattle.sqlite.specs.State.{State}
-use Rattle.canary_schema.specs.First.{first_schema}
+use Rattle.sqlite_value.specs.Order.{Row}
+use Rattle.canary_schema.specs.Cells.{whole}
+use Rattle.canary_schema.specs.First.{first_schema, HasFirstMeta}
 use Rattle.canary_schema.specs.Numbered.{IsOpenedAnew}
 use Rattle.canary_schema.specs.Stores.{IsUsable}
 use Rattle.canary_judging.specs.Laws.{JudgingIsExact}
-use Rattle.canary_reads.specs.Meta.{HasMetaRow}
+use Rattle.canary_reads.specs.Meta.{HasMetaRow, Stands}
+use Rattle.canary_reads.specs.declared.meta.MetaRow.{MetaRow}
+use Rattle.canary_reads.specs.declared.meta.MetaRow.TheVariants.{Alone}
 use Rattle.canary_migrate.specs.Migrates.{HasFirstTables, HasSoundFirstRows, HasJudgedFirstRows, IsMigrated, IsRewritten}
+
+-- the row of the first schema, where it is found alone
+pub alone_row : (rows : List Row) (row : MetaRow) → row ≡ Alone → Stands 1 (HasFirstMeta rows) rows row → HasFirstMeta rows
+alone_row rows row is stands = subst (Stands 1 (HasFirstMeta rows) rows) is stands
+
+pub has_row : (rows : List Row) → HasFirstMeta rows → HasMetaRow 1 rows
+has_row rows alone = subst (λ (shown : List Row). Contains shown (whole 1 ∷ whole 1 ∷ [])) (sym alone) (0, omega arith, refl)
 
 pub migrated_so : JudgingIsExact → (old mid new : State) → (IsUsable mid → IsOpenedAnew old mid) → (IsUsable new → IsUsable mid) → (IsUsable new → IsRewritten mid.now new.now) → IsUsable new → IsMigrated old new
 migrated_so exact old mid new opened held done usable =
