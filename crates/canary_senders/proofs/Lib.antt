@@ -6,6 +6,7 @@ pub mod Last
 pub mod Named
 pub mod Arriving
 pub mod Delivering
+pub mod Journaled
 pub mod Rows
 pub mod DeliveryRows
 pub mod LatePauses

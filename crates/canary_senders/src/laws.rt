@@ -1,6 +1,7 @@
 //! Laws over all senders.
 ghost use Rattle.canary_once.specs.Contents.{no_contents};
 ghost use Rattle.canary_senders.specs.Delivery.{Delivers};
+ghost use Rattle.canary_senders.specs.Journaling.{Begins, Asks, AsksInstead, Hears};
 ghost use Rattle.canary_senders.specs.Senders.{NobodyHasSettled, SettleFirstParts};
 ghost use Rattle.canary_senders.specs.Senders.{NoneIsReused, LastSettlesAll, OrderDoesNotMatter};
 
@@ -46,3 +47,13 @@ pub fn delivery()
     plans::same_commands();
     laws::running_on();
 }
+
+/// A journal of canary_journal is that of such a caller: each entry that may stand next in it is the
+/// step of the same name, under the caller's next number, if the desk reads the body as the step's
+/// command, and if a reply is the desk's answer to a body that was asked under the number.
+pub fn journals()
+    ensures begins { Begins }
+    ensures asks { Asks }
+    ensures instead { AsksInstead }
+    ensures hears { Hears }
+{}

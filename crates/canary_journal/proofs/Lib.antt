@@ -1,0 +1,5 @@
+mod LineLemmas
+mod JournalLemmas
+mod Growing
+mod Keys
+mod OneLine

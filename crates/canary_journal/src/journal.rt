@@ -1,0 +1,292 @@
+//! The journal as a value.
+ghost use Rattle.std.specs.Prelude.{◌≡◌, ◌≤◌, None, position, option_map, OnOk, OnErr};
+ghost use Rattle.std.specs.List.{list_any};
+ghost use Rattle.std.specs.Option.{SomeIff, option_copied};
+ghost use Rattle.canary_journal.specs.Journals.{begun, number_of, refusal_of, with_entry};
+ghost use Rattle.canary_journal.specs.Journals.{asked_refusal, instead_refusal, settled_refusal};
+ghost use Rattle.canary_journal.specs.Journals.{is_used, is_kept_under, has_key, replaced};
+ghost use Rattle.canary_journal.specs.Journals.{place_of, place_without, place_pending};
+ghost use Rattle.canary_journal.specs.Journals.{settled_place, asks, asks_instead, settles};
+
+use crate::entry::{Asked, Entry, Kept, Place, Refusal, Reply, Wish};
+use canary_base::error::Memory;
+use canary_base::lists::Text;
+use canary_base::names::Name;
+use std::alloc::Global;
+use std::marker::Model;
+
+// The greatest number of a request.
+const LAST: u32 = 1_000_000_000;
+
+/// What a caller asked of a desk since the journal began, in order. Contracts see it as a
+/// `JournalValue` of specs/Journals.
+#[derive(Drop)]
+pub struct Journal {
+    caller: Name,
+    before: u32,
+    kept: Vec<Kept>,
+    pending: Option<Asked>,
+}
+
+impl Model for Journal {
+    ghost use Rattle.std.specs.Prelude.{◌≤◌, ◌+◌, length};
+    ghost use Rattle.canary_journal.specs.Journals.{JournalValue, pending_count};
+
+    ghost Value = { JournalValue };
+
+    ghost view = { λ j. record {
+      caller = j.caller;
+      before = j.before;
+      kept = j.kept.items;
+      pending = j.pending;
+    } };
+
+    ghost invariant = { λ j.
+        j.before + length j.kept.items + pending_count j.pending ≤ 1000000000 };
+}
+
+impl Journal {
+    /// The journal of a caller of whom the desk had settled so many requests, or none if they are
+    /// more than 1,000,000,000.
+    pub fn begun(alloc: Global, caller: Name, settled: u32) -> Option<Journal>
+        ensures { SomeIff result (settled ≤ 1000000000) (begun caller settled) }
+    {
+        if settled > LAST {
+            return None;
+        }
+        Some(Journal {
+            caller,
+            before: settled,
+            kept: Vec::new(alloc),
+            pending: None,
+        })
+    }
+
+    /// The caller.
+    pub fn caller(&self) -> Name
+        ensures { result ≡ self.now.caller }
+    {
+        self.caller
+    }
+
+    /// How many requests of the caller the desk had settled as the journal began.
+    pub fn before(&self) -> u32
+        ensures { result ≡ self.now.before }
+    {
+        self.before
+    }
+
+    /// What was asked and settled since, in order.
+    pub fn kept(&self) -> &[Kept]
+        ensures { result.now ≡ self.now.kept }
+    {
+        self.kept.as_slice()
+    }
+
+    /// What is pending: asked, and not settled as far as the caller heard.
+    pub fn pending(&self) -> Option<&Asked>
+        ensures { option_copied result ≡ self.now.pending }
+    {
+        self.pending.as_ref()
+    }
+
+    /// The number that is pending, or the next one.
+    pub fn number(&self) -> u32
+        ensures { result ≡ number_of self.now }
+    {
+        self.before + self.kept.len() as u32 + 1
+    }
+
+    /// Why an entry cannot stand next.
+    pub fn refusal(&self, entry: &Entry) -> Option<Refusal>
+        ensures { result ≡ refusal_of self.now entry.now }
+    {
+        match entry {
+            Entry::Begun { .. } => Some(Refusal::Begun),
+            Entry::Asked { number, wish } => self.asked_refusal(*number, wish),
+            Entry::Instead { number, .. } => self.instead_refusal(*number),
+            Entry::Settled { number, reply } => self.settled_refusal(*number, reply),
+        }
+    }
+
+    fn asked_refusal(&self, number: u32, wish: &Wish) -> Option<Refusal>
+        ensures { result ≡ asked_refusal self.now number wish.now }
+    {
+        if self.pending.is_some() {
+            Some(Refusal::Pending)
+        } else if number != self.number() {
+            Some(Refusal::Number)
+        } else if number > LAST {
+            Some(Refusal::Spent)
+        } else if is_used(self.kept.as_slice(), &wish.key) {
+            Some(Refusal::KeyUsed)
+        } else {
+            None
+        }
+    }
+
+    fn instead_refusal(&self, number: u32) -> Option<Refusal>
+        ensures { result ≡ instead_refusal self.now number }
+    {
+        match &self.pending {
+            None => Some(Refusal::NothingPending),
+            Some(_) if number != self.number() => Some(Refusal::Number),
+            Some(asked) if asked.instead.is_some() => Some(Refusal::Replaced),
+            Some(_) => None,
+        }
+    }
+
+    fn settled_refusal(&self, number: u32, reply: &Reply) -> Option<Refusal>
+        ensures { result ≡ settled_refusal self.now number reply.now }
+    {
+        match &self.pending {
+            None => Some(Refusal::NothingPending),
+            Some(_) if number != self.number() => Some(Refusal::Number),
+            Some(asked) if reply.is_late && asked.instead.is_none() => Some(Refusal::NotReplaced),
+            Some(_) => None,
+        }
+    }
+
+    /// Adds an entry, which has to be one that may stand next.
+    ///
+    /// # Errors
+    /// `Memory`, and then the journal is as before.
+    #[tactic(auto, using(crate::proofs::JournalLemmas::asked_within))]
+    pub fn take(&mut self, entry: Entry) -> Result<(), Memory>
+        requires { refusal_of self.old entry ≡ None }
+        ensures ok { OnOk result (self.new ≡ with_entry self.old entry) }
+        ensures err { OnErr result (self.new ≡ self.old) }
+    {
+        match entry {
+            Entry::Begun { .. } => Ok(()),
+            Entry::Asked { wish, .. } => {
+                self.ask(wish);
+                Ok(())
+            }
+            Entry::Instead { body, .. } => {
+                self.replace(body);
+                Ok(())
+            }
+            Entry::Settled { reply, .. } => self.settle(reply),
+        }
+    }
+
+    fn ask(&mut self, wish: Wish)
+        requires { number_of self.old ≤ 1000000000 }
+        ensures { self.new ≡ asks self.old wish }
+    {
+        self.pending = Some(Asked {
+            wish,
+            instead: None,
+        });
+    }
+
+    #[tactic(auto, using(crate::proofs::JournalLemmas::count_replaced))]
+    fn replace(&mut self, body: Text)
+        ensures { self.new ≡ asks_instead self.old body }
+    {
+        self.pending = replaced(self.pending.take(), body);
+    }
+
+    // Adds the reply to what is pending.
+    fn settle(&mut self, reply: Reply) -> Result<(), Memory>
+        ensures ok { OnOk result (self.new ≡ settles self.old reply) }
+        ensures err { OnErr result (self.new ≡ self.old) }
+    {
+        self.kept.reserve(1)?;
+        if let Some(asked) = self.pending.take() {
+            self.kept.push_reserved(Kept { asked, reply });
+        }
+        Ok(())
+    }
+
+    /// Where a wish with this intent and this key stands. One with a key is that which has the key,
+    /// if it has the same intent. One without a key is that which is pending, if that has the same
+    /// intent and no key.
+    pub fn place_of(&self, intent: &str, key: &Option<Text>) -> Place
+        ensures { result ≡ place_of self.now intent.now key.now }
+    {
+        match key {
+            None => place_without(&self.pending, intent),
+            Some(key) => match place_under(self.kept.as_slice(), key.as_str()) {
+                None => place_pending(&self.pending, intent, key.as_str()),
+                Some(place) => settled_place(self.kept.as_slice(), place, intent),
+            },
+        }
+    }
+}
+
+// The other body in the place of what is pending.
+fn replaced(pending: Option<Asked>, body: Text) -> Option<Asked>
+    ensures { result ≡ option_map (replaced body) pending }
+{
+    match pending {
+        Some(Asked { wish, .. }) => Some(Asked {
+            wish,
+            instead: Some(body),
+        }),
+        None => None,
+    }
+}
+
+fn has_key(key: &str, wish: &Wish) -> bool
+    ensures { result ≡ has_key key.now wish.now }
+{
+    match &wish.key {
+        Some(own) => own.as_str() == key,
+        None => false,
+    }
+}
+
+fn is_used(kept: &[Kept], key: &Option<Text>) -> bool
+    ensures { result ≡ is_used kept.now key.now }
+{
+    match key {
+        Some(key) => is_kept_under(kept, key.as_str()),
+        None => false,
+    }
+}
+
+fn is_kept_under(kept: &[Kept], key: &str) -> bool
+    ensures { result ≡ list_any (is_kept_under key.now) kept.now }
+{
+    kept.iter().any(|kept| has_key(key, &kept.asked.wish))
+}
+
+fn place_under(kept: &[Kept], key: &str) -> Option<usize>
+    ensures { result ≡ position (is_kept_under key.now) kept.now }
+{
+    kept.iter().position(|kept| has_key(key, &kept.asked.wish))
+}
+
+fn place_without(pending: &Option<Asked>, intent: &str) -> Place
+    ensures { result ≡ place_without pending.now intent.now }
+{
+    match pending {
+        None => Place::New,
+        Some(asked) if asked.wish.key.is_none() && asked.wish.intent.as_str() == intent => {
+            Place::Pending
+        }
+        Some(_) => Place::Behind,
+    }
+}
+
+fn place_pending(pending: &Option<Asked>, intent: &str, key: &str) -> Place
+    ensures { result ≡ place_pending pending.now intent.now key.now }
+{
+    match pending {
+        None => Place::New,
+        Some(asked) if !has_key(key, &asked.wish) => Place::Behind,
+        Some(asked) if asked.wish.intent.as_str() == intent => Place::Pending,
+        Some(_) => Place::KeyUsed,
+    }
+}
+
+fn settled_place(kept: &[Kept], place: usize, intent: &str) -> Place
+    ensures { result ≡ settled_place kept.now place intent.now }
+{
+    match kept.get(place) {
+        Some(kept) if kept.asked.wish.intent.as_str() == intent => Place::Settled(place),
+        _ => Place::KeyUsed,
+    }
+}

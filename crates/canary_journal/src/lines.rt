@@ -1,0 +1,258 @@
+//! An entry as a line of JSON (RFC 8259).
+ghost use Rattle.std.specs.Prelude.{◌≡◌, nat_le, IsTrue, Some, IfOk, string_bytes, codes};
+ghost use Rattle.canary_base.specs.Names.{is_name};
+ghost use Rattle.serde_json.specs.Data.{string};
+ghost use Rattle.serde_json.specs.Read.{read};
+ghost use Rattle.serde_json.specs.View.{view};
+ghost use Rattle.serde_json.specs.Find.{as_str};
+ghost use Rattle.canary_records.specs.Texts.{HasNoLf};
+ghost use Rattle.canary_canonical.specs.Forms.{at, by_key, null_or, number_up_to};
+ghost use Rattle.canary_canonical.specs.Reads.{IsRead};
+ghost use Rattle.canary_canonical.specs.Texts.{only, data_or_null};
+ghost use Rattle.canary_journal.specs.Lines.{begun_data, asked_data, instead_data, settled_data};
+ghost use Rattle.canary_journal.specs.Lines.{entry_data, line_of, is_word, keeps_limits};
+ghost use Rattle.canary_journal.specs.Lines.{wish_in, reply_in, begun_in, asked_in, instead_in};
+ghost use Rattle.canary_journal.specs.Lines.{settled_in, entry_of_kind, spelt_in, entry_in};
+
+use crate::entry::{Entry, Reply, Wish};
+use canary_base::error::Memory;
+use canary_base::lists::Text;
+use canary_base::names::Name;
+use canary_canonical::form::{FormFault, name_at, number_at, only_member, text_in};
+use serde_json::{Value, json};
+use std::alloc::{AllocError, Global};
+
+/// The line of an entry, without an end of line, or `Memory`. It is read as the entry, and no
+/// other text is.
+pub fn line(alloc: Global, entry: &Entry) -> Result<Text, Memory>
+    ensures value { IfOk result (λ line. line ≡ line_of entry.now) }
+    ensures back { IfOk result (λ line. entry_in line ≡ Some entry.now) }
+    ensures one { IfOk result HasNoLf }
+{
+    Ok(Text::of(written(alloc, entry)?))
+}
+
+fn written(alloc: Global, entry: &Entry) -> Result<String, AllocError>
+    ensures value { IfOk result (λ line. string_bytes line ≡ line_of entry.now) }
+    ensures read { IfOk result (λ line. read (string_bytes line) ≡ Some (entry_data entry.now)) }
+    ensures kept { IfOk result (λ _. IsTrue (keeps_limits entry.now)) }
+{
+    let value = entry_value(alloc, entry)?;
+    value.to_string(alloc)
+}
+
+// The entry in JSON.
+#[tactic(auto, unfolding(crate::specs::Lines::entry_data))]
+fn entry_value(alloc: Global, entry: &Entry) -> Result<Value, AllocError>
+    ensures value { IfOk result (λ value. view value ≡ entry_data entry.now) }
+    ensures kept { IfOk result (λ _. IsTrue (keeps_limits entry.now)) }
+{
+    match entry {
+        Entry::Begun { caller, settled } => {
+            only(alloc, "begun", begun_value(alloc, caller, *settled)?)
+        }
+        Entry::Asked { number, wish } => only(alloc, "asked", asked_value(alloc, *number, wish)?),
+        Entry::Instead { number, body } => {
+            only(alloc, "instead", instead_value(alloc, *number, body)?)
+        }
+        Entry::Settled { number, reply } => {
+            only(alloc, "settled", settled_value(alloc, *number, reply)?)
+        }
+    }
+}
+
+// An object of this member alone.
+fn only(alloc: Global, key: &str, value: Value) -> Result<Value, AllocError>
+    ensures { IfOk result (λ object. view object ≡ only key.now (view value)) }
+{
+    json!(in alloc; {key: value})
+}
+
+fn text_or_null(alloc: Global, text: &Option<Text>) -> Result<Value, AllocError>
+    ensures { IfOk result (λ value. view value ≡ data_or_null string text.now) }
+{
+    match text {
+        Some(text) => Value::try_from_str(alloc, text.as_str()),
+        None => Ok(Value::Null),
+    }
+}
+
+fn begun_value(alloc: Global, caller: &Name, settled: u32) -> Result<Value, AllocError>
+    ensures value { IfOk result (λ value. view value ≡ begun_data caller.now settled) }
+    ensures name { IfOk result (λ _. IsTrue (is_name caller.now)) }
+    ensures kept { IfOk result (λ _. IsTrue (is_word settled)) }
+{
+    json!(in alloc; {"caller": caller.as_str(), "settled": settled})
+}
+
+fn asked_value(alloc: Global, number: u32, wish: &Wish) -> Result<Value, AllocError>
+    ensures value { IfOk result (λ value. view value ≡ asked_data number wish.now) }
+    ensures kept { IfOk result (λ _. IsTrue (is_word number)) }
+{
+    let key = text_or_null(alloc, &wish.key)?;
+    json!(in alloc; {
+        "body": wish.body.as_str(),
+        "intent": wish.intent.as_str(),
+        "key": key,
+        "number": number
+    })
+}
+
+fn instead_value(alloc: Global, number: u32, body: &Text) -> Result<Value, AllocError>
+    ensures value { IfOk result (λ value. view value ≡ instead_data number body.now) }
+    ensures kept { IfOk result (λ _. IsTrue (is_word number)) }
+{
+    json!(in alloc; {"body": body.as_str(), "number": number})
+}
+
+fn settled_value(alloc: Global, number: u32, reply: &Reply) -> Result<Value, AllocError>
+    ensures value { IfOk result (λ value. view value ≡ settled_data number reply.now) }
+    ensures kept { IfOk result (λ _. IsTrue (is_word number)) }
+    ensures status { IfOk result (λ _. IsTrue (nat_le reply.now.status 65535)) }
+{
+    let (late, status) = (reply.is_late, reply.status);
+    json!(in alloc; {
+        "body": reply.body.as_str(),
+        "late": late,
+        "number": number,
+        "status": status
+    })
+}
+
+/// The entry whose line this is.
+///
+/// # Errors
+/// `Unreadable` if it is no entry's line, as one with a space between its members, with a member
+/// too many, or with its members in another order; `Memory`.
+#[tactic(auto, unfolding(crate::specs::Lines::entry_in))]
+pub fn entry_in(alloc: Global, text: &str) -> Result<Entry, FormFault>
+    ensures { IsRead (entry_in text.now) result }
+{
+    let entry = spelt(alloc, text)?;
+    let again = line(alloc, &entry)?;
+    if again.as_str() == text {
+        Ok(entry)
+    } else {
+        Err(FormFault::Unreadable)
+    }
+}
+
+// The entry that the text is in JSON, however it is laid out.
+fn spelt(alloc: Global, text: &str) -> Result<Entry, FormFault>
+    ensures { IsRead (spelt_in text.now) result }
+{
+    match Value::from_str(alloc, text) {
+        Ok(value) => entry_in_value(alloc, &value),
+        Err(fault) if fault.is_memory() => Err(FormFault::Memory),
+        Err(_) => Err(FormFault::Unreadable),
+    }
+}
+
+fn entry_in_value(alloc: Global, value: &Value) -> Result<Entry, FormFault>
+    ensures { IsRead (by_key entry_of_kind (view value.now)) result }
+{
+    match only_member(value) {
+        Some((kind, value)) => entry_of_kind(alloc, kind, value),
+        None => Err(FormFault::Unreadable),
+    }
+}
+
+#[tactic(auto, unfolding(crate::specs::Lines::entry_of_kind))]
+fn entry_of_kind(alloc: Global, kind: &str, value: &Value) -> Result<Entry, FormFault>
+    ensures { IsRead (entry_of_kind kind.now (view value.now)) result }
+{
+    match kind {
+        "begun" => begun_in(value).ok_or(FormFault::Unreadable),
+        "asked" => asked_in(alloc, value),
+        "instead" => instead_in(alloc, value),
+        "settled" => settled_in(alloc, value),
+        _ => Err(FormFault::Unreadable),
+    }
+}
+
+fn begun_in(value: &Value) -> Option<Entry>
+    ensures { result ≡ begun_in (view value.now) }
+{
+    let caller = name_at(value, "caller")?;
+    let settled = number_at(value, "settled", u32::MAX)?;
+    Some(Entry::Begun { caller, settled })
+}
+
+fn asked_in(alloc: Global, value: &Value) -> Result<Entry, FormFault>
+    ensures { IsRead (asked_in (view value.now)) result }
+{
+    let number = number_at(value, "number", u32::MAX).ok_or(FormFault::Unreadable)?;
+    let wish = wish_in(alloc, value)?;
+    Ok(Entry::Asked { number, wish })
+}
+
+fn instead_in(alloc: Global, value: &Value) -> Result<Entry, FormFault>
+    ensures { IsRead (instead_in (view value.now)) result }
+{
+    let number = number_at(value, "number", u32::MAX).ok_or(FormFault::Unreadable)?;
+    let body = text_at(alloc, value, "body")?;
+    Ok(Entry::Instead { number, body })
+}
+
+fn settled_in(alloc: Global, value: &Value) -> Result<Entry, FormFault>
+    ensures { IsRead (settled_in (view value.now)) result }
+{
+    let number = number_at(value, "number", u32::MAX).ok_or(FormFault::Unreadable)?;
+    let reply = reply_in(alloc, value)?;
+    Ok(Entry::Settled { number, reply })
+}
+
+fn wish_in(alloc: Global, value: &Value) -> Result<Wish, FormFault>
+    ensures { IsRead (wish_in (view value.now)) result }
+{
+    let body = text_at(alloc, value, "body")?;
+    let intent = text_at(alloc, value, "intent")?;
+    let key = key_at(alloc, value)?;
+    Ok(Wish { intent, key, body })
+}
+
+fn reply_in(alloc: Global, value: &Value) -> Result<Reply, FormFault>
+    ensures { IsRead (reply_in (view value.now)) result }
+{
+    let body = text_at(alloc, value, "body")?;
+    let is_late = value
+        .get("late")
+        .and_then(Value::as_bool)
+        .ok_or(FormFault::Unreadable)?;
+    let status = value
+        .get("status")
+        .and_then(status_in)
+        .ok_or(FormFault::Unreadable)?;
+    Ok(Reply {
+        status,
+        body,
+        is_late,
+    })
+}
+
+fn status_in(value: &Value) -> Option<u16>
+    ensures { result ≡ number_up_to 65535 (view value.now) }
+{
+    match value.as_u64() {
+        Some(number) if number <= 65535 => Some(number as u16),
+        _ => None,
+    }
+}
+
+// The text under that key.
+fn text_at(alloc: Global, value: &Value, key: &str) -> Result<Text, FormFault>
+    ensures { IsRead (at key.now as_str (view value.now)) result }
+{
+    let value = value.get(key).ok_or(FormFault::Unreadable)?;
+    text_in(alloc, value)
+}
+
+fn key_at(alloc: Global, value: &Value) -> Result<Option<Text>, FormFault>
+    ensures { IsRead (at (codes "key") (null_or as_str) (view value.now)) result }
+{
+    let value = value.get("key").ok_or(FormFault::Unreadable)?;
+    if value.is_null() {
+        return Ok(None);
+    }
+    Ok(Some(text_in(alloc, value)?))
+}

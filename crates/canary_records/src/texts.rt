@@ -1,0 +1,122 @@
+//! The texts of a file, each after a gate.
+ghost use Rattle.std.specs.Prelude.{◌≡◌, ◌+◌, length, option_map, position, IfSome, IfOk};
+ghost use Rattle.canary_records.specs.Texts.{is_lf, up_to_lf, first_line, from_gate, texts_of};
+ghost use Rattle.canary_records.specs.Texts.{records, line_before, text_of};
+ghost use Rattle.canary_records.specs.Texts.{first_record, is_closed};
+
+use canary_base::error::Memory;
+use canary_base::lists::{Listed, Text};
+use std::alloc::Global;
+use std::str;
+
+/// The texts of a file.
+#[derive(Drop)]
+pub struct Found {
+    /// The texts, in order.
+    pub texts: Listed<Text>,
+    /// How many bytes stand before the closed gate.
+    pub gate: usize,
+}
+
+/// The texts of a file, or `Memory`; none if it is cut short, or if a text is not UTF-8.
+pub fn texts_of(alloc: Global, bytes: &[u8]) -> Result<Option<Found>, Memory>
+    ensures texts { IfOk result (λ found. option_map (λ f. f.texts) found ≡ texts_of bytes.now) }
+    ensures gate { IfOk result (λ found. IfSome found (λ f. f.gate ≡ length (records f.texts))) }
+{
+    match bytes {
+        [] | [_] => Ok(Some(Found {
+            texts: Listed::of(Vec::new(alloc)),
+            gate: 0,
+        })),
+        bytes => from_gate(alloc, bytes),
+    }
+}
+
+#[tactic(auto, using(crate::proofs::TextLemmas::read_by_records))]
+fn from_gate(alloc: Global, bytes: &[u8]) -> Result<Option<Found>, Memory>
+    ensures texts { IfOk result (λ found. option_map (λ f. f.texts) found ≡ from_gate bytes.now) }
+    ensures gate { IfOk result (λ found. IfSome found (λ f. f.gate ≡ length (records f.texts))) }
+{
+    let mut texts = Vec::new(alloc);
+    let mut rest = bytes;
+    while let Some((text, after)) = first_record(rest) {
+        texts.push(copied(alloc, text)?)?;
+        rest = after;
+    }
+    if !is_closed(rest) {
+        return Ok(None);
+    }
+    Ok(Some(Found {
+        texts: Listed::of(texts),
+        gate: bytes.len() - rest.len(),
+    }))
+}
+
+// The text after an open gate, and what stands after that.
+fn first_record(bytes: &[u8]) -> Option<(&str, &[u8])>
+    ensures { option_map (λ line. (line.0.now, line.1.now)) result ≡ first_record bytes.now }
+{
+    match bytes {
+        [b'+', after @ ..] => first_line(after),
+        _ => None,
+    }
+}
+
+// Whether a closed gate stands first.
+fn is_closed(bytes: &[u8]) -> bool
+    ensures { result ≡ is_closed bytes.now }
+{
+    match bytes {
+        [gate, ..] => *gate != b'+',
+        [] => false,
+    }
+}
+
+// The text up to the first LF, and what stands after that.
+fn first_line(bytes: &[u8]) -> Option<(&str, &[u8])>
+    ensures { option_map (λ line. (line.0.now, line.1.now)) result ≡ first_line bytes.now }
+{
+    let line = up_to_lf(bytes);
+    line_before(line, &bytes[line.len()..])
+}
+
+fn line_before<'a>(line: &'a [u8], rest: &'a [u8]) -> Option<(&'a str, &'a [u8])>
+    ensures { option_map (λ line. (line.0.now, line.1.now)) result ≡ line_before line.now rest.now }
+{
+    match (rest, text_of(line)) {
+        ([_, after @ ..], Some(text)) => Some((text, after)),
+        _ => None,
+    }
+}
+
+// The bytes as text.
+#[tactic(auto, using(crate::proofs::Utf8::is_text, crate::proofs::Utf8::no_text))]
+fn text_of(bytes: &[u8]) -> Option<&str>
+    ensures { option_map (λ text. text.now) result ≡ text_of bytes.now }
+{
+    match str::from_utf8(bytes) {
+        Ok(text) => Some(text),
+        Err(_) => None,
+    }
+}
+
+fn up_to_lf(bytes: &[u8]) -> &[u8]
+    ensures { result.now ≡ up_to_lf bytes.now }
+{
+    match place_of_lf(bytes) {
+        Some(place) => &bytes[..place],
+        None => bytes,
+    }
+}
+
+fn place_of_lf(bytes: &[u8]) -> Option<usize>
+    ensures { result ≡ position is_lf bytes.now }
+{
+    bytes.iter().position(|byte| *byte == b'\n')
+}
+
+fn copied(alloc: Global, text: &str) -> Result<Text, Memory>
+    ensures { IfOk result (λ copy. copy ≡ text.now) }
+{
+    Ok(Text::of(String::from_str(alloc, text)?))
+}
