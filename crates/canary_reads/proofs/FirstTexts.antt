@@ -1,8 +1,8 @@
 -- What the queries on the first schema find.
-use Rattle.std.proofs.Common.{◌≡◌, ◌↔◌, ◌<◌, ℕ, zero, suc, pos, List, [], ◌∷◌, length, map, filter, take, get_or, codes, true, false, Option, Some, None, refl, sym, ap, ap₂, subst, ◌∙◌, arith}
+use Rattle.std.proofs.Common.{◌≡◌, ◌↔◌, ◌<◌, ℕ, zero, suc, pos, List, [], ◌∷◌, length, map, take, get_or, codes, false, Option, Some, None, refl, sym, ap, subst, ◌∙◌, arith}
 use Rattle.std.specs.List.{AllByRecursion}
 use Rattle.sqlite.specs.declared.types.Value.TheVariants.{Null, Int, Text as Words}
-use Rattle.sqlite.specs.Order.{Row, column}
+use Rattle.sqlite.specs.Order.{Row}
 use Rattle.sqlite.specs.Term.{Term, lit, col}
 use Rattle.sqlite.specs.Effect.{Database}
 use Rattle.sqlite.specs.Schema.{Schema}
@@ -19,8 +19,8 @@ use Rattle.canary_reads.specs.declared.first.TemplateRow.{TemplateRow}
 use Rattle.canary_reads.specs.declared.first.FirstTally.{FirstTally}
 use Rattle.canary_reads.specs.First.{IsFirst, template_shown, tally_shown, template_cells, first_tally_cells}
 use Rattle.canary_reads.specs.Queries.{IsQuery}
-use Rattle.canary_reads.proofs.Answer.{query_of, no_limit, from_start, by_column, shows, rowid_answer}
-use Rattle.canary_reads.proofs.Holding.{all_pass, map_itself}
+use Rattle.canary_reads.proofs.Answer.{query_of, no_limit, from_start, by_column, rowid_answer}
+use Rattle.canary_reads.proofs.Holding.{all_pass}
 use Rattle.canary_reads.proofs.TypedRows.{same_rows}
 
 -- under the first schema a text asks for these columns of all rows of a tree, or of so many

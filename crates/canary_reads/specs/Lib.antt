@@ -11,3 +11,4 @@ pub mod Told
 pub mod Reader
 pub mod First
 pub mod Metrics
+pub mod Places

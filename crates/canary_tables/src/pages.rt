@@ -1,21 +1,26 @@
 //! Lists of what is kept of a service, as the tables tell them.
-ghost use Rattle.std.specs.Prelude.{◌≡◌, ◌∷◌, ◌++◌, [], false, Some, map, IfOk};
+ghost use Rattle.std.specs.Prelude.{◌≡◌, ◌∷◌, ◌++◌, ◌+◌, ◌-◌, [], false, Some, length, map};
+ghost use Rattle.std.specs.Prelude.{option_map, slice_get, IfOk, IfSome};
 ghost use Rattle.sqlite.specs.Held.{state};
 ghost use Rattle.canary_plan.specs.Lines.{line_at};
 ghost use Rattle.canary_once.specs.Records.{history_of, measurements_of};
 ghost use Rattle.canary_schema.specs.Stores.{IsUsable};
 ghost use Rattle.canary_reads.specs.Finds.{IsSame};
+ghost use Rattle.canary_reads.specs.Places.{IsMark, row_of};
 ghost use Rattle.canary_stored.specs.Values.{line_of_row, measurement_of_row};
 ghost use Rattle.canary_tables.specs.Desk.{IsDesk, contents_in};
+ghost use Rattle.canary_tables.specs.Notes.{IsMarked};
 
 use crate::found::store_fault;
+use crate::notes::Mark;
 use canary_base::lists::Listed;
 use canary_base::moments::Moment;
 use canary_base::names::Name;
 use canary_plan::line::{Line, LineEvent};
+use canary_reads::after::{self, Placed};
 use canary_reads::histories;
 use canary_release::effect::Recorded;
-use canary_rows::rows::{HistoryRow, MeasurementRow};
+use canary_rows::rows::HistoryRow;
 use canary_schema::fault::StoreFault;
 use canary_stored::{laws, reading};
 use sqlite::{Alter, Connection};
@@ -75,9 +80,17 @@ fn push_line(
     Ok(lines)
 }
 
+/// A page of a service's measurements, and how far they are read by it; no mark where it is empty.
+#[derive(Drop)]
+pub(crate) struct Page {
+    pub recorded: Listed<Recorded>,
+    pub mark: Option<Mark>,
+}
+
 /// A page of a service's measurements, of all its runs in the order in which they were recorded:
 /// those from a place on, the first having place 0, and at most so many; empty where there is no
-/// such service.
+/// such service. `noted` is a place in the table up to which just `from` of them stand, if one is
+/// known.
 ///
 /// # Errors
 /// `Memory` where an allocation was refused, `Storage` where the database fails or holds what no
@@ -87,27 +100,50 @@ pub(crate) fn measurements<S: Alter>(
     alloc: Global,
     name: &Name,
     from: u64,
+    noted: Option<i64>,
     most: u32,
-) -> Result<Listed<Recorded>, StoreFault>
+) -> Result<Page, StoreFault>
     requires autocommit { conn.old.in_transaction ≡ false }
     requires desk { IsUsable (state S.Store conn.old) → IsDesk (state S.Store conn.old) }
+    requires noted { IsUsable (state S.Store conn.old)
+        → IfSome noted (IsMark (state S.Store conn.old).now name.now from) }
     ensures mode { conn.new.in_transaction ≡ false }
     ensures same { IsSame (state S.Store conn.old) (state S.Store conn.new) }
-    ensures found { IsUsable (state S.Store conn.new) → IfOk result (λ page.
-        page ≡ measurements_of (contents_in (state S.Store conn.old)) name.now from most) }
+    ensures found { IsUsable (state S.Store conn.new) → IfOk result (λ page. page.recorded
+        ≡ measurements_of (contents_in (state S.Store conn.old)) name.now from most) }
+    ensures mark { IsUsable (state S.Store conn.new)
+        → IfOk result (λ page. IfSome page.mark (IsMarked (state S.Store conn.old).now)) }
 {
     laws::measurements_found();
-    let rows = histories::measurements(conn, alloc, name, from, most)?;
-    measurements_of(alloc, rows.as_slice())
+    let rows = after::measurements(conn, alloc, name, from, noted, most)?;
+    let mark = mark_of(name, from, rows.as_slice());
+    let recorded = measurements_of(alloc, rows.as_slice())?;
+    Ok(Page { recorded, mark })
+}
+
+// The mark at the last of these rows, the first of which has that index.
+fn mark_of(service: &Name, from: u64, rows: &[Placed]) -> Option<Mark>
+    ensures { IfSome result (λ mark. (mark.service ≡ service.now)
+        × (mark.index ≡ from + length rows.now)
+        × (option_map (λ p. p.place) (slice_get rows.now (length rows.now - 1))
+        ≡ Some mark.place)) }
+{
+    let last = rows.last()?;
+    Some(Mark {
+        service: *service,
+        index: from.checked_add(rows.len() as u64)?,
+        place: last.place,
+    })
 }
 
 // The measurements of rows, in their order.
-fn measurements_of(alloc: Global, rows: &[MeasurementRow]) -> Result<Listed<Recorded>, StoreFault>
-    ensures { IfOk result (λ page. map Some page ≡ map measurement_of_row rows.now) }
+fn measurements_of(alloc: Global, rows: &[Placed]) -> Result<Listed<Recorded>, StoreFault>
+    ensures { IfOk result (λ page.
+        map Some page ≡ map measurement_of_row (map row_of rows.now)) }
 {
     let mut page = Listed::of(Vec::new(alloc));
-    for row in rows {
-        page.push(reading::measurement(alloc, row).map_err(store_fault)?)?;
+    for placed in rows {
+        page.push(reading::measurement(alloc, &placed.row).map_err(store_fault)?)?;
     }
     Ok(page)
 }
