@@ -1,11 +1,12 @@
 -- What the queries on measurements with their places find.
-use Rattle.std.proofs.Common.{◌≡◌, ◌+◌, ◌&&◌, ℕ, suc, ℤ, pos, int_lt, List, [], ◌∷◌, map, filter, take, drop, slice_get, Option, Some, None, Bool, true, false, if◌then◌else◌, codes, refl, sym, ap, ap₂, subst, ◌∙◌, arith, IsTrue}
+use Rattle.std.proofs.Common.{◌≡◌, ◌+◌, ◌-◌, ◌&&◌, ℕ, suc, ℤ, pos, int_lt, List, [], ◌∷◌, map, filter, take, drop, length, slice_get, Option, Some, None, Bool, true, false, if◌then◌else◌, codes, refl, sym, ap, ap₂, subst, ◌∙◌, arith, IsTrue}
 use Rattle.std.specs.Prelude.{IfSome}
 use Rattle.std.specs.List.{AllByRecursion, filter_map}
 use Rattle.std.specs.Ordering.{is_gt, int_cmp}
 use Rattle.std.specs.Str.{bytes_eq}
 use Rattle.std.specs.declared.cmp.Ordering.TheVariants.{Less}
 use Rattle.std.proofs.lemmas.Int.{ints}
+use Rattle.std.proofs.lemmas.Option.{slice_get_within}
 use Rattle.sqlite.specs.declared.types.Value.TheVariants.{Null, Int, Real, Text as Words, Blob}
 use Rattle.sqlite.specs.Effect.{Database}
 use Rattle.sqlite.specs.Listing.{understood}
@@ -34,9 +35,10 @@ use Rattle.canary_reads.specs.Places.{placed_cells, placed_of, placed_in, placed
 use Rattle.canary_reads.specs.Queries.{IsQuery}
 use Rattle.canary_reads.proofs.Answer.{by_column, from_start, passes, shows, rowid_answer}
 use Rattle.canary_reads.proofs.Asking.{Asks}
+use Rattle.canary_reads.proofs.FoundLines.{paged}
 use Rattle.canary_reads.proofs.FoundPages.{compares}
 use Rattle.canary_reads.proofs.Fronts.{filter_both}
-use Rattle.canary_reads.proofs.PlacedLists.{Rise, above_are, counted_at, paged_at, paged_map}
+use Rattle.canary_reads.proofs.PlacedLists.{Rise, above_are, counted_at, paged_at}
 use Rattle.canary_reads.proofs.Tests.{as_truth, and_true, words_same, same_words, and_first}
 use Rattle.canary_reads.proofs.Texts.{measurements_tests}
 use Rattle.canary_reads.proofs.TypedRows.{taken, told_all}
@@ -197,7 +199,7 @@ from_rows old new t service from most params rows has given h =
     let told : map whole_row all ≡ map placed_cells (placed_for service old.now) =
     ap (λ (rows : List Row). map whole_row (map (shows placed_shown asked) (filter (passes measurements_tests asked) rows))) placed.table
     ∙ all_told whole_row (passes measurements_tests asked) (shows placed_shown asked) (λ p. is_measurement_of service p.row) (from_passes service (whole from ∷ whole most ∷ [])) (shown_so service (whole from ∷ whole most ∷ [])) (placed_in old.now) in
-    ap (map whole_row) are ∙ paged_map whole_row most from all ∙ ap (λ (rows : List Row). take most (drop from rows)) told ∙ sym (paged_map placed_cells most from (placed_for service old.now))
+    ap (map whole_row) are ∙ paged whole_row most from all ∙ ap (λ (rows : List Row). take most (drop from rows)) told ∙ sym (paged placed_cells most from (placed_for service old.now))
 
 -- what is shown are those above the place, so many at most
 pub after_rows : (old new : State) (t : Tables) (service : List ℕ) (place : ℤ) (most : ℕ) (params : Row) (rows : List Row) → Stores old t → params ≡ Words service ∷ Int place ∷ whole most ∷ [] → Shown after_text params old new rows
@@ -242,7 +244,7 @@ is_page db t service from most found has is =
     let ys = placed_for service db in
     let row = λ (p : Placed). p.row in
     record {
-      rows = ap (map row) is ∙ paged_map row most from ys ∙ ap (λ (xs : List MeasurementRow). take most (drop from xs)) (sym (filter-map (is_measurement_of service) row (placed_in db)) ∙ ap (filter (is_measurement_of service)) (holds_placed db t has).typed_are);
+      rows = ap (map row) is ∙ paged row most from ys ∙ ap (λ (xs : List MeasurementRow). take most (drop from xs)) (sym (filter-map (is_measurement_of service) row (placed_in db)) ∙ ap (filter (is_measurement_of service)) (holds_placed db t has).typed_are);
       marks = λ i. marked i (slice_get found i) refl;
     }
   where
@@ -251,3 +253,12 @@ is_page db t service from most found has is =
     marked i (Some p) e =
         let there = paged_at most from i (from + i) p (placed_for service db) refl (ap (λ (xs : List Placed). slice_get xs i) (sym is) ∙ e) in
         counted_at (λ (q : Placed). q.place) (from + i) p (placed_for service db) (rising_for db t service has) there ∙ omega arith
+
+-- up to the place of the last of a page stand as many as up to its end
+pub marked_last : (db : Database) (t : Tables) (service : List ℕ) (from most : ℕ) (rows : List Placed) (last : Option Placed) → slice_get rows (length rows - 1) ≡ last → IsPlacedPage db t service from most rows → IfSome last (λ p. IsMark db service (from + length rows) p.place)
+marked_last db t service from most rows None is page = tt
+marked_last db t service from most rows (Some p) is page =
+    let there = slice_get_within rows (length rows - 1) p is in
+    let counted : IsMark db service (from + suc (length rows - 1)) p.place = subst (λ (o : Option Placed). IfSome o (λ q. IsMark db service (from + suc (length rows - 1)) q.place)) is (page.marks (length rows - 1)) in
+    let end : from + suc (length rows - 1) ≡ from + length rows = omega (arith, there) in
+    subst (λ (n : ℕ). IsMark db service n p.place) end counted

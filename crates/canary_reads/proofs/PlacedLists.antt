@@ -4,7 +4,6 @@ use Rattle.std.specs.List.{AllByRecursion}
 use Rattle.std.proofs.lemmas.Int.{ints}
 use Rattle.sqlite.specs.Tree.{IsAscending}
 use Rattle.sqlite_keyed.proofs.ListLemmas.{filter_none, all_weaker}
-use Rattle.canary_reads.proofs.TypedRows.{taken}
 
 module _ {X : Type 0} (place : X → ℤ) where
   -- each place is below those behind it
@@ -80,9 +79,3 @@ paged_at zero (suc from) i n y [] sum is = absurd (cc)
 paged_at (suc most) (suc from) i n y [] sum is = absurd (cc)
 paged_at most (suc from) i zero y (x ∷ xs) sum is = absurd (omega (arith, sum))
 paged_at most (suc from) i (suc n) y (x ∷ xs) sum is = paged_at most from i n y xs (omega (arith, sum)) is
-
-pub paged_map : {A B : Type 0} (f : A → B) (most from : ℕ) (xs : List A) → map f (take most (drop from xs)) ≡ take most (drop from (map f xs))
-paged_map f most zero xs = taken f most xs
-paged_map f zero (suc from) [] = refl
-paged_map f (suc most) (suc from) [] = refl
-paged_map f most (suc from) (x ∷ xs) = paged_map f most from xs

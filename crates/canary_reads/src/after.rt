@@ -1,7 +1,8 @@
 //! The measurements of a service in pages, of which each may begin where another one ended.
-ghost use Rattle.std.specs.Prelude.{◌≡◌, ◌<◌, ℤ, Some, Err, IfOk, IfSome, length, take, drop};
-ghost use Rattle.std.specs.Prelude.{filter, int_lt};
+ghost use Rattle.std.specs.Prelude.{◌≡◌, ◌<◌, ◌+◌, ℕ, ℤ, List, Some, Err, IfOk, IfSome, length};
+ghost use Rattle.std.specs.Prelude.{take, drop, filter, int_lt};
 ghost use Rattle.std.specs.List.{AllByRecursion};
+ghost use Rattle.sqlite.specs.Effect.{Database};
 ghost use Rattle.sqlite.specs.Order.{column};
 ghost use Rattle.sqlite.specs.declared.types.Value.TheVariants.{Int};
 ghost use Rattle.canary_rows.specs.Limits.{IsMeasurementWithin};
@@ -103,6 +104,16 @@ pub fn measurements<Q: Reader>(
         Some(place) => after(conn, alloc, service, place, most),
         None => from_index(conn, alloc, service, from, most),
     }
+}
+
+/// The place of the last of a page: up to it stand as many of the service's measurements as up to
+/// the page's end. None where the page is empty.
+pub fn last_place(page: &[Placed]) -> Option<i64>
+    ensures { (db : Database) (t : Tables) (service : List ℕ) (from most : ℕ)
+        → IsPlacedPage db t service from most page.now
+        → IfSome result (IsMark db service (from + length page.now)) }
+{
+    Some(page.last()?.place)
 }
 
 // The place, if fewer rows are likely to stand between it and the end of a page than the index goes

@@ -1,12 +1,13 @@
 //! Lists of what is kept of a service, as the tables tell them.
-ghost use Rattle.std.specs.Prelude.{◌≡◌, ◌∷◌, ◌++◌, ◌+◌, ◌-◌, [], false, Some, length, map};
-ghost use Rattle.std.specs.Prelude.{option_map, slice_get, IfOk, IfSome};
+ghost use Rattle.std.specs.Prelude.{◌≡◌, ◌∷◌, ◌++◌, ℕ, [], false, Some, map, IfOk, IfSome};
+ghost use Rattle.sqlite.specs.Effect.{Database};
 ghost use Rattle.sqlite.specs.Held.{state};
 ghost use Rattle.canary_plan.specs.Lines.{line_at};
 ghost use Rattle.canary_once.specs.Records.{history_of, measurements_of};
 ghost use Rattle.canary_schema.specs.Stores.{IsUsable};
 ghost use Rattle.canary_reads.specs.Finds.{IsSame};
-ghost use Rattle.canary_reads.specs.Places.{IsMark, row_of};
+ghost use Rattle.canary_reads.specs.Places.{IsMark, IsPlacedPage, row_of};
+ghost use Rattle.canary_rows.specs.Tables.{Tables};
 ghost use Rattle.canary_stored.specs.Values.{line_of_row, measurement_of_row};
 ghost use Rattle.canary_tables.specs.Desk.{IsDesk, contents_in};
 ghost use Rattle.canary_tables.specs.Notes.{IsMarked};
@@ -121,18 +122,17 @@ pub(crate) fn measurements<S: Alter>(
     Ok(Page { recorded, mark })
 }
 
-// The mark at the last of these rows, the first of which has that index.
+// The mark at the end of a page of these rows, the first of which has that index.
 fn mark_of(service: &Name, from: u64, rows: &[Placed]) -> Option<Mark>
-    ensures { IfSome result (λ mark. (mark.service ≡ service.now)
-        × (mark.index ≡ from + length rows.now)
-        × (option_map (λ p. p.place) (slice_get rows.now (length rows.now - 1))
-        ≡ Some mark.place)) }
+    ensures { (db : Database) (t : Tables) (most : ℕ)
+        → IsPlacedPage db t service.now from most rows.now → IfSome result (IsMarked db) }
 {
-    let last = rows.last()?;
+    let place = after::last_place(rows)?;
+    let index = from.checked_add(rows.len() as u64)?;
     Some(Mark {
         service: *service,
-        index: from.checked_add(rows.len() as u64)?,
-        place: last.place,
+        index,
+        place,
     })
 }
 

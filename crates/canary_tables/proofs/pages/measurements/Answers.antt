@@ -7,7 +7,6 @@ use Rattle.canary_reads.specs.declared.after.Placed.{Placed}
 use Rattle.canary_reads.specs.Places.{IsPlacedPage, row_of}
 use Rattle.canary_stored.specs.Values.{measurement_of_row}
 use Rattle.canary_tables.specs.Desk.{IsDesk, contents_in}
-use Rattle.canary_tables.proofs.Noted.{marked_last}
 use Rattle.canary_tables.proofs.Sought.{all_found}
 use Rattle.canary_tables.proofs.pages.measurements.Goals as goal
 
@@ -24,4 +23,4 @@ returns-clause-mark g c usable =
     let old = state g.S.Store c.args.conn.now in
     let desk : IsDesk old = c.requires.desk (c.in_ok-rows.ensures.same usable).0 in
     let page = c.in_ok-rows.ensures.found usable (tables_in old.now) desk.stores (c.requires.noted (c.in_ok-rows.ensures.same usable).0) in
-    marked_last old.now (tables_in old.now) c.args.name.now c.args.from c.args.most _ c.mark_of.result (subst (IsPlacedPage old.now (tables_in old.now) c.args.name.now c.args.from c.args.most) (sym c.as_slice.ensures) page) c.mark_of.ensures
+    c.mark_of.ensures old.now (tables_in old.now) c.args.most (subst (IsPlacedPage old.now (tables_in old.now) c.args.name.now c.args.from c.args.most) (sym c.as_slice.ensures) page)
