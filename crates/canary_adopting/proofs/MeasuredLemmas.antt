@@ -190,7 +190,7 @@ next_page name runs most t before so_far measured =
     let cut : take before.count all ++ (page ++ drop most (drop before.count all)) ≡ all = ap (λ ys. take before.count all ++ ys) (parts most (drop before.count all)) ∙ parts before.count all in
     let on = leads_on (metrics_of_runs runs) (take before.count all) page (drop most (drop before.count all)) (none_of runs) before.counts (map (λ (r : RunRecord). r.tallies) runs) so_far.counted
     (subst (λ xs. AreCountedTo (metrics_of_runs runs) (none_of runs) xs (map (λ (r : RunRecord). r.tallies) runs)) (sym cut) measured) in
-    (record { counts = on.0; count = before.count + length page }, record { counted = on.1; count = refl })
+    (record { counts = on.0; count = before.count + length page; place = None }, record { counted = on.1; count = refl })
 
 -- after the last page
 module _ (name : List ℕ) (runs : List RunRecord) (most : ℕ) (t : Tables) (before after : SoFar) (so_far : IsSoFar name runs t before) (page : IsPageCounted name runs most before t after) (few : length (page_after name most before.count t) < most) where

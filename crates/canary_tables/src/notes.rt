@@ -1,5 +1,5 @@
 //! What a book has noted of its tables since it last wrote them.
-ghost use Rattle.std.specs.Prelude.{◌≡◌, Some, IfSome};
+ghost use Rattle.std.specs.Prelude.{◌≡◌, ◌⊎◌, Some, IfSome};
 ghost use Rattle.canary_tables.specs.Notes.{no_notes, mark_at};
 
 use canary_base::names::Name;

@@ -23,4 +23,4 @@ returns-clause-mark g c usable =
     let old = state g.S.Store c.args.conn.now in
     let desk : IsDesk old = c.requires.desk (c.in_ok-rows.ensures.same usable).0 in
     let page = c.in_ok-rows.ensures.found usable (tables_in old.now) desk.stores (c.requires.noted (c.in_ok-rows.ensures.same usable).0) in
-    c.mark_of.ensures old.now (tables_in old.now) c.args.most (subst (IsPlacedPage old.now (tables_in old.now) c.args.name.now c.args.from c.args.most) (sym c.as_slice.ensures) page)
+    c.mark_of-mark.ensures old.now (tables_in old.now) c.args.most (subst (IsPlacedPage old.now (tables_in old.now) c.args.name.now c.args.from c.args.most) (sym c.as_slice.ensures) page)
