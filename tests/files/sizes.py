@@ -2,7 +2,8 @@
 closed run and an open one each, a service of 150 runs, a report of 32 entries on a template of 32
 metrics, and a run of 33,000 measurements with a history of 33,000 lines, which is more than a desk
 reads at once as it opens a file. Each file is opened again: each request that is sent once more has
-the bytes of its reply, and the programs show what the rules give."""
+the bytes of its reply, and the programs show what the rules give. Last, a file with exports of
+several pages."""
 import os
 import re
 import socket
@@ -14,6 +15,8 @@ from conversation import STILL_AT_B
 from story_words import B, Wrong, answer, command, expect, get, put, query, replies, reply
 
 MANY, WIDE, LONG = 150, 32, 33_000
+# How many measurements an export reads at once.
+PAGE = 32_768
 LISTENING = re.compile(rb"listening 127\.0\.0\.1:(\d+)\n")
 AT_B_TEXT = "2026-01-01T00:00:00Z"
 BEGIN = ["service v1 setWeight:20 pause background:errs", "start v2"]
@@ -188,11 +191,53 @@ def try_many_rows(program, file):
     tell(program, file, f"{row}, and one more", [*messages, (soon, early)])
 
 
+def change(file, *statements):
+    """Runs statements, each with its parameters, on a desk's file."""
+    opened = sqlite3.connect(file)
+    with opened:
+        for text, rows in statements:
+            opened.executemany(text, rows)
+    opened.close()
+
+
+def by_turns(counts):
+    """So many measurements of each service, the services taking turns: a row for each."""
+    for ordinal in range(1, max(counts.values()) + 1):
+        for name, count in counts.items():
+            if ordinal <= count:
+                yield name, 1, 0, ordinal, B, 1, str(ordinal % 7)
+
+
+def exported(name, count):
+    """The file of so many of them."""
+    rows = [f"agent,{at},{name},1,m,{at},{B},{at % 7}," for at in range(1, count + 1)]
+    return "\n".join(["caller,number,service,run,metric,ordinal,taken,result,failure", *rows, ""])
+
+
+def try_long_exports(program, file):
+    """Exports of several pages, with those of another service between; one ends with a page. Where
+    the rows have their places does not count: near 0, far from it, or below it."""
+    row, counts = "a long export", {"web": 2 * PAGE, "api": PAGE + 1}
+    template = put("ops", 1, command("template errs m,interval=0"))
+    begin = numbered((name, text) for text in BEGIN for name in counts)[1:]
+    tell(program, file, row, [(template, answer("[errs 1]")), *begin])
+    change(file,
+           ("INSERT INTO measurement (service, run, metric, ordinal, taken, phase, outcome) "
+            "VALUES (?, ?, ?, ?, ?, ?, ?)", by_turns(counts)),
+           ("UPDATE tally SET counted = ?, passes = ?, last = ? WHERE service = ?",
+            [(count, count, B, name) for name, count in counts.items()]))
+    for moved_by in (0, 10_000_000, -20_000_000):
+        change(file, ("UPDATE measurement SET place = place + ?", [(moved_by,)]))
+        for name, count in counts.items():
+            done = run(program, ["export", "--db", file, "--caller", "agent", name])
+            want(f"{row} of {name}, moved by {moved_by}", done, exported(name, count).encode())
+
+
 def main():
     program, folder = sys.argv[1:]
     try:
         for at, part in enumerate((try_many_services, try_many_runs, try_wide_report,
-                                   try_many_rows)):
+                                   try_many_rows, try_long_exports)):
             part(program, os.path.join(folder, f"sized-{at}"))
     except (Wrong, subprocess.TimeoutExpired) as fault:
         sys.exit(f"files: {fault}")

@@ -1,7 +1,7 @@
 -- Measurements that are counted page by page.
 use Rattle.std.proofs.Common.{◌≡◌, ℕ, zero, suc, ◌+◌, ◌<◌, ◌≤◌, List, [], ◌∷◌, ◌++◌, length, map, take, drop, get_or, refl, sym, ap, ap₂, ◌∙◌, subst, arith}
 use Rattle.std.specs.Prelude.{Option, Some, None}
-use Rattle.std.proofs.lemmas.List.{take_more, take_all, drop_more}
+use Rattle.std.proofs.lemmas.List.{map-append, take_more, take_all, drop_more}
 use Rattle.sqlite.specs.State.{State}
 use Rattle.canary_metric.specs.Metrics.{MetricValue}
 use Rattle.canary_metric.specs.Counts.{Counts}
@@ -86,21 +86,23 @@ module _ (runs : List (List MetricValue)) where
   pub row_refused : (row : MeasurementRow) (a b : List (List Counts)) (x : Recorded) → measurement_of_row row ≡ Some x → (IsNext runs a x → ⊥) → AreCountedTo runs a (row ∷ []) b → ⊥
   row_refused row a b x is no_next h = no_next (subst (IsNext runs a) (one_value (measurement_of_row row) h.0 x h.1 is) h.2)
 
-  -- The rows of a page.
+  -- The rows of a page, each in something.
 
-  pub rows_more : (rows : List MeasurementRow) (i : ℕ) (row : MeasurementRow) (a b c : List (List Counts)) → i < length rows → row ≡ get_or rows i row → AreCountedTo runs a (take i rows) b → AreCountedTo runs b (row ∷ []) c → AreCountedTo runs a (take (i + 1) rows) c
-  rows_more rows i row a b c lt at before one =
-      subst (λ xs. AreCountedTo runs a xs c) (sym (take_more rows i row lt ∙ ap (λ (x : MeasurementRow). take i rows ++ x ∷ []) (sym at))) (join (take i rows) (row ∷ []) a b c before one)
+  module _ {X : Type 0} (row : X → MeasurementRow) where
+    pub rows_more : (rows : List X) (i : ℕ) (x : X) (a b c : List (List Counts)) → i < length rows → x ≡ get_or rows i x → AreCountedTo runs a (map row (take i rows)) b → AreCountedTo runs b (row x ∷ []) c → AreCountedTo runs a (map row (take (i + 1) rows)) c
+    rows_more rows i x a b c lt at before one =
+        subst (λ xs. AreCountedTo runs a xs c) (sym (ap (map row) (take_more rows i x lt ∙ ap (λ (y : X). take i rows ++ y ∷ []) (sym at)) ∙ map-append row (take i rows) (x ∷ []))) (join (map row (take i rows)) (row x ∷ []) a b c before one)
 
-  pub rows_refused : (rows : List MeasurementRow) (i : ℕ) (row : MeasurementRow) (a b last : List (List Counts)) → i < length rows → row ≡ get_or rows i row → AreCountedTo runs a (take i rows) b → ((c : List (List Counts)) → AreCountedTo runs b (row ∷ []) c → ⊥) → AreCountedTo runs a rows last → ⊥
-  rows_refused rows i row a b last lt at before none whole =
-      let here : row ∷ drop (i + 1) rows ≡ drop i rows = ap (λ (x : MeasurementRow). x ∷ drop (i + 1) rows) at ∙ sym (drop_more rows i row lt) in
-      let cut : take i rows ++ (row ∷ drop (i + 1) rows) ≡ rows = ap (λ ys. take i rows ++ ys) here ∙ parts i rows in
-      let on = leads_on (take i rows) (row ∷ []) (drop (i + 1) rows) a b last before (subst (λ xs. AreCountedTo runs a xs last) (sym cut) whole) in
-      none on.0 on.1
+    pub rows_refused : (rows : List X) (i : ℕ) (x : X) (a b last : List (List Counts)) → i < length rows → x ≡ get_or rows i x → AreCountedTo runs a (map row (take i rows)) b → ((c : List (List Counts)) → AreCountedTo runs b (row x ∷ []) c → ⊥) → AreCountedTo runs a (map row rows) last → ⊥
+    rows_refused rows i x a b last lt at before none whole =
+        let here : x ∷ drop (i + 1) rows ≡ drop i rows = ap (λ (y : X). y ∷ drop (i + 1) rows) at ∙ sym (drop_more rows i x lt) in
+        let cut : take i rows ++ (x ∷ drop (i + 1) rows) ≡ rows = ap (λ ys. take i rows ++ ys) here ∙ parts i rows in
+        let all : map row (take i rows) ++ (row x ∷ map row (drop (i + 1) rows)) ≡ map row rows = sym (map-append row (take i rows) (x ∷ drop (i + 1) rows)) ∙ ap (map row) cut in
+        let on = leads_on (map row (take i rows)) (row x ∷ []) (map row (drop (i + 1) rows)) a b last before (subst (λ xs. AreCountedTo runs a xs last) (sym all) whole) in
+        none on.0 on.1
 
-  pub rows_all : (rows : List MeasurementRow) (i : ℕ) (a b : List (List Counts)) → length rows ≤ i → AreCountedTo runs a (take i rows) b → AreCountedTo runs a rows b
-  rows_all rows i a b all h = subst (λ xs. AreCountedTo runs a xs b) (take_all i rows all) h
+    pub rows_all : (rows : List X) (i : ℕ) (a b : List (List Counts)) → length rows ≤ i → AreCountedTo runs a (map row (take i rows)) b → AreCountedTo runs a (map row rows) b
+    rows_all rows i a b all h = subst (λ xs. AreCountedTo runs a (map row xs) b) (take_all i rows all) h
 
 -- Pages of a list.
 
@@ -188,7 +190,7 @@ next_page name runs most t before so_far measured =
     let cut : take before.count all ++ (page ++ drop most (drop before.count all)) ≡ all = ap (λ ys. take before.count all ++ ys) (parts most (drop before.count all)) ∙ parts before.count all in
     let on = leads_on (metrics_of_runs runs) (take before.count all) page (drop most (drop before.count all)) (none_of runs) before.counts (map (λ (r : RunRecord). r.tallies) runs) so_far.counted
     (subst (λ xs. AreCountedTo (metrics_of_runs runs) (none_of runs) xs (map (λ (r : RunRecord). r.tallies) runs)) (sym cut) measured) in
-    (record { counts = on.0; count = before.count + length page }, record { counted = on.1; count = refl })
+    (record { counts = on.0; count = before.count + length page; place = None }, record { counted = on.1; count = refl })
 
 -- after the last page
 module _ (name : List ℕ) (runs : List RunRecord) (most : ℕ) (t : Tables) (before after : SoFar) (so_far : IsSoFar name runs t before) (page : IsPageCounted name runs most before t after) (few : length (page_after name most before.count t) < most) where

@@ -14,6 +14,9 @@ same_then old between new first second usable = let s = second usable in let f =
 pub stores_then : (old new : State) (t : Tables) → IsSame old new → IsUsable new → Stores old t → Stores new t
 stores_then old new t same usable has = subst (λ (db : Database). IsHeld db t) (sym (same usable).1) has
 
+pub stores_before : (old new : State) (t : Tables) → IsSame old new → IsUsable new → Stores new t → Stores old t
+stores_before old new t same usable has = subst (λ (db : Database). IsHeld db t) (same usable).1 has
+
 -- a reader can still be asked, is the same one, and what was committed stays
 abbrev pub Goes : {A : Type 0} → (A → Type 0) → (A → ℕ) → (A → State) → A → A → Type 0
 Goes Ready place below first now = Ready now × (place now ≡ place first) × IsKept (below first) (below now)

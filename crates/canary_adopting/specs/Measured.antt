@@ -1,5 +1,5 @@
 -- Measurements of a service, read of rows and counted one after another.
-use Rattle.std.specs.Prelude.{◌≡◌, ◌≤◌, ◌+◌, ℕ, List, [], ◌∷◌, length, map, filter, take, drop, Some}
+use Rattle.std.specs.Prelude.{◌≡◌, ◌≤◌, ◌+◌, ℕ, List, [], ◌∷◌, length, map, filter, take, drop, Some, IfSome}
 use Rattle.canary_metric.specs.Metrics.{MetricValue}
 use Rattle.canary_metric.specs.Counts.{Counts}
 use Rattle.canary_release.specs.declared.effect.Recorded.{Recorded}
@@ -9,6 +9,9 @@ use Rattle.canary_rows.specs.Tables.{Tables, is_measurement_of}
 use Rattle.canary_stored.specs.Values.{measurement_of_row}
 use Rattle.canary_judging.specs.Counting.{IsNext, none_counted, counted_at}
 use Rattle.canary_judging.specs.Services.{metrics_of_runs}
+use Rattle.canary_reads.specs.Places.{IsMark}
+use Rattle.canary_schema.specs.Stores.{IsUsable, Stores}
+use Rattle.sqlite.specs.State.{State}
 use Rattle.canary_adopting.specs.declared.measured.SoFar.{SoFar}
 
 -- each of these rows is read as a measurement that may come next, and they lead from the first
@@ -46,3 +49,8 @@ pub record IsPageCounted (name : List ℕ) (runs : List RunRecord) (most : ℕ) 
   pub counted : AreCountedTo (metrics_of_runs runs) before.counts
       (page_after name most before.count t) after.counts
   pub count : after.count ≡ before.count + length (page_after name most before.count t)
+
+-- up to the place that is known stand just those that are counted
+abbrev pub IsNoted : State → List ℕ → SoFar → Type 0
+IsNoted s name so_far =
+    IsUsable s → (t : Tables) → Stores s t → IfSome so_far.place (IsMark s.now name so_far.count)

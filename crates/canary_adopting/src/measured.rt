@@ -5,18 +5,19 @@ ghost use Rattle.canary_stored.specs.Values.{measurement_of_row};
 ghost use Rattle.canary_judging.specs.Services.{metrics_of_runs};
 ghost use Rattle.canary_reads.specs.declared.fault.ReadFault.TheVariants.{Broken, Storage};
 ghost use Rattle.canary_reads.specs.Finds.{IsSame, FindsSuch};
+ghost use Rattle.canary_reads.specs.Places.{row_of};
 ghost use Rattle.canary_reads.specs.Reader.{IsKept};
 ghost use Rattle.canary_adopting.specs.Judges.{RefusesUnless};
 ghost use Rattle.canary_adopting.specs.Measured.{AreCountedTo, AreMeasured, IsPageCounted};
-ghost use Rattle.canary_adopting.specs.Measured.{measurements_of};
+ghost use Rattle.canary_adopting.specs.Measured.{IsNoted, measurements_of};
 ghost use Rattle.canary_adopting.specs.OfService.{HasSuch, IsTold};
 
 use crate::fault::read_fault;
 use crate::totals::sum;
 use canary_base::names::Name;
 use canary_once::record::RunRecord;
+use canary_reads::after::{self, Placed};
 use canary_reads::fault::ReadFault;
-use canary_reads::histories;
 use canary_reads::reader::Reader;
 use canary_recounting::counting::{count_next, none_counted};
 use canary_recounting::counts::Counts;
@@ -28,11 +29,13 @@ use std::alloc::Global;
 // The most measurements that are read at once.
 const PAGE: u32 = 32_768;
 
-/// How many measurements are counted, and what they come to.
+/// How many measurements are counted, what they come to, and a place up to which just these stand,
+/// if one is known.
 #[derive(Drop)]
 pub(crate) struct SoFar {
     pub counts: Counts,
     pub count: u64,
+    pub place: Option<i64>,
 }
 
 impl SoFar {
@@ -67,7 +70,11 @@ pub(crate) fn measured<Q: Reader>(
         (Q.shows conn.old) (Q.shows conn.new) result }
 {
     let counts = none_counted(alloc, runs)?;
-    let mut so_far = SoFar { counts, count: 0 };
+    let mut so_far = SoFar {
+        counts,
+        count: 0,
+        place: None,
+    };
     'pages: for _ in 0..u64::MAX {
         let before = so_far.count();
         so_far = count_page(conn, alloc, name, runs, so_far)?;
@@ -102,21 +109,32 @@ fn count_page<Q: Reader>(
     so_far: SoFar,
 ) -> Result<SoFar, ReadFault>
     requires ready { Q.IsReady conn.old }
+    requires noted { IsNoted (Q.shows conn.old) name.now so_far }
     ensures mode { Q.IsReady conn.new }
     ensures place { Q.place conn.new ≡ Q.place conn.old }
     ensures kept { IsKept (Q.below conn.old) (Q.below conn.new) }
     ensures same { IsSame (Q.shows conn.old) (Q.shows conn.new) }
+    ensures noted { IfOk result (IsNoted (Q.shows conn.new) name.now) }
     ensures found { FindsSuch (IsPageCounted name.now runs.now 32768 so_far)
         (Q.shows conn.old) (Q.shows conn.new) result }
     ensures broken { RefusesUnless (HasSuch (IsPageCounted name.now runs.now 32768 so_far))
         (Q.shows conn.old) (Q.shows conn.new) result }
     ensures more { IfOk result (λ after. so_far.count ≤ after.count) }
 {
-    let SoFar { counts, count } = so_far;
-    let rows = histories::measurements(conn, alloc, name, count, PAGE)?;
+    let SoFar {
+        counts,
+        count,
+        place,
+    } = so_far;
+    let rows = after::measurements(conn, alloc, name, count, place, PAGE)?;
+    let place = after::last_place(rows.as_slice());
     let count = sum(count, rows.as_slice().len() as u64)?;
     let counts = count_rows(alloc, runs, counts, rows.as_slice())?;
-    Ok(SoFar { counts, count })
+    Ok(SoFar {
+        counts,
+        count,
+        place,
+    })
 }
 
 // The counts with the measurements of these rows.
@@ -124,17 +142,17 @@ fn count_rows(
     alloc: Global,
     runs: &[RunRecord],
     first: Counts,
-    rows: &[MeasurementRow],
+    rows: &[Placed],
 ) -> Result<Counts, ReadFault>
     ensures counted { IfOk result
-        (λ last. AreCountedTo (metrics_of_runs runs.now) first rows.now last) }
+        (λ last. AreCountedTo (metrics_of_runs runs.now) first (map row_of rows.now) last) }
     ensures refused { result ≡ Err Broken → (last : _)
-        → ¬ AreCountedTo (metrics_of_runs runs.now) first rows.now last }
+        → ¬ AreCountedTo (metrics_of_runs runs.now) first (map row_of rows.now) last }
     ensures unasked { result ≢ Err Storage }
 {
     let mut counts = first;
-    for row in rows {
-        counts = count_row(alloc, runs, counts, row)?;
+    for placed in rows {
+        counts = count_row(alloc, runs, counts, &placed.row)?;
     }
     Ok(counts)
 }

@@ -12,7 +12,7 @@ use Rattle.canary_reads.specs.Finds.{TellsCells}
 use Rattle.canary_reads.proofs.Answer.{passes, shows}
 use Rattle.canary_reads.proofs.Asking.{all_found, page_found}
 use Rattle.canary_reads.proofs.Tests.{and_true, words_same, same_words}
-use Rattle.canary_reads.proofs.Texts.{history_text, history_tests, history_shown, history_asks, lines_text, lines_asks, measurements_text, measurements_tests, measurements_shown, measurements_asks, all_measurements_text, all_measurements_asks}
+use Rattle.canary_reads.proofs.Texts.{history_text, history_tests, history_shown, history_asks, lines_text, lines_asks, measurements_tests, measurements_shown, all_measurements_text, all_measurements_asks}
 use Rattle.canary_reads.proofs.TypedRows.{Tells, taken}
 
 tells_line : (service : List ℕ) (rest : Row)
@@ -43,7 +43,7 @@ dropped f zero xs = refl
 dropped f (suc from) [] = refl
 dropped f (suc from) (x ∷ xs) = dropped f from xs
 
-paged : {A B : Type 0} (f : A → B) (most from : ℕ) (xs : List A) → map f (take most (drop from xs)) ≡ take most (drop from (map f xs))
+pub paged : {A B : Type 0} (f : A → B) (most from : ℕ) (xs : List A) → map f (take most (drop from xs)) ≡ take most (drop from (map f xs))
 paged f most from xs = taken f most (drop from xs) ∙ ap (take most) (dropped f from xs)
 
 -- what is shown is a page of the lines of the service, in their order
@@ -56,17 +56,6 @@ line_page_rows old new t service from most params rows has given h =
     (record { old = old; new = new; layout = has.layout; schema = has.holds.schema; numbered = has.holds.numbered.1.1.1.1.1.1.0; stored = has.holds.history; shows_rows = subst (λ p. Shown lines_text p old new rows) given h }) in
     ap (map (λ row. Null ∷ Words service ∷ row)) p.1 ∙ paged (λ row. Null ∷ Words service ∷ row) most from p.0 ∙ ap (λ rows. take most (drop from rows)) p.2
     ∙ sym (paged history_cells most from (filter (is_line_of service) t.history))
-
--- what is shown is a page of the measurements of the service, in their order
-pub page_rows : (old new : State) (t : Tables) (service : List ℕ) (from most : ℕ) (params : Row) (rows : List Row) → Stores old t → params ≡ Words service ∷ whole from ∷ whole most ∷ [] → Shown measurements_text params old new rows
-    → TellsCells measurement_cells (λ row. Null ∷ Words service ∷ row) (take most (drop from (filter (is_measurement_of service) t.measurements))) rows
-page_rows old new t service from most params rows has given h =
-    let asked = Words service ∷ whole from ∷ whole most ∷ [] in
-    let p = page_found measurements_text measurement_at measurements_tests measurements_shown (col 0 2) (col 0 1) measurements_asks measurement_cells (is_measurement_of service) measurement_cells (λ row. Null ∷ Words service ∷ row) asked
-    (tells_measurement service (whole from ∷ whole most ∷ [])) t.measurements rows
-    (record { old = old; new = new; layout = has.layout; schema = has.holds.schema; numbered = has.holds.numbered.1.1.1.1.1.0; stored = has.holds.measurements; shows_rows = subst (λ p. Shown measurements_text p old new rows) given h }) in
-    ap (map (λ row. Null ∷ Words service ∷ row)) p.1 ∙ paged (λ row. Null ∷ Words service ∷ row) most from p.0 ∙ ap (λ rows. take most (drop from rows)) p.2
-    ∙ sym (paged measurement_cells most from (filter (is_measurement_of service) t.measurements))
 
 -- what is shown are all measurements of the service, in their order
 pub measurement_rows : (old new : State) (t : Tables) (service : List ℕ) (params : Row) (rows : List Row) → Stores old t → params ≡ Words service ∷ [] → Shown all_measurements_text params old new rows

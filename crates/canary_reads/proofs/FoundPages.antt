@@ -1,5 +1,5 @@
 -- What the queries for pages find.
-use Rattle.std.proofs.Common.{◌≡◌, ◌∷◌, ◌&&◌, [], ℕ, pos, List, filter, Bool, true, false, nat_le, nat_lt, codes, refl, sym, ap, ap₂, subst, ◌∙◌, arith}
+use Rattle.std.proofs.Common.{◌≡◌, ◌∷◌, ◌&&◌, [], ℕ, pos, List, filter, nat_le, nat_lt, codes, refl, ap, ap₂, subst, ◌∙◌, arith}
 use Rattle.std.specs.Ordering.{is_gt, is_le, int_cmp}
 use Rattle.std.proofs.lemmas.Int.{ints}
 use Rattle.std.proofs.lemmas.Bool.Decides.{nat_tests}

@@ -29,3 +29,5 @@ pub mod Sequence
 pub mod MetaRows
 mod FirstTexts
 mod FoundMetrics
+mod PlacedLists
+mod FoundPlaces

@@ -272,24 +272,11 @@ lines_asks made = record { names = _; is = refl; plain = (refl, refl); unlisted 
 lines_asks moved = record { names = _; is = refl; plain = (refl, refl); unlisted = refl }
 lines_asks packed = record { names = _; is = refl; plain = (refl, refl); unlisted = refl }
 
-abbrev pub measurements_text : List ℕ
-measurements_text = codes "SELECT run, metric, ordinal, taken, phase, outcome FROM measurement WHERE service = ?1 ORDER BY place LIMIT ?3 OFFSET ?2"
-
 abbrev pub measurements_tests : List Term
 measurements_tests = equals 2 0 ∷ []
 
 abbrev pub measurements_shown : List Term
 measurements_shown = col 1 3 ∷ col 1 4 ∷ col 1 5 ∷ col 1 6 ∷ col 1 7 ∷ col 1 8 ∷ []
-
-pub measurements_query : IsQuery measurements_text
-unfolding everything
-measurements_query = tt
-
-pub measurements_asks : Asks measurements_text measurement_at measurements_tests measurements_shown (by_column 0) (col 0 2) (col 0 1)
-unfolding understood everything
-measurements_asks made = record { names = _; is = refl; plain = (refl, refl); unlisted = refl }
-measurements_asks moved = record { names = _; is = refl; plain = (refl, refl); unlisted = refl }
-measurements_asks packed = record { names = _; is = refl; plain = (refl, refl); unlisted = refl }
 
 abbrev pub all_measurements_text : List ℕ
 all_measurements_text = codes "SELECT run, metric, ordinal, taken, phase, outcome FROM measurement WHERE service = ?1 ORDER BY place"

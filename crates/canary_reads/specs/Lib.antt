@@ -12,3 +12,4 @@ pub mod Meta
 pub mod Reader
 pub mod First
 pub mod Metrics
+pub mod Places

@@ -41,7 +41,7 @@ pub fn history<Q: Reader>(
 }
 
 // The number of rows to pass over, as SQLite takes it.
-fn offset_of(from: u64) -> Result<i64, ReadFault>
+pub(crate) fn offset_of(from: u64) -> Result<i64, ReadFault>
     ensures offset { IfOk result (λ offset. offset ≡ pos from) }
     ensures beyond { IfErr result (λ fault. (fault ≡ ReadFault.Storage) × (2 ^ 63 ≤ from)) }
 {
@@ -75,36 +75,6 @@ pub fn lines<Q: Reader>(
     let offset = offset_of(from)?;
     let rows = conn.ask(
         "SELECT moment, line FROM history WHERE service = ?1 ORDER BY place LIMIT ?3 OFFSET ?2",
-        params![service.as_str(), offset, most],
-    )?;
-    shown::all(alloc, service, rows.as_slice())
-}
-
-/// The measurements of the service's runs, in their order: from that one on, counted from 0, at
-/// most so many. `Memory` where there is not enough, `Storage` where the database fails, and where
-/// `from` is 2^63 or more, `Broken` where a measurement of these is none that a program can hold.
-pub fn measurements<Q: Reader>(
-    conn: &mut Q,
-    alloc: Global,
-    service: &Name,
-    from: u64,
-    most: u32,
-) -> Result<Listed<MeasurementRow>, ReadFault>
-    requires ready { Q.IsReady conn.old }
-    ensures mode { Q.IsReady conn.new }
-    ensures place { Q.place conn.new ≡ Q.place conn.old }
-    ensures kept { IsKept (Q.below conn.old) (Q.below conn.new) }
-    ensures same { IsSame (Q.shows conn.old) (Q.shows conn.new) }
-    ensures found { FindsRows
-        (λ t. take most (drop from (filter (is_measurement_of service.now) t.measurements)))
-        (Q.shows conn.old) (Q.shows conn.new) result }
-    ensures broken { BreaksUnless (λ t. AllByRecursion IsMeasurementWithin t.measurements)
-        (Q.shows conn.old) (Q.shows conn.new) result }
-{
-    let offset = offset_of(from)?;
-    let rows = conn.ask(
-        "SELECT run, metric, ordinal, taken, phase, outcome FROM measurement \
-         WHERE service = ?1 ORDER BY place LIMIT ?3 OFFSET ?2",
         params![service.as_str(), offset, most],
     )?;
     shown::all(alloc, service, rows.as_slice())

@@ -12,6 +12,7 @@
 //!     Ok(settled.unwrap_or(0))
 #![tactic(auto)]
 
+pub mod after;
 pub mod callers;
 mod columns;
 pub mod fault;

@@ -1,5 +1,6 @@
 mod Sought
 mod Settling
+mod Noted
 mod Booked
 mod Standing
 mod FoundRuns

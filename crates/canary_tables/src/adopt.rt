@@ -12,6 +12,7 @@ ghost use Rattle.canary_tables.specs.declared.fault.TableFault.TheVariants as fa
 
 use crate::book::TableBook;
 use crate::fault::{Left, TableFault};
+use crate::notes::Notes;
 use canary_adopting::judge::judge;
 use canary_adopting::progress::Progress;
 use canary_judging::laws as judging_laws;
@@ -132,7 +133,11 @@ impl<S: Alter + Drop> TableBook<S> {
             return Err((TableFault::Storage, Left::Connection(conn)));
         }
         match believe(&mut conn, alloc, is_whole, progress) {
-            Ok(()) => Ok(TableBook { alloc, conn }),
+            Ok(()) => Ok(TableBook {
+                alloc,
+                conn,
+                notes: Notes::none(),
+            }),
             Err(fault) => Err((fault, Left::Connection(conn))),
         }
     }

@@ -4,6 +4,7 @@ ghost use Rattle.canary_once.specs.declared.book.BookFault.TheVariants as book_f
 ghost use Rattle.canary_schema.specs.declared.fault.StoreFault.TheVariants as store_fault;
 ghost use Rattle.canary_tables.specs.Faults.{book_fault_of};
 
+use crate::notes::Notes;
 use crate::settle::settle;
 use crate::{found, found_plans, found_runs, found_services, pages};
 use canary_base::lists::Listed;
@@ -26,6 +27,7 @@ use std::marker::Model;
 pub struct TableBook<S: Alter> {
     pub(crate) alloc: Global,
     pub(crate) conn: Connection<S>,
+    pub(crate) notes: Notes,
 }
 
 impl<S: Alter> Model for TableBook<S> {
@@ -38,7 +40,7 @@ impl<S: Alter> Model for TableBook<S> {
 
     ghost view = { λ b. b.conn };
 
-    ghost invariant = { λ b. IsBook S.Store b.conn };
+    ghost invariant = { λ b. IsBook S.Store b.conn b.notes };
 }
 
 pub(crate) fn book_fault(fault: StoreFault) -> BookFault
@@ -94,12 +96,20 @@ impl<S: Alter> Book for TableBook<S> {
         from: u64,
         most: u32,
     ) -> Result<Listed<Recorded>, BookFault> {
-        pages::measurements(&mut self.conn, self.alloc, name, from, most).map_err(book_fault)
+        let place = self.notes.place(name, from);
+        match pages::measurements(&mut self.conn, self.alloc, name, from, place, most) {
+            Ok(page) => {
+                self.notes = self.notes.with_mark(page.mark);
+                Ok(page.recorded)
+            }
+            Err(fault) => Err(book_fault(fault)),
+        }
     }
 
     fn commit(&mut self, settlement: Settlement) -> Result<(), BookFault> {
         laws::settlements();
         let _ = settlement.number.get();
+        self.notes = Notes::none();
         match settle(&mut self.conn, self.alloc, &settlement) {
             Ok(()) => Ok(()),
             Err(fault) => Err(book_fault(fault)),

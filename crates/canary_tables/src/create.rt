@@ -9,6 +9,7 @@ ghost use Rattle.canary_tables.specs.declared.fault.TableFault.TheVariants as fa
 
 use crate::book::TableBook;
 use crate::fault::TableFault;
+use crate::notes::Notes;
 use canary_schema::known::is_empty;
 use canary_schema::{create, laws as schema_laws};
 use canary_stored::laws;
@@ -57,7 +58,11 @@ impl<S: Alter> TableBook<S> {
             return Err((TableFault::OtherSchema, conn));
         }
         match create::create(&mut conn) {
-            Ok(()) => Ok(TableBook { alloc, conn }),
+            Ok(()) => Ok(TableBook {
+                alloc,
+                conn,
+                notes: Notes::none(),
+            }),
             Err(fault) => Err((fault.into(), conn)),
         }
     }

@@ -25,6 +25,7 @@ mod found_plans;
 mod found_runs;
 mod found_services;
 mod names;
+mod notes;
 pub mod open;
 mod pages;
 mod settle;

@@ -1,5 +1,6 @@
 //! Lists of what is kept of a service, as the tables tell them.
-ghost use Rattle.std.specs.Prelude.{◌≡◌, ◌≢◌, ◌∷◌, ◌++◌, [], false, List, Some, None, Err, map, IfOk};
+ghost use Rattle.std.specs.Prelude.{◌≡◌, ◌≢◌, ◌∷◌, ◌++◌, ℕ, [], false, List, Some, None, Err, map, IfOk, IfSome};
+ghost use Rattle.sqlite.specs.Effect.{Database};
 ghost use Rattle.sqlite.specs.Held.{state};
 ghost use Rattle.canary_plan.specs.declared.line.Line.{Line};
 ghost use Rattle.canary_plan.specs.Lines.{line_at};
@@ -7,15 +8,20 @@ ghost use Rattle.canary_release.specs.declared.effect.Recorded.{Recorded};
 ghost use Rattle.canary_once.specs.Records.{history_of, measurements_of};
 ghost use Rattle.canary_schema.specs.Stores.{IsUsable};
 ghost use Rattle.canary_reads.specs.Finds.{IsSame};
+ghost use Rattle.canary_reads.specs.Places.{IsMark, IsPlacedPage, row_of};
+ghost use Rattle.canary_rows.specs.Tables.{Tables};
 ghost use Rattle.canary_stored.specs.Values.{line_of_row, measurement_of_row};
 ghost use Rattle.canary_tables.specs.Desk.{IsDesk, contents_in};
+ghost use Rattle.canary_tables.specs.Notes.{IsMarked};
 
 use crate::found::store_fault;
+use crate::notes::Mark;
 use canary_base::error::Memory;
 use canary_base::lists::Listed;
 use canary_base::moments::Moment;
 use canary_base::names::Name;
 use canary_plan::line::{Line, LineEvent};
+use canary_reads::after::{self, Placed};
 use canary_reads::histories;
 use canary_release::effect::Recorded;
 use canary_rows::rows::{HistoryRow, MeasurementRow};
@@ -78,9 +84,17 @@ fn push_line(lines: Listed<Line>, moment: Moment, event: LineEvent) -> Result<Li
     Ok(lines)
 }
 
+/// A page of a service's measurements, and how far they are read by it; no mark where it is empty.
+#[derive(Drop)]
+pub(crate) struct Page {
+    pub recorded: Listed<Recorded>,
+    pub mark: Option<Mark>,
+}
+
 /// A page of a service's measurements, of all its runs in the order in which they were recorded:
 /// those from a place on, the first having place 0, and at most so many; empty where there is no
-/// such service.
+/// such service. `noted` is a place in the table up to which just `from` of them stand, if one is
+/// known.
 ///
 /// # Errors
 /// `Memory` where an allocation was refused, `Storage` where the database fails or holds what no
@@ -90,29 +104,51 @@ pub(crate) fn measurements<S: Alter>(
     alloc: Global,
     name: &Name,
     from: u64,
+    noted: Option<i64>,
     most: u32,
-) -> Result<Listed<Recorded>, StoreFault>
+) -> Result<Page, StoreFault>
     requires autocommit { conn.old.in_transaction ≡ false }
     requires desk { IsUsable (state S.Store conn.old) → IsDesk (state S.Store conn.old) }
+    requires noted { IsUsable (state S.Store conn.old)
+        → IfSome noted (IsMark (state S.Store conn.old).now name.now from) }
     ensures mode { conn.new.in_transaction ≡ false }
     ensures same { IsSame (state S.Store conn.old) (state S.Store conn.new) }
-    ensures found { IsUsable (state S.Store conn.new) → IfOk result (λ page.
-        page ≡ measurements_of (contents_in (state S.Store conn.old)) name.now from most) }
+    ensures found { IsUsable (state S.Store conn.new) → IfOk result (λ page. page.recorded
+        ≡ measurements_of (contents_in (state S.Store conn.old)) name.now from most) }
+    ensures mark { IsUsable (state S.Store conn.new)
+        → IfOk result (λ page. IfSome page.mark (IsMarked (state S.Store conn.old).now)) }
 {
     laws::measurements_found();
-    let rows = histories::measurements(conn, alloc, name, from, most)?;
-    measurements_of(alloc, rows.as_slice())
+    let rows = after::measurements(conn, alloc, name, from, noted, most)?;
+    let mark = mark_of(name, from, rows.as_slice());
+    let recorded = measurements_of(alloc, rows.as_slice())?;
+    Ok(Page { recorded, mark })
+}
+
+// The mark at the end of a page of these rows, the first of which has that index.
+fn mark_of(service: &Name, from: u64, rows: &[Placed]) -> Option<Mark>
+    ensures { (db : Database) (t : Tables) (most : ℕ)
+        → IsPlacedPage db t service.now from most rows.now → IfSome result (IsMarked db) }
+{
+    let place = after::last_place(rows)?;
+    let index = from.checked_add(rows.len() as u64)?;
+    Some(Mark {
+        service: *service,
+        index,
+        place,
+    })
 }
 
 // The measurements of rows, in their order. `Storage` only where one stands for none.
-fn measurements_of(alloc: Global, rows: &[MeasurementRow]) -> Result<Listed<Recorded>, StoreFault>
-    ensures found { IfOk result (λ page. map Some page ≡ map measurement_of_row rows.now) }
+fn measurements_of(alloc: Global, rows: &[Placed]) -> Result<Listed<Recorded>, StoreFault>
+    ensures found { IfOk result (λ page.
+        map Some page ≡ map measurement_of_row (map row_of rows.now)) }
     ensures storage { result ≡ Err StoreFault.Storage
-        → (page : List Recorded) → map Some page ≢ map measurement_of_row rows.now }
+        → (page : List Recorded) → map Some page ≢ map measurement_of_row (map row_of rows.now) }
 {
     let mut page = Listed::of(Vec::new(alloc));
-    for row in rows {
-        page.push(measurement_of(alloc, row)?)?;
+    for placed in rows {
+        page.push(measurement_of(alloc, &placed.row)?)?;
     }
     Ok(page)
 }

@@ -7,13 +7,14 @@ use Rattle.canary_adopting.proofs.Standing.{goes_first, goes_more, same_then, st
 use Rattle.canary_adopting.proofs.measured.measured.Goals as goal
 
 pub pages-init : goal.pages-init
-pages-init g c = (goes_first g.Q.Reader.IsReady g.Q.Reader.place g.Q.Reader.below c.args.conn.now c.requires.ready, none_so_far c.args.name.now c.args.runs.now _ (g.Q.Reader.shows c.args.conn.now) (search rules) (search rules))
+pages-init g c = (goes_first g.Q.Reader.IsReady g.Q.Reader.place g.Q.Reader.below c.args.conn.now c.requires.ready, none_so_far c.args.name.now c.args.runs.now _ (g.Q.Reader.shows c.args.conn.now) (search rules) (search rules), λ usable t has. tt)
 
 pub pages-preserved : goal.pages-preserved
 pages-preserved g c = (
   goes_more g.Q.Reader.IsReady g.Q.Reader.place g.Q.Reader.below _ _ _ c.pages.invariant.0 c.count_page.ensures.mode c.count_page.ensures.place c.count_page.ensures.kept,
   pages_more c.args.name.now c.args.runs.now 32768 c.pages.so_far c.in_ok-so_far.so_far (g.Q.Reader.shows c.args.conn.now) (g.Q.Reader.shows c.pages.conn) (g.Q.Reader.shows c.count_page.new.conn) c.pages.invariant.1 c.count_page.ensures.same
       (λ usable t has. c.in_ok-so_far.ensures.found usable t has),
+  c.in_ok-so_far.ensures.noted,
 )
 
 pub returns-in_err-so_far-clause-same : goal.returns-in_err-so_far-clause-same

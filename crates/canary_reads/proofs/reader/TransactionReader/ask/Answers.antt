@@ -1,5 +1,4 @@
-use Rattle.std.proofs.Common.{subst, sym, rules}
-use Rattle.std.proofs.lemmas.Result.{IfOk-weaker}
+use Rattle.std.proofs.Common.{subst, sym}
 use Rattle.sqlite.specs.Held.{state}
 use Rattle.sqlite.specs.Effect.{Database, IsDatabase}
 use Rattle.canary_reads.specs.Reader.{seen_inside}

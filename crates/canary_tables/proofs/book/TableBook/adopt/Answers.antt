@@ -19,7 +19,11 @@ returns-then-not-is_desk-2-clause-left g c = left_anew (state g.S.Store c.args.c
 
 pub invariant_of-result : goal.invariant_of-result
 invariant_of-result g c =
-    record { autocommit = search rules; desk = is_desk c.one_reading.ensures (state g.S.Store c.in-Ok.opened.0) (state g.S.Store c.believe.new.conn) c.believe.ensures.same c.in-Ok-believe.ensures.believed }
+    record {
+      autocommit = search rules;
+      desk = is_desk c.one_reading.ensures (state g.S.Store c.in-Ok.opened.0) (state g.S.Store c.believe.new.conn) c.believe.ensures.same c.in-Ok-believe.ensures.believed;
+      noted = search rules;
+    }
 
 pub returns-in-Ok-believe-clause-adopted : goal.returns-in-Ok-believe-clause-adopted
 returns-in-Ok-believe-clause-adopted g c =

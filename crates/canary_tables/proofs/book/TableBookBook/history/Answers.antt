@@ -9,4 +9,4 @@ use Rattle.canary_tables.proofs.book.TableBookBook.history.Goals as goal
 pub returns : goal.returns
 returns g c =
     subst (λ h. Finds (λ k. history_of k c.args.name.now) (book_state g.S.Store h) (book_state g.S.Store c.history.new.conn) c.map_err.result) c.self.view_is
-    (finds g.S.Store (λ k. history_of k c.args.name.now) c.self.inside.conn c.history.new.conn c.map_err.result c.self.invariant c.history.ensures.same (λ usable. search rules))
+    (finds g.S.Store (λ k. history_of k c.args.name.now) c.self.inside.conn c.history.new.conn c.self.inside.notes c.map_err.result c.self.invariant c.history.ensures.same (λ usable. search rules))

@@ -9,4 +9,4 @@ use Rattle.canary_tables.proofs.book.TableBookBook.receipt.Goals as goal
 pub returns : goal.returns
 returns g c =
     subst (λ h. Finds (λ k. receipt_at k c.args.caller.now c.args.number) (book_state g.S.Store h) (book_state g.S.Store c.receipt.new.conn) c.map_err.result) c.self.view_is
-    (finds g.S.Store (λ k. receipt_at k c.args.caller.now c.args.number) c.self.inside.conn c.receipt.new.conn c.map_err.result c.self.invariant c.receipt.ensures.same (λ usable. search rules))
+    (finds g.S.Store (λ k. receipt_at k c.args.caller.now c.args.number) c.self.inside.conn c.receipt.new.conn c.self.inside.notes c.map_err.result c.self.invariant c.receipt.ensures.same (λ usable. search rules))

@@ -9,4 +9,4 @@ use Rattle.canary_tables.proofs.book.TableBookBook.settled.Goals as goal
 pub returns : goal.returns
 returns g c =
     subst (λ h. Finds (λ k. count_of k c.args.caller.now) (book_state g.S.Store h) (book_state g.S.Store c.count.new.conn) c.map_err.result) c.self.view_is
-    (finds g.S.Store (λ k. count_of k c.args.caller.now) c.self.inside.conn c.count.new.conn c.map_err.result c.self.invariant c.count.ensures.same (λ usable. search rules))
+    (finds g.S.Store (λ k. count_of k c.args.caller.now) c.self.inside.conn c.count.new.conn c.self.inside.notes c.map_err.result c.self.invariant c.count.ensures.same (λ usable. search rules))

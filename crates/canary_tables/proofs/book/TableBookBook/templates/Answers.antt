@@ -9,4 +9,4 @@ use Rattle.canary_tables.proofs.book.TableBookBook.templates.Goals as goal
 pub returns : goal.returns
 returns g c =
     subst (λ h. Finds (λ k. templates_named k c.args.names.now) (book_state g.S.Store h) (book_state g.S.Store c.templates.new.conn) c.map_err.result) c.self.view_is
-    (finds g.S.Store (λ k. templates_named k c.args.names.now) c.self.inside.conn c.templates.new.conn c.map_err.result c.self.invariant c.templates.ensures.same (λ usable. search rules))
+    (finds g.S.Store (λ k. templates_named k c.args.names.now) c.self.inside.conn c.templates.new.conn c.self.inside.notes c.map_err.result c.self.invariant c.templates.ensures.same (λ usable. search rules))
