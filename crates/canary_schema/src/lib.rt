@@ -9,7 +9,11 @@
 //! In use (canary_tables, src/create.rt):
 //!
 //!     match create::create(&mut conn) {
-//!         Ok(()) => Ok(TableBook { alloc, conn }),
+//!         Ok(()) => Ok(TableBook {
+//!             alloc,
+//!             conn,
+//!             notes: Notes::none(),
+//!         }),
 //!         Err(fault) => Err((fault.into(), conn)),
 //!     }
 #![tactic(auto)]
