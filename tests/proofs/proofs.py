@@ -23,6 +23,24 @@ def load_rtlib():
     return made
 
 
+def share_stamps(rtlib):
+    """Makes the stamp of each crate once for each question, not once for each way down to it."""
+    make, known = rtlib.Crate.stamp, threading.local()
+
+    def stamp(crate):
+        if (found := getattr(known, "stamps", None)) is not None:
+            if crate.folder not in found:
+                found[crate.folder] = make(crate)
+            return found[crate.folder]
+        known.stamps = {}
+        try:
+            return make(crate)
+        finally:
+            known.stamps = None
+
+    rtlib.Crate.stamp = stamp
+
+
 def link(source, target):
     """Gives `target` the files of the folder `source`, by hard links.
 
@@ -134,6 +152,7 @@ def main():
     words.add_argument("crates", nargs="*", metavar="CRATE", help="these, and what is below")
     root, given = sys.argv[1], words.parse_intermixed_args(sys.argv[2:])
     rtlib = load_rtlib()
+    share_stamps(rtlib)
     os.chdir(root)
     rtlib.guarded()
     rtlib.Crate.may_have_bugs = rtlib.Crate.may_be_empty = rtlib.Crate.may_call_c = True
