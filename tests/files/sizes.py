@@ -215,9 +215,9 @@ def exported(name, count):
 
 
 def try_long_exports(program, file):
-    """Exports of several pages, with those of another service between; one ends with a page. Where
-    the rows have their places does not count: near 0, far from it, or below it."""
-    row, counts = "a long export", {"web": 2 * PAGE, "api": PAGE + 1}
+    """Exports of a page, and of a measurement more, with those of another service between. Where the
+    rows have their places does not count: near 0, far from it, or below it."""
+    row, counts = "a long export", {"web": PAGE, "api": PAGE + 1}
     template = put("ops", 1, command("template errs m,interval=0"))
     begin = numbered((name, text) for text in BEGIN for name in counts)[1:]
     tell(program, file, row, [(template, answer("[errs 1]")), *begin])
@@ -226,11 +226,11 @@ def try_long_exports(program, file):
             "VALUES (?, ?, ?, ?, ?, ?, ?)", by_turns(counts)),
            ("UPDATE tally SET counted = ?, passes = ?, last = ? WHERE service = ?",
             [(count, count, B, name) for name, count in counts.items()]))
-    for moved_by in (0, 10_000_000, -20_000_000):
+    for name, moved_by in (("web", 0), ("api", 0), ("api", 10_000_000), ("api", -20_000_000)):
         change(file, ("UPDATE measurement SET place = place + ?", [(moved_by,)]))
-        for name, count in counts.items():
-            done = run(program, ["export", "--db", file, "--caller", "agent", name])
-            want(f"{row} of {name}, moved by {moved_by}", done, exported(name, count).encode())
+        done = run(program, ["export", "--db", file, "--caller", "agent", name])
+        wanted = exported(name, counts[name]).encode()
+        want(f"{row} of {name}, moved by {moved_by}", done, wanted)
 
 
 def main():
