@@ -112,7 +112,8 @@ fn open_run<S: Alter>(
 fn number_of(phase: Phase) -> Result<u32, StoreFault>
     ensures number { IfOk result (λ number. number ≡ phase_column phase) }
     ensures read { OnOk result (phase_of_number (phase_column phase) ≡ Some phase) }
-    ensures pending { IfErr result (λ fault. (fault ≡ StoreFault.Storage) × (phase ≡ Phase.Pending)) }
+    ensures pending { IfErr result (λ fault. (fault ≡ StoreFault.Storage)
+        × (phase ≡ Phase.Pending)) }
 {
     match phase_number(phase) {
         Some(number) => Ok(number),

@@ -132,7 +132,8 @@ fn checked(alloc: Global, made: &ServiceSpec, known: &Templates) -> Result<Optio
 // Its strategy. `Storage` only where these templates refuse it.
 fn accepted(alloc: Global, made: &ServiceSpec, known: &Templates) -> Result<Strategy, StoreFault>
     ensures found { IfOk result (λ strategy. strategy ≡ strategy_of made.now) }
-    ensures storage { result ≡ Err StoreFault.Storage → strategy_refusal (get known.now) made.now ≢ None }
+    ensures storage { result ≡ Err StoreFault.Storage
+        → strategy_refusal (get known.now) made.now ≢ None }
 {
     checked(alloc, made, known)?.ok_or(StoreFault::Storage)
 }
