@@ -6,9 +6,9 @@ pub const STYLE: &str = concat!(
     "<style>:root{color-scheme:light dark;--bg:#f6f7f9;--card:#fff;--ink:#1d2430;--soft:#586372;",
     "--line:#d9dee6;--ok:#1a7f4b;--bad:#c2332f;--hold:#9a5b00;--go:#2462c2;--err:#7a4fb5;",
     "--rest:#c7cfda}",
-    "@media(prefers-color-scheme:dark){:root{--bg:#12161c;--card:#1b212a;--ink:#e6eaf0;",
-    "--soft:#9aa6b5;--line:#323b47;--ok:#4cc38a;--bad:#ff7b72;--hold:#e3a63a;--go:#6ea8fe;",
-    "--err:#b794f4;--rest:#465162}}",
+    "@media screen and (prefers-color-scheme:dark){:root{--bg:#12161c;--card:#1b212a;",
+    "--ink:#e6eaf0;--soft:#9aa6b5;--line:#323b47;--ok:#4cc38a;--bad:#ff7b72;--hold:#e3a63a;",
+    "--go:#6ea8fe;--err:#b794f4;--rest:#465162}}",
     "*{box-sizing:border-box}",
     "body{margin:0;background:var(--bg);color:var(--ink);",
     "font:15px/1.45 system-ui,\"DejaVu Sans\",sans-serif}",
@@ -80,6 +80,7 @@ pub const STYLE: &str = concat!(
     "@media(max-width:640px){main{padding:10px}article{padding:10px}.weight{margin-left:0}",
     ".done{display:block;overflow-x:auto}.done th,.done td{padding:6px}.done .bar{display:none}",
     ".say{margin-left:0}}",
-    "@media print{:root{--bg:#fff}article,.metric{break-inside:avoid}.say{display:none}}",
+    "@media print{:root{color-scheme:light;--bg:#fff}article,.metric{break-inside:avoid}",
+    ".say{display:none}}",
     "</style></head>"
 );
