@@ -21,5 +21,5 @@ pub mod import;
 pub mod laws;
 mod reading;
 mod records;
-mod row;
+pub mod row;
 mod writing;

@@ -27,34 +27,39 @@ const FIELDS: usize = 9;
 // The greatest ordinal, and the greatest number of a run.
 const LAST: u32 = 1_000_000_000;
 
-// Why a row is refused before the register is asked.
+/// Why a row is refused before the register is asked.
 #[derive(Clone, Copy, Debug, PartialEq, Eq)]
-pub(crate) enum Refusal {
-    // It has not nine fields, or a field behind the number does not say what it is to say.
+pub enum Refusal {
+    /// It has not nine fields, or a field behind the number does not say what it is to say.
     Unreadable,
-    // The caller is no name.
+    /// The caller is an invalid name.
     BadName,
-    // The number is none of a request.
+    /// The number is an invalid number of a request.
     BadNumber,
 }
 
-// The request that a row is.
+/// The request that a row is.
 #[derive(Drop)]
-pub(crate) struct Row {
-    pub(crate) caller: Name,
-    pub(crate) number: Number,
-    pub(crate) report: Report,
+pub struct Row {
+    /// The caller.
+    pub caller: Name,
+    /// The number.
+    pub number: Number,
+    /// The report.
+    pub report: Report,
 }
 
-// Why no row was read.
+/// Why no row was read.
 #[derive(Clone, Copy, Debug, PartialEq, Eq)]
-pub(crate) enum RowFault {
+pub enum RowFault {
+    /// It is refused.
     Refused(Refusal),
+    /// An allocation was refused.
     Memory,
 }
 
-// The request that a row is, or the first reason to refuse it.
-pub(crate) fn row_of(alloc: Global, fields: &ByteRecord) -> Result<Row, RowFault>
+/// The request that a row is, or the first reason to refuse it.
+pub fn row_of(alloc: Global, fields: &ByteRecord) -> Result<Row, RowFault>
     ensures { IsRowRead (row_of (fields_of fields.now)) result }
 {
     if fields.len() != FIELDS {
@@ -214,9 +219,9 @@ fn text_of(bytes: &[u8]) -> Option<&str>
     }
 }
 
-// Whether a record is the first one of a file.
+/// Whether a record is the first one of a file.
 #[tactic(auto, unfolding(crate::specs::Rows::is_header))]
-pub(crate) fn is_header(fields: &ByteRecord) -> bool
+pub fn is_header(fields: &ByteRecord) -> bool
     ensures { result ≡ is_header (fields_of fields.now) }
 {
     fields.len() == FIELDS && says_who(fields) && says_where(fields) && says_what(fields)

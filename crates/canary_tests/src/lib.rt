@@ -1,7 +1,8 @@
-//! The tests of the crates up to the register (`canary_once`): moments that fall, copies and other
-//! calls that no program makes, calls to which memory is refused, and printed texts. Worked rows
-//! stand in the `proofs/Rows` of the crates and in tests/stories, and what a contract says is not
-//! tested again. Tests stand in crates of their own, so that no other crate is proved twice.
+//! The tests of the crates up to the register (`canary_once`), and of canary_records and
+//! canary_journal: moments that fall, copies and other calls that no program makes, calls to which
+//! memory is refused, printed texts, and files of journals. Worked rows stand in the `proofs/Rows`
+//! of the crates and in tests/stories, and what a contract says is not tested again. Tests stand in
+//! crates of their own, so that no other crate is proved twice.
 #![tactic(auto)]
 
 #[cfg(test)]
@@ -13,7 +14,11 @@ mod growths_kept;
 #[cfg(test)]
 mod halves;
 #[cfg(test)]
+mod journals;
+#[cfg(test)]
 mod once;
+#[cfg(test)]
+mod records;
 #[cfg(test)]
 mod sending;
 #[cfg(test)]

@@ -1,0 +1,2 @@
+mod KeepLemmas
+mod SettleLemmas

@@ -1,0 +1,36 @@
+-- A journal on a device.
+use Rattle.std.specs.Prelude.{◌≡◌, ◌⊎◌, ℕ, List, [], Some}
+use Rattle.canary_records.specs.declared.device.DeviceFault.{DeviceFault}
+use Rattle.canary_records.specs.declared.device.DeviceFault.TheVariants as device
+use Rattle.canary_records.specs.Texts.{texts_of}
+use Rattle.canary_records.specs.Stores.{held, IsSettled}
+use Rattle.canary_journal.specs.declared.entry.Entry.{Entry}
+use Rattle.canary_journal.specs.Journals.{JournalValue, with_entry}
+use Rattle.canary_journal.specs.Readings.{journal_of, journal_in}
+use Rattle.canary_sending.specs.declared.kept.KeepFault.{KeepFault}
+use Rattle.canary_sending.specs.declared.kept.KeepFault.TheVariants as keep
+use Rattle.canary_sending.specs.declared.kept.KeptJournal.{KeptJournal}
+use Rattle.canary_sending.specs.declared.kept.Opened.{Opened}
+use Rattle.canary_sending.specs.declared.kept.Opened.TheVariants.{New, Begun}
+
+abbrev pub keep_fault : DeviceFault → KeepFault
+keep_fault device.Memory = keep.Memory
+keep_fault device.Failed = keep.Failed
+keep_fault device.Full = keep.Full
+
+-- the device is at rest, all of it on the disk, and its lines are the journal
+pub record IsKept {D : Type 0} (seen : D → List ℕ) (may_leave : D → List ℕ → Type 0) (kept : KeptJournal D) : Type 0 where
+  pub settled : IsSettled seen may_leave kept.store.device kept.store.gate
+  pub journal : journal_of (held (seen kept.store.device)) ≡ Some kept.journal
+
+-- what a device is opened as: nothing has begun there, or it has this journal
+abbrev pub IsOpened : {D : Type 0} → (D → List ℕ) → (D → List ℕ → Type 0) → List ℕ → Opened D → Type 0
+IsOpened seen may_leave file (New store) =
+    IsSettled seen may_leave store.device store.gate
+    × (held (seen store.device) ≡ []) × (texts_of file ≡ Some [])
+IsOpened seen may_leave file (Begun kept) =
+    IsKept seen may_leave kept × (journal_in file ≡ Some kept.journal)
+
+-- the file is this journal, with one entry more or without it
+abbrev pub IsWithOrWithout : JournalValue → Entry → List ℕ → Type 0
+IsWithOrWithout j e file = (journal_in file ≡ Some j) ⊎ (journal_in file ≡ Some (with_entry j e))

@@ -1,0 +1,178 @@
+//! Sending what is pending until it is settled.
+ghost use Rattle.std.specs.Prelude.{◌≡◌, ◌⊎◌, List, ℕ, Some, None, option_map, option_copied};
+ghost use Rattle.std.specs.Prelude.{IfOk, OnOk, OnErr, IsErrOf, IsTrue, is_some, true};
+ghost use Rattle.canary_records.specs.Devices.{LeavesOnly};
+ghost use Rattle.canary_journal.specs.declared.entry.Asked.{Asked};
+ghost use Rattle.canary_journal.specs.declared.entry.Reply.{Reply};
+ghost use Rattle.canary_journal.specs.Journals.{number_of, settles};
+ghost use Rattle.canary_journal.specs.Meanings.{meaning_of};
+ghost use Rattle.canary_sending.specs.Keeping.{IsKept};
+ghost use Rattle.canary_sending.specs.Sending.{body_of, message_of, IsAskedBy, IsSettledBy};
+ghost use Rattle.canary_sending.specs.Sending.{IsSettledOrPending, IsFrom, IsOf, is_replaced};
+
+use crate::kept::{KeepFault, KeptJournal};
+use crate::network::{Heard, Network, Why, request};
+use canary_journal::entry::{Entry, Reply};
+use canary_journal::journal::Journal;
+use canary_journal::meaning::{Meaning, meaning_of};
+use canary_records::device::Device;
+use std::alloc::Global;
+
+/// Why what is pending is not settled.
+#[derive(Clone, Copy, Debug, PartialEq, Eq)]
+pub enum Unsettled {
+    /// No answer came in as many tries as were asked for: it may have acted or not.
+    Pending,
+    /// The desk settled another command under its number.
+    Reused,
+    /// The next number of this caller is this one, by the desk.
+    Ahead(u32),
+    /// The desk cannot read it.
+    Unread,
+    /// The journal failed.
+    Kept(KeepFault),
+    /// An allocation was refused.
+    Memory,
+}
+
+/// Sends what is pending until it is settled, so often at most, and keeps its reply.
+///
+/// # Errors
+/// `Pending` if nothing is pending, or if no answer came; `Reused`, `Ahead` and `Unread` by what the
+/// desk answered; `Kept` if the journal failed; `Memory`. The journal is then as before.
+pub fn settle<N: Network, D: Device>(
+    alloc: Global,
+    network: &mut N,
+    kept: &mut KeptJournal<D>,
+    tries: u32,
+) -> Result<(), Unsettled>
+    requires { IsKept D.seen D.may_leave kept.old }
+    ensures kept { OnOk result (IsKept D.seen D.may_leave kept.new) }
+    ensures journal { OnOk result ((reply : Reply)
+        × IsSettledBy (N.was_told network.new) kept.old.journal reply
+        × (kept.new.journal ≡ settles kept.old.journal reply)) }
+    ensures err { OnErr result (kept.new.journal ≡ kept.old.journal) }
+    ensures sent { (m : List ℕ) → N.was_sent network.new m
+        → N.was_sent network.old m ⊎ IsAskedBy kept.old.journal m }
+    ensures any_moment { LeavesOnly D.moment D.left_since
+        kept.old.store.device kept.new.store.device
+        (IsSettledOrPending (N.was_told network.new) kept.old.journal) }
+{
+    let reply = reply_to(alloc, network, &kept.journal, tries)?;
+    let number = kept.journal.number();
+    match kept.keep(alloc, Entry::Settled { number, reply }) {
+        Ok(()) => Ok(()),
+        Err(fault) => Err(Unsettled::Kept(fault)),
+    }
+}
+
+// The reply that settles what is pending.
+fn reply_to<N: Network>(
+    alloc: Global,
+    network: &mut N,
+    journal: &Journal,
+    tries: u32,
+) -> Result<Reply, Unsettled>
+    ensures settled { IfOk result (IsSettledBy (N.was_told network.new) journal.now) }
+    ensures sent { (m : List ℕ) → N.was_sent network.new m
+        → N.was_sent network.old m ⊎ IsAskedBy journal.now m }
+{
+    for tried in 0..tries {
+        match try_each(alloc, network, journal)? {
+            Tried::Settled(reply) => return Ok(reply),
+            Tried::Reused => return Err(Unsettled::Reused),
+            Tried::Again(why) if tried + 1 < tries => network.pause(tried + 1, why),
+            Tried::Again(_) => {}
+        }
+    }
+    Err(Unsettled::Pending)
+}
+
+// What came of one try.
+#[derive(Drop)]
+enum Tried {
+    Settled(Reply),
+    Reused,
+    Again(Why),
+}
+
+// Sends what was asked last, and if another command was settled under its number, what was asked
+// first, of which the reply then comes late.
+fn try_each<N: Network>(
+    alloc: Global,
+    network: &mut N,
+    journal: &Journal,
+) -> Result<Tried, Unsettled>
+    ensures settled { IfOk result (IsFrom (N.was_told network.new) journal.now) }
+    ensures sent { (m : List ℕ) → N.was_sent network.new m
+        → N.was_sent network.old m ⊎ IsAskedBy journal.now m }
+{
+    match try_once(alloc, network, journal, false)? {
+        Tried::Reused if was_replaced(journal) => try_once(alloc, network, journal, true),
+        tried => Ok(tried),
+    }
+}
+
+fn try_once<N: Network>(
+    alloc: Global,
+    network: &mut N,
+    journal: &Journal,
+    is_late: bool,
+) -> Result<Tried, Unsettled>
+    requires { is_late ≡ true → is_replaced journal.now ≡ true }
+    ensures settled { IfOk result (IsFrom (N.was_told network.new) journal.now) }
+    ensures sent { (m : List ℕ) → N.was_sent network.new m
+        → N.was_sent network.old m ⊎ IsAskedBy journal.now m }
+{
+    let Some(body) = body_of(journal, is_late) else {
+        return Err(Unsettled::Pending);
+    };
+    let Ok(message) = request(alloc, journal.caller(), journal.number(), body) else {
+        return Err(Unsettled::Memory);
+    };
+    match network.exchange(alloc, message.as_str()) {
+        Ok(heard) => what_came(alloc, heard, is_late),
+        Err(why) => Ok(Tried::Again(why)),
+    }
+}
+
+// The body that is sent: what was asked in the place of the wish, unless that came too late.
+fn body_of(journal: &Journal, is_late: bool) -> Option<&str>
+    ensures { option_map (λ b. b.now) result
+        ≡ option_map (λ a. body_of a is_late) journal.now.pending }
+{
+    let asked = journal.pending()?;
+    match &asked.instead {
+        Some(instead) if !is_late => Some(instead.as_str()),
+        _ => Some(asked.wish.body.as_str()),
+    }
+}
+
+fn what_came(alloc: Global, heard: Heard, is_late: bool) -> Result<Tried, Unsettled>
+    ensures { IfOk result (λ tried. IsOf heard is_late tried) }
+{
+    let Ok(meaning) = meaning_of(alloc, heard.status, heard.body.as_str()) else {
+        return Err(Unsettled::Memory);
+    };
+    match meaning {
+        Meaning::Settled => Ok(Tried::Settled(Reply {
+            status: heard.status,
+            body: heard.body,
+            is_late,
+        })),
+        Meaning::Reused => Ok(Tried::Reused),
+        Meaning::Unavailable => Ok(Tried::Again(Why::Unavailable)),
+        Meaning::Foreign => Ok(Tried::Again(Why::Foreign)),
+        Meaning::Ahead(expected) => Err(Unsettled::Ahead(expected)),
+        Meaning::Unread => Err(Unsettled::Unread),
+    }
+}
+
+fn was_replaced(journal: &Journal) -> bool
+    ensures { result ≡ is_replaced journal.now }
+{
+    match journal.pending() {
+        Some(asked) => asked.instead.is_some(),
+        None => false,
+    }
+}
