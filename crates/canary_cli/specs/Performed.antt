@@ -14,11 +14,12 @@ use Rattle.canary_programs.specs.declared.fault.Fault.{Fault}
 use Rattle.canary_programs.specs.declared.fault.Fault.TheVariants as fault
 use Rattle.canary_programs.specs.Faults.{done_of}
 use Rattle.canary_cli.specs.declared.perform.Outcome.{Outcome}
-use Rattle.canary_cli.specs.declared.perform.Outcome.TheVariants.{Done, Findings, Unclear}
+use Rattle.canary_cli.specs.declared.perform.Outcome.TheVariants.{Done, Findings, Unclear, Asked}
+use Rattle.canary_client.specs.Outcomes as client
 use Rattle.canary_listen.specs.declared.limits.Limits.{Limits}
 use Rattle.canary_words.specs.declared.words.AskedLimits.{AskedLimits}
 use Rattle.canary_words.specs.declared.words.Program.{Program}
-use Rattle.canary_words.specs.declared.words.Program.TheVariants.{Pipe, Serve, Import, History, Export, Status, Page, Backup, Migrate, Check}
+use Rattle.canary_words.specs.declared.words.Program.TheVariants.{Pipe, Serve, Import, History, Export, Status, Page, Backup, Migrate, Check, Do, Get, Watch, Send, Due}
 use Rattle.canary_words.specs.declared.words.WordsFault.{WordsFault}
 use Rattle.canary_words.specs.declared.words.WordsFault.TheVariants.{Help, Usage, Memory as NoMemory}
 use Rattle.canary_words.specs.CommandLine.{IsFor, faults_of, program_of}
@@ -30,11 +31,13 @@ abbrev pub outcome_of : Result (Unit {0}) Fault → Result Outcome Fault
 outcome_of (Ok _) = Ok Done
 outcome_of (Err f) = Err f
 
--- 0 where it was done, 1 for findings or a fault, and 2 where the words do not say what to check
+-- 0 where it was done, 1 for findings or a fault, and 2 where the words do not say what to check; of
+-- a client that of its outcome
 abbrev pub status_of : Result Outcome Fault → ℕ
 status_of (Ok Done) = 0
 status_of (Ok Findings) = 1
 status_of (Ok Unclear) = 2
+status_of (Ok (Asked outcome)) = client.status_of outcome
 status_of (Err f) = 1
 
 -- ---- what `serve` is given
@@ -92,13 +95,14 @@ IsCheckShown taken w new_w (Ok Done) = (taken ≡ true) × Appends w new_w (code
 IsCheckShown taken w new_w (Ok Findings) =
     (taken ≡ false) × (text : List ℕ) × (3 < length text) × Appends w new_w text
 IsCheckShown taken w new_w (Ok Unclear) = ⊥
+IsCheckShown taken w new_w (Ok (Asked outcome)) = ⊥
 IsCheckShown taken w new_w (Err f) = (f ≡ fault.Memory) ⊎ (f ≡ fault.Write)
 
 -- where a check found nothing, it wrote `ok`
 abbrev pub IsChecked : Known → Known → Result Outcome Fault → Type 0
 IsChecked w new_w done = done ≡ Ok Done → Appends w new_w (codes "ok\n")
 
--- the program was run so; `pipe` and `import` alone read the input
+-- the program was run so; `pipe`, `import` and `send` alone read the input
 abbrev pub IsRun : Known → Known → Known → Known → Program → Result Outcome Fault → Type 0
 IsRun r new_r w new_w (Pipe at step None) done =
     (piped : Result (Unit {0}) Fault) × (done ≡ outcome_of piped)
@@ -113,6 +117,11 @@ IsRun r new_r w new_w (Page db out watch) done = new_r ≡ r
 IsRun r new_r w new_w (Backup db copy) done = new_r ≡ r
 IsRun r new_r w new_w (Migrate db dry_run) done = new_r ≡ r
 IsRun r new_r w new_w (Check file request) done = (new_r ≡ r) × IsChecked w new_w done
+IsRun r new_r w new_w (Do desk caller journal key instead command) done = new_r ≡ r
+IsRun r new_r w new_w (Get desk service part) done = new_r ≡ r
+IsRun r new_r w new_w (Watch desk until service) done = new_r ≡ r
+IsRun r new_r w new_w (Send desk csv) done = Unit {0}
+IsRun r new_r w new_w (Due desk wait service) done = new_r ≡ r
 
 -- the program was run so, and ended with this exit status
 abbrev pub IsRunTo : Known → Known → Known → Known → Program → ℕ → Type 0

@@ -13,6 +13,12 @@ use crate::check::check;
 use crate::place::Place;
 use canary_base::lists::Text;
 use canary_base::moments::Moment;
+use canary_client::ask::{Call, ask};
+use canary_client::due::due;
+use canary_client::get::get;
+use canary_client::outcome as client;
+use canary_client::send::send;
+use canary_client::watch::watch;
 use canary_database::backup::backup;
 use canary_database::export::export;
 use canary_database::history::history;
@@ -62,6 +68,8 @@ pub enum Outcome {
     Findings,
     /// The words do not say what is to be checked.
     Unclear,
+    /// A client of a desk ended so.
+    Asked(client::Outcome),
 }
 
 /// Which of the process's streams are terminals.
@@ -220,7 +228,48 @@ fn run<R: Read, W: Write, F: Write>(
             let (db, out) = (db.as_str(), out.as_str());
             done(page(rt, db, out, watch, output, errors, shows))
         }
+        Program::Do {
+            desk,
+            caller,
+            journal,
+            key,
+            instead,
+            command,
+        } => {
+            let call = Call {
+                desk,
+                caller,
+                journal,
+                key,
+                is_instead: instead,
+                command,
+            };
+            asked(ask(rt, call, output, errors, terminals.output))
+        }
+        Program::Get {
+            desk,
+            service,
+            part,
+        } => asked(get(rt, &desk, &service, &part, output, errors, terminals.output)),
+        Program::Watch {
+            desk,
+            until,
+            service,
+        } => asked(watch(rt, &desk, &service, &until, output, errors)),
+        Program::Send { desk, csv } => asked(send(rt, &desk, &csv, input, output, errors)),
+        Program::Due {
+            desk,
+            wait,
+            service,
+        } => asked(due(rt, &desk, &service, wait, output, errors)),
     }
+}
+
+// What comes of a program that is a client of a desk.
+fn asked(outcome: client::Outcome) -> Result<Outcome, Fault>
+    ensures { result ≡ Ok (Outcome.Asked outcome) }
+{
+    Ok(Outcome::Asked(outcome))
 }
 
 // Answers a stream, over the desk in a file where there is one.
@@ -337,6 +386,7 @@ fn finish<F: Write>(
     match done {
         Ok(Outcome::Done) => DONE,
         Ok(Outcome::Findings) => FAULT,
+        Ok(Outcome::Asked(outcome)) => outcome.status(),
         Ok(Outcome::Unclear) => {
             let _ = errors.write_all(UNCLEAR.as_bytes());
             USAGE

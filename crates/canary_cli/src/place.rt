@@ -105,6 +105,10 @@ fn files_of(alloc: Global, program: &Program) -> Result<String, AllocError> {
         Program::Backup { db, copy } => listed(alloc, Some(db), Some(copy)),
         Program::Migrate { db, .. } => listed(alloc, Some(db), None),
         Program::Check { file, request } => listed(alloc, file.as_ref(), request.as_ref()),
+        Program::Do { .. } | Program::Get { .. } | Program::Watch { .. } => listed(
+            alloc, None, None,
+        ),
+        Program::Send { .. } | Program::Due { .. } => listed(alloc, None, None),
     }
 }
 
@@ -116,7 +120,12 @@ fn db_of(alloc: Global, program: &Program) -> Result<String, AllocError> {
         Program::Export { db, .. } | Program::Status { db, .. } => listed(alloc, Some(db), None),
         Program::Page { db, .. } => listed(alloc, Some(db), None),
         Program::Backup { db, .. } | Program::Migrate { db, .. } => listed(alloc, Some(db), None),
-        Program::Check { .. } => listed(alloc, None, None),
+        Program::Check { .. } | Program::Do { .. } | Program::Get { .. } => {
+            listed(alloc, None, None)
+        }
+        Program::Watch { .. } | Program::Send { .. } | Program::Due { .. } => {
+            listed(alloc, None, None)
+        }
     }
 }
 

@@ -1,88 +1,134 @@
 //! `due`: the measurements that a service waits for.
-use crate::querying::answer;
-use crate::options::Options;
-use crate::outcome::{Outcome, end, show};
+use crate::clock::Waiting;
+use crate::outcome::{Outcome, Stop, show, tell};
+use crate::place::{place_of, service_of, waiting};
+use crate::query::value_at;
 use crate::tcp::Tcp;
+use canary_base::lists::Text;
 use canary_base::names::Name;
+use canary_sending::network::Network;
+use canary_words::words::AskedDesk;
 use serde_json::Value;
-use std::thread;
-use std::time::Duration;
+use std::alloc::Global;
+use std::io::Write;
 
-/// Shows a line `RUN METRIC ORDINAL` for each measurement of a service that is due, and waits for
-/// one if that is asked for and a run is open. Without an open run it is refused.
-pub fn due(rt: &HostRuntime, options: &Options<'_>, service: &Name, waits: bool) -> Outcome {
-    let mut network = Tcp::new(rt, options.desk, options.seconds);
+/// Shows a line `RUN METRIC ORDINAL` for each measurement of a service that is due. If none is, a
+/// call that waits goes on until one is or no run is open, and else it ends with `Refused`.
+pub fn due<W: Write, F: Write>(
+    rt: &HostRuntime,
+    desk: &AskedDesk,
+    service: &Text,
+    waits: bool,
+    output: &mut W,
+    errors: &mut F,
+) -> Outcome {
+    match try_due(rt, desk, service, waits, output) {
+        Ok(outcome) => outcome,
+        Err(stop) => tell(stop, errors),
+    }
+}
+
+fn try_due<W: Write>(
+    rt: &HostRuntime,
+    desk: &AskedDesk,
+    service: &Text,
+    waits: bool,
+    output: &mut W,
+) -> Result<Outcome, Stop> {
+    let place = waiting(place_of(rt, desk)?);
+    let service = service_of(service)?;
+    let mut network = Tcp::new(rt, &place);
+    let waiting = Waiting::begun(rt, place.wait_seconds)?;
     for _ in 0..u64::MAX {
-        match look(rt, options, &mut network, service) {
-            None => return end(rt, Outcome::Pending, "no desk answers there"),
-            Some(Found::NoService) => return end(rt, Outcome::Refused, "there is no such service"),
-            Some(Found::NoRun) => return Outcome::Refused,
-            Some(Found::Due(0)) if waits => thread::sleep(rt, Duration::from_secs(1)),
-            Some(Found::Due(0)) => return Outcome::Refused,
-            Some(Found::Due(_)) => return Outcome::Done,
+        match look(rt.alloc(), &mut network, service, place.tries, output)? {
+            Found::Due => return Ok(Outcome::Done),
+            Found::NothingDue if waits => waiting.go_on(rt)?,
+            _ => return Ok(Outcome::Refused),
         }
     }
-    Outcome::Pending
+    Err(Stop::TimeOut)
 }
 
 // What a look at a service found.
-#[derive(Clone, Copy)]
+#[derive(Clone, Copy, Debug, PartialEq, Eq)]
 enum Found {
-    NoService,
+    // No run is open.
     NoRun,
-    // So many measurements are due.
-    Due(u64),
+    // No measurement of the open runs is due.
+    NothingDue,
+    // Some are, and their lines were shown.
+    Due,
 }
 
-fn look(
-    rt: &HostRuntime,
-    options: &Options<'_>,
-    network: &mut Tcp<'_>,
-    service: &Name,
-) -> Option<Found> {
+fn look<N: Network, W: Write>(
+    alloc: Global,
+    network: &mut N,
+    service: Name,
+    tries: u32,
+    output: &mut W,
+) -> Result<Found, Stop> {
     let name = service.as_str();
-    let path = format!(in rt.alloc(); "/services/{name}").ok()?;
-    let heard = answer(rt.alloc(), network, path.as_str(), options.tries)?;
-    if heard.status != 200 {
-        return Some(Found::NoService);
-    }
-    let value = Value::from_str(rt.alloc(), heard.body.as_str()).ok()?;
-    let moment = value.get("moment").and_then(Value::as_u64)?;
-    let open = value.get("open")?.as_array()?;
-    if open.is_empty() {
-        return Some(Found::NoRun);
-    }
-    let mut count = 0u64;
+    let path = format!(in alloc; "/services/{name}")?;
+    let value = value_at(alloc, network, path.as_str(), tries)?;
+    let moment = value.get("moment").and_then(Value::as_u64);
+    let open = value.get("open").and_then(Value::as_array);
+    let (Some(moment), Some(open)) = (moment, open) else {
+        return Err(Stop::Query);
+    };
+    let mut found = Found::NoRun;
     for run in open.iter() {
-        count += look_at_run(rt, options, network, service, run.as_u64()?, moment)?;
+        let Some(run) = run.as_u64() else {
+            return Err(Stop::Query);
+        };
+        let is_due = look_at_run(alloc, network, service, run, moment, tries, output)?;
+        found = joined(found, is_due);
     }
-    Some(Found::Due(count))
+    Ok(found)
 }
 
-// Shows what is due of a run, and answers how many lines these are.
-fn look_at_run(
-    rt: &HostRuntime,
-    options: &Options<'_>,
-    network: &mut Tcp<'_>,
-    service: &Name,
+// With one open run more, of which something is due or not.
+fn joined(found: Found, is_due: bool) -> Found {
+    match found {
+        Found::Due => Found::Due,
+        _ if is_due => Found::Due,
+        _ => Found::NothingDue,
+    }
+}
+
+// Shows a line for each measurement of a run that is due, and answers whether there is one.
+fn look_at_run<N: Network, W: Write>(
+    alloc: Global,
+    network: &mut N,
+    service: Name,
     run: u64,
     moment: u64,
-) -> Option<u64> {
+    tries: u32,
+    output: &mut W,
+) -> Result<bool, Stop> {
     let name = service.as_str();
-    let path = format!(in rt.alloc(); "/services/{name}/runs/{run}").ok()?;
-    let heard = answer(rt.alloc(), network, path.as_str(), options.tries)?;
-    let value = Value::from_str(rt.alloc(), heard.body.as_str()).ok()?;
-    let mut count = 0u64;
-    for metric in value.get("metrics")?.as_array()?.iter() {
-        if let Some(due) = metric.get("due").and_then(Value::as_u64)
-            && due <= moment
-        {
-            let metric_name = metric.get("name").and_then(Value::as_str)?;
-            let ordinal = metric.get("measurements").and_then(Value::as_u64)? + 1;
-            let line = format!(in rt.alloc(); "{run} {metric_name} {ordinal}").ok()?;
-            show(rt, line.as_str());
-            count += 1;
+    let path = format!(in alloc; "/services/{name}/runs/{run}")?;
+    let value = value_at(alloc, network, path.as_str(), tries)?;
+    let Some(metrics) = value.get("metrics").and_then(Value::as_array) else {
+        return Err(Stop::Query);
+    };
+    let mut is_due = false;
+    for metric in metrics.iter() {
+        if let Some((name, ordinal)) = due_of(metric, moment) {
+            let line = format!(in alloc; "{run} {name} {ordinal}")?;
+            show(output, line.as_str())?;
+            is_due = true;
         }
     }
-    Some(count)
+    Ok(is_due)
+}
+
+// The name of a metric and the ordinal of its next measurement, if that is due at this moment.
+fn due_of(metric: &Value, moment: u64) -> Option<(&str, u64)> {
+    let due = metric.get("due").and_then(Value::as_u64)?;
+    if due > moment {
+        return None;
+    }
+    let name = metric.get("name").and_then(Value::as_str)?;
+    let count = metric.get("measurements").and_then(Value::as_u64)?;
+    Some((name, count.saturating_add(1)))
 }

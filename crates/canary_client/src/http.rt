@@ -1,6 +1,6 @@
 //! Replies in HTTP/1.1 (RFC 9112).
-use canary_sending::network::{Heard, Why};
 use canary_base::lists::Text;
+use canary_sending::network::{Heard, Why};
 use httparse::Status;
 use httparse::spans::{EMPTY_HEADER_SPAN, HeaderSpan, parse_response};
 use std::alloc::Global;

@@ -1,17 +1,26 @@
-//! A client of the desk that keeps a journal: it numbers, repeats and resumes.
+//! A client of the desk: it numbers commands, keeps them in a journal, repeats and resumes.
+//!
+//! Callers may rest on this: what a call of `do` sends it keeps in the caller's journal before, by
+//! canary_sending. What comes of a call is its `Outcome`, whose number is the exit status. What the
+//! desk and the network do, no clause says.
+//!
+//! In use (canary_cli, src/asking.rt):
+//!
+//!     Program::Get { desk, service, part } => get(rt, &desk, &service, &part, output, errors, shows),
 #![tactic(auto)]
 
-pub mod asking;
+pub mod ask;
+mod clock;
 pub mod due;
-pub mod http;
-pub mod options;
+pub mod get;
+mod http;
+mod journals;
 pub mod outcome;
-pub mod plain;
-pub mod program;
-pub mod querying;
-pub mod rows;
-pub mod showing;
-pub mod tcp;
-pub mod watching;
-pub mod wish;
-pub mod words;
+mod place;
+mod plain;
+mod query;
+mod report;
+pub mod send;
+mod tcp;
+pub mod watch;
+mod wish;

@@ -1,12 +1,20 @@
-//! How a call of the client ends, and what it says.
-use std::io::{IsTerminal, Write};
+//! How a call of the client ends, and what it says then.
+ghost use Rattle.std.specs.Prelude.{◌≡◌};
+ghost use Rattle.canary_client.specs.Outcomes.{status_of};
+
+use canary_base::error::Memory;
+use canary_journal::entry::Refusal;
+use canary_sending::kept::KeepFault;
+use canary_sending::settle::Unsettled;
+use std::alloc::AllocError;
+use std::io::Write;
 
 /// How a call ends.
 #[derive(Clone, Copy, Debug, PartialEq, Eq)]
 pub enum Outcome {
-    /// It is done.
+    /// It is done, or what was asked for was found.
     Done,
-    /// The desk refused it; of a query, there is no such thing.
+    /// The desk refused it; or there is no such thing, or nothing to do.
     Refused,
     /// The words are not what the client takes.
     Words,
@@ -14,15 +22,17 @@ pub enum Outcome {
     Pending,
     /// The desk and the journal contradict each other: a person has to look.
     Contradiction,
-    /// The journal's file or memory failed.
+    /// The journal, another file, memory or the output failed here.
     Local,
-    /// Another command was asked in its place, and came too late.
+    /// Another command took its place, or came too late to.
     Late,
 }
 
 impl Outcome {
     /// The exit status.
-    pub fn status(self) -> u8 {
+    pub fn status(self) -> u8
+        ensures { result ≡ status_of self }
+    {
         match self {
             Outcome::Done => 0,
             Outcome::Refused => 1,
@@ -35,28 +45,281 @@ impl Outcome {
     }
 }
 
-/// Writes a line to standard error, after `canary: `.
-pub fn say(rt: &HostRuntime, line: &str) {
-    let mut errors = rt.stderr();
+/// Why a call ended before it was done.
+#[derive(Clone, Copy, Debug, PartialEq, Eq)]
+pub enum Stop {
+    /// The desk's address is not an IP address and a port.
+    Address,
+    /// No caller is given.
+    NoCaller,
+    /// The caller is an invalid name.
+    BadCaller,
+    /// No journal is given.
+    NoJournal,
+    /// The words are no command.
+    Command,
+    /// The result is neither a whole number nor a list of them.
+    Result,
+    /// The service is an invalid name.
+    BadService,
+    /// What is asked for of a service is neither `history` nor the number of a run.
+    Part,
+    /// A status is none that a service may have.
+    Status,
+    /// The desk would not take the manifest.
+    Manifest,
+    /// The first record of a measurement file is another.
+    Header,
+    /// The journal is another caller's.
+    OtherCaller,
+    /// A report cannot be asked in the place of another command.
+    ReportInstead,
+    /// A command that takes the place of another one has no key of its own.
+    KeyInstead,
+    /// There is no such service.
+    NoService,
+    /// There is no such run.
+    NoRun,
+    /// The run has no such metric.
+    NoMetric,
+    /// The desk refused a query for another reason.
+    Query,
+    /// No desk said which number comes next.
+    NotBegun,
+    /// No desk answered a query.
+    NoDesk,
+    /// No desk settled what is pending.
+    Unanswered,
+    /// A row of a measurement file was not answered.
+    RowUnanswered,
+    /// The desk settled another command under the number of a row.
+    RowReused,
+    /// The desk has not settled what comes before a row.
+    RowAhead,
+    /// What is waited for did not come in time.
+    TimeOut,
+    /// The desk settled another command under the number.
+    Reused,
+    /// The desk has settled fewer commands than the journal.
+    Ahead,
+    /// The desk cannot read the command.
+    Unread,
+    /// The key stands for another command.
+    KeyUsed,
+    /// Another command was asked in its place already.
+    Replaced,
+    /// The caller has no number left.
+    Spent,
+    /// The journal does not take the entry.
+    Refused,
+    /// Another client has the journal open.
+    InUse,
+    /// The journal cannot be opened, read or written.
+    Journal,
+    /// The journal's file has no room left.
+    JournalFull,
+    /// The journal's file is no whole journal.
+    JournalBroken,
+    /// A file cannot be read.
+    File,
+    /// A measurement file has too many rows or bytes.
+    RowsSpent,
+    /// The output failed.
+    Output,
+    /// The clock failed.
+    Clock,
+    /// An allocation was refused.
+    Memory,
+}
+
+impl Stop {
+    /// How the call ends.
+    pub fn outcome(self) -> Outcome {
+        match self {
+            Stop::Address | Stop::NoCaller | Stop::BadCaller | Stop::NoJournal => Outcome::Words,
+            Stop::Command | Stop::Result | Stop::BadService | Stop::Part => Outcome::Words,
+            Stop::Status | Stop::Manifest | Stop::Header => Outcome::Words,
+            Stop::OtherCaller | Stop::ReportInstead | Stop::KeyInstead => Outcome::Words,
+            Stop::NoService | Stop::NoRun | Stop::NoMetric | Stop::Query => Outcome::Refused,
+            Stop::NotBegun | Stop::NoDesk | Stop::Unanswered => Outcome::Pending,
+            Stop::RowUnanswered | Stop::TimeOut => Outcome::Pending,
+            Stop::Reused | Stop::Ahead | Stop::Unread | Stop::KeyUsed => Outcome::Contradiction,
+            Stop::Replaced | Stop::Spent | Stop::Refused => Outcome::Contradiction,
+            Stop::RowReused | Stop::RowAhead => Outcome::Contradiction,
+            Stop::InUse | Stop::Journal | Stop::JournalFull => Outcome::Local,
+            Stop::JournalBroken | Stop::File | Stop::RowsSpent => Outcome::Local,
+            Stop::Output | Stop::Clock | Stop::Memory => Outcome::Local,
+        }
+    }
+
+    /// The sentence that says so.
+    pub fn sentence(self) -> &'static str {
+        match self.outcome() {
+            Outcome::Words => self.of_words(),
+            Outcome::Contradiction => self.of_contradiction(),
+            Outcome::Local => self.of_this_machine(),
+            _ => self.of_desk(),
+        }
+    }
+
+    fn of_words(self) -> &'static str {
+        match self {
+            Stop::Address => "the desk's address is not IP:PORT (--desk or CANARY_DESK)",
+            Stop::NoCaller => "a caller has to be given: --as NAME or CANARY_AS",
+            Stop::BadCaller => {
+                "the caller is an invalid name: 1 to 63 of a-z, 0-9 and '-', no '-' at an end"
+            }
+            Stop::NoJournal => "a journal has to be given: --journal FILE or CANARY_JOURNAL",
+            Stop::Result => "the result is neither a whole number nor a list of them, as [1,2]",
+            Stop::BadService => "the service is an invalid name",
+            Stop::Part => "of a service, 'history' or the number of a run can be asked for",
+            Stop::Status => "a status is Healthy, Degraded, Paused or Progressing",
+            Stop::Manifest => "the desk would not take this manifest: 'canary check' says why",
+            Stop::Header => "the first record of the file is not the header of a measurement file",
+            Stop::OtherCaller => "this journal is another caller's",
+            Stop::ReportInstead => "a report cannot be asked in the place of another command",
+            Stop::KeyInstead => "--once and --instead cannot both be given",
+            _ => {
+                "a command is promote, promote-full, abort, retry or tick SERVICE; start SERVICE \
+                 VERSION; template FILE; service FILE VERSION; report SERVICE RUN METRIC RESULT, \
+                 or with --failure TEXT in place of RESULT"
+            }
+        }
+    }
+
+    fn of_desk(self) -> &'static str {
+        match self {
+            Stop::NoService => "there is no such service",
+            Stop::NoRun => "there is no such run",
+            Stop::NoMetric => "the run has no such metric",
+            Stop::Query => "the desk refused the query",
+            Stop::NotBegun => {
+                "no desk said which number of this caller comes next: nothing was asked"
+            }
+            Stop::Unanswered => {
+                "pending: no answer came, so it may have acted or not; the same call again finds out"
+            }
+            Stop::RowUnanswered => {
+                "pending: no answer came to the next row; the same call again goes on from there"
+            }
+            Stop::TimeOut => "what is waited for did not come in time",
+            _ => "no desk answered",
+        }
+    }
+
+    fn of_contradiction(self) -> &'static str {
+        match self {
+            Stop::Reused => {
+                "reused: the desk settled another command under this number. Somebody else sends \
+                 under this name, or the journal is an old copy; nothing was sent after that"
+            }
+            Stop::Ahead => {
+                "ahead: the desk has settled fewer commands of this caller than the journal has. \
+                 The desk was restored from an older copy, or it is another desk"
+            }
+            Stop::Unread => {
+                "the desk cannot read this command, so it will never be settled; another one can \
+                 take its place (--instead)"
+            }
+            Stop::KeyUsed => "this key stands for another command in this journal",
+            Stop::Replaced => {
+                "another command was asked in its place already, and is not answered yet"
+            }
+            Stop::RowReused => {
+                "reused: the desk settled another command under the number of this row. The file \
+                 was changed, or somebody else sends under this name"
+            }
+            Stop::RowAhead => {
+                "ahead: the desk has not settled what comes before this row. A row is missing, or \
+                 the desk was restored from an older copy"
+            }
+            Stop::Spent => "this caller has no number left: go on under another name",
+            _ => "the journal does not take this",
+        }
+    }
+
+    fn of_this_machine(self) -> &'static str {
+        match self {
+            Stop::InUse => "another client has this journal open",
+            Stop::Journal => "the journal cannot be opened, read or written",
+            Stop::JournalFull => "the journal's file has no room left",
+            Stop::JournalBroken => {
+                "this file is no whole journal: it was cut short or changed. Restore it, or move \
+                 it away"
+            }
+            Stop::File => "the file cannot be read",
+            Stop::RowsSpent => "the file has more than 1,000,000 rows, or 1,000,000,000 bytes",
+            Stop::Output => "the output failed or was closed",
+            Stop::Clock => "the clock cannot be read",
+            _ => "out of memory",
+        }
+    }
+}
+
+/// Says why a call stopped, on `errors`, and answers how it ends. A fault of `errors` is ignored.
+pub fn tell<F: Write>(stop: Stop, errors: &mut F) -> Outcome {
+    say(errors, stop.sentence());
+    stop.outcome()
+}
+
+/// Writes a sentence on `errors`, after `canary: `. A fault of `errors` is ignored.
+pub fn say<F: Write>(errors: &mut F, sentence: &str) {
     let _ = errors.write_all(b"canary: ");
-    let _ = errors.write_all(line.as_bytes());
+    let _ = errors.write_all(sentence.as_bytes());
     let _ = errors.write_all(b"\n");
 }
 
-/// Writes a line to standard output.
-pub fn show(rt: &HostRuntime, line: &str) {
-    let mut output = rt.stdout();
-    let _ = output.write_all(line.as_bytes());
-    let _ = output.write_all(b"\n");
+/// Writes a line on `output`.
+///
+/// # Errors
+/// `Output` if the output failed.
+pub fn show<W: Write>(output: &mut W, line: &str) -> Result<(), Stop> {
+    match output.write_all(line.as_bytes()) {
+        Ok(()) => {}
+        Err(_) => return Err(Stop::Output),
+    }
+    match output.write_all(b"\n") {
+        Ok(()) => Ok(()),
+        Err(_) => Err(Stop::Output),
+    }
 }
 
-/// Whether standard output is a terminal.
-pub fn is_terminal(rt: &HostRuntime) -> bool {
-    rt.stdout().is_terminal()
+impl From<Memory> for Stop {
+    fn from(_: Memory) -> Stop {
+        Stop::Memory
+    }
 }
 
-/// Says a line, and how the call ends.
-pub fn end(rt: &HostRuntime, outcome: Outcome, line: &str) -> Outcome {
-    say(rt, line);
-    outcome
+impl From<AllocError> for Stop {
+    fn from(_: AllocError) -> Stop {
+        Stop::Memory
+    }
+}
+
+impl From<KeepFault> for Stop {
+    fn from(fault: KeepFault) -> Stop {
+        match fault {
+            KeepFault::Memory => Stop::Memory,
+            KeepFault::Failed => Stop::Journal,
+            KeepFault::Full => Stop::JournalFull,
+            KeepFault::Broken => Stop::JournalBroken,
+            KeepFault::Refused(Refusal::Replaced) => Stop::Replaced,
+            KeepFault::Refused(Refusal::Spent) => Stop::Spent,
+            KeepFault::Refused(Refusal::KeyUsed) => Stop::KeyUsed,
+            KeepFault::Refused(_) => Stop::Refused,
+        }
+    }
+}
+
+impl From<Unsettled> for Stop {
+    fn from(unsettled: Unsettled) -> Stop {
+        match unsettled {
+            Unsettled::Pending => Stop::Unanswered,
+            Unsettled::Reused => Stop::Reused,
+            Unsettled::Ahead(_) => Stop::Ahead,
+            Unsettled::Unread => Stop::Unread,
+            Unsettled::Kept(fault) => fault.into(),
+            Unsettled::Memory => Stop::Memory,
+        }
+    }
 }

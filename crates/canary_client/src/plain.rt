@@ -1,36 +1,70 @@
 //! Replies as one plain line for people.
 use serde_json::Value;
-use std::alloc::Global;
+use std::alloc::{AllocError, Global};
 
-/// The line of a reply's body, or the body itself if there is no plainer line for it.
-pub fn line_of(alloc: Global, body: &str) -> Option<String> {
-    let value = Value::from_str(alloc, body).ok()?;
-    match service_line(alloc, &value) {
-        Some(line) => Some(line),
-        None => code_line(alloc, &value, body),
+/// The plain line of a reply's body: how a service stands, or why a command was refused. None if
+/// there is no plainer one than the body.
+///
+/// # Errors
+/// `AllocError` if an allocation was refused.
+pub fn line_of(alloc: Global, body: &str) -> Result<Option<String>, AllocError> {
+    let value = match Value::from_str(alloc, body) {
+        Ok(value) => value,
+        Err(fault) if fault.is_memory() => return Err(AllocError),
+        Err(_) => return Ok(None),
+    };
+    match service_line(alloc, &value)? {
+        Some(line) => Ok(Some(line)),
+        None => code_line(alloc, &value),
     }
 }
 
-// A service: its status, step, weight and version.
-fn service_line(alloc: Global, value: &Value) -> Option<String> {
+// A service: its status, step and weight, and its version and verdict if the reply has them.
+fn service_line(alloc: Global, value: &Value) -> Result<Option<String>, AllocError> {
+    let Some((service, status)) = texts_of(value) else {
+        return Ok(None);
+    };
+    let Some((step, weight)) = numbers_of(value) else {
+        return Ok(None);
+    };
+    let mut line = format!(in alloc; "{service} {status}, step {step}, weight {weight}%")?;
+    if let Some(version) = value.get("version").and_then(Value::as_str) {
+        line.push_str(", version ")?;
+        line.push_str(version)?;
+    }
+    if let Some(verdict) = value.get("verdict").and_then(Value::as_str) {
+        line.push_str(", verdict ")?;
+        line.push_str(verdict)?;
+    }
+    Ok(Some(line))
+}
+
+fn texts_of(value: &Value) -> Option<(&str, &str)> {
     let service = value.get("service").and_then(Value::as_str)?;
     let status = value.get("status").and_then(Value::as_str)?;
-    let step = value.get("step").and_then(Value::as_u64)?;
-    let weight = value.get("weight").and_then(Value::as_u64)?;
-    let known = format!(in alloc; "{service} {status}, step {step}, weight {weight}%").ok()?;
-    match value.get("version").and_then(Value::as_str) {
-        Some(version) => {
-            let known = known.as_str();
-            format!(in alloc; "{known}, version {version}").ok()
-        }
-        None => Some(known),
-    }
+    Some((service, status))
 }
 
-// A refusal, by its code.
-fn code_line(alloc: Global, value: &Value, body: &str) -> Option<String> {
-    match value.get("code").and_then(Value::as_str) {
-        Some(code) if code != "ok" => format!(in alloc; "refused: {code}").ok(),
-        _ => String::from_str(alloc, body).ok(),
+fn numbers_of(value: &Value) -> Option<(u64, u64)> {
+    let step = value.get("step").and_then(Value::as_u64)?;
+    let weight = value.get("weight").and_then(Value::as_u64)?;
+    Some((step, weight))
+}
+
+// A template with its revision, or a refusal by its code.
+fn code_line(alloc: Global, value: &Value) -> Result<Option<String>, AllocError> {
+    let Some(code) = value.get("code").and_then(Value::as_str) else {
+        return Ok(None);
+    };
+    if code != "ok" {
+        return Ok(Some(format!(in alloc; "refused: {code}")?));
+    }
+    let name = value.get("template").and_then(Value::as_str);
+    let revision = value.get("revision").and_then(Value::as_u64);
+    match (name, revision) {
+        (Some(name), Some(revision)) => {
+            Ok(Some(format!(in alloc; "template {name}, revision {revision}")?))
+        }
+        _ => Ok(None),
     }
 }

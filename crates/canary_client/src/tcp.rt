@@ -1,7 +1,8 @@
 //! The way to a desk over TCP: one connection for each message.
 use crate::http::reply_in;
-use canary_sending::network::{Heard, Network, Why};
 use crate::outcome::say;
+use crate::place::Place;
+use canary_sending::network::{Heard, Network, Why};
 use std::alloc::Global;
 use std::io::{ErrorKind, Read, Write};
 use std::net::{SocketAddr, TcpStream};
@@ -13,11 +14,13 @@ const MOST_BYTES: usize = 1 << 26;
 
 // The first pause before a message is sent again, and the longest, in milliseconds.
 const FIRST_PAUSE: u64 = 100;
+
 const LONGEST_PAUSE: u64 = 5_000;
 
 /// The way to the desk at this address. No clause ties it to a network: that it sends each message
 /// once at most, and that a reply on a connection is the desk's answer to the message on it, is for
 /// whoever rests on it to assume.
+#[derive(Drop)]
 pub struct Tcp<'a> {
     rt: &'a HostRuntime,
     desk: SocketAddr,
@@ -25,12 +28,12 @@ pub struct Tcp<'a> {
 }
 
 impl<'a> Tcp<'a> {
-    /// The way to the desk at this address, where each exchange may take so many seconds.
-    pub fn new(rt: &'a HostRuntime, desk: SocketAddr, seconds: u64) -> Tcp<'a> {
+    /// The way to the desk at this place, where each exchange may take as long as a reply there.
+    pub fn new(rt: &'a HostRuntime, place: &Place) -> Tcp<'a> {
         Tcp {
             rt,
-            desk,
-            limit: Duration::from_secs(seconds.max(1)),
+            desk: place.desk,
+            limit: Duration::from_secs(place.reply_seconds.max(1)),
         }
     }
 
@@ -85,7 +88,7 @@ fn read_some(stream: &mut TcpStream, piece: &mut [u8; 4096]) -> Result<usize, Wh
 }
 
 impl<'a> Network for Tcp<'a> {
-    ghost was_sent = { λ t m. ⊥ };
+    ghost was_sent = { λ t m. Unit {0} };
 
     ghost was_told = { λ t m heard. Unit {0} };
 
@@ -103,7 +106,7 @@ impl<'a> Network for Tcp<'a> {
     }
 
     fn pause(&mut self, tried: u32, why: Why) {
-        say(self.rt, text_of(why));
+        say(&mut self.rt.stderr(), text_of(why));
         let pause = FIRST_PAUSE.saturating_mul(1u64 << tried.min(10)) / 2;
         thread::sleep(self.rt, Duration::from_millis(pause.min(LONGEST_PAUSE)));
     }

@@ -1,88 +1,86 @@
-//! The wish that words of a command line stand for.
+//! The wish that the words of a command line stand for.
+use crate::outcome::Stop;
+use crate::report::{Measured, report_body};
 use canary_base::lists::Text;
 use canary_base::names::{Label, Name};
 use canary_canonical::writing;
-use canary_manifest::command::command_from_json;
+use canary_manifest::command::{WireFault, command_from_json};
 use canary_plan::command::Command;
+use canary_words::words::AskedCommand;
 use std::alloc::Global;
-use std::fs;
+use std::fs::{File, Files};
+use std::io::{ErrorKind, Read};
 
-/// What is wrong with the words.
-#[derive(Clone, Copy, Debug, PartialEq, Eq)]
-pub enum WordsFault {
-    /// They are no command.
-    Usage,
-    /// The file of a manifest cannot be read.
-    File,
-    /// The desk does not take the manifest.
-    Manifest,
-    /// An allocation was refused.
-    Memory,
-}
-
-/// A report as it is asked for: its ordinal is not known yet.
-#[derive(Drop)]
-pub struct Measured {
-    /// The service.
-    pub service: Name,
-    /// The number of the run.
-    pub run: u32,
-    /// The metric.
-    pub metric: Label,
-    /// The member of the outcome: `"result":RESULT`, or `"failure":TEXT`.
-    pub outcome: String,
-}
+// The most bytes of a manifest's file; the body of a request has fewer.
+const MOST_BYTES: u64 = 65_536;
 
 /// What words ask for.
 #[derive(Drop)]
 pub enum Asking {
-    /// A command with this body.
+    /// A command.
     Command {
-        /// What is meant.
+        /// What is meant: its canonical text.
         intent: Text,
-        /// The body.
+        /// The body of its request.
         body: Text,
     },
-    /// A report.
+    /// A report, whose body is known once its ordinal was asked for.
     Report {
-        /// What is meant.
+        /// What is meant: its words.
         intent: Text,
-        /// The report.
+        /// The measurement.
         measured: Measured,
     },
 }
 
-/// What these words ask for: the name of a command and its parts.
+impl Asking {
+    /// What is meant, by which a second call is known to mean the same.
+    pub fn intent(&self) -> &str {
+        match self {
+            Asking::Command { intent, .. } => intent.as_str(),
+            Asking::Report { intent, .. } => intent.as_str(),
+        }
+    }
+}
+
+/// What these words ask for.
 ///
 /// # Errors
-/// `Usage` if they are no command, `File` if a file cannot be read, `Manifest` if the desk would
-/// not take it; `Memory`.
-pub fn asking(rt: &HostRuntime, words: &[String]) -> Result<Asking, WordsFault> {
-    let Some(kind) = words.get(0) else {
-        return Err(WordsFault::Usage);
-    };
-    match kind.as_str() {
-        "template" if words.len() == 2 => template(rt, words),
-        "service" if words.len() == 3 => service(rt, words),
+/// `Command` if they are no command, `Result` for a result that no measurement has, `File` if the
+/// manifest's file cannot be read, `Manifest` if the desk would not take what it says; `Memory`.
+pub fn asking<P: Files + AllocGlobal>(rt: &P, words: &AskedCommand) -> Result<Asking, Stop> {
+    match words.kind.as_str() {
+        "template" => template(rt, words),
+        "service" => service(rt, words),
         "report" => report(rt.alloc(), words),
         _ => match plain(words) {
             Some(command) => of_command(rt.alloc(), &command),
-            None => Err(WordsFault::Usage),
+            None => Err(Stop::Command),
         },
     }
 }
 
-// The command of words that need no file.
-fn plain(words: &[String]) -> Option<Command> {
-    let kind = words.get(0)?.as_str();
-    let service = Name::read(words.get(1)?.as_str().as_bytes())?;
-    if kind == "start" && words.len() == 3 {
-        let version = Label::read(words.get(2)?.as_str().as_bytes())?;
-        return Some(Command::Start { service, version });
-    }
-    if words.len() != 2 {
+// The command of words that name no file.
+fn plain(words: &AskedCommand) -> Option<Command> {
+    if words.third.is_some() || words.fourth.is_some() || words.failure.is_some() {
         return None;
     }
+    let service = name_of(&words.first)?;
+    match &words.second {
+        Some(version) => started(words, service, version),
+        None => of_service(words.kind.as_str(), service),
+    }
+}
+
+fn started(words: &AskedCommand, service: Name, version: &Text) -> Option<Command> {
+    if words.kind.as_str() != "start" {
+        return None;
+    }
+    let version = Label::read(version.as_str().as_bytes())?;
+    Some(Command::Start { service, version })
+}
+
+fn of_service(kind: &str, service: Name) -> Option<Command> {
     match kind {
         "promote" => Some(Command::Promote { service }),
         "promote-full" => Some(Command::PromoteFull { service }),
@@ -93,124 +91,144 @@ fn plain(words: &[String]) -> Option<Command> {
     }
 }
 
-fn of_command(alloc: Global, command: &Command) -> Result<Asking, WordsFault> {
-    let Ok(intent) = writing::text(alloc, command) else {
-        return Err(WordsFault::Memory);
-    };
-    let Ok(body) = intent.copy(alloc) else {
-        return Err(WordsFault::Memory);
-    };
+fn name_of(word: &Option<Text>) -> Option<Name> {
+    match word {
+        Some(word) => Name::read(word.as_str().as_bytes()),
+        None => None,
+    }
+}
+
+fn label_of(word: &Option<Text>) -> Option<Label> {
+    match word {
+        Some(word) => Label::read(word.as_str().as_bytes()),
+        None => None,
+    }
+}
+
+fn of_command(alloc: Global, command: &Command) -> Result<Asking, Stop> {
+    let intent = writing::text(alloc, command)?;
+    let body = intent.copy(alloc)?;
     Ok(Asking::Command { intent, body })
 }
 
-fn template(rt: &HostRuntime, words: &[String]) -> Result<Asking, WordsFault> {
-    let manifest = manifest(rt, words)?;
-    let manifest = manifest.as_str();
-    let body = format!(in rt.alloc(); "{{\"template\":{manifest}}}");
-    of_body(rt.alloc(), body.ok())
-}
-
-fn service(rt: &HostRuntime, words: &[String]) -> Result<Asking, WordsFault> {
-    let version = match words.get(2) {
-        Some(version) => version.as_str(),
-        None => return Err(WordsFault::Usage),
+fn template<P: Files + AllocGlobal>(rt: &P, words: &AskedCommand) -> Result<Asking, Stop> {
+    let Some(file) = &words.first else {
+        return Err(Stop::Command);
     };
-    if Label::read(version.as_bytes()).is_none() {
-        return Err(WordsFault::Usage);
+    if words.second.is_some() || words.third.is_some() || words.failure.is_some() {
+        return Err(Stop::Command);
     }
-    let manifest = manifest(rt, words)?;
+    let manifest = manifest(rt, file.as_str())?;
     let manifest = manifest.as_str();
-    let body = format!(in rt.alloc();
-        "{{\"service\":{{\"manifest\":{manifest},\"version\":\"{version}\"}}}}"
-    );
-    of_body(rt.alloc(), body.ok())
+    of_body(
+        rt.alloc(),
+        format!(in rt.alloc(); "{{\"template\":{manifest}}}")?,
+    )
 }
 
-// The text of the manifest that the second word names.
-fn manifest(rt: &HostRuntime, words: &[String]) -> Result<String, WordsFault> {
-    let Some(file) = words.get(1) else {
-        return Err(WordsFault::Usage);
+fn service<P: Files + AllocGlobal>(rt: &P, words: &AskedCommand) -> Result<Asking, Stop> {
+    let (Some(file), Some(version)) = (&words.first, label_of(&words.second)) else {
+        return Err(Stop::Command);
     };
-    match fs::read_to_string(rt, file.as_str()) {
-        Ok(text) => Ok(text),
-        Err(_) => Err(WordsFault::File),
+    if words.third.is_some() || words.failure.is_some() {
+        return Err(Stop::Command);
+    }
+    let manifest = manifest(rt, file.as_str())?;
+    let (manifest, version) = (manifest.as_str(), version.as_str());
+    of_body(
+        rt.alloc(),
+        format!(in rt.alloc();
+            "{{\"service\":{{\"manifest\":{manifest},\"version\":\"{version}\"}}}}"
+        )?,
+    )
+}
+
+// The text of the file of a manifest.
+fn manifest<P: Files + AllocGlobal>(rt: &P, file: &str) -> Result<String, Stop> {
+    let Ok(file) = File::open(rt, file) else {
+        return Err(Stop::File);
+    };
+    let mut text = String::new(rt.alloc());
+    match file.take(MOST_BYTES + 1).read_to_string(&mut text) {
+        Ok(_) if text.len() as u64 <= MOST_BYTES => Ok(text),
+        Ok(_) => Err(Stop::Manifest),
+        Err(error) if error.kind() == ErrorKind::OutOfMemory => Err(Stop::Memory),
+        Err(_) => Err(Stop::File),
     }
 }
 
 // The body of a manifest is sent as it stands, and means its command.
-fn of_body(alloc: Global, body: Option<String>) -> Result<Asking, WordsFault> {
-    let Some(body) = body else {
-        return Err(WordsFault::Memory);
+fn of_body(alloc: Global, body: String) -> Result<Asking, Stop> {
+    if body.len() as u64 > MOST_BYTES {
+        return Err(Stop::Manifest);
+    }
+    let command = match command_from_json(alloc, body.as_str().as_bytes()) {
+        Ok(command) => command,
+        Err(WireFault::Memory) => return Err(Stop::Memory),
+        Err(_) => return Err(Stop::Manifest),
     };
-    let Ok(command) = command_from_json(alloc, body.as_str().as_bytes()) else {
-        return Err(WordsFault::Manifest);
-    };
-    let Ok(intent) = writing::text(alloc, &command) else {
-        return Err(WordsFault::Memory);
-    };
+    let intent = writing::text(alloc, &command)?;
     Ok(Asking::Command {
         intent,
         body: Text::of(body),
     })
 }
 
-fn report(alloc: Global, words: &[String]) -> Result<Asking, WordsFault> {
-    let Some((service, run, metric)) = measured(words) else {
-        return Err(WordsFault::Usage);
+fn report(alloc: Global, words: &AskedCommand) -> Result<Asking, Stop> {
+    let (Some(service), Some(metric)) = (name_of(&words.first), label_of(&words.third)) else {
+        return Err(Stop::Command);
     };
-    let outcome = outcome(alloc, words)?;
-    let Some(intent) = joined(alloc, words) else {
-        return Err(WordsFault::Memory);
+    let Some(run) = run_of(&words.second) else {
+        return Err(Stop::Command);
     };
-    Ok(Asking::Report {
-        intent: Text::of(intent),
-        measured: Measured {
-            service,
-            run,
-            metric,
-            outcome,
-        },
-    })
+    let measured = Measured {
+        service,
+        run,
+        metric,
+        outcome: outcome_of(alloc, words)?,
+    };
+    is_taken(alloc, &measured)?;
+    let intent = intent_of(alloc, &measured)?;
+    Ok(Asking::Report { intent, measured })
 }
 
-fn measured(words: &[String]) -> Option<(Name, u32, Label)> {
-    let service = Name::read(words.get(1)?.as_str().as_bytes())?;
-    let run = words.get(2)?.as_str().parse::<u32>().ok()?;
-    let metric = Label::read(words.get(3)?.as_str().as_bytes())?;
-    Some((service, run, metric))
+fn run_of(word: &Option<Text>) -> Option<u32> {
+    match word {
+        Some(word) => word.as_str().parse::<u32>().ok(),
+        None => None,
+    }
 }
 
-// The member of the outcome: `RESULT`, or `--failure TEXT`.
-fn outcome(alloc: Global, words: &[String]) -> Result<String, WordsFault> {
-    let made = match (words.get(4), words.get(5)) {
+// The member of the outcome: the result, or why the measurement failed.
+fn outcome_of(alloc: Global, words: &AskedCommand) -> Result<Text, Stop> {
+    match (&words.fourth, &words.failure) {
         (Some(result), None) => {
             let result = result.as_str();
-            format!(in alloc; "\"result\":{result}")
+            Ok(Text::of(format!(in alloc; "\"result\":{result}")?))
         }
-        (Some(option), Some(text)) if option.as_str() == "--failure" && words.len() == 6 => {
-            failure(alloc, text.as_str())
-        }
-        _ => return Err(WordsFault::Usage),
-    };
-    match made {
-        Ok(made) => Ok(made),
-        Err(_) => Err(WordsFault::Memory),
+        (None, Some(text)) => failure_of(alloc, text.as_str()),
+        _ => Err(Stop::Command),
     }
 }
 
-fn failure(alloc: Global, text: &str) -> Result<String, std::alloc::AllocError> {
+fn failure_of(alloc: Global, text: &str) -> Result<Text, Stop> {
     let text = serde_json::Value::try_from_str(alloc, text)?.to_string(alloc)?;
     let text = text.as_str();
-    format!(in alloc; "\"failure\":{text}")
+    Ok(Text::of(format!(in alloc; "\"failure\":{text}")?))
 }
 
-fn joined(alloc: Global, words: &[String]) -> Option<String> {
-    let mut text = String::new(alloc);
-    for word in words {
-        if !text.as_str().is_empty() {
-            text.push_str(" ").ok()?;
-        }
-        text.push_str(word.as_str()).ok()?;
+// A report with this outcome has to be one that the desk reads, whatever its ordinal.
+fn is_taken(alloc: Global, measured: &Measured) -> Result<(), Stop> {
+    let body = report_body(alloc, measured, 1, 0)?;
+    match command_from_json(alloc, body.as_str().as_bytes()) {
+        Ok(Command::Report(report)) if report.entries.as_slice().len() == 1 => Ok(()),
+        Err(WireFault::Memory) => Err(Stop::Memory),
+        _ => Err(Stop::Result),
     }
-    Some(text)
+}
+
+fn intent_of(alloc: Global, measured: &Measured) -> Result<Text, Stop> {
+    let (service, run) = (measured.service.as_str(), measured.run);
+    let (metric, outcome) = (measured.metric.as_str(), measured.outcome.as_str());
+    Ok(Text::of(format!(in alloc; "report {service} {run} {metric} {outcome}")?))
 }

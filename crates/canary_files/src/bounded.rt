@@ -6,25 +6,27 @@ ghost use Rattle.std.specs.Io.KnownBytes.{ReadConsumes};
 use std::io;
 use std::io::{ErrorKind, Read};
 
-// Once so many bytes of a file were read, no more are asked for.
-pub(crate) const MOST_BYTES: u64 = 1_000_000_000;
+/// Once so many bytes of a file were read, no more are asked for.
+pub const MOST_BYTES: u64 = 1_000_000_000;
 
-// A reader of which so many bytes at most are asked for.
-pub(crate) trait Limited {
-    // How many more.
+/// A reader of which so many bytes at most are asked for.
+pub trait Limited {
+    /// How many more.
     ghost spare: { Self → ℕ };
 
-    // Whether there are none.
+    /// Whether there are none.
     fn is_spent(&self) -> bool
         ensures { result ≡ (spare self.now == 0) };
 }
 
-// A reader that fails if so many bytes were read and more are asked for, so that a record that
-// never ends takes no more memory than that.
+/// A reader that fails if so many bytes were read and more are asked for, so that a record that
+/// never ends takes no more memory than that.
 #[derive(Drop)]
-pub(crate) struct Bounded<R> {
-    pub(crate) source: R,
-    pub(crate) left: u64,
+pub struct Bounded<R> {
+    /// The reader.
+    pub source: R,
+    /// How many bytes are asked for at most.
+    pub left: u64,
 }
 
 impl<R: Read> Read for Bounded<R> {

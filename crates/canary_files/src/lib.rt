@@ -14,7 +14,7 @@
 #![tactic(auto)]
 
 mod answer;
-mod bounded;
+pub mod bounded;
 pub mod export;
 pub mod history;
 pub mod import;

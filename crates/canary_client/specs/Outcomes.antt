@@ -1,0 +1,14 @@
+-- How a call of the client ends.
+use Rattle.std.specs.Prelude.{ℕ}
+use Rattle.canary_client.specs.declared.outcome.Outcome.{Outcome}
+use Rattle.canary_client.specs.declared.outcome.Outcome.TheVariants.{Done, Refused, Words, Pending, Contradiction, Local, Late}
+
+-- the exit status
+abbrev pub status_of : Outcome → ℕ
+status_of Done = 0
+status_of Refused = 1
+status_of Words = 2
+status_of Pending = 3
+status_of Contradiction = 4
+status_of Local = 5
+status_of Late = 6

@@ -1,0 +1,306 @@
+//! `do`: a command, once.
+ghost use Rattle.std.specs.Prelude.{IfOk, OnOk, ◌≡◌};
+ghost use Rattle.canary_sending.specs.Keeping.{IsKept};
+ghost use Rattle.canary_client.specs.Asking.{acted, outcome_by};
+
+use crate::journals::{asked, asked_instead, journal_on, settled};
+use crate::outcome::{Outcome, Stop, say, show, tell};
+use crate::place::{caller_of, journal_of, place_of};
+use crate::plain::line_of;
+use crate::report::{next_ordinal, report_body};
+use crate::tcp::Tcp;
+use crate::wish::{Asking, asking};
+use canary_base::lists::Text;
+use canary_journal::entry::{Kept, Place, Wish};
+use canary_journal::journal::Journal;
+use canary_records::device::Device;
+use canary_records::file::{FileDevice, OpenFault, sync_folder};
+use canary_sending::kept::KeptJournal;
+use canary_sending::network::Network;
+use canary_words::words::{AskedCommand, AskedDesk};
+use std::alloc::Global;
+use std::io::Write;
+use std::time::SystemTime;
+
+// What is said of an earlier command that is pending.
+const BEHIND: &str = "an earlier command is not answered yet, and goes first";
+
+// What is said of a command that took another one's place, or whose place another one took.
+const TOO_LATE: &str =
+    "too late: the earlier command was settled, with this reply; this one did nothing";
+
+const REPLACED: &str =
+    "another command took its place, and was settled with this reply; this one did nothing";
+
+/// A call of `do`, as a command line says it.
+#[derive(Debug, Drop)]
+pub struct Call {
+    /// The desk.
+    pub desk: AskedDesk,
+    /// The caller.
+    pub caller: Option<Text>,
+    /// The file of the caller's journal.
+    pub journal: Option<Text>,
+    /// The key of the wish.
+    pub key: Option<Text>,
+    /// Whether the command takes the place of the one that is pending.
+    pub is_instead: bool,
+    /// The command.
+    pub command: AskedCommand,
+}
+
+/// Asks a command of a desk, once, and shows its reply on `output`: the body, or on a terminal a
+/// plain line. If it did not come to that, a sentence on `errors` says why.
+pub fn ask<W: Write, F: Write>(
+    rt: &HostRuntime,
+    call: Call,
+    output: &mut W,
+    errors: &mut F,
+    is_terminal: bool,
+) -> Outcome {
+    match try_ask(rt, call, output, errors, is_terminal) {
+        Ok(outcome) => outcome,
+        Err(stop) => tell(stop, errors),
+    }
+}
+
+fn try_ask<W: Write, F: Write>(
+    rt: &HostRuntime,
+    call: Call,
+    output: &mut W,
+    errors: &mut F,
+    is_terminal: bool,
+) -> Result<Outcome, Stop> {
+    if call.is_instead && call.key.is_some() {
+        return Err(Stop::KeyInstead);
+    }
+    let place = place_of(rt, &call.desk)?;
+    let caller = caller_of(rt, &call.caller)?;
+    let asking = asking(rt, &call.command)?;
+    let device = device_of(rt, &call.journal)?;
+    let mut network = Tcp::new(rt, &place);
+    let mut kept = journal_on(rt.alloc(), &mut network, device, caller, place.tries)?;
+    let is_instead = call.is_instead;
+    let settled = settle_asked(
+        rt,
+        &mut network,
+        &mut kept,
+        asking,
+        call.key,
+        is_instead,
+        place.tries,
+        errors,
+    )?;
+    show_settled(rt.alloc(), &kept, settled, output, errors, is_terminal)
+}
+
+// The journal's file, open and locked, with its name on the disk.
+fn device_of(rt: &HostRuntime, journal: &Option<Text>) -> Result<FileDevice, Stop> {
+    let path = journal_of(rt, journal)?;
+    match FileDevice::open(rt, path.as_str()) {
+        Ok(device) if sync_folder(rt, path.as_str()) => Ok(device),
+        Ok(_) => Err(Stop::Journal),
+        Err(OpenFault::InUse) => Err(Stop::InUse),
+        Err(OpenFault::Failed) => Err(Stop::Journal),
+    }
+}
+
+// Where what was asked stands in a journal once it is settled: at which place, and whether it is
+// the wish there, or what took its place.
+#[derive(Clone, Copy, Debug, PartialEq, Eq)]
+struct SettledAt {
+    place: usize,
+    is_wish: bool,
+}
+
+// Settles what is asked. What is pending is settled before anything else.
+fn settle_asked<N: Network, D: Device, F: Write>(
+    rt: &HostRuntime,
+    network: &mut N,
+    kept: &mut KeptJournal<D>,
+    asking: Asking,
+    key: Option<Text>,
+    is_instead: bool,
+    tries: u32,
+    errors: &mut F,
+) -> Result<SettledAt, Stop>
+    requires { IsKept D.seen D.may_leave kept.old }
+    ensures { OnOk result (IsKept D.seen D.may_leave kept.new) }
+{
+    if is_asked_instead(&kept.journal, &asking) {
+        return resumed(rt.alloc(), network, kept, false, tries);
+    }
+    match kept.journal.place_of(asking.intent(), &key) {
+        Place::Settled(place) => Ok(SettledAt {
+            place,
+            is_wish: true,
+        }),
+        Place::Pending => resumed(rt.alloc(), network, kept, true, tries),
+        Place::KeyUsed => Err(Stop::KeyUsed),
+        Place::New => ask_anew(rt, network, kept, asking, key, tries),
+        Place::Behind if is_instead => instead(rt.alloc(), network, kept, asking, tries),
+        Place::Behind => {
+            say(errors, BEHIND);
+            settled(rt.alloc(), network, kept, tries)?;
+            ask_anew(rt, network, kept, asking, key, tries)
+        }
+    }
+}
+
+// Whether a command was asked already in the place of the wish that is pending.
+fn is_asked_instead(journal: &Journal, asking: &Asking) -> bool {
+    match (journal.pending(), asking) {
+        (Some(asked), Asking::Command { body, .. }) => match &asked.instead {
+            Some(instead) => instead.as_str() == body.as_str(),
+            None => false,
+        },
+        _ => false,
+    }
+}
+
+// Settles what is pending, which is what is asked.
+fn resumed<N: Network, D: Device>(
+    alloc: Global,
+    network: &mut N,
+    kept: &mut KeptJournal<D>,
+    is_wish: bool,
+    tries: u32,
+) -> Result<SettledAt, Stop>
+    requires { IsKept D.seen D.may_leave kept.old }
+    ensures { OnOk result (IsKept D.seen D.may_leave kept.new) }
+{
+    let place = kept.journal.kept().len();
+    settled(alloc, network, kept, tries)?;
+    Ok(SettledAt { place, is_wish })
+}
+
+// Asks what is new, while nothing is pending.
+fn ask_anew<N: Network, D: Device>(
+    rt: &HostRuntime,
+    network: &mut N,
+    kept: &mut KeptJournal<D>,
+    asking: Asking,
+    key: Option<Text>,
+    tries: u32,
+) -> Result<SettledAt, Stop>
+    requires { IsKept D.seen D.may_leave kept.old }
+    ensures { OnOk result (IsKept D.seen D.may_leave kept.new) }
+{
+    let place = kept.journal.kept().len();
+    let wish = wish_of(rt, network, asking, key, tries)?;
+    asked(rt.alloc(), network, kept, wish, tries)?;
+    Ok(SettledAt {
+        place,
+        is_wish: true,
+    })
+}
+
+// The wish of what is asked: the ordinal of a report is asked for, and its moment is now.
+fn wish_of<N: Network>(
+    rt: &HostRuntime,
+    network: &mut N,
+    asking: Asking,
+    key: Option<Text>,
+    tries: u32,
+) -> Result<Wish, Stop> {
+    match asking {
+        Asking::Command { intent, body } => Ok(Wish { intent, key, body }),
+        Asking::Report { intent, measured } => {
+            let ordinal = next_ordinal(rt.alloc(), network, &measured, tries)?;
+            let body = report_body(rt.alloc(), &measured, ordinal, now(rt)?)?;
+            Ok(Wish { intent, key, body })
+        }
+    }
+}
+
+// The moment, in seconds since 1970-01-01T00:00:00Z.
+fn now(rt: &HostRuntime) -> Result<u64, Stop> {
+    let Ok(now) = SystemTime::now(rt) else {
+        return Err(Stop::Clock);
+    };
+    match now.duration_since(SystemTime::UNIX_EPOCH) {
+        Ok(passed) => Ok(passed.as_secs()),
+        Err(_) => Err(Stop::Clock),
+    }
+}
+
+// Asks a command in the place of the wish that is pending.
+fn instead<N: Network, D: Device>(
+    alloc: Global,
+    network: &mut N,
+    kept: &mut KeptJournal<D>,
+    asking: Asking,
+    tries: u32,
+) -> Result<SettledAt, Stop>
+    requires { IsKept D.seen D.may_leave kept.old }
+    ensures { OnOk result (IsKept D.seen D.may_leave kept.new) }
+{
+    let place = kept.journal.kept().len();
+    let Asking::Command { body, .. } = asking else {
+        return Err(Stop::ReportInstead);
+    };
+    asked_instead(alloc, network, kept, body, tries)?;
+    Ok(SettledAt {
+        place,
+        is_wish: false,
+    })
+}
+
+// Shows the reply at a place of the journal, and answers how the call ends by it.
+fn show_settled<D: Device, W: Write, F: Write>(
+    alloc: Global,
+    kept: &KeptJournal<D>,
+    settled: SettledAt,
+    output: &mut W,
+    errors: &mut F,
+    is_terminal: bool,
+) -> Result<Outcome, Stop> {
+    let Some(kept) = kept.journal.kept().get(settled.place) else {
+        return Err(Stop::Refused);
+    };
+    show_body(alloc, kept.reply.body.as_str(), output, is_terminal)?;
+    let outcome = outcome_of(kept, settled.is_wish);
+    if outcome == Outcome::Late {
+        say(errors, if settled.is_wish { REPLACED } else { TOO_LATE });
+    }
+    Ok(outcome)
+}
+
+// How a call ends by what settled a number: that of the wish, or that of what was asked in its
+// place. Only one of the two acted.
+fn outcome_of(kept: &Kept, is_wish: bool) -> Outcome
+    ensures { result ≡ outcome_by is_wish kept.now }
+{
+    if acted(kept) != is_wish {
+        Outcome::Late
+    } else if kept.reply.status == 200 {
+        Outcome::Done
+    } else {
+        Outcome::Refused
+    }
+}
+
+// Whether the wish acted, and not what was asked in its place.
+fn acted(kept: &Kept) -> bool
+    ensures { result ≡ acted kept.now }
+{
+    kept.asked.instead.is_none() || kept.reply.is_late
+}
+
+/// Shows the body of a reply: on a terminal a plain line, if there is one.
+///
+/// # Errors
+/// `Output` if the output failed; `Memory`.
+pub fn show_body<W: Write>(
+    alloc: Global,
+    body: &str,
+    output: &mut W,
+    is_terminal: bool,
+) -> Result<(), Stop> {
+    if is_terminal {
+        if let Some(line) = line_of(alloc, body)? {
+            return show(output, line.as_str());
+        }
+    }
+    show(output, body)
+}

@@ -1,0 +1,163 @@
+//! A caller's journal on a device: opened, begun, and what is asked by it.
+ghost use Rattle.std.specs.Prelude.{◌≡◌, [], IfOk, OnOk};
+ghost use Rattle.canary_records.specs.Stores.{held, IsSettled};
+ghost use Rattle.canary_sending.specs.Keeping.{IsKept};
+
+use crate::outcome::Stop;
+use canary_base::lists::Text;
+use canary_base::names::Name;
+use canary_journal::entry::{Entry, Wish};
+use canary_journal::meaning::{Meaning, meaning_of};
+use canary_records::device::Device;
+use canary_records::store::Store;
+use canary_sending::kept::{KeptJournal, Opened, begin, open};
+use canary_sending::network::{Heard, Network, Why, request};
+use canary_sending::settle::settle;
+use std::alloc::Global;
+
+// The last number: a request under it is ahead of any caller that has sent fewer.
+const LAST: u32 = 1_000_000_000;
+
+// A command that would change nothing if it were settled.
+const PROBE: &str = "{\"tick\":{\"service\":\"probe\"}}";
+
+/// The journal of a caller on a device: as it stands there, or else it begins with what the desk
+/// says that it has settled of the caller.
+///
+/// # Errors
+/// `JournalBroken` if the device has no whole journal, `OtherCaller` if it has another caller's;
+/// `NotBegun` if no desk answered, and then nothing was begun; `Journal`, `JournalFull`, `Memory`.
+pub fn journal_on<N: Network, D: Device + Drop>(
+    alloc: Global,
+    network: &mut N,
+    device: D,
+    caller: Name,
+    tries: u32,
+) -> Result<KeptJournal<D>, Stop>
+    ensures { IfOk result (IsKept D.seen D.may_leave) }
+{
+    match open(alloc, device)? {
+        Opened::Begun(kept) => of_caller(kept, caller),
+        Opened::New(store) => begun(alloc, network, store, caller, tries),
+    }
+}
+
+fn of_caller<D: Device + Drop>(kept: KeptJournal<D>, caller: Name) -> Result<KeptJournal<D>, Stop>
+    ensures { IfOk result (λ same. same ≡ kept) }
+{
+    if kept.journal.caller() != caller {
+        return Err(Stop::OtherCaller);
+    }
+    Ok(kept)
+}
+
+fn begun<N: Network, D: Device + Drop>(
+    alloc: Global,
+    network: &mut N,
+    store: Store<D>,
+    caller: Name,
+    tries: u32,
+) -> Result<KeptJournal<D>, Stop>
+    requires rest { IsSettled D.seen D.may_leave store.device store.gate }
+    requires new { held (D.seen store.device) ≡ [] }
+    ensures { IfOk result (IsKept D.seen D.may_leave) }
+{
+    let settled = settled_before(alloc, network, caller, tries)?;
+    match begin(alloc, store, caller, settled) {
+        Ok(kept) => Ok(kept),
+        Err(fault) => Err(fault.into()),
+    }
+}
+
+// How many requests of a caller the desk has settled. The request that asks is ahead of the
+// caller's next one, so it changes nothing.
+fn settled_before<N: Network>(
+    alloc: Global,
+    network: &mut N,
+    caller: Name,
+    tries: u32,
+) -> Result<u32, Stop> {
+    let message = request(alloc, caller, LAST, PROBE)?;
+    for tried in 0..tries {
+        let why = match network.exchange(alloc, message.as_str()) {
+            Ok(heard) => match next_number(alloc, &heard)? {
+                Some(next) => return Ok(next.saturating_sub(1)),
+                None => Why::Foreign,
+            },
+            Err(Why::Memory) => return Err(Stop::Memory),
+            Err(why) => why,
+        };
+        if tried + 1 < tries {
+            network.pause(tried + 1, why);
+        }
+    }
+    Err(Stop::NotBegun)
+}
+
+// The number that a desk expects next, if the reply says so.
+fn next_number(alloc: Global, heard: &Heard) -> Result<Option<u32>, Stop> {
+    match meaning_of(alloc, heard.status, heard.body.as_str())? {
+        Meaning::Ahead(expected) => Ok(Some(expected)),
+        _ => Ok(None),
+    }
+}
+
+/// Asks a wish under the next number, while none is pending: it stands on the device before it is
+/// sent, and so does its reply before the call returns.
+///
+/// # Errors
+/// `KeyUsed`, `Spent` and `Refused` if the journal does not take the wish; what `settled` answers.
+pub fn asked<N: Network, D: Device>(
+    alloc: Global,
+    network: &mut N,
+    kept: &mut KeptJournal<D>,
+    wish: Wish,
+    tries: u32,
+) -> Result<(), Stop>
+    requires { IsKept D.seen D.may_leave kept.old }
+    ensures { OnOk result (IsKept D.seen D.may_leave kept.new) }
+{
+    let number = kept.journal.number();
+    kept.keep(alloc, Entry::Asked { number, wish })?;
+    settled(alloc, network, kept, tries)
+}
+
+/// Asks a command in the place of the wish that is pending, under its number.
+///
+/// # Errors
+/// `Replaced` if another one was asked in its place; `Refused` if nothing is pending; what
+/// `settled` answers.
+pub fn asked_instead<N: Network, D: Device>(
+    alloc: Global,
+    network: &mut N,
+    kept: &mut KeptJournal<D>,
+    body: Text,
+    tries: u32,
+) -> Result<(), Stop>
+    requires { IsKept D.seen D.may_leave kept.old }
+    ensures { OnOk result (IsKept D.seen D.may_leave kept.new) }
+{
+    let number = kept.journal.number();
+    kept.keep(alloc, Entry::Instead { number, body })?;
+    settled(alloc, network, kept, tries)
+}
+
+/// Sends what is pending until it is settled, `tries` times at most, and keeps its reply.
+///
+/// # Errors
+/// `Unanswered` if no answer came; `Reused`, `Ahead` and `Unread` by what the desk answered;
+/// `Journal` if the device failed; `JournalFull`; `Memory`.
+pub fn settled<N: Network, D: Device>(
+    alloc: Global,
+    network: &mut N,
+    kept: &mut KeptJournal<D>,
+    tries: u32,
+) -> Result<(), Stop>
+    requires { IsKept D.seen D.may_leave kept.old }
+    ensures { OnOk result (IsKept D.seen D.may_leave kept.new) }
+{
+    match settle(alloc, network, kept, tries) {
+        Ok(()) => Ok(()),
+        Err(unsettled) => Err(unsettled.into()),
+    }
+}

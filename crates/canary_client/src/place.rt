@@ -1,0 +1,108 @@
+//! Where a desk is, as whom it is asked, and how patiently: what the command line or, in its place,
+//! the environment says.
+use crate::outcome::Stop;
+use canary_base::lists::Text;
+use canary_base::names::Name;
+use canary_words::words::AskedDesk;
+use std::env::{self, VarError};
+use std::net::SocketAddr;
+
+// The desk's address, if neither the words nor the environment give one.
+const DESK: &str = "127.0.0.1:8080";
+
+// How often a message is sent, at most, and the most seconds for a reply, if no word says so.
+const TRIES: u64 = 10;
+
+const SECONDS: u64 = 5;
+
+/// Where a desk is, and how patiently it is asked.
+#[derive(Clone, Copy, Debug)]
+pub struct Place {
+    /// The address.
+    pub desk: SocketAddr,
+    /// How often a message is sent, at most.
+    pub tries: u32,
+    /// The most seconds for a reply.
+    pub reply_seconds: u64,
+    /// The most seconds that a call waits for something to happen; none for no end.
+    pub wait_seconds: Option<u64>,
+}
+
+/// The place that these words name; where they do not, the environment's CANARY_DESK does.
+///
+/// # Errors
+/// `Address` if the address is not IP:PORT; `Memory`.
+pub fn place_of(rt: &HostRuntime, asked: &AskedDesk) -> Result<Place, Stop> {
+    let given = given_or(rt, &asked.desk, "CANARY_DESK")?;
+    let address = match &given {
+        Some(given) => given.as_str(),
+        None => DESK,
+    };
+    let Ok(desk) = address.parse::<SocketAddr>() else {
+        return Err(Stop::Address);
+    };
+    Ok(Place {
+        desk,
+        tries: asked.tries.unwrap_or(TRIES).min(u32::MAX as u64) as u32,
+        reply_seconds: asked.timeout.unwrap_or(SECONDS),
+        wait_seconds: asked.timeout,
+    })
+}
+
+/// The place of a call that waits: the most seconds are those of the whole call, and each reply has
+/// as many as by default.
+pub fn waiting(place: Place) -> Place {
+    Place {
+        reply_seconds: SECONDS,
+        ..place
+    }
+}
+
+/// The caller that these words name, or the environment's CANARY_AS.
+///
+/// # Errors
+/// `NoCaller` if there is none, `BadCaller` if it is an invalid name; `Memory`.
+pub fn caller_of(rt: &HostRuntime, asked: &Option<Text>) -> Result<Name, Stop> {
+    let Some(given) = given_or(rt, asked, "CANARY_AS")? else {
+        return Err(Stop::NoCaller);
+    };
+    match Name::read(given.as_str().as_bytes()) {
+        Some(caller) => Ok(caller),
+        None => Err(Stop::BadCaller),
+    }
+}
+
+/// The file of the journal that these words name, or the environment's CANARY_JOURNAL.
+///
+/// # Errors
+/// `NoJournal` if there is none; `Memory`.
+pub fn journal_of(rt: &HostRuntime, asked: &Option<Text>) -> Result<Text, Stop> {
+    match given_or(rt, asked, "CANARY_JOURNAL")? {
+        Some(file) if !file.as_str().is_empty() => Ok(file),
+        _ => Err(Stop::NoJournal),
+    }
+}
+
+/// The service that a word names.
+///
+/// # Errors
+/// `BadService` if it is an invalid name.
+pub fn service_of(word: &Text) -> Result<Name, Stop> {
+    match Name::read(word.as_str().as_bytes()) {
+        Some(service) => Ok(service),
+        None => Err(Stop::BadService),
+    }
+}
+
+// What was given, or the variable of the environment that stands for it. One that is no text counts
+// as one that is not there.
+fn given_or(rt: &HostRuntime, given: &Option<Text>, variable: &str) -> Result<Option<Text>, Stop> {
+    if let Some(given) = given {
+        return Ok(Some(given.copy(rt.alloc())?));
+    }
+    match env::var(&(rt, rt.alloc()), variable) {
+        Ok(value) => Ok(Some(Text::of(value))),
+        Err(VarError::OutOfMemory) => Err(Stop::Memory),
+        Err(_) => Ok(None),
+    }
+}

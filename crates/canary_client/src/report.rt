@@ -1,0 +1,73 @@
+//! Reports of one measurement.
+use crate::outcome::Stop;
+use crate::query::value_at;
+use canary_base::lists::Text;
+use canary_base::names::{Label, Name};
+use canary_sending::network::Network;
+use serde_json::Value;
+use std::alloc::{AllocError, Global};
+
+/// A measurement as it is asked for: its ordinal and its moment are not known yet.
+#[derive(Drop)]
+pub struct Measured {
+    /// The service.
+    pub service: Name,
+    /// The number of the run.
+    pub run: u32,
+    /// The metric.
+    pub metric: Label,
+    /// The member of the outcome: `"result":RESULT`, or `"failure":TEXT`.
+    pub outcome: Text,
+}
+
+/// The body of a report of a measurement with this ordinal, taken at this moment, in seconds since
+/// 1970-01-01T00:00:00Z.
+///
+/// # Errors
+/// `AllocError` if an allocation was refused.
+pub fn report_body(
+    alloc: Global,
+    measured: &Measured,
+    ordinal: u64,
+    taken: u64,
+) -> Result<Text, AllocError> {
+    let (metric, outcome) = (measured.metric.as_str(), measured.outcome.as_str());
+    let entry = format!(in alloc;
+        "{{\"metric\":\"{metric}\",\"ordinal\":{ordinal},\"taken\":{taken},{outcome}}}"
+    )?;
+    let (entry, run) = (entry.as_str(), measured.run);
+    let service = measured.service.as_str();
+    Ok(Text::of(format!(in alloc;
+        "{{\"report\":{{\"entries\":[{entry}],\"run\":{run},\"service\":\"{service}\"}}}}"
+    )?))
+}
+
+/// The ordinal that comes next of a measurement's metric: one more than its run has measurements.
+///
+/// # Errors
+/// `NoService`, `NoRun` and `NoMetric` if there is none; `NoDesk` if the desk did not answer,
+/// `Query` if it refused the query; `Memory`.
+pub fn next_ordinal<N: Network>(
+    alloc: Global,
+    network: &mut N,
+    measured: &Measured,
+    tries: u32,
+) -> Result<u64, Stop> {
+    let (service, run) = (measured.service.as_str(), measured.run);
+    let path = format!(in alloc; "/services/{service}/runs/{run}")?;
+    let found = value_at(alloc, network, path.as_str(), tries)?;
+    match measurements(&found, measured.metric.as_str()) {
+        Some(count) => Ok(count.saturating_add(1)),
+        None => Err(Stop::NoMetric),
+    }
+}
+
+// How many measurements a run has of a metric.
+fn measurements(run: &Value, metric: &str) -> Option<u64> {
+    for found in run.get("metrics")?.as_array()?.iter() {
+        if found.get("name").and_then(Value::as_str) == Some(metric) {
+            return found.get("measurements").and_then(Value::as_u64);
+        }
+    }
+    None
+}

@@ -1,0 +1,219 @@
+//! `send`: the rows of a measurement file, each a request with its own caller and number, so that
+//! the file is the journal.
+use crate::outcome::{Outcome, Stop, show, tell};
+use crate::place::{Place, place_of};
+use crate::tcp::Tcp;
+use canary_base::lists::Text;
+use canary_canonical::writing;
+use canary_files::bounded::{Bounded, Limited, MOST_BYTES};
+use canary_files::import::MOST_ROWS;
+use canary_files::row::{Refusal, Row, RowFault, is_header, row_of};
+use canary_journal::meaning::{Meaning, meaning_of};
+use canary_plan::command::Command;
+use canary_sending::network::{Heard, Network, Why, request};
+use canary_words::words::AskedDesk;
+use csv::{ByteRecord, ErrorKind, Reader, ReaderBuilder};
+use std::alloc::Global;
+use std::fs::File;
+use std::io::{Read, Write};
+
+// The word that stands for the input.
+const INPUT: &str = "-";
+
+/// Sends the rows of a measurement file (RFC 4180, as `import` reads it), each until it is answered,
+/// and shows a line for each, as `import` does: the number of the row from 1 on, the status, and the
+/// body. The file `csv` is the input if that is `-`. Sent again as a whole, each row that was
+/// settled gets its kept reply, and so the call goes on where another one stopped.
+pub fn send<R: Read, W: Write, F: Write>(
+    rt: &HostRuntime,
+    desk: &AskedDesk,
+    csv: &Text,
+    input: &mut R,
+    output: &mut W,
+    errors: &mut F,
+) -> Outcome {
+    match try_send(rt, desk, csv, input, output) {
+        Ok(()) => Outcome::Done,
+        Err(stop) => tell(stop, errors),
+    }
+}
+
+fn try_send<R: Read, W: Write>(
+    rt: &HostRuntime,
+    desk: &AskedDesk,
+    csv: &Text,
+    input: &mut R,
+    output: &mut W,
+) -> Result<(), Stop> {
+    let place = place_of(rt, desk)?;
+    let mut network = Tcp::new(rt, &place);
+    if csv.as_str() == INPUT {
+        return send_file(rt.alloc(), &mut network, input, place, output);
+    }
+    let Ok(mut file) = File::open(rt, csv.as_str()) else {
+        return Err(Stop::File);
+    };
+    send_file(rt.alloc(), &mut network, &mut file, place, output)
+}
+
+fn send_file<N: Network, R: Read, W: Write>(
+    alloc: Global,
+    network: &mut N,
+    input: &mut R,
+    place: Place,
+    output: &mut W,
+) -> Result<(), Stop> {
+    let bounded = Bounded {
+        source: input,
+        left: MOST_BYTES,
+    };
+    let mut reader = reader_of(alloc, bounded);
+    let mut fields = ByteRecord::new(alloc);
+    if !has_next(&mut reader, &mut fields)? {
+        return Ok(());
+    }
+    if !is_header(&fields) {
+        return Err(Stop::Header);
+    }
+    send_rows(
+        alloc,
+        network,
+        &mut reader,
+        &mut fields,
+        place.tries,
+        output,
+    )
+}
+
+fn reader_of<S: Read>(alloc: Global, source: S) -> Reader<S> {
+    ReaderBuilder::new()
+        .has_headers(false)
+        .flexible(true)
+        .from_reader(alloc, source)
+}
+
+// Reads the next record, and answers whether there is one.
+fn has_next<S: Read + Limited>(
+    reader: &mut Reader<S>,
+    fields: &mut ByteRecord,
+) -> Result<bool, Stop> {
+    match reader.read_byte_record(fields) {
+        Ok(found) => Ok(found),
+        Err(error) => match error.kind() {
+            ErrorKind::Io(_) if reader.get_ref().is_spent() => Err(Stop::RowsSpent),
+            ErrorKind::Io(_) => Err(Stop::File),
+            _ => Err(Stop::Memory),
+        },
+    }
+}
+
+// Sends the rows behind the header.
+fn send_rows<N: Network, S: Read + Limited, W: Write>(
+    alloc: Global,
+    network: &mut N,
+    reader: &mut Reader<S>,
+    fields: &mut ByteRecord,
+    tries: u32,
+    output: &mut W,
+) -> Result<(), Stop> {
+    for done in 0..MOST_ROWS {
+        if !has_next(reader, fields)? {
+            return Ok(());
+        }
+        send_row(alloc, network, fields, done + 1, tries, output)?;
+    }
+    if has_next(reader, fields)? {
+        return Err(Stop::RowsSpent);
+    }
+    Ok(())
+}
+
+fn send_row<N: Network, W: Write>(
+    alloc: Global,
+    network: &mut N,
+    fields: &ByteRecord,
+    number: u64,
+    tries: u32,
+    output: &mut W,
+) -> Result<(), Stop> {
+    match row_of(alloc, fields) {
+        Ok(row) => {
+            let message = message_of(alloc, row)?;
+            let heard = answered(alloc, network, message.as_str(), tries)?;
+            show_line(alloc, number, heard.status, heard.body.as_str(), output)?;
+            agreed(alloc, &heard)
+        }
+        Err(RowFault::Refused(refusal)) => {
+            show_line(alloc, number, 400, body_of(refusal), output)
+        }
+        Err(RowFault::Memory) => Err(Stop::Memory),
+    }
+}
+
+// The message of a row's request.
+fn message_of(alloc: Global, row: Row) -> Result<Text, Stop> {
+    let (caller, number) = (row.caller, row.number.get());
+    let body = writing::text(alloc, &Command::Report(row.report))?;
+    Ok(request(alloc, caller, number, body.as_str())?)
+}
+
+// The body of the reply that a desk would give to a row that is refused unread.
+fn body_of(refusal: Refusal) -> &'static str {
+    match refusal {
+        Refusal::Unreadable => "{\"code\":\"unreadable\"}",
+        Refusal::BadName => "{\"code\":\"bad-name\"}",
+        Refusal::BadNumber => "{\"code\":\"bad-number\"}",
+    }
+}
+
+// Sends a message until the desk answers it.
+fn answered<N: Network>(
+    alloc: Global,
+    network: &mut N,
+    message: &str,
+    tries: u32,
+) -> Result<Heard, Stop> {
+    for tried in 0..tries {
+        let why = match network.exchange(alloc, message) {
+            Ok(heard) => match why_again(alloc, &heard)? {
+                None => return Ok(heard),
+                Some(why) => why,
+            },
+            Err(Why::Memory) => return Err(Stop::Memory),
+            Err(why) => why,
+        };
+        if tried + 1 < tries {
+            network.pause(tried + 1, why);
+        }
+    }
+    Err(Stop::RowUnanswered)
+}
+
+// Why a row has to be sent again that got this reply.
+fn why_again(alloc: Global, heard: &Heard) -> Result<Option<Why>, Stop> {
+    match meaning_of(alloc, heard.status, heard.body.as_str())? {
+        Meaning::Unavailable => Ok(Some(Why::Unavailable)),
+        Meaning::Foreign => Ok(Some(Why::Foreign)),
+        _ => Ok(None),
+    }
+}
+
+// Whether the desk and the file agree on what stands under a row's number.
+fn agreed(alloc: Global, heard: &Heard) -> Result<(), Stop> {
+    match meaning_of(alloc, heard.status, heard.body.as_str())? {
+        Meaning::Reused => Err(Stop::RowReused),
+        Meaning::Ahead(_) => Err(Stop::RowAhead),
+        _ => Ok(()),
+    }
+}
+
+fn show_line<W: Write>(
+    alloc: Global,
+    number: u64,
+    status: u16,
+    body: &str,
+    output: &mut W,
+) -> Result<(), Stop> {
+    let line = format!(in alloc; "{number} {status} {body}")?;
+    show(output, line.as_str())
+}
