@@ -12,11 +12,14 @@ use Rattle.clap.specs.declared.builder.action.ArgAction.TheVariants.{Set, SetTru
 use Rattle.clap.specs.declared.builder.value_parser.ValueParser.TheVariants.{Unsigned}
 use Rattle.clap.specs.declared.error.kind.ErrorKind.{ErrorKind}
 use Rattle.clap.specs.declared.error.kind.ErrorKind.TheVariants.{DisplayHelp, DisplayVersion}
+use Rattle.canary_words.specs.declared.words.AskedCommand.{AskedCommand}
+use Rattle.canary_words.specs.declared.words.AskedDesk.{AskedDesk}
 use Rattle.canary_words.specs.declared.words.AskedLimits.{AskedLimits}
 use Rattle.canary_words.specs.declared.words.Program.{Program}
 use Rattle.canary_words.specs.declared.words.Program.TheVariants.{Pipe, Serve, Import, History}
 use Rattle.canary_words.specs.declared.words.Program.TheVariants.{Export, Status, Page, Backup}
-use Rattle.canary_words.specs.declared.words.Program.TheVariants.{Migrate, Check}
+use Rattle.canary_words.specs.declared.words.Program.TheVariants.{Migrate, Check, Do, Get}
+use Rattle.canary_words.specs.declared.words.Program.TheVariants.{Watch, Send, Due}
 use Rattle.canary_words.specs.declared.words.WordsFault.{WordsFault}
 use Rattle.canary_words.specs.declared.words.WordsFault.TheVariants.{Help, Usage, Memory}
 
@@ -135,6 +138,50 @@ abbrev pub check_command : App
 check_command = with_rule (with_rule (new_app (codes "check"))
     (text_option (codes "request") false)) (optional_word (codes "file"))
 
+-- `--desk IP:PORT --tries N --timeout SECONDS`
+abbrev pub with_desk_options : App → App
+with_desk_options a = with_rule (with_rule (with_rule a (text_option (codes "desk") false))
+    (number_option (codes "tries") 1000)) (number_option (codes "timeout") 86400)
+
+-- `COMMAND FIRST SECOND THIRD FOURTH`, of which only the first has to be given
+abbrev pub with_command_words : App → App
+with_command_words a = with_rule (with_rule (with_rule (with_rule (with_rule a
+    (text_word (codes "command"))) (optional_word (codes "first")))
+    (optional_word (codes "second"))) (optional_word (codes "third")))
+    (optional_word (codes "fourth"))
+
+-- `do --as NAME --journal FILE --once KEY --instead --failure TEXT COMMAND`, with its words
+abbrev pub do_command : App
+do_command = with_command_words (with_rule (with_rule (with_rule (with_rule (with_rule
+    (with_desk_options (new_app (codes "do"))) (text_option (codes "as") false))
+    (text_option (codes "journal") false)) (text_option (codes "once") false))
+    (flag (codes "instead"))) (text_option (codes "failure") false))
+
+-- `get SERVICE PART`
+abbrev pub get_command : App
+get_command = with_rule (with_rule (with_desk_options (new_app (codes "get")))
+    (text_word (codes "service"))) (optional_word (codes "part"))
+
+-- `watch --until STATUS,.. SERVICE`
+abbrev pub watch_command : App
+watch_command = with_rule (with_rule (with_desk_options (new_app (codes "watch")))
+    (text_option (codes "until") false)) (text_word (codes "service"))
+
+-- `send CSV`
+abbrev pub send_command : App
+send_command = with_rule (with_desk_options (new_app (codes "send"))) (text_word (codes "csv"))
+
+-- `due --wait SERVICE`
+abbrev pub due_command : App
+due_command = with_rule (with_rule (with_desk_options (new_app (codes "due")))
+    (flag (codes "wait"))) (text_word (codes "service"))
+
+-- with the commands that ask a desk
+abbrev pub with_client_commands : App → App
+with_client_commands a = with_subcommand (with_subcommand (with_subcommand (with_subcommand
+    (with_subcommand a do_command.top) get_command.top) watch_command.top) send_command.top)
+    due_command.top
+
 -- with the commands that work on the file of a desk's records
 abbrev pub with_records_commands : App → App
 with_records_commands a = with_subcommand (with_subcommand (with_subcommand (with_subcommand
@@ -152,8 +199,8 @@ bare_desk = on_top (λ s. record s {
 
 -- one of the commands
 abbrev pub desk_command : App
-desk_command = with_subcommand (with_records_commands (with_subcommand (with_subcommand bare_desk
-    pipe_command.top) serve_command.top)) check_command.top
+desk_command = with_client_commands (with_subcommand (with_records_commands (with_subcommand
+    (with_subcommand bare_desk pipe_command.top) serve_command.top)) check_command.top)
 
 -- what clap finds in the words behind the program's name: the kind of the first mistake, or of a
 -- request for help or for the version, and nothing where the desk takes them
@@ -238,6 +285,53 @@ migrate_of rows = option_map (λ db. Migrate db (flag_given (codes "dry-run") ro
 abbrev pub check_of : List Row → Option Program
 check_of rows = Some (Check (text_given (codes "file") rows) (text_given (codes "request") rows))
 
+-- where the desk is, and how patiently it is asked, as far as it was given
+abbrev pub desk_of : List Row → AskedDesk
+desk_of rows = record {
+  desk = text_given (codes "desk") rows;
+  tries = number_given (codes "tries") rows;
+  timeout = number_given (codes "timeout") rows;
+}
+
+-- the command that is asked, word by word
+abbrev pub command_of : List Row → Option AskedCommand
+command_of rows = option_map (λ kind. record {
+  kind = kind;
+  first = text_given (codes "first") rows;
+  second = text_given (codes "second") rows;
+  third = text_given (codes "third") rows;
+  fourth = text_given (codes "fourth") rows;
+  failure = text_given (codes "failure") rows;
+}) (text_given (codes "command") rows)
+
+abbrev pub do_of : List Row → Option Program
+do_of rows = option_map (λ command. Do (desk_of rows) (text_given (codes "as") rows)
+    (text_given (codes "journal") rows) (text_given (codes "once") rows)
+    (flag_given (codes "instead") rows) command) (command_of rows)
+
+abbrev pub get_of : List Row → Option Program
+get_of rows = option_map (λ service. Get (desk_of rows) service (text_given (codes "part") rows))
+    (text_given (codes "service") rows)
+
+abbrev pub watch_of : List Row → Option Program
+watch_of rows = option_map (λ service. Watch (desk_of rows) (text_given (codes "until") rows)
+    service) (text_given (codes "service") rows)
+
+abbrev pub send_of : List Row → Option Program
+send_of rows = option_map (Send (desk_of rows)) (text_given (codes "csv") rows)
+
+abbrev pub due_of : List Row → Option Program
+due_of rows = option_map (Due (desk_of rows) (flag_given (codes "wait") rows))
+    (text_given (codes "service") rows)
+
+-- the program of the command that asks a desk
+abbrev pub client_program_in : Text × List Row → Option Program
+client_program_in p = if bytes_eq p.0 (codes "do") then do_of p.1
+    else if bytes_eq p.0 (codes "get") then get_of p.1
+    else if bytes_eq p.0 (codes "watch") then watch_of p.1
+    else if bytes_eq p.0 (codes "send") then send_of p.1
+    else if bytes_eq p.0 (codes "due") then due_of p.1 else None
+
 -- the program of the command of this name with these matches
 abbrev pub program_in : Text × List Row → Option Program
 program_in p = if bytes_eq p.0 (codes "pipe") then pipe_of p.1
@@ -249,7 +343,8 @@ program_in p = if bytes_eq p.0 (codes "pipe") then pipe_of p.1
     else if bytes_eq p.0 (codes "page") then page_of p.1
     else if bytes_eq p.0 (codes "backup") then backup_of p.1
     else if bytes_eq p.0 (codes "migrate") then migrate_of p.1
-    else if bytes_eq p.0 (codes "check") then check_of p.1 else None
+    else if bytes_eq p.0 (codes "check") then check_of p.1
+    else client_program_in p
 
 -- the program of the words that the desk takes
 abbrev pub program_of : List Text → Option Program
@@ -326,6 +421,19 @@ HasPage rows = HasTexts (codes "out") rows × MayHaveNumber (codes "watch") 8640
 abbrev pub HasMigrate : List Row → Type 0
 HasMigrate rows = HasText (codes "db") rows × MayHaveFlag (codes "dry-run") rows
 
+abbrev pub HasDesk : List Row → Type 0
+HasDesk rows = MayHaveNumber (codes "tries") 1000 rows × MayHaveNumber (codes "timeout") 86400 rows
+
+-- what a desk is asked for was given under this name
+abbrev pub HasAsked : Text → List Row → Type 0
+HasAsked name rows = HasDesk rows × HasText name rows
+
+abbrev pub HasDo : List Row → Type 0
+HasDo rows = HasAsked (codes "command") rows × MayHaveFlag (codes "instead") rows
+
+abbrev pub HasDue : List Row → Type 0
+HasDue rows = HasAsked (codes "service") rows × MayHaveFlag (codes "wait") rows
+
 -- nothing has to be given
 abbrev pub HasNothing : List Row → Type 0
 HasNothing rows = Unit {0}
@@ -342,8 +450,15 @@ HasRecordsProgram met = Meets (codes "import") (HasTexts (codes "csv")) met
     ⊎ (Meets (codes "page") HasPage met ⊎ (Meets (codes "backup") (HasTexts (codes "copy")) met
     ⊎ Meets (codes "migrate") HasMigrate met)))))
 
+-- one of the commands that ask a desk was met, with all that it has to be given
+abbrev pub HasClientProgram : Option (Text × List Row) → Type 0
+HasClientProgram met = Meets (codes "do") HasDo met
+    ⊎ (Meets (codes "get") (HasAsked (codes "service")) met
+    ⊎ (Meets (codes "watch") (HasAsked (codes "service")) met
+    ⊎ (Meets (codes "send") (HasAsked (codes "csv")) met ⊎ Meets (codes "due") HasDue met)))
+
 -- one of the commands was met, with all that it has to be given
 abbrev pub HasProgram : Option (Text × List Row) → Type 0
 HasProgram met = Meets (codes "pipe") HasMoments met
     ⊎ (Meets (codes "serve") HasListener met ⊎ (HasRecordsProgram met
-    ⊎ Meets (codes "check") HasNothing met))
+    ⊎ (Meets (codes "check") HasNothing met ⊎ HasClientProgram met)))

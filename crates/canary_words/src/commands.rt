@@ -9,6 +9,9 @@ ghost use Rattle.canary_words.specs.CommandLine.{check_command, flag, watch_opti
 ghost use Rattle.canary_words.specs.CommandLine.{moment_option, number_option, text_option};
 ghost use Rattle.canary_words.specs.CommandLine.{text_word, with_limits, with_numbers};
 ghost use Rattle.canary_words.specs.CommandLine.{optional_word, with_unsent, with_value};
+ghost use Rattle.canary_words.specs.CommandLine.{with_client_commands, do_command, get_command};
+ghost use Rattle.canary_words.specs.CommandLine.{watch_command, send_command, due_command};
+ghost use Rattle.canary_words.specs.CommandLine.{with_desk_options, with_command_words};
 
 use crate::help;
 use canary_base::moments::LAST_MOMENT;
@@ -34,6 +37,9 @@ pub const MOST_UNSENT_TOTAL: u64 = 68_719_476_736;
 /// The most seconds between two looks at a desk: a day.
 pub const MOST_WATCH: u64 = 86_400;
 
+/// The most times that a message can be asked to be sent.
+pub const MOST_TRIES: u64 = 1_000;
+
 const VERSION: &str = "0.1.0";
 
 /// What the desk takes: one of its commands, with that command's options.
@@ -50,7 +56,8 @@ pub(crate) fn desk_command<'a>(alloc: Global) -> Result<Command<'a>, AllocError>
     let desk = with_command(desk, pipe_command(alloc))?;
     let desk = with_command(desk, serve_command(alloc))?;
     let desk = with_records_commands(alloc, desk)?;
-    with_command(desk, check_command(alloc))
+    let desk = with_command(desk, check_command(alloc))?;
+    with_client_commands(alloc, desk)
 }
 
 // The desk's command with those that work on the file of its records.
@@ -64,6 +71,17 @@ fn with_records_commands<'a>(alloc: Global, desk: Command<'a>) -> Result<Command
     let desk = with_command(desk, page_command(alloc))?;
     let desk = with_command(desk, backup_command(alloc))?;
     with_command(desk, migrate_command(alloc))
+}
+
+// The desk's command with those that ask a desk.
+fn with_client_commands<'a>(alloc: Global, desk: Command<'a>) -> Result<Command<'a>, AllocError>
+    ensures { IfOk result (λ c. app_of c ≡ with_client_commands (app_of desk.entry)) }
+{
+    let desk = with_command(desk, do_command(alloc))?;
+    let desk = with_command(desk, get_command(alloc))?;
+    let desk = with_command(desk, watch_command(alloc))?;
+    let desk = with_command(desk, send_command(alloc))?;
+    with_command(desk, due_command(alloc))
 }
 
 // The desk's command with another one, if that was had.
@@ -256,6 +274,102 @@ fn check_command<'a>(alloc: Global) -> Result<Command<'a>, AllocError>
     with_optional_word(alloc, check, "file", "FILE", help::FILE_HELP)
 }
 
+// `do COMMAND` with the words of the command, and its options.
+fn do_command<'a>(alloc: Global) -> Result<Command<'a>, AllocError>
+    ensures { IfOk result (λ c. app_of c ≡ do_command) }
+{
+    let asked = Command::new(alloc, "do")
+        .about(help::DO_ABOUT)
+        .override_usage(help::DO_USAGE)
+        .after_help(help::DO_HELP);
+    let asked = with_desk_options(alloc, asked, help::TIMEOUT_HELP)?;
+    let asked = with_text(alloc, asked, "as", "NAME", false, help::AS_HELP)?;
+    let asked = with_text(alloc, asked, "journal", "FILE", false, help::JOURNAL_HELP)?;
+    let asked = with_text(alloc, asked, "once", "KEY", false, help::ONCE_HELP)?;
+    let asked = with_flag(alloc, asked, "instead", help::INSTEAD_HELP)?;
+    let asked = with_text(alloc, asked, "failure", "TEXT", false, help::FAILURE_HELP)?;
+    with_command_words(alloc, asked)
+}
+
+// The command of `do` with the words of what it asks.
+fn with_command_words<'a>(alloc: Global, asked: Command<'a>) -> Result<Command<'a>, AllocError>
+    ensures { IfOk result (λ c. app_of c ≡ with_command_words (app_of asked.entry)) }
+{
+    let asked = with_word(alloc, asked, "command", "COMMAND", help::COMMAND_HELP)?;
+    let asked = with_optional_word(alloc, asked, "first", "FIRST", help::FIRST_HELP)?;
+    let asked = with_optional_word(alloc, asked, "second", "SECOND", help::SECOND_HELP)?;
+    let asked = with_optional_word(alloc, asked, "third", "THIRD", help::THIRD_HELP)?;
+    with_optional_word(alloc, asked, "fourth", "FOURTH", help::FOURTH_HELP)
+}
+
+// `get SERVICE`, and what of it; with the options of a client.
+fn get_command<'a>(alloc: Global) -> Result<Command<'a>, AllocError>
+    ensures { IfOk result (λ c. app_of c ≡ get_command) }
+{
+    let get = Command::new(alloc, "get")
+        .about(help::GET_ABOUT)
+        .after_help(help::GET_HELP);
+    let get = with_desk_options(alloc, get, help::TIMEOUT_HELP)?;
+    let get = with_word(alloc, get, "service", "SERVICE", help::SERVICE_HELP)?;
+    with_optional_word(alloc, get, "part", "PART", help::PART_HELP)
+}
+
+// `watch SERVICE` and its options.
+fn watch_command<'a>(alloc: Global) -> Result<Command<'a>, AllocError>
+    ensures { IfOk result (λ c. app_of c ≡ watch_command) }
+{
+    let watch = Command::new(alloc, "watch")
+        .about(help::WATCH_ABOUT)
+        .after_help(help::WATCH_HELP);
+    let watch = with_desk_options(alloc, watch, help::WATCH_TIMEOUT_HELP)?;
+    let watch = with_text(alloc, watch, "until", "STATUS,..", false, help::UNTIL_HELP)?;
+    with_word(alloc, watch, "service", "SERVICE", help::SERVICE_HELP)
+}
+
+// `send CSV` and its options.
+fn send_command<'a>(alloc: Global) -> Result<Command<'a>, AllocError>
+    ensures { IfOk result (λ c. app_of c ≡ send_command) }
+{
+    let send = Command::new(alloc, "send")
+        .about(help::SEND_ABOUT)
+        .after_help(help::SEND_HELP);
+    let send = with_desk_options(alloc, send, help::TIMEOUT_HELP)?;
+    with_word(alloc, send, "csv", "CSV", help::SEND_CSV_HELP)
+}
+
+// `due SERVICE` and its options.
+fn due_command<'a>(alloc: Global) -> Result<Command<'a>, AllocError>
+    ensures { IfOk result (λ c. app_of c ≡ due_command) }
+{
+    let due = Command::new(alloc, "due")
+        .about(help::DUE_ABOUT)
+        .after_help(help::DUE_HELP);
+    let due = with_desk_options(alloc, due, help::DUE_TIMEOUT_HELP)?;
+    let due = with_flag(alloc, due, "wait", help::WAIT_HELP)?;
+    with_word(alloc, due, "service", "SERVICE", help::SERVICE_HELP)
+}
+
+// A command with the options of each client, where this is the help of `--timeout`.
+fn with_desk_options<'a>(
+    alloc: Global,
+    client: Command<'a>,
+    timeout_help: &'a str,
+) -> Result<Command<'a>, AllocError>
+    ensures { IfOk result (λ c. app_of c ≡ with_desk_options (app_of client.entry)) }
+{
+    let client = with_text(
+        alloc,
+        client,
+        "desk",
+        "IP:PORT",
+        false,
+        help::DESK_OPTION_HELP,
+    )?;
+    let client = with_number(alloc, client, "tries", "N", MOST_TRIES, help::TRIES_HELP)?;
+    let most = MOST_SECONDS;
+    with_number(alloc, client, "timeout", "SECONDS", most, timeout_help)
+}
+
 // A command with the option `--NAME SECONDS`, which has to be given.
 fn with_moment<'a>(
     alloc: Global,
@@ -294,7 +408,7 @@ fn with_watch<'a>(alloc: Global, command: Command<'a>) -> Result<Command<'a>, Al
         "watch",
         "SECONDS",
         MOST_WATCH,
-        help::WATCH_HELP,
+        help::WATCH_OPTION_HELP,
     )
 }
 

@@ -15,11 +15,12 @@ macro_rules! with_records_faults {
 }
 
 pub(crate) const DESK_ABOUT: &str =
-    "Judges canary releases: settles each numbered request once, and answers it";
+    "Judges canary releases: a desk settles each numbered request once, and a client asks it";
 
 pub(crate) const DESK_HELP: &str = concat!(
     "Exit status: 0 for success, 1 for a fault or for findings of check, 2 for an invalid\n",
-    "command line. The help of each command lists its faults and has an example."
+    "command line. do, get, watch, send and due ask a desk, and have further statuses. The help\n",
+    "of each command lists its faults and has an example."
 );
 
 // ---- options that several commands have
@@ -34,8 +35,15 @@ pub(crate) const DB_OR_MADE_HELP: &str =
 
 pub(crate) const SERVICE_HELP: &str = "The name of the service";
 
-pub(crate) const WATCH_HELP: &str =
+pub(crate) const WATCH_OPTION_HELP: &str =
     "Seconds from one time to the next, 1 to 86400 [default: only once]";
+
+pub(crate) const DESK_OPTION_HELP: &str =
+    "Where the desk listens; CANARY_DESK counts in its place [default: 127.0.0.1:8080]";
+
+pub(crate) const TRIES_HELP: &str = "Most times that a message is sent, 1 to 1000 [default: 10]";
+
+pub(crate) const TIMEOUT_HELP: &str = "Most seconds for each reply, 1 to 86400 [default: 5]";
 
 // ---- pipe
 
@@ -307,4 +315,155 @@ pub(crate) const CHECK_HELP: &str = concat!(
     "  canary check errors.json\n",
     "  canary check --request body.json\n",
     "  kubectl get analysistemplate errors -o json | canary check /dev/stdin"
+);
+
+// ---- do
+
+pub(crate) const DO_ABOUT: &str = "Asks a command of a desk, once";
+
+pub(crate) const DO_USAGE: &str = "canary do [OPTIONS] <COMMAND> [WORD]..";
+
+pub(crate) const AS_HELP: &str = "The caller's name; CANARY_AS counts in its place";
+
+pub(crate) const JOURNAL_HELP: &str =
+    "The caller's journal, made if it does not exist; CANARY_JOURNAL counts in its place";
+
+pub(crate) const ONCE_HELP: &str =
+    "A key of this wish: a second call with the key gets the reply of the first";
+
+pub(crate) const INSTEAD_HELP: &str = "Ask the command in the place of the one that is pending";
+
+pub(crate) const FAILURE_HELP: &str = "Why a measurement failed, in place of its RESULT";
+
+pub(crate) const COMMAND_HELP: &str = "The command, one of those below";
+
+pub(crate) const FIRST_HELP: &str = "SERVICE, or FILE of template and service";
+
+pub(crate) const SECOND_HELP: &str = "VERSION of start and service, RUN of report";
+
+pub(crate) const THIRD_HELP: &str = "METRIC of report";
+
+pub(crate) const FOURTH_HELP: &str = "RESULT of report";
+
+pub(crate) const DO_HELP: &str = concat!(
+    "Each COMMAND has these words:\n",
+    "  promote SERVICE\n",
+    "  promote-full SERVICE\n",
+    "  abort SERVICE\n",
+    "  retry SERVICE\n",
+    "  tick SERVICE\n",
+    "  start SERVICE VERSION\n",
+    "  template FILE\n",
+    "  service FILE VERSION\n",
+    "  report SERVICE RUN METRIC RESULT\n",
+    "  report SERVICE RUN METRIC --failure TEXT\n\n",
+    "FILE is a manifest. A report gets the ordinal that comes next in its run, and the present\n",
+    "moment. A RESULT that begins with - stands after --, as in the last example.\n\n",
+    "The command is in the journal before do sends it, and its reply before do prints it. While\n",
+    "no answer comes, do sends the same bytes again. It settles what is pending in the journal\n",
+    "before it goes on. It prints the body of the reply, and on a terminal a plain line in its\n",
+    "place. A line on standard error says what went wrong.\n\n",
+    "Exit status:\n",
+    "  0  done: the desk did it, or did it before under this key\n",
+    "  1  refused: the desk decided that it is not done\n",
+    "  2  an invalid command line\n",
+    "  3  pending: no answer came. The command may have acted or not; the same call finds out\n",
+    "  4  contradiction: the desk and the journal contradict each other. A person has to look\n",
+    "  5  the journal, FILE, memory or the output failed here\n",
+    "  6  too late: the earlier command was settled, and the one in its place did nothing\n\n",
+    "Examples:\n",
+    "  export CANARY_DESK=127.0.0.1:8080 CANARY_AS=ops CANARY_JOURNAL=ops.journal\n",
+    "  canary do promote web\n",
+    "  canary do --once deploy-77 start web v2\n",
+    "  canary do report web 1 errors -- -5"
+);
+
+// ---- get
+
+pub(crate) const GET_ABOUT: &str = "Shows a service, what happened to it, or one of its runs";
+
+pub(crate) const PART_HELP: &str =
+    "history, or the number of a run [default: the service as it stands]";
+
+pub(crate) const GET_HELP: &str = concat!(
+    "get prints the body of the reply, and on a terminal a plain line in its place. A line on\n",
+    "standard error says what went wrong.\n\n",
+    "Exit status:\n",
+    "  0  found\n",
+    "  1  refused: there is no such thing\n",
+    "  2  an invalid command line\n",
+    "  3  no desk answers\n",
+    "  5  memory or the output failed here\n\n",
+    "Examples:\n",
+    "  canary get web\n",
+    "  canary get web history\n",
+    "  canary get --desk 127.0.0.1:8080 web 1"
+);
+
+// ---- watch
+
+pub(crate) const WATCH_ABOUT: &str = "Shows a line each time that a service stands otherwise";
+
+pub(crate) const UNTIL_HELP: &str = "The statuses at which watch ends [default: Healthy,Degraded]";
+
+pub(crate) const WATCH_TIMEOUT_HELP: &str =
+    "Most seconds to wait for such a status, 1 to 86400 [default: no end]";
+
+pub(crate) const WATCH_HELP: &str = concat!(
+    "A line on standard error says what went wrong.\n\n",
+    "Exit status:\n",
+    "  0  such a status came, and it is not Degraded\n",
+    "  1  Degraded came, or there is no such service\n",
+    "  2  an invalid command line\n",
+    "  3  no such status came in time, or no desk answers\n",
+    "  5  memory or the output failed here\n\n",
+    "Examples:\n",
+    "  canary watch web\n",
+    "  canary watch --until Paused,Degraded --timeout 600 web"
+);
+
+// ---- send
+
+pub(crate) const SEND_ABOUT: &str = "Sends the measurements of a CSV file to a desk, each once";
+
+pub(crate) const SEND_CSV_HELP: &str = "The file with the measurements, as import takes it";
+
+pub(crate) const SEND_HELP: &str = concat!(
+    "Each record behind the header is a row: a request of its caller, under its number, to\n",
+    "record one measurement. send sends each row until it is answered, and prints one line for\n",
+    "it: the number of the row, counted from 1, the HTTP status of the reply, and its body.\n",
+    "Sending CSV again records no measurement twice. A line on standard error says what went\n",
+    "wrong.\n\n",
+    "Exit status:\n",
+    "  0  each row has its line\n",
+    "  2  an invalid command line\n",
+    "  3  pending: no answer came. The row may be recorded or not; the same call finds out\n",
+    "  4  contradiction: the desk and CSV contradict each other. A person has to look\n",
+    "  5  CSV, memory or the output failed here\n\n",
+    "Example: canary send measurements.csv"
+);
+
+// ---- due
+
+pub(crate) const DUE_ABOUT: &str = "Shows which measurements of a service are due";
+
+pub(crate) const WAIT_HELP: &str = "Wait until a measurement is due";
+
+pub(crate) const DUE_TIMEOUT_HELP: &str = concat!(
+    "Most seconds for each reply, with --wait for the whole call, 1 to 86400 ",
+    "[default: 5, with --wait no end]"
+);
+
+pub(crate) const DUE_HELP: &str = concat!(
+    "due prints a line 'RUN METRIC ORDINAL' for each measurement that is due. A line on standard\n",
+    "error says what went wrong.\n\n",
+    "Exit status:\n",
+    "  0  a measurement is due\n",
+    "  1  none is due, or there is no such service\n",
+    "  2  an invalid command line\n",
+    "  3  none was due in time, or no desk answers\n",
+    "  5  memory or the output failed here\n\n",
+    "Examples:\n",
+    "  canary due web\n",
+    "  canary due --wait --timeout 600 web"
 );

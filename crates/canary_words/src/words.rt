@@ -10,7 +10,10 @@ ghost use Rattle.canary_words.specs.CommandLine.{page_of, backup_of, migrate_of,
 ghost use Rattle.canary_words.specs.CommandLine.{flag_given, MayHaveFlag, HasPage, HasMigrate};
 ghost use Rattle.canary_words.specs.CommandLine.{IsFor, HasProgram, HasMoment, HasText};
 ghost use Rattle.canary_words.specs.CommandLine.{MayHaveNumber, HasMoments, HasListener, HasLimits};
-ghost use Rattle.canary_words.specs.CommandLine.{HasTexts, HasExport, HasStatus};
+ghost use Rattle.canary_words.specs.CommandLine.{HasTexts, HasExport, HasStatus, do_of, get_of};
+ghost use Rattle.canary_words.specs.CommandLine.{watch_of, send_of, due_of, desk_of, command_of};
+ghost use Rattle.canary_words.specs.CommandLine.{HasClientProgram, HasDesk, HasAsked, HasDo};
+ghost use Rattle.canary_words.specs.CommandLine.{HasDue};
 
 use crate::commands::desk_command;
 use canary_base::lists::Text;
@@ -34,6 +37,32 @@ pub struct AskedLimits {
     pub max_unsent: Option<u64>,
     /// While at least so many bytes are unsent to all clients together, no query is answered.
     pub max_unsent_total: Option<u64>,
+}
+
+/// Where a desk is, and how patiently it is asked, as a command line says; none where it has no
+/// such option.
+#[derive(Debug, Drop)]
+pub struct AskedDesk {
+    /// The address that `--desk` spells.
+    pub desk: Option<Text>,
+    /// How often a message is sent, at most.
+    pub tries: Option<u64>,
+    /// The most seconds: for each reply; of `watch` and of `due` with `--wait`, for the whole call.
+    pub timeout: Option<u64>,
+}
+
+/// A command for a desk, word by word.
+#[derive(Debug, Drop)]
+pub struct AskedCommand {
+    /// Its kind, as `promote`.
+    pub kind: Text,
+    /// The words that follow it, as far as there are any.
+    pub first: Option<Text>,
+    pub second: Option<Text>,
+    pub third: Option<Text>,
+    pub fourth: Option<Text>,
+    /// Why a measurement failed.
+    pub failure: Option<Text>,
 }
 
 /// What a command line asks for. Where it has a `db`, that is the name of the file with the desk's
@@ -102,6 +131,41 @@ pub enum Program {
     Check {
         file: Option<Text>,
         request: Option<Text>,
+    },
+    /// The command, asked of the desk once, in the name of `caller`, who keeps this journal: under
+    /// the key, if there is one, and with `instead` in the place of what is pending.
+    Do {
+        desk: AskedDesk,
+        caller: Option<Text>,
+        journal: Option<Text>,
+        key: Option<Text>,
+        instead: bool,
+        command: AskedCommand,
+    },
+    /// The service that `service` names, if it is a name, as the desk has it: with a `part` what
+    /// happened to it, or the run of that number.
+    Get {
+        desk: AskedDesk,
+        service: Text,
+        part: Option<Text>,
+    },
+    /// How that service stands, each time that it stands otherwise, until it has one of the
+    /// statuses that `until` lists.
+    Watch {
+        desk: AskedDesk,
+        until: Option<Text>,
+        service: Text,
+    },
+    /// The rows of the CSV file of this name, each sent to the desk.
+    Send {
+        desk: AskedDesk,
+        csv: Text,
+    },
+    /// The measurements of that service that are due; with `wait` as soon as there is one.
+    Due {
+        desk: AskedDesk,
+        wait: bool,
+        service: Text,
     },
 }
 
@@ -173,7 +237,31 @@ fn program_of(alloc: Global, matches: &ArgMatches<'_>) -> Result<Program, AllocE
     if let Some(migrate) = matches.subcommand_matches("migrate") {
         return migrate_of(alloc, migrate);
     }
-    check_of(alloc, matches.subcommand_matches("check").unwrap())
+    if let Some(check) = matches.subcommand_matches("check") {
+        return check_of(alloc, check);
+    }
+    client_program_of(alloc, matches)
+}
+
+// The program that the matches name, where it asks a desk.
+fn client_program_of(alloc: Global, matches: &ArgMatches<'_>) -> Result<Program, AllocError>
+    requires { HasClientProgram (subcommand_rows_of matches.now) }
+    ensures { IfOk result (λ p.
+        option_and_then program_in (subcommand_rows_of matches.now) ≡ Some p) }
+{
+    if let Some(asked) = matches.subcommand_matches("do") {
+        return do_of(alloc, asked);
+    }
+    if let Some(get) = matches.subcommand_matches("get") {
+        return get_of(alloc, get);
+    }
+    if let Some(watch) = matches.subcommand_matches("watch") {
+        return watch_of(alloc, watch);
+    }
+    if let Some(send) = matches.subcommand_matches("send") {
+        return send_of(alloc, send);
+    }
+    due_of(alloc, matches.subcommand_matches("due").unwrap())
 }
 
 // The program of `pipe` with these matches.
@@ -288,6 +376,95 @@ fn check_of(alloc: Global, check: &ArgMatches<'_>) -> Result<Program, AllocError
     Ok(Program::Check {
         file: optional_text(alloc, check, "file")?,
         request: optional_text(alloc, check, "request")?,
+    })
+}
+
+// The program of `do` with these matches.
+fn do_of(alloc: Global, asked: &ArgMatches<'_>) -> Result<Program, AllocError>
+    requires { HasDo (rows_of (found_of asked.now)) }
+    ensures { IfOk result (λ p. do_of (rows_of (found_of asked.now)) ≡ Some p) }
+{
+    Ok(Program::Do {
+        desk: desk_of(alloc, asked)?,
+        caller: optional_text(alloc, asked, "as")?,
+        journal: optional_text(alloc, asked, "journal")?,
+        key: optional_text(alloc, asked, "once")?,
+        instead: flag_given(asked, "instead"),
+        command: command_of(alloc, asked)?,
+    })
+}
+
+// The program of `get` with these matches.
+fn get_of(alloc: Global, get: &ArgMatches<'_>) -> Result<Program, AllocError>
+    requires { HasAsked (codes "service") (rows_of (found_of get.now)) }
+    ensures { IfOk result (λ p. get_of (rows_of (found_of get.now)) ≡ Some p) }
+{
+    Ok(Program::Get {
+        desk: desk_of(alloc, get)?,
+        service: text_given(alloc, get, "service")?,
+        part: optional_text(alloc, get, "part")?,
+    })
+}
+
+// The program of `watch` with these matches.
+fn watch_of(alloc: Global, watch: &ArgMatches<'_>) -> Result<Program, AllocError>
+    requires { HasAsked (codes "service") (rows_of (found_of watch.now)) }
+    ensures { IfOk result (λ p. watch_of (rows_of (found_of watch.now)) ≡ Some p) }
+{
+    Ok(Program::Watch {
+        desk: desk_of(alloc, watch)?,
+        until: optional_text(alloc, watch, "until")?,
+        service: text_given(alloc, watch, "service")?,
+    })
+}
+
+// The program of `send` with these matches.
+fn send_of(alloc: Global, send: &ArgMatches<'_>) -> Result<Program, AllocError>
+    requires { HasAsked (codes "csv") (rows_of (found_of send.now)) }
+    ensures { IfOk result (λ p. send_of (rows_of (found_of send.now)) ≡ Some p) }
+{
+    Ok(Program::Send {
+        desk: desk_of(alloc, send)?,
+        csv: text_given(alloc, send, "csv")?,
+    })
+}
+
+// The program of `due` with these matches.
+fn due_of(alloc: Global, due: &ArgMatches<'_>) -> Result<Program, AllocError>
+    requires { HasDue (rows_of (found_of due.now)) }
+    ensures { IfOk result (λ p. due_of (rows_of (found_of due.now)) ≡ Some p) }
+{
+    Ok(Program::Due {
+        desk: desk_of(alloc, due)?,
+        wait: flag_given(due, "wait"),
+        service: text_given(alloc, due, "service")?,
+    })
+}
+
+// Where the desk is, and how patiently it is asked, as far as it was given.
+fn desk_of(alloc: Global, client: &ArgMatches<'_>) -> Result<AskedDesk, AllocError>
+    requires { HasDesk (rows_of (found_of client.now)) }
+    ensures { IfOk result (λ d. d ≡ desk_of (rows_of (found_of client.now))) }
+{
+    Ok(AskedDesk {
+        desk: optional_text(alloc, client, "desk")?,
+        tries: number_given(client, "tries"),
+        timeout: number_given(client, "timeout"),
+    })
+}
+
+// The command that was given, word by word.
+fn command_of(alloc: Global, asked: &ArgMatches<'_>) -> Result<AskedCommand, AllocError>
+    requires { HasText (codes "command") (rows_of (found_of asked.now)) }
+    ensures { IfOk result (λ c. command_of (rows_of (found_of asked.now)) ≡ Some c) }
+{
+    Ok(AskedCommand {
+        kind: text_given(alloc, asked, "command")?,
+        first: optional_text(alloc, asked, "first")?,
+        second: optional_text(alloc, asked, "second")?,
+        third: optional_text(alloc, asked, "third")?,
+        fourth: optional_text(alloc, asked, "fourth")?,
+        failure: optional_text(alloc, asked, "failure")?,
     })
 }
 
