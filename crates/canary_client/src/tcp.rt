@@ -92,6 +92,8 @@ impl<'a> Network for Tcp<'a> {
 
     ghost was_told = { λ t m heard. Unit {0} };
 
+    ghost was_unanswered = { λ t m why. Unit {0} };
+
     fn exchange(&mut self, alloc: Global, message: &str) -> Result<Heard, Why> {
         let Ok(start) = Instant::now(self.rt) else {
             return Err(Why::Unreachable);

@@ -25,13 +25,13 @@ length_asked [] (c ∷ script) h = absurd h
 length_asked (a ∷ asked) [] h = absurd h
 length_asked (a ∷ asked) (c ∷ script) h = ap suc (length_asked asked script h.1)
 
-length_heard : (kept : List Kept) (receipts : List Receipt) → AreHeard kept receipts → length kept ≡ length receipts
+pub length_heard : (kept : List Kept) (receipts : List Receipt) → AreHeard kept receipts → length kept ≡ length receipts
 length_heard [] [] h = refl
 length_heard [] (r ∷ receipts) h = absurd h
 length_heard (k ∷ kept) [] h = absurd h
 length_heard (k ∷ kept) (r ∷ receipts) h = ap suc (length_heard kept receipts h.1)
 
-length_map : (kept : List Kept) → length (map (λ (k : Kept). k.asked) kept) ≡ length kept
+pub length_map : (kept : List Kept) → length (map (λ (k : Kept). k.asked) kept) ≡ length kept
 length_map [] = refl
 length_map (k ∷ kept) = ap suc (length_map kept)
 

@@ -7,6 +7,7 @@ pub mod Named
 pub mod Arriving
 pub mod Delivering
 pub mod Journaled
+pub mod Settled
 pub mod Rows
 pub mod DeliveryRows
 pub mod LatePauses

@@ -1,3 +1,4 @@
 pub mod Senders
 pub mod Delivery
 pub mod Journaling
+pub mod Settling

@@ -4,6 +4,7 @@ ghost use Rattle.canary_senders.specs.Delivery.{Delivers};
 ghost use Rattle.canary_senders.specs.Journaling.{Begins, Asks, AsksInstead, Hears};
 ghost use Rattle.canary_senders.specs.Senders.{NobodyHasSettled, SettleFirstParts};
 ghost use Rattle.canary_senders.specs.Senders.{NoneIsReused, LastSettlesAll, OrderDoesNotMatter};
+ghost use Rattle.canary_senders.specs.Settling.{Sends, Settles};
 
 use canary_once::laws;
 use canary_plan::laws as plans;
@@ -56,4 +57,12 @@ pub fn journals()
     ensures asks { Asks }
     ensures instead { AsksInstead }
     ensures hears { Hears }
+{}
+
+/// What canary_sending does with such a journal are steps of its caller: a message that is asked for
+/// is one of the commands that are pending, under the caller's next number; and a reply that settles
+/// is heard, if it is the desk's answer to that message.
+pub fn sending()
+    ensures sends { Sends }
+    ensures settles { Settles }
 {}

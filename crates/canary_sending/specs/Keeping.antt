@@ -1,11 +1,13 @@
 -- A journal on a device.
-use Rattle.std.specs.Prelude.{◌≡◌, ◌⊎◌, ℕ, List, [], Some}
+use Rattle.std.specs.Prelude.{◌≡◌, ◌⊎◌, ℕ, List, [], ◌∷◌, ◌++◌, Some}
 use Rattle.canary_records.specs.declared.device.DeviceFault.{DeviceFault}
 use Rattle.canary_records.specs.declared.device.DeviceFault.TheVariants as device
 use Rattle.canary_records.specs.Texts.{texts_of}
 use Rattle.canary_records.specs.Stores.{held, IsSettled}
 use Rattle.canary_journal.specs.declared.entry.Entry.{Entry}
-use Rattle.canary_journal.specs.Journals.{JournalValue, with_entry}
+use Rattle.canary_journal.specs.declared.entry.Refusal.{Refusal}
+use Rattle.canary_journal.specs.Journals.{JournalValue, begun, with_entry}
+use Rattle.canary_journal.specs.Lines.{line_of, entry_in}
 use Rattle.canary_journal.specs.Readings.{journal_of, journal_in}
 use Rattle.canary_sending.specs.declared.kept.KeepFault.{KeepFault}
 use Rattle.canary_sending.specs.declared.kept.KeepFault.TheVariants as keep
@@ -17,6 +19,15 @@ abbrev pub keep_fault : DeviceFault → KeepFault
 keep_fault device.Memory = keep.Memory
 keep_fault device.Failed = keep.Failed
 keep_fault device.Full = keep.Full
+
+-- when each fault is told: only of a device that has failed, of a file with no room, and so on;
+-- memory may be refused at any time
+abbrev pub IsFault : (failed full broken : Type 0) → (Refusal → Type 0) → KeepFault → Type 0
+IsFault failed full broken refused keep.Memory = Unit {0}
+IsFault failed full broken refused keep.Failed = failed
+IsFault failed full broken refused keep.Full = full
+IsFault failed full broken refused keep.Broken = broken
+IsFault failed full broken refused (keep.Refused refusal) = refused refusal
 
 -- the device is at rest, all of it on the disk, and its lines are the journal
 pub record IsKept {D : Type 0} (seen : D → List ℕ) (may_leave : D → List ℕ → Type 0) (kept : KeptJournal D) : Type 0 where
@@ -31,6 +42,23 @@ IsOpened seen may_leave file (New store) =
 IsOpened seen may_leave file (Begun kept) =
     IsKept seen may_leave kept × (journal_in file ≡ Some kept.journal)
 
--- the file is this journal, with one entry more or without it
+abbrev pub device_of : {D : Type 0} → Opened D → D
+device_of (New store) = store.device
+device_of (Begun kept) = kept.store.device
+
+-- What a crash leaves.
+
+-- these texts, or these and the line of an entry
+abbrev pub IsWithLine : List (List ℕ) → Entry → List ℕ → Type 0
+IsWithLine texts e file =
+    (texts_of file ≡ Some texts)
+    ⊎ ((entry_in (line_of e) ≡ Some e) × (texts_of file ≡ Some (texts ++ line_of e ∷ [])))
+
+-- nothing yet, or the journal of this caller as it begins
+abbrev pub IsNewOrBegun : List ℕ → ℕ → List ℕ → Type 0
+IsNewOrBegun caller settled file =
+    (texts_of file ≡ Some []) ⊎ (journal_in file ≡ Some (begun caller settled))
+
+-- this journal, with one entry more or without it
 abbrev pub IsWithOrWithout : JournalValue → Entry → List ℕ → Type 0
 IsWithOrWithout j e file = (journal_in file ≡ Some j) ⊎ (journal_in file ≡ Some (with_entry j e))

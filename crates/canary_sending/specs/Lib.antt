@@ -1,3 +1,4 @@
 pub mod Messages
+pub mod Networks
 pub mod Keeping
 pub mod Sending

@@ -1,13 +1,15 @@
 //! A journal on a device: each entry stands there before it is in the journal.
-ghost use Rattle.std.specs.Prelude.{◌≡◌, ◌≤◌, None, Some, IfOk, OnOk, OnErr, IsErrOf};
+ghost use Rattle.std.specs.Prelude.{◌≡◌, ◌≢◌, ◌⊎◌, ◌<◌, ◌≤◌, ◌+◌, ◌^◌, ◌++◌, [], ◌∷◌, length};
+ghost use Rattle.std.specs.Prelude.{List, ℕ, Some, None, IfOk, IfErr, OnOk, OnErr};
 ghost use Rattle.canary_records.specs.Devices.{LeavesOnly};
+ghost use Rattle.canary_records.specs.Texts.{texts_of};
 ghost use Rattle.canary_records.specs.Stores.{held, IsSettled};
 ghost use Rattle.canary_journal.specs.Journals.{begun, refusal_of, with_entry};
+ghost use Rattle.canary_journal.specs.Lines.{line_of, entry_in};
 ghost use Rattle.canary_journal.specs.Readings.{journal_in};
-ghost use Rattle.canary_sending.specs.Keeping.{IsKept, IsOpened, IsWithOrWithout};
-ghost use Rattle.canary_sending.specs.declared.kept.KeepFault.TheVariants.{Memory, Broken};
-ghost use Rattle.canary_sending.specs.declared.kept.KeepFault.TheVariants.{Refused};
-ghost use Rattle.canary_sending.specs.Keeping.{keep_fault};
+ghost use Rattle.canary_sending.specs.declared.kept.KeepFault.TheVariants.{Memory};
+ghost use Rattle.canary_sending.specs.Keeping.{keep_fault, IsFault, IsKept, IsOpened, device_of};
+ghost use Rattle.canary_sending.specs.Keeping.{IsWithLine, IsNewOrBegun, IsWithOrWithout};
 
 use canary_base::error;
 use canary_base::names::Name;
@@ -77,8 +79,12 @@ pub enum Opened<D: Device> {
 /// # Errors
 /// `Broken` if it has texts that are no journal, or is cut short; `Failed`; `Memory`.
 pub fn open<D: Device + Drop>(alloc: Global, device: D) -> Result<Opened<D>, KeepFault>
-    ensures ok { IfOk result (IsOpened D.seen D.may_leave (D.seen device)) }
-    ensures broken { IsErrOf result KeepFault.Broken → journal_in (D.seen device) ≡ None }
+    ensures opened { IfOk result (IsOpened D.seen D.may_leave (D.seen device)) }
+    ensures fault { IfErr result (IsFault (Unit {0}) ⊥
+        ((journal_in (D.seen device) ≡ None) × (texts_of (D.seen device) ≢ Some [])) (λ _. ⊥)) }
+    ensures any_moment { IfOk result (λ opened.
+        LeavesOnly D.moment D.left_since device (device_of opened)
+        (λ c. D.may_leave device c ⊎ (texts_of c ≡ texts_of (D.seen device)))) }
 {
     let mut device = device;
     let Some(found) = recover(alloc, &mut device)? else {
@@ -113,15 +119,40 @@ pub fn begin<D: Device + Drop>(
     requires new { held (D.seen store.device) ≡ [] }
     ensures kept { IfOk result (IsKept D.seen D.may_leave) }
     ensures begun { IfOk result (λ kept. kept.journal ≡ begun caller settled) }
-    ensures broken { IsErrOf result KeepFault.Broken → 1000000000 < settled }
+    ensures fault { IfErr result (IsFault (Unit {0})
+        (2 ^ 60 ≤ store.gate + length (line_of (Entry.Begun caller settled)))
+        (1000000000 < settled) (λ _. ⊥)) }
+    ensures any_moment { IfOk result (λ kept.
+        LeavesOnly D.moment D.left_since store.device kept.store.device
+        (IsNewOrBegun caller settled)) }
 {
     let mut store = store;
     let Some(journal) = Journal::begun(alloc, caller, settled) else {
         return Err(KeepFault::Broken);
     };
-    let line = lines::line(alloc, &Entry::Begun { caller, settled })?;
-    store.append(alloc, &line)?;
+    add_line(alloc, &mut store, &Entry::Begun { caller, settled })?;
     Ok(KeptJournal { store, journal })
+}
+
+// Adds the line of an entry to a file.
+fn add_line<D: Device>(
+    alloc: Global,
+    store: &mut Store<D>,
+    entry: &Entry,
+) -> Result<(), KeepFault>
+    requires { IsSettled D.seen D.may_leave store.old.device store.old.gate }
+    ensures rest { OnOk result (IsSettled D.seen D.may_leave store.new.device store.new.gate) }
+    ensures line { OnOk result ((entry_in (line_of entry.now) ≡ Some entry.now)
+        × (held (D.seen store.new.device)
+        ≡ held (D.seen store.old.device) ++ line_of entry.now ∷ [])) }
+    ensures fault { IfErr result (IsFault (D.has_failed store.new.device)
+        (2 ^ 60 ≤ store.old.gate + length (line_of entry.now)) ⊥ (λ _. ⊥)) }
+    ensures any_moment { LeavesOnly D.moment D.left_since store.old.device store.new.device
+        (IsWithLine (held (D.seen store.old.device)) entry.now) }
+{
+    let line = lines::line(alloc, entry)?;
+    store.append(alloc, &line)?;
+    Ok(())
 }
 
 impl<D: Device> KeptJournal<D> {
@@ -129,15 +160,17 @@ impl<D: Device> KeptJournal<D> {
     ///
     /// # Errors
     /// `Refused` if it may not stand next, and then nothing is changed; `Failed`, `Full` and
-    /// `Memory`, and then the device may have the entry or not: open it again.
+    /// `Memory`, and then the journal is as before, and the device may have the entry or not: open
+    /// it again.
     pub fn keep(&mut self, alloc: Global, entry: Entry) -> Result<(), KeepFault>
         requires { IsKept D.seen D.may_leave self.old }
         ensures kept { OnOk result (IsKept D.seen D.may_leave self.new) }
         ensures journal { OnOk result (self.new.journal ≡ with_entry self.old.journal entry) }
         ensures next { OnOk result (refusal_of self.old.journal entry ≡ None) }
-        ensures refused { (r : Refusal) → IsErrOf result (Refused r)
-            → (refusal_of self.old.journal entry ≡ Some r) × (self.new ≡ self.old) }
-        ensures not_broken { IsErrOf result KeepFault.Broken → ⊥ }
+        ensures err { OnErr result (self.new.journal ≡ self.old.journal) }
+        ensures fault { IfErr result (IsFault (D.has_failed self.new.store.device)
+            (2 ^ 60 ≤ self.old.store.gate + length (line_of entry)) ⊥
+            (λ r. (refusal_of self.old.journal entry ≡ Some r) × (self.new ≡ self.old))) }
         ensures any_moment { LeavesOnly D.moment D.left_since
             self.old.store.device self.new.store.device
             (IsWithOrWithout self.old.journal entry) }
@@ -146,8 +179,7 @@ impl<D: Device> KeptJournal<D> {
         if let Some(refusal) = self.journal.refusal(&entry) {
             return Err(KeepFault::Refused(refusal));
         }
-        let line = lines::line(alloc, &entry)?;
-        self.store.append(alloc, &line)?;
+        add_line(alloc, &mut self.store, &entry)?;
         self.journal.take(entry)?;
         Ok(())
     }

@@ -1,6 +1,9 @@
 //! Messages to a desk, and the replies to them.
-ghost use Rattle.std.specs.Prelude.{◌≡◌, ◌⊎◌, List, ℕ, length, string_bytes, IfOk};
+ghost use Rattle.std.specs.Prelude.{◌≡◌, ◌⊎◌, List, ℕ, Ok, Err, IfOk, IfErr};
+ghost use Rattle.canary_sending.specs.declared.network.Heard.{Heard};
+ghost use Rattle.canary_sending.specs.declared.network.Why.{Why};
 ghost use Rattle.canary_sending.specs.Messages.{request_text, query_text};
+ghost use Rattle.canary_sending.specs.Networks.{GoesOn};
 
 use canary_base::error::Memory;
 use canary_base::lists::Text;
@@ -39,24 +42,33 @@ pub trait Network {
     /// A reply that came to a message, as the desk's answer to it.
     ghost was_told: { Self → List ℕ → Heard → Type 0 };
 
-    /// Sends a message, once at most, and hears the reply to it.
+    /// A message to which no reply came once that it was to be sent, and why.
+    ghost was_unanswered: { Self → List ℕ → Why → Type 0 };
+
+    /// Sends a message, once at most, and hears the reply to it, or why there is none.
     fn exchange(&mut self, alloc: Global, message: &str) -> Result<Heard, Why>
-        ensures sent { (m : List ℕ)
-            → was_sent self.new m → was_sent self.old m ⊎ (m ≡ message.now) }
-        ensures told { IfOk result (λ heard. was_told self.new message.now heard) };
+        ensures network { GoesOn was_sent was_told was_unanswered self.old self.new
+            (λ m. m ≡ message.now) }
+        ensures told { IfOk result (λ heard. was_told self.new message.now heard) }
+        ensures unanswered { IfErr result (λ why. was_unanswered self.new message.now why) }
+        ensures only { (m : List ℕ) (heard : Heard) → was_told self.new m heard
+            → was_told self.old m heard ⊎ (result ≡ Ok heard) }
+        ensures only_why { (m : List ℕ) (why : Why) → was_unanswered self.new m why
+            → was_unanswered self.old m why ⊎ (result ≡ Err why) };
 
     /// Waits before a message is sent again, the longer the more often it was sent.
     fn pause(&mut self, tried: u32, why: Why)
-        ensures sent { (m : List ℕ) → was_sent self.new m → was_sent self.old m };
+        ensures { GoesOn was_sent was_told was_unanswered self.old self.new (λ _. ⊥) };
 }
 
-/// The message of a request, or `Memory`.
+/// The message of a request, or `Memory`: HTTP/1.1 (RFC 9112) on a connection of its own. The field
+/// `Host` is the word `desk`.
 pub fn request(alloc: Global, caller: Name, number: u32, body: &str) -> Result<Text, Memory>
     ensures { IfOk result (λ text. text ≡ request_text caller number body.now) }
 {
     let (name, length) = (caller.as_str(), body.len());
     Ok(Text::of(format!(in alloc;
-        "PUT /callers/{name}/requests/{number} HTTP/1.1\r\nConnection: close\r\n\
+        "PUT /callers/{name}/requests/{number} HTTP/1.1\r\nHost: desk\r\nConnection: close\r\n\
          Content-Length: {length}\r\n\r\n{body}"
     )?))
 }
@@ -65,5 +77,7 @@ pub fn request(alloc: Global, caller: Name, number: u32, body: &str) -> Result<T
 pub fn query(alloc: Global, path: &str) -> Result<Text, Memory>
     ensures { IfOk result (λ text. text ≡ query_text path.now) }
 {
-    Ok(Text::of(format!(in alloc; "GET {path} HTTP/1.1\r\nConnection: close\r\n\r\n")?))
+    Ok(Text::of(format!(in alloc;
+        "GET {path} HTTP/1.1\r\nHost: desk\r\nConnection: close\r\n\r\n"
+    )?))
 }

@@ -1,14 +1,16 @@
 //! Sending what is pending until it is settled.
-ghost use Rattle.std.specs.Prelude.{◌≡◌, ◌⊎◌, List, ℕ, Some, None, option_map, option_copied};
-ghost use Rattle.std.specs.Prelude.{IfOk, OnOk, OnErr, IsErrOf, IsTrue, is_some, true};
+ghost use Rattle.std.specs.Prelude.{◌≡◌, ◌<◌, ℕ, true, false, IsTrue};
+ghost use Rattle.std.specs.Prelude.{option_map, option_copied, IfOk, IfErr, OnOk, OnErr};
 ghost use Rattle.canary_records.specs.Devices.{LeavesOnly};
 ghost use Rattle.canary_journal.specs.declared.entry.Asked.{Asked};
 ghost use Rattle.canary_journal.specs.declared.entry.Reply.{Reply};
-ghost use Rattle.canary_journal.specs.Journals.{number_of, settles};
-ghost use Rattle.canary_journal.specs.Meanings.{meaning_of};
+ghost use Rattle.canary_journal.specs.Journals.{settles};
 ghost use Rattle.canary_sending.specs.Keeping.{IsKept};
-ghost use Rattle.canary_sending.specs.Sending.{body_of, message_of, IsAskedBy, IsSettledBy};
-ghost use Rattle.canary_sending.specs.Sending.{IsSettledOrPending, IsFrom, IsOf, is_replaced};
+ghost use Rattle.canary_sending.specs.Networks.{GoesOn};
+ghost use Rattle.canary_sending.specs.Sending.{body_of, IsAskedBy, IsSettledBy};
+ghost use Rattle.canary_sending.specs.Sending.{IsSettledOrPending, IsWhy, IsFailed, is_kept};
+ghost use Rattle.canary_sending.specs.Sending.{is_replaced, IsReused, IsOnce, IsFrom, IsOf};
+ghost use Rattle.canary_sending.specs.Sending.{IsTooLate, IsWrong};
 
 use crate::kept::{KeepFault, KeptJournal};
 use crate::network::{Heard, Network, Why, request};
@@ -38,8 +40,10 @@ pub enum Unsettled {
 /// Sends what is pending until it is settled, so often at most, and keeps its reply.
 ///
 /// # Errors
-/// `Pending` if nothing is pending, or if no answer came; `Reused`, `Ahead` and `Unread` by what the
-/// desk answered; `Kept` if the journal failed; `Memory`. The journal is then as before.
+/// `Pending` if nothing is pending or no try is asked for, and then nothing is sent, or if no
+/// answer came; `Reused`, `Ahead` and `Unread` by what the desk answered; `Kept` if the journal
+/// failed as it kept the reply, and then the device may have that or not: open it again; `Memory`.
+/// The journal is then as before, and so is its device unless the journal failed.
 pub fn settle<N: Network, D: Device>(
     alloc: Global,
     network: &mut N,
@@ -52,12 +56,18 @@ pub fn settle<N: Network, D: Device>(
         × IsSettledBy (N.was_told network.new) kept.old.journal reply
         × (kept.new.journal ≡ settles kept.old.journal reply)) }
     ensures err { OnErr result (kept.new.journal ≡ kept.old.journal) }
-    ensures sent { (m : List ℕ) → N.was_sent network.new m
-        → N.was_sent network.old m ⊎ IsAskedBy kept.old.journal m }
+    ensures same { IfErr result (λ why. is_kept why ≡ false → kept.new ≡ kept.old) }
+    ensures why { IfErr result (IsWhy (N.was_told network.new) (N.was_unanswered network.new)
+        kept.old.journal tries
+        (IsFailed (N.was_told network.new) kept.old.journal
+            (D.has_failed kept.new.store.device) kept.old.store.gate)) }
+    ensures network { GoesOn N.was_sent N.was_told N.was_unanswered network.old network.new
+        (λ m. (0 < tries) × IsAskedBy (N.was_told network.new) kept.old.journal m) }
     ensures any_moment { LeavesOnly D.moment D.left_since
         kept.old.store.device kept.new.store.device
         (IsSettledOrPending (N.was_told network.new) kept.old.journal) }
 {
+    canary_records::laws::files();
     let reply = reply_to(alloc, network, &kept.journal, tries)?;
     let number = kept.journal.number();
     match kept.keep(alloc, Entry::Settled { number, reply }) {
@@ -74,18 +84,28 @@ fn reply_to<N: Network>(
     tries: u32,
 ) -> Result<Reply, Unsettled>
     ensures settled { IfOk result (IsSettledBy (N.was_told network.new) journal.now) }
-    ensures sent { (m : List ℕ) → N.was_sent network.new m
-        → N.was_sent network.old m ⊎ IsAskedBy journal.now m }
+    ensures why { IfErr result (IsWhy (N.was_told network.new) (N.was_unanswered network.new)
+        journal.now tries (λ _. ⊥)) }
+    ensures network { GoesOn N.was_sent N.was_told N.was_unanswered network.old network.new
+        (λ m. (0 < tries) × IsAskedBy (N.was_told network.new) journal.now m) }
 {
     for tried in 0..tries {
         match try_each(alloc, network, journal)? {
             Tried::Settled(reply) => return Ok(reply),
             Tried::Reused => return Err(Unsettled::Reused),
-            Tried::Again(why) if tried + 1 < tries => network.pause(tried + 1, why),
-            Tried::Again(_) => {}
+            Tried::Again(why) => rest(network, tried + 1, tries, why),
         }
     }
     Err(Unsettled::Pending)
+}
+
+// Waits, if there is to be one try more.
+fn rest<N: Network>(network: &mut N, tried: u32, tries: u32, why: Why)
+    ensures { GoesOn N.was_sent N.was_told N.was_unanswered network.old network.new (λ _. ⊥) }
+{
+    if tried < tries {
+        network.pause(tried, why);
+    }
 }
 
 // What came of one try.
@@ -103,13 +123,37 @@ fn try_each<N: Network>(
     network: &mut N,
     journal: &Journal,
 ) -> Result<Tried, Unsettled>
-    ensures settled { IfOk result (IsFrom (N.was_told network.new) journal.now) }
-    ensures sent { (m : List ℕ) → N.was_sent network.new m
-        → N.was_sent network.old m ⊎ IsAskedBy journal.now m }
+    ensures came { IfOk result
+        (IsFrom (N.was_told network.new) (N.was_unanswered network.new) journal.now) }
+    ensures why { (tries : ℕ) → IfErr result
+        (IsWhy (N.was_told network.new) (N.was_unanswered network.new) journal.now tries (λ _. ⊥)) }
+    ensures network { GoesOn N.was_sent N.was_told N.was_unanswered network.old network.new
+        (IsAskedBy (N.was_told network.new) journal.now) }
 {
     match try_once(alloc, network, journal, false)? {
-        Tried::Reused if was_replaced(journal) => try_once(alloc, network, journal, true),
+        Tried::Reused => try_wish(alloc, network, journal),
         tried => Ok(tried),
+    }
+}
+
+// Sends the wish, if something else was asked in its place, and came too late.
+fn try_wish<N: Network>(
+    alloc: Global,
+    network: &mut N,
+    journal: &Journal,
+) -> Result<Tried, Unsettled>
+    requires { IsReused (N.was_told network.old) journal.now false }
+    ensures came { IfOk result
+        (IsFrom (N.was_told network.new) (N.was_unanswered network.new) journal.now) }
+    ensures why { (tries : ℕ) → IfErr result
+        (IsWhy (N.was_told network.new) (N.was_unanswered network.new) journal.now tries (λ _. ⊥)) }
+    ensures network { GoesOn N.was_sent N.was_told N.was_unanswered network.old network.new
+        (IsAskedBy (N.was_told network.new) journal.now) }
+{
+    if was_replaced(journal) {
+        try_once(alloc, network, journal, true)
+    } else {
+        Ok(Tried::Reused)
     }
 }
 
@@ -119,10 +163,14 @@ fn try_once<N: Network>(
     journal: &Journal,
     is_late: bool,
 ) -> Result<Tried, Unsettled>
-    requires { is_late ≡ true → is_replaced journal.now ≡ true }
-    ensures settled { IfOk result (IsFrom (N.was_told network.new) journal.now) }
-    ensures sent { (m : List ℕ) → N.was_sent network.new m
-        → N.was_sent network.old m ⊎ IsAskedBy journal.now m }
+    requires { (a : Asked) → journal.now.pending ≡ Some a → is_late ≡ true
+        → IsTooLate (N.was_told network.old) journal.now a }
+    ensures came { IfOk result
+        (IsOnce (N.was_told network.new) (N.was_unanswered network.new) journal.now is_late) }
+    ensures why { (tries : ℕ) → IfErr result
+        (IsWhy (N.was_told network.new) (N.was_unanswered network.new) journal.now tries (λ _. ⊥)) }
+    ensures network { GoesOn N.was_sent N.was_told N.was_unanswered network.old network.new
+        (IsAskedBy (N.was_told network.new) journal.now) }
 {
     let Some(body) = body_of(journal, is_late) else {
         return Err(Unsettled::Pending);
@@ -149,7 +197,8 @@ fn body_of(journal: &Journal, is_late: bool) -> Option<&str>
 }
 
 fn what_came(alloc: Global, heard: Heard, is_late: bool) -> Result<Tried, Unsettled>
-    ensures { IfOk result (λ tried. IsOf heard is_late tried) }
+    ensures came { IfOk result (IsOf heard is_late) }
+    ensures wrong { IfErr result (IsWrong heard) }
 {
     let Ok(meaning) = meaning_of(alloc, heard.status, heard.body.as_str()) else {
         return Err(Unsettled::Memory);

@@ -1,5 +1,5 @@
-//! The tests of the crates up to the register (`canary_once`), and of canary_records and
-//! canary_journal: moments that fall, copies and other calls that no program makes, calls to which
+//! The tests of the crates up to the register (`canary_once`), and of canary_records, canary_journal
+//! and canary_sending: moments that fall, copies and other calls that no program makes, calls to which
 //! memory is refused, printed texts, and files of journals. Worked rows stand in the `proofs/Rows`
 //! of the crates and in tests/stories, and what a contract says is not tested again. Tests stand in
 //! crates of their own, so that no other crate is proved twice.
@@ -9,6 +9,8 @@
 mod copies;
 #[cfg(test)]
 mod growths;
+#[cfg(test)]
+mod growths_journal;
 #[cfg(test)]
 mod growths_kept;
 #[cfg(test)]
@@ -21,5 +23,7 @@ mod once;
 mod records;
 #[cfg(test)]
 mod sending;
+#[cfg(test)]
+mod settling;
 #[cfg(test)]
 mod words;
