@@ -1,6 +1,6 @@
 -- How a call of `do` ends by what settled a number.
 use Rattle.std.specs.Prelude.{◌==◌, ◌||◌, Bool, if◌then◌else◌, is_none}
-use Rattle.std.specs.Bool.{bool_eq}
+use Rattle.core.specs.Bool.{beq}
 use Rattle.canary_journal.specs.declared.entry.Kept.{Kept}
 use Rattle.canary_client.specs.declared.outcome.Outcome.{Outcome}
 use Rattle.canary_client.specs.declared.outcome.Outcome.TheVariants.{Done, Refused, Late}
@@ -12,4 +12,4 @@ acted k = is_none k.asked.instead || k.reply.is_late
 -- of the wish and what was asked in its place one acted: by its reply that one's call ends
 abbrev pub outcome_by : Bool → Kept → Outcome
 outcome_by is_wish k =
-    if bool_eq (acted k) is_wish then (if k.reply.status == 200 then Done else Refused) else Late
+    if beq (acted k) is_wish then (if k.reply.status == 200 then Done else Refused) else Late

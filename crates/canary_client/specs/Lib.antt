@@ -1,2 +1,3 @@
 pub mod Outcomes
 pub mod Asking
+pub mod Beginning

@@ -9,7 +9,7 @@ use crate::place::{caller_of, journal_of, place_of};
 use crate::plain::line_of;
 use crate::report::{next_ordinal, report_body};
 use crate::tcp::Tcp;
-use crate::wish::{Asking, asking};
+use crate::wish::{Asking, read_asking};
 use canary_base::lists::Text;
 use canary_journal::entry::{Kept, Place, Wish};
 use canary_journal::journal::Journal;
@@ -76,7 +76,7 @@ fn try_ask<W: Write, F: Write>(
     }
     let place = place_of(rt, &call.desk)?;
     let caller = caller_of(rt, &call.caller)?;
-    let asking = asking(rt, &call.command)?;
+    let asking = read_asking(rt, &call.command)?;
     let device = device_of(rt, &call.journal)?;
     let mut network = Tcp::new(rt, &place);
     let mut kept = journal_on(rt.alloc(), &mut network, device, caller, place.tries)?;

@@ -1,7 +1,11 @@
 //! A caller's journal on a device: opened, begun, and what is asked by it.
-ghost use Rattle.std.specs.Prelude.{◌≡◌, [], IfOk, OnOk};
+ghost use Rattle.std.specs.Prelude.{◌≡◌, ◌+◌, ℕ, [], IfOk, OnOk, IfSome};
 ghost use Rattle.canary_records.specs.Stores.{held, IsSettled};
+ghost use Rattle.canary_journal.specs.declared.meaning.Meaning.TheVariants.{Ahead};
+ghost use Rattle.canary_journal.specs.Journals.{asks, asks_instead, begun};
+ghost use Rattle.canary_journal.specs.Meanings.{meaning_of};
 ghost use Rattle.canary_sending.specs.Keeping.{IsKept};
+ghost use Rattle.canary_client.specs.Beginning.{IsSaid, IsOpenedOrBegun, IsSettledSo};
 
 use crate::outcome::Stop;
 use canary_base::lists::Text;
@@ -34,7 +38,10 @@ pub fn journal_on<N: Network, D: Device + Drop>(
     caller: Name,
     tries: u32,
 ) -> Result<KeptJournal<D>, Stop>
-    ensures { IfOk result (IsKept D.seen D.may_leave) }
+    ensures kept { IfOk result (IsKept D.seen D.may_leave) }
+    ensures caller { IfOk result (λ kept. kept.journal.caller ≡ caller) }
+    ensures begun { IfOk result (λ kept.
+        IsOpenedOrBegun (N.was_told network.new) caller (D.seen device) kept.journal) }
 {
     match open(alloc, device)? {
         Opened::Begun(kept) => of_caller(kept, caller),
@@ -43,7 +50,8 @@ pub fn journal_on<N: Network, D: Device + Drop>(
 }
 
 fn of_caller<D: Device + Drop>(kept: KeptJournal<D>, caller: Name) -> Result<KeptJournal<D>, Stop>
-    ensures { IfOk result (λ same. same ≡ kept) }
+    ensures same { IfOk result (λ same. same ≡ kept) }
+    ensures caller { IfOk result (λ _. kept.journal.caller ≡ caller) }
 {
     if kept.journal.caller() != caller {
         return Err(Stop::OtherCaller);
@@ -60,7 +68,9 @@ fn begun<N: Network, D: Device + Drop>(
 ) -> Result<KeptJournal<D>, Stop>
     requires rest { IsSettled D.seen D.may_leave store.device store.gate }
     requires new { held (D.seen store.device) ≡ [] }
-    ensures { IfOk result (IsKept D.seen D.may_leave) }
+    ensures kept { IfOk result (IsKept D.seen D.may_leave) }
+    ensures begun { IfOk result (λ kept. (settled : ℕ) × (kept.journal ≡ begun caller settled)
+        × IsSaid (N.was_told network.new) caller settled) }
 {
     let settled = settled_before(alloc, network, caller, tries)?;
     match begin(alloc, store, caller, settled) {
@@ -76,12 +86,14 @@ fn settled_before<N: Network>(
     network: &mut N,
     caller: Name,
     tries: u32,
-) -> Result<u32, Stop> {
+) -> Result<u32, Stop>
+    ensures { IfOk result (IsSaid (N.was_told network.new) caller) }
+{
     let message = request(alloc, caller, LAST, PROBE)?;
     for tried in 0..tries {
         let why = match network.exchange(alloc, message.as_str()) {
-            Ok(heard) => match next_number(alloc, &heard)? {
-                Some(next) => return Ok(next.saturating_sub(1)),
+            Ok(heard) => match settled_of(alloc, &heard)? {
+                Some(settled) => return Ok(settled),
                 None => Why::Foreign,
             },
             Err(Why::Memory) => return Err(Stop::Memory),
@@ -94,10 +106,13 @@ fn settled_before<N: Network>(
     Err(Stop::NotBegun)
 }
 
-// The number that a desk expects next, if the reply says so.
-fn next_number(alloc: Global, heard: &Heard) -> Result<Option<u32>, Stop> {
+// How many requests of the caller a desk has settled, if the reply says so.
+fn settled_of(alloc: Global, heard: &Heard) -> Result<Option<u32>, Stop>
+    ensures { IfOk result (λ settled. IfSome settled
+        (λ count. meaning_of heard.now.status heard.now.body ≡ Ahead (count + 1))) }
+{
     match meaning_of(alloc, heard.status, heard.body.as_str())? {
-        Meaning::Ahead(expected) => Ok(Some(expected)),
+        Meaning::Ahead(expected) => Ok(expected.checked_sub(1)),
         _ => Ok(None),
     }
 }
@@ -115,7 +130,9 @@ pub fn asked<N: Network, D: Device>(
     tries: u32,
 ) -> Result<(), Stop>
     requires { IsKept D.seen D.may_leave kept.old }
-    ensures { OnOk result (IsKept D.seen D.may_leave kept.new) }
+    ensures kept { OnOk result (IsKept D.seen D.may_leave kept.new) }
+    ensures settled { OnOk result (IsSettledSo (N.was_told network.new)
+        (asks kept.old.journal wish) kept.new.journal) }
 {
     let number = kept.journal.number();
     kept.keep(alloc, Entry::Asked { number, wish })?;
@@ -135,7 +152,9 @@ pub fn asked_instead<N: Network, D: Device>(
     tries: u32,
 ) -> Result<(), Stop>
     requires { IsKept D.seen D.may_leave kept.old }
-    ensures { OnOk result (IsKept D.seen D.may_leave kept.new) }
+    ensures kept { OnOk result (IsKept D.seen D.may_leave kept.new) }
+    ensures settled { OnOk result (IsSettledSo (N.was_told network.new)
+        (asks_instead kept.old.journal body) kept.new.journal) }
 {
     let number = kept.journal.number();
     kept.keep(alloc, Entry::Instead { number, body })?;
@@ -154,7 +173,9 @@ pub fn settled<N: Network, D: Device>(
     tries: u32,
 ) -> Result<(), Stop>
     requires { IsKept D.seen D.may_leave kept.old }
-    ensures { OnOk result (IsKept D.seen D.may_leave kept.new) }
+    ensures kept { OnOk result (IsKept D.seen D.may_leave kept.new) }
+    ensures settled { OnOk result (IsSettledSo (N.was_told network.new)
+        kept.old.journal kept.new.journal) }
 {
     match settle(alloc, network, kept, tries) {
         Ok(()) => Ok(()),

@@ -48,7 +48,7 @@ impl Asking {
 /// # Errors
 /// `Command` if they are no command, `Result` for a result that no measurement has, `File` if the
 /// manifest's file cannot be read, `Manifest` if the desk would not take what it says; `Memory`.
-pub fn asking<P: Files + AllocGlobal>(rt: &P, words: &AskedCommand) -> Result<Asking, Stop> {
+pub fn read_asking<P: Files + AllocGlobal>(rt: &P, words: &AskedCommand) -> Result<Asking, Stop> {
     match words.kind.as_str() {
         "template" => template(rt, words),
         "service" => service(rt, words),
@@ -221,9 +221,16 @@ fn failure_of(alloc: Global, text: &str) -> Result<Text, Stop> {
 fn is_taken(alloc: Global, measured: &Measured) -> Result<(), Stop> {
     let body = report_body(alloc, measured, 1, 0)?;
     match command_from_json(alloc, body.as_str().as_bytes()) {
-        Ok(Command::Report(report)) if report.entries.as_slice().len() == 1 => Ok(()),
+        Ok(command) if has_one_entry(&command) => Ok(()),
         Err(WireFault::Memory) => Err(Stop::Memory),
         _ => Err(Stop::Result),
+    }
+}
+
+fn has_one_entry(command: &Command) -> bool {
+    match command {
+        Command::Report(report) => report.entries.as_slice().len() == 1,
+        _ => false,
     }
 }
 
