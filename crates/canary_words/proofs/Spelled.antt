@@ -15,7 +15,7 @@ use Rattle.clap.specs.declared.error.kind.ErrorKind.{ErrorKind}
 use Rattle.clap.specs.declared.error.kind.ErrorKind.TheVariants.{MissingSubcommand}
 use Rattle.clap.specs.declared.parser.matches.ArgMatches.{ArgMatches}
 use Rattle.clap.specs.declared.parser.matches.ArgMatches.TheViews.{out-ArgMatches, out-SubCommand}
-use Rattle.canary_words.specs.CommandLine.{client_program_in, desk_command, faults_of, exported, export_of, flag_given, limits_of, number_given, of_two, pipe_of, piped, program_in, program_of, text_given, with_db, HasAsked, HasClientProgram, HasDo, HasDue, HasExport, HasListener, HasMigrate, HasMoment, HasMoments, HasNothing, HasPage, HasProgram, HasRecordsProgram, HasStatus, HasText, HasTexts}
+use Rattle.canary_words.specs.CommandLine.{desk_command, faults_of, exported, export_of, flag_given, limits_of, number_given, of_two, pipe_of, piped, program_in, program_of, text_given, with_db, HasAsked, HasClientProgram, HasDo, HasDue, HasExport, HasListener, HasMigrate, HasMoment, HasMoments, HasNothing, HasPage, HasProgram, HasRecordsProgram, HasStatus, HasText, HasTexts}
 use Rattle.canary_words.specs.CommandLine.{command_of, desk_of, do_of}
 use Rattle.canary_words.specs.declared.words.Program.{Program}
 use Rattle.canary_words.specs.declared.words.Program.TheVariants.{Serve, Import, History, Status, Page, Backup, Migrate, Get, Watch, Send, Due}
