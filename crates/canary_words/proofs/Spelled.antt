@@ -44,10 +44,14 @@ no_help name other = go (bytes_eq (codes "help") name) (bytes_eq-Decides (codes 
 abbrev named : Text → List Shape → Option Shape
 named name commands = find (λ s. answers_to name (label_of s)) commands
 
--- each of these commands, where it is met with no fault, has all that it has to be given
+-- the command, where it is met with no fault, has all that it has to be given
+abbrev IsGiven : Shape → List Text → Type 0
+IsGiven s words = level_fault s [] nothing_held words false [] ≡ [] → HasProgram (Some (rows_at s words))
+
+-- and so has each of these commands, if the name is its own
 abbrev AreGiven : Text → List Text → List Shape → Type 0
 AreGiven name words [] = Unit {0}
-AreGiven name words (s ∷ rest) = (answers_to name (label_of s) ≡ true → level_fault s [] nothing_held words false [] ≡ [] → HasProgram (Some (rows_at s words))) × AreGiven name words rest
+AreGiven name words (s ∷ rest) = (answers_to name (label_of s) ≡ true → IsGiven s words) × AreGiven name words rest
 
 -- and so has the one that the name is of
 met_among : (name : Text) (words : List Text) (rows : List Row) (commands : List Shape) → AreGiven name words commands
@@ -67,63 +71,62 @@ met_among name words rows (s ∷ rest) given checks none = go (answers_to name (
     go true is checks none more = given.0 is none
     go false is checks none more = more checks none
 
+-- a command on the file of a desk's records
 of_records : (met : Option (Text × List Row)) → HasRecordsProgram met → HasProgram met
 of_records met h = inr (inr (inl h))
 
+-- a command that asks a desk
 of_client : (met : Option (Text × List Row)) → HasClientProgram met → HasProgram met
 of_client met h = inr (inr (inr (inr h)))
 
--- what each of the desk's commands has to be given, in their order
+pipe_met : (words : List Text) → IsGiven pipe words
+pipe_met words none = inl (rows_after pipe.rules [] words, refl, pipe_rows words none)
+
+serve_met : (words : List Text) → IsGiven serve words
+serve_met words none = inr (inl (rows_after serve.rules [] words, refl, serve_rows words none))
+
+import_met : (words : List Text) → IsGiven import words
+import_met words none = of_records (Some (rows_at import words)) (inl (rows_after import.rules [] words, refl, import_rows words none))
+
+history_met : (words : List Text) → IsGiven history words
+history_met words none = of_records (Some (rows_at history words)) (inr (inl (rows_after history.rules [] words, refl, history_rows words none)))
+
+export_met : (words : List Text) → IsGiven export words
+export_met words none = of_records (Some (rows_at export words)) (inr (inr (inl (rows_after export.rules [] words, refl, export_rows words none))))
+
+status_met : (words : List Text) → IsGiven status words
+status_met words none = of_records (Some (rows_at status words)) (inr (inr (inr (inl (rows_after status.rules [] words, refl, status_rows words none)))))
+
+page_met : (words : List Text) → IsGiven page words
+page_met words none = of_records (Some (rows_at page words)) (inr (inr (inr (inr (inl (rows_after page.rules [] words, refl, page_rows words none))))))
+
+backup_met : (words : List Text) → IsGiven backup words
+backup_met words none = of_records (Some (rows_at backup words)) (inr (inr (inr (inr (inr (inl (rows_after backup.rules [] words, refl, backup_rows words none)))))))
+
+migrate_met : (words : List Text) → IsGiven migrate words
+migrate_met words none = of_records (Some (rows_at migrate words)) (inr (inr (inr (inr (inr (inr (rows_after migrate.rules [] words, refl, migrate_rows words none)))))))
+
+check_met : (words : List Text) → IsGiven check words
+check_met words none = inr (inr (inr (inl (rows_after check.rules [] words, refl, tt))))
+
+asking_met : (words : List Text) → IsGiven asking words
+asking_met words none = of_client (Some (rows_at asking words)) (inl (rows_after asking.rules [] words, refl, do_rows words none))
+
+get_met : (words : List Text) → IsGiven get words
+get_met words none = of_client (Some (rows_at get words)) (inr (inl (rows_after get.rules [] words, refl, get_rows words none)))
+
+watch_met : (words : List Text) → IsGiven watch words
+watch_met words none = of_client (Some (rows_at watch words)) (inr (inr (inl (rows_after watch.rules [] words, refl, watch_rows words none))))
+
+send_met : (words : List Text) → IsGiven send words
+send_met words none = of_client (Some (rows_at send words)) (inr (inr (inr (inl (rows_after send.rules [] words, refl, send_rows words none)))))
+
+due_met : (words : List Text) → IsGiven due words
+due_met words none = of_client (Some (rows_at due words)) (inr (inr (inr (inr (rows_after due.rules [] words, refl, due_rows words none)))))
+
+-- the desk's commands, in their order; the last one is `help`
 each_given : (name : Text) (words : List Text) → answers_to name (codes "help", []) ≡ false → AreGiven name words (built desk_command).subs
-each_given name words other = (
-  λ _ none. inl (rows_after pipe.rules [] words, refl, pipe_rows words none),
-  (
-    λ _ none. inr (inl (rows_after serve.rules [] words, refl, serve_rows words none)),
-    (
-      λ _ none. of_records (Some (rows_at import words)) (inl (rows_after import.rules [] words, refl, import_rows words none)),
-      (
-        λ _ none. of_records (Some (rows_at history words)) (inr (inl (rows_after history.rules [] words, refl, history_rows words none))),
-        (
-          λ _ none. of_records (Some (rows_at export words)) (inr (inr (inl (rows_after export.rules [] words, refl, export_rows words none)))),
-          (
-            λ _ none. of_records (Some (rows_at status words)) (inr (inr (inr (inl (rows_after status.rules [] words, refl, status_rows words none))))),
-            (
-              λ _ none. of_records (Some (rows_at page words)) (inr (inr (inr (inr (inl (rows_after page.rules [] words, refl, page_rows words none)))))),
-              (
-                λ _ none. of_records (Some (rows_at backup words)) (inr (inr (inr (inr (inr (inl (rows_after backup.rules [] words, refl, backup_rows words none))))))),
-                (
-                  λ _ none. of_records (Some (rows_at migrate words)) (inr (inr (inr (inr (inr (inr (rows_after migrate.rules [] words, refl, migrate_rows words none))))))),
-                  (
-                    λ _ none. inr (inr (inr (inl (rows_after check.rules [] words, refl, tt)))),
-                    (
-                      λ _ none. of_client (Some (rows_at asking words)) (inl (rows_after asking.rules [] words, refl, do_rows words none)),
-                      (
-                        λ _ none. of_client (Some (rows_at get words)) (inr (inl (rows_after get.rules [] words, refl, get_rows words none))),
-                        (
-                          λ _ none. of_client (Some (rows_at watch words)) (inr (inr (inl (rows_after watch.rules [] words, refl, watch_rows words none)))),
-                          (
-                            λ _ none. of_client (Some (rows_at send words)) (inr (inr (inr (inl (rows_after send.rules [] words, refl, send_rows words none))))),
-                            (
-                              λ _ none. of_client (Some (rows_at due words)) (inr (inr (inr (inr (rows_after due.rules [] words, refl, due_rows words none))))),
-                              (
-                                λ is none. let bad : true ≡ false = sym is ∙ other in cc,
-                                tt,
-                              ),
-                            ),
-                          ),
-                        ),
-                      ),
-                    ),
-                  ),
-                ),
-              ),
-            ),
-          ),
-        ),
-      ),
-    ),
-  ),
-)
+each_given name words other = (λ _. pipe_met words, (λ _. serve_met words, (λ _. import_met words, (λ _. history_met words, (λ _. export_met words, (λ _. status_met words, (λ _. page_met words, (λ _. backup_met words, (λ _. migrate_met words, (λ _. check_met words, (λ _. asking_met words, (λ _. get_met words, (λ _. watch_met words, (λ _. send_met words, (λ _. due_met words, (λ is none. let bad : true ≡ false = sym is ∙ other in cc, tt))))))))))))))))
 
 met : (o : Option (Text × List Text)) (words : List Text) → IsNoHelp o
     → level_fault desk (names_of (built desk_command)) nothing_held words (is_some (entered (built desk_command) o)) (entered_fault (built desk_command) o) ≡ []
@@ -188,6 +191,7 @@ do_spelled rows h = made_of _ (command_of rows) (made _ (codes "command") rows h
 met_so : (o : Option (Text × List Row)) (name : Text) (rows : List Row) → o ≡ Some (name, rows) → IsSome (program_in (name, rows)) → IsSome (option_and_then program_in o)
 met_so o name rows is some = subst (λ (o : Option (Text × List Row)). IsSome (option_and_then program_in o)) (sym is) some
 
+-- what was met of the commands that ask a desk spells a program
 client_met : (met : Option (Text × List Row)) → HasClientProgram met → IsSome (option_and_then program_in met)
 client_met met (inl h) = met_so met _ h.0 h.1 (do_spelled h.0 h.2)
 client_met met (inr (inl h)) = met_so met _ h.0 h.1 (made (λ service. Get (desk_of h.0) service (text_given (codes "part") h.0)) (codes "service") h.0 h.2.1)
@@ -248,6 +252,7 @@ IsGivenFor name rows = choose (bytes_eq name (codes "pipe")) (HasMoments rows)
 given_as : (o : Option (Text × List Row)) (n name : Text) (r rows : List Row) → o ≡ Some (n, r) → o ≡ Some (name, rows) → IsGivenFor n r → IsGivenFor name rows
 given_as o n name r rows a b given = subst (λ (p : Text × List Row). IsGivenFor p.0 p.1) (ap (λ m. unwrap_or m (n, r)) (sym a ∙ b)) given
 
+-- what the command of this name was given that asks a desk
 pub client_given_for : (o : Option (Text × List Row)) (name : Text) (rows : List Row) → HasClientProgram o → o ≡ Some (name, rows) → IsGivenFor name rows
 client_given_for o name rows (inl h) is = given_as o (codes "do") name h.0 rows h.1 is h.2
 client_given_for o name rows (inr (inl h)) is = given_as o (codes "get") name h.0 rows h.1 is h.2
