@@ -2,17 +2,23 @@
 
 It prints the port on which it listens. By a die with that seed it loses a request before it comes
 to the desk at PORT, loses the reply, gives the request to the desk again some time later, cuts the
-reply short, or passes both."""
+reply short, or passes both. At the end of its standard input it waits until nothing is under way
+any more, and says what it did: how many messages came, and what became of them."""
+import collections
 import random
 import socket
 import sys
 import threading
 import time
 
+LOST, UNANSWERED, REPEATED, CUT = .2, .45, .6, .7
+counts = collections.Counter()
+under_way = set()
+
 
 def read_message(stream):
     """A whole message, or what came of it before the stream ended."""
-    stream.settimeout(5)
+    stream.settimeout(10)
     data = b""
     while b"\r\n\r\n" not in data:
         piece = stream.recv(65536)
@@ -32,7 +38,7 @@ def read_message(stream):
 def ask(port, message):
     """The reply of the desk, or nothing."""
     try:
-        with socket.create_connection(("127.0.0.1", port), 5) as desk:
+        with socket.create_connection(("127.0.0.1", port), 10) as desk:
             desk.sendall(message)
             return read_message(desk)
     except OSError:
@@ -41,22 +47,25 @@ def ask(port, message):
 
 def ask_later(port, message, seconds):
     time.sleep(seconds)
-    ask(port, message)
+    counts["came late"] += ask(port, message) != b""
 
 
 def pass_on(port, client, roll, die):
     """What becomes of one message, by the number that was rolled."""
     message = read_message(client)
-    if not message or roll < .2:
+    counts["messages"] += 1
+    if not message or roll < LOST:
+        counts["lost"] += 1
         return
     reply = ask(port, message)
-    if roll < .45:
+    if roll < UNANSWERED:
+        counts["unanswered"] += 1
         return
-    if roll < .6:
+    if roll < REPEATED:
         for _ in range(die.randint(1, 3)):
-            late = (port, message, die.random() * 3)
-            threading.Thread(target=ask_later, args=late, daemon=True).start()
-    if .6 <= roll < .7:
+            begin(ask_later, port, message, die.random() * 3)
+    elif roll < CUT:
+        counts["cut"] += 1
         reply = reply[:die.randint(0, 60)]
     client.sendall(reply)
 
@@ -69,14 +78,32 @@ def serve(port, client, roll, die):
             pass
 
 
+def begin(function, *words):
+    def run():
+        function(*words)
+        under_way.discard(threading.current_thread())
+
+    thread = threading.Thread(target=run, daemon=True)
+    under_way.add(thread)
+    thread.start()
+
+
+def take_all(server, port, die):
+    while True:
+        client, _ = server.accept()
+        begin(serve, port, client, die.random(), die)
+
+
 def main(port, seed):
-    die = random.Random(seed)
     with socket.create_server(("127.0.0.1", 0), backlog=64) as server:
         print(server.getsockname()[1], flush=True)
-        while True:
-            client, _ = server.accept()
-            each = (port, client, die.random(), die)
-            threading.Thread(target=serve, args=each, daemon=True).start()
+        taking = threading.Thread(target=take_all, args=(server, port, random.Random(seed)),
+                                  daemon=True)
+        taking.start()
+        sys.stdin.read()
+        while under_way:
+            time.sleep(.05)
+    print(", ".join(f"{count} {name}" for name, count in sorted(counts.items())), flush=True)
 
 
 main(int(sys.argv[1]), int(sys.argv[2]))

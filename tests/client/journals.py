@@ -1,0 +1,398 @@
+"""The journal's file: cut short, changed, locked, lost, not to be written: parts of client.py."""
+import fcntl
+import os
+import shutil
+import subprocess
+
+from journal_rule import LAST, at_rest, is_new, journal_of, line_of, lines_in
+from world import (
+    AHEAD, BEHIND, BROKEN, CONTRADICTION, DONE, ENDED, IN_USE, KEY_USED, LATE, LOCAL, LOST,
+    NOT_BEGUN, NO_JOURNAL_FILE, OTHER_CALLER, PENDING, PENDING_SAID, PROMOTED, REFUSED, REUSED,
+    SPENT, STARTED, TOOK_PLACE, UNREACHABLE, WORDS, Caller, Wrong, add, answering, ask, environment,
+    expect, free_port, process, shown, shows, two_pauses, want, want_all_said, want_delivered,
+)
+
+NOBODY = 65534
+PROMOTE = '{"promote":{"service":"web"}}'
+
+
+def records(entries):
+    return b"".join(b"+" + line_of(entry).encode() + b"\n" for entry in entries)
+
+
+def asked(number, intent, key):
+    return {"asked": {"body": intent, "intent": intent, "key": key, "number": number}}
+
+
+def settled(number, status, body, late=False):
+    return {"settled": {"body": body, "late": late, "number": number, "status": status}}
+
+
+def of_service(command):
+    return f'{{"{command}":{{"service":"web"}}}}'
+
+
+# A journal with each kind of entry; its last number is pending.
+ENTRIES = [
+    {"begun": {"caller": "ops", "settled": 4}},
+    asked(5, PROMOTE, "first"),
+    settled(5, 200, shows("web", *PROMOTED)),
+    asked(6, of_service("abort"), "zw\u00f6lf \u2192 \"two\"\n"),
+    settled(6, 422, '{"code":"not-in-progress"}'),
+    asked(7, of_service("promoteFull"), "third"),
+    {"instead": {"body": of_service("abort"), "number": 7}},
+    settled(7, 200, shows("web", *ENDED), late=True),
+    asked(8, of_service("retry"), "last"),
+]
+WHOLE = records(ENTRIES) + b"-"
+
+
+def promised(data):
+    """What `do --once first promote web` has to come to where no desk is, if the journal's file has
+    these bytes: status, output, last sentence, and the file's bytes after it."""
+    if lines_in(data) is None:
+        return LOCAL, "", BROKEN, data
+    rest = at_rest(data)
+    if is_new(data):
+        return PENDING, "", NOT_BEGUN, rest
+    journal = journal_of(data)
+    if journal is None:
+        return LOCAL, "", BROKEN, rest
+    if journal.caller != "ops":
+        return WORDS, "", OTHER_CALLER, rest
+    for each in [*journal.kept, *([journal.pending] if journal.pending else [])]:
+        if each.key == "first":
+            return promised_under_key(each, rest)
+    if journal.pending is not None:
+        return PENDING, "", PENDING_SAID, rest
+    if journal.number() > LAST:
+        return CONTRADICTION, "", SPENT, rest
+    return PENDING, "", PENDING_SAID, rest[:-1] + records([asked(journal.number(), PROMOTE,
+                                                                 "first")]) + b"-"
+
+
+def promised_under_key(kept, rest):
+    if kept.intent != PROMOTE:
+        return CONTRADICTION, "", KEY_USED, rest
+    if kept.status is None:
+        return PENDING, "", PENDING_SAID, rest
+    if kept.instead is not None and not kept.is_late:
+        return LATE, kept.body + "\n", TOOK_PLACE, rest
+    return DONE if kept.status == 200 else REFUSED, kept.body + "\n", None, rest
+
+
+class Reader:
+    """Calls of the client on a file with given bytes, where no desk is."""
+
+    def __init__(self, world, name):
+        self.world, self.folder, self.port = world, world.place(name), free_port()
+        self.file = self.folder / "ops.journal"
+        self.counts = {}
+
+    def read(self, row, data):
+        self.file.write_bytes(data)
+        words = ["do", "--desk", f"127.0.0.1:{self.port}", "--as", "ops", "--journal",
+                 str(self.file), "--tries", "1", "--once", "first", "promote", "web"]
+        found = self.world.run(words, self.folder)
+        status, output, said, after = promised(data)
+        want(f"{row}: {data[-60:]!r}", found, status, output, said)
+        expect(f"{row}: the file", self.file.read_bytes(), after)
+        self.counts[status] = self.counts.get(status, 0) + 1
+
+    def want_counts(self, *statuses):
+        """Each of these statuses came, so that the rows tell them apart."""
+        for status in statuses:
+            if status not in self.counts:
+                raise Wrong(f"no row ended with status {status}: {self.counts}")
+
+    def told(self):
+        return ", ".join(f"status {status} {count} times"
+                         for status, count in sorted(self.counts.items()))
+
+
+def try_cut_journal(world):
+    """A journal that is cut short at each byte is refused, and stays as it is."""
+    reader = Reader(world, "cut")
+    for length in range(len(WHOLE) + 1):
+        reader.read(f"cut to {length} bytes", WHOLE[:length])
+    expect("cut to no byte and to one, and not cut", (reader.counts[PENDING], reader.counts[DONE]),
+           (2, 1))
+    expect("cut elsewhere", reader.counts[LOCAL], len(WHOLE) - 2)
+    return reader.told()
+
+
+def try_torn_journal(world):
+    """What a crash leaves behind the closed gate, at each byte of the next line: it does not count,
+    and is cut off."""
+    reader = Reader(world, "torn")
+    rows = []
+    for count in range(len(ENTRIES)):
+        whole = records(ENTRIES[:count])
+        behind = line_of(ENTRIES[count]).encode() + b"\n-"
+        rows += [(count, whole + b"-" + behind[:length]) for length in range(len(behind) + 1)]
+    for count, data in world.some_of(rows, 3):
+        reader.read(f"{count} entries, and a torn rest", data)
+    reader.want_counts(DONE, PENDING)
+    expect("torn rests are refused", reader.counts.get(LOCAL, 0), 0)
+    return reader.told()
+
+
+def try_changed_journal(world):
+    """One byte of a journal is another one: the file is refused, or read as the lines that it then
+    has. No line has a checksum, so a changed letter may be of no consequence here."""
+    reader = Reader(world, "changed")
+    rows = []
+    for at, byte in enumerate(WHOLE):
+        for other in (byte ^ 1, byte ^ 0x80, ord("+"), ord("\n"), ord("0"), ord('"')):
+            if other != byte:
+                rows.append((at, WHOLE[:at] + bytes([other]) + WHOLE[at + 1:]))
+    for at, data in world.some_of(rows, 12):
+        reader.read(f"byte {at} is {data[at]}", data)
+    reader.want_counts(DONE, LOCAL)
+    for row, data in (
+            ("another caller's", WHOLE.replace(b'"ops"', b'"opt"')),
+            ("a key of another command", WHOLE.replace(b'"zw', b'"zx').replace(
+                b'"first"', b'"other"').replace(b'"third"', b'"first"')),
+            ("a space in a line", WHOLE.replace(b'":4', b'": 4')),
+            ("a key twice", WHOLE.replace(b'"settled":4', b'"settled":3,"settled":4')),
+            ("keys in another order", WHOLE.replace(b'"caller":"ops","settled":4',
+                                                    b'"settled":4,"caller":"ops"')),
+            ("an escape that need not be", WHOLE.replace(b'"first"', b'"\\u0066irst"')),
+            ("a member too many", WHOLE.replace(b'"settled":4', b'"settled":4,"when":1')),
+            ("a line twice", records([*ENTRIES[:3], ENTRIES[2]]) + b"-"),
+            ("a line is missing", records([*ENTRIES[:1], *ENTRIES[2:]]) + b"-"),
+            ("a key twice in the journal", records([*ENTRIES[:3], asked(6, PROMOTE, "first")])
+             + b"-"),
+            ("a CR before the LF", WHOLE.replace(b"\n", b"\r\n")),
+            ("the last number is the pending one", records(
+                [{"begun": {"caller": "ops", "settled": LAST}}]) + b"-"),
+            ("more than the last number", records(
+                [{"begun": {"caller": "ops", "settled": LAST + 1}}]) + b"-"),
+            ("a text", b"a text that somebody wrote\n"),
+            ("a text that begins as a journal", b"+ a text that somebody wrote\n"),
+            ("an empty line", b"+\n-"),
+    ):
+        reader.read(row, data)
+    return reader.told()
+
+
+def try_lines(world):
+    """The client writes the lines of the rule, byte for byte."""
+    with world.desk("lines") as desk:
+        setup = Caller(desk, "ops")
+        setup.send({"service": {"version": "v1", "manifest": two_pauses()}})
+        desk.do("start", "web", "v2", options=("--once", "zw\u00f6lf \u2192 \"two\"\t\u0001\\"))
+        desk.kill()
+        desk.do("promote-full", "web", tries=1)
+        desk.do("abort", "web", tries=1, options=("--instead",))
+        desk.start()
+        want("instead", desk.do("abort", "web", options=("--instead",)), DONE,
+             shown(("Degraded", 1, 0)))
+        start = '{"start":{"service":"web","version":"v2"}}'
+        wanted = records([
+            {"begun": {"caller": "ops", "settled": 1}},
+            asked(2, start, "zw\u00f6lf \u2192 \"two\"\t\u0001\\"),
+            settled(2, 200, shows("web", *STARTED)),
+            asked(3, of_service("promoteFull"), None),
+            {"instead": {"body": of_service("abort"), "number": 3}},
+            settled(3, 200, shows("web", "Degraded", 1, 0)),
+        ]) + b"-"
+        expect("the journal", (desk.folder / "ops.journal").read_bytes(), wanted)
+
+
+def try_two_clients(world):
+    """A journal that another client has open is left alone."""
+    with world.desk("two") as desk:
+        add(desk)
+        want("tick", desk.do("tick", "web"), DONE, shown(STARTED))
+        before = (desk.folder / "ops.journal").read_bytes()
+        with open(desk.folder / "ops.journal", "rb") as held:
+            fcntl.flock(held, fcntl.LOCK_EX)
+            want("locked", desk.do("promote", "web"), LOCAL, said=IN_USE)
+        expect("locked: the file", (desk.folder / "ops.journal").read_bytes(), before)
+        # one client waits for its reply, and the other one comes
+        come = []
+
+        def stall(client):
+            come.append(client.recv(65536))
+            client.recv(1)
+
+        with answering(stall) as port, process(
+                [world.program, *desk.words("promote", "web", port=port, tries=1, timeout=3)],
+                cwd=desk.folder, env=environment(), stdout=subprocess.PIPE,
+                stderr=subprocess.PIPE) as first:
+            while not come and first.poll() is None:
+                pass
+            want("the second client", desk.do("abort", "web"), LOCAL, said=IN_USE)
+            _, errors = first.communicate(timeout=60)
+            expect("the first client", (first.returncode, errors.decode()),
+                   (PENDING, f"canary: {PENDING_SAID}\n"))
+        want("afterwards", desk.do("promote", "web"), DONE, shown(PROMOTED))
+        want_delivered("two clients", desk)
+        expect("acted", (desk.count("promote"), desk.count("abort")), ({"web": 1}, {}))
+
+
+def try_many_clients(world):
+    """Eight clients at once with one journal: each goes on until its command is done."""
+    with world.desk("many") as desk:
+        names = [f"s{at}" for at in range(8)]
+        add(desk, *names)
+        refused = 0
+        left = dict.fromkeys(names)
+        while left:
+            for name in left:
+                left[name] = subprocess.Popen(
+                    [world.program, *desk.words("promote", name, options=("--once", name))],
+                    cwd=desk.folder, env=environment(), stdin=subprocess.DEVNULL,
+                    stdout=subprocess.PIPE, stderr=subprocess.PIPE)
+            for name, client in [*left.items()]:
+                output, errors = client.communicate(timeout=60)
+                if client.returncode == DONE:
+                    expect(name, output.decode(), shown(PROMOTED, name))
+                    del left[name]
+                else:
+                    refused += 1
+                    expect(name, (client.returncode, output, errors.decode()),
+                           (LOCAL, b"", f"canary: {IN_USE}\n"))
+        want_delivered("many clients", desk)
+        expect("promotions", desk.count("promote"), dict.fromkeys(names, 1))
+    return f"{refused} found it open"
+
+
+def try_lost_journal(world):
+    """A journal that is lost is begun anew with what the desk has settled: no command gets the kept
+    reply of an old one."""
+    with world.desk("lost") as desk:
+        add(desk)
+        want("first", desk.do("promote", "web"), DONE, shown(PROMOTED))
+        (desk.folder / "ops.journal").unlink()
+        want("second", desk.do("promote", "web"), DONE, shown(ENDED))
+        expect("promotions", desk.count("promote"), {"web": 2})
+        expect("it begins", desk.journal().before, 1)
+        # and so is one that was cut to nothing
+        (desk.folder / "ops.journal").write_bytes(b"")
+        want("third", desk.do("tick", "web"), DONE, shown(ENDED))
+        expect("it begins", desk.journal().before, 2)
+
+
+def try_restored_desk(world):
+    """A desk that was restored from an older backup has settled less than the journal has."""
+    with world.desk("restored") as desk:
+        add(desk)
+        want("tick", desk.do("tick", "web"), DONE, shown(STARTED))
+        made = world.run(["backup", "--db", "desk.db", "old.db"], desk.folder)
+        expect("backup", made.status, 0)
+        want("promote", desk.do("promote", "web", options=("--once", "p")), DONE, shown(PROMOTED))
+        desk.kill()
+        for end_of_name in ("", "-wal"):
+            shutil.move(desk.folder / f"old.db{end_of_name}", desk.folder / f"desk.db{end_of_name}")
+        desk.start()
+        for _ in range(2):
+            want("the next one", desk.do("promote", "web", options=("--once", "q")), CONTRADICTION,
+                 said=AHEAD)
+        # what the journal has as done is told from the journal
+        want("the last one", desk.do("promote", "web", options=("--once", "p")), DONE,
+             shown(PROMOTED))
+        expect("nothing acted", desk.count("promote"), {})
+        # a person looks, and moves the journal away
+        (desk.folder / "ops.journal").rename(desk.folder / "ops.journal.old")
+        want("anew", desk.do("promote", "web", options=("--once", "q")), DONE, shown(PROMOTED))
+        want_delivered("anew", desk)
+
+
+def try_shared_name(world):
+    """Two journals of one name, and a journal at another desk."""
+    with world.desk("shared") as desk, world.desk("another") as another:
+        add(desk)
+        add(another)
+        want("tick", desk.do("tick", "web"), DONE, shown(STARTED))
+        shutil.copy(desk.folder / "ops.journal", desk.folder / "copy.journal")
+        want("promote", desk.do("promote", "web"), DONE, shown(PROMOTED))
+        for _ in range(2):
+            want("a copy", desk.do("abort", "web", journal="copy.journal"), CONTRADICTION,
+                 said=REUSED)
+        expect("aborts", desk.count("abort"), {})
+        # a copy that asks the same cannot be told from the one that asked first
+        shutil.copy(desk.folder / "copy.journal", desk.folder / "third.journal")
+        before = desk.kept()
+        want("another desk", desk.do("promote", "web", port=another.port), CONTRADICTION,
+             said=AHEAD)
+        expect("promotions", (desk.count("promote"), another.count("promote")), ({"web": 1}, {}))
+        expect("at the desk", desk.kept(), before)
+        want("again at its own", desk.do("promote", "web"), DONE, shown(ENDED))
+        want_delivered("shared", desk)
+
+
+def try_foreign_journals(world):
+    """A journal of another caller, a name that is spent, a folder in the place of the file, a
+    folder that is not there or may not be written, a file that may not be."""
+    with world.desk("foreign-journals") as desk:
+        add(desk)
+        want("tick", desk.do("tick", "web"), DONE, shown(STARTED))
+        before = (desk.folder / "ops.journal").read_bytes()
+        want("another caller", desk.do("promote", "web", caller="other"), WORDS, said=OTHER_CALLER)
+        expect("another caller: the file", (desk.folder / "ops.journal").read_bytes(), before)
+        desk.write("spent.journal",
+                   '+{"begun":{"caller":"ops","settled":1000000000}}\n-')
+        want("spent", desk.do("promote", "web", journal="spent.journal"), CONTRADICTION,
+             said=SPENT)
+        (desk.folder / "folder").mkdir()
+        want("a folder", desk.do("promote", "web", journal="folder"), LOCAL, said=NO_JOURNAL_FILE)
+        want("no folder", desk.do("promote", "web", journal="none/ops.journal"), LOCAL,
+             said=NO_JOURNAL_FILE)
+        expect("promotions", desk.count("promote"), {})
+
+
+def try_unwritable(world):
+    """By a user who may write neither the folder nor the file."""
+    with world.desk("unwritable") as desk:
+        add(desk)
+        want("tick", desk.do("tick", "web"), DONE, shown(STARTED))
+        before = (desk.folder / "ops.journal").read_bytes()
+        program = desk.folder / "canary"
+        shutil.copy(world.program, program)
+        for path, mode in ((program, 0o755), (desk.folder / "ops.journal", 0o444),
+                           (world.folder, 0o711), (desk.folder, 0o555)):
+            path.chmod(mode)
+        nobody = {"user": NOBODY, "group": NOBODY} if os.getuid() == 0 else {}
+        for name in ("new.journal", "ops.journal"):
+            with process([str(program), *desk.words("promote", "web", journal=name)],
+                         env=environment(), stdin=subprocess.DEVNULL, stdout=subprocess.PIPE,
+                         stderr=subprocess.PIPE, cwd="/", **nobody) as client:
+                found = client.communicate(timeout=60)
+                expect(name, (client.returncode, *found),
+                       (LOCAL, b"", f"canary: {NO_JOURNAL_FILE}\n".encode()))
+        desk.folder.chmod(0o755)
+        expect("no file is made", (desk.folder / "new.journal").exists(), False)
+        expect("the file", (desk.folder / "ops.journal").read_bytes(), before)
+        expect("promotions", desk.count("promote"), {})
+
+
+def try_pending_goes_first(world):
+    """What is pending is settled before another command is asked."""
+    with world.desk("behind") as desk:
+        add(desk, "web", "other")
+        want("tick", desk.do("tick", "web"), DONE, shown(STARTED))
+        desk.kill()
+        found = desk.do("promote", "web", tries=2)
+        want("no desk", found, PENDING, said=PENDING_SAID)
+        want_all_said("no desk", found, UNREACHABLE, PENDING_SAID)
+        found = desk.do("promote", "other", tries=1)
+        want_all_said("behind", found, BEHIND, PENDING_SAID)
+        expect("behind", (found.status, found.output), (PENDING, ""))
+        expect("one is pending", desk.journal().pending.intent, PROMOTE)
+        desk.start()
+        found = desk.do("promote", "other")
+        want("behind", found, DONE, shown(PROMOTED, "other"), BEHIND)
+        want_all_said("behind", found, BEHIND)
+        expect("promotions", desk.count("promote"), {"web": 1, "other": 1})
+        want_delivered("behind", desk)
+        # the same call finds out what became of it
+        with answering(lambda client: ask(desk.port, client.recv(65536))) as port:
+            found = desk.do("promote", "web", port=port, tries=1)
+            want("unanswered", found, PENDING, said=PENDING_SAID)
+            found = desk.do("promote", "web", port=port, tries=2)
+            want_all_said("unanswered", found, LOST, PENDING_SAID)
+        want("found out", desk.do("promote", "web"), DONE, shown(ENDED))
+        expect("promotions", desk.count("promote"), {"web": 2, "other": 1})
+        want_delivered("found out", desk)

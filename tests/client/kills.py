@@ -1,0 +1,283 @@
+"""The client and the desk killed at each call that they make, calls that fail, and power that goes,
+by strace: parts of client.py."""
+import contextlib
+import re
+import signal
+import subprocess
+import time
+
+from journal_rule import is_new, journal_of
+from world import (
+    DONE, LOCAL, NO_JOURNAL_FILE, PROMOTED, Wrong, add, environment, expect, process, shown, want,
+    want_delivered,
+)
+
+NAME = re.compile(r"^(?:\d+ +)?(\w+)\(", re.MULTILINE)
+# How many parts of what was not synced are tried at each call, beside all of it and nothing.
+PARTS = 8
+
+
+def killing(log, names, at):
+    """The words that go before those of a program which is to be killed at this one of its calls,
+    from 0: before the system does what it asks."""
+    call, when = names[at], names[:at + 1].count(names[at])
+    return ["strace", "-f", "-o", str(log), "-e", f"trace={call}",
+            "-e", f"inject={call}:signal=SIGKILL:when={when}"]
+
+
+def run_traced(world, desk, front, words):
+    with process([*front, world.program, *words], cwd=desk.folder, env=environment(),
+                 stdin=subprocess.DEVNULL, stdout=subprocess.PIPE,
+                 stderr=subprocess.DEVNULL) as traced:
+        output = traced.communicate(timeout=60)[0].decode()
+        return traced.returncode, output
+
+
+def calls_of_client(world, desk, words):
+    """The names of the calls of a client, behind the one that begins it."""
+    log = desk.folder / "calls"
+    expect("a traced client", run_traced(world, desk, ["strace", "-f", "-o", str(log)], words)[0],
+           DONE)
+    return NAME.findall(log.read_text())
+
+
+def try_client_killed(world):
+    """The client is killed at each of its calls; the same call again settles the command, once. A
+    journal is begun in it, or is there."""
+    with world.desk("client-killed") as desk:
+        kills = asked = 0
+        for is_new in (True, False):
+            front = "new" if is_new else "old"
+            add(desk, f"{front}-traced")
+            names = calls_of_client(world, desk, desk.words(
+                "promote", f"{front}-traced", caller=front, journal=f"{front}-traced.journal"))
+            services = [f"{front}-{at}" for at in range(len(names))]
+            add(desk, *services)
+            for at, service in enumerate(services):
+                if at == 0 or names[at] == "exit_group":
+                    continue
+                own = {"caller": service, "journal": f"{service}.journal"}
+                if not is_new:
+                    want(service, desk.do("tick", service, **own), DONE,
+                         shown(("Paused", 1, 20), service))
+                words = desk.words("promote", service, options=("--once", "key"), **own)
+                row = f"{front}: killed at call {at}, {names[at]}"
+                status, output = run_traced(world, desk, killing(desk.folder / "log", names, at),
+                                            words)
+                kills += status == -signal.SIGKILL or status == 128 + signal.SIGKILL
+                asked += "key" in (desk.folder / own["journal"]).read_text() \
+                    if (desk.folder / own["journal"]).exists() else 0
+                if status not in (DONE, -signal.SIGKILL, 128 + signal.SIGKILL):
+                    raise Wrong(f"{row}: status {status}")
+                if output not in ("", shown(PROMOTED, service)[:-1], shown(PROMOTED, service)):
+                    raise Wrong(f"{row}: it wrote {output!r}")
+                for _ in range(2):
+                    want(row, desk.do("promote", service, options=("--once", "key"), **own), DONE,
+                         shown(PROMOTED, service))
+                want_delivered(row, desk, service, own["journal"])
+            counts = desk.count("promote")
+            tried = [name for at, name in enumerate(services)
+                     if at > 0 and names[at] != "exit_group"]
+            expect("promotions", {counts.get(name) for name in tried}, {1})
+        if kills < 60 or not 10 < asked < kills:
+            raise Wrong(f"{kills} kills, in {asked} of them the command stood in the journal")
+    return f"{kills} kills, in {asked} of them the command stood in the journal"
+
+
+def try_failing_calls(world):
+    """Each call on the journal and its folder fails in turn: the client says so and prints no reply,
+    and the same call again settles the command, once."""
+    with world.desk("failing") as desk:
+        calls = "openat,flock,read,pwrite64,fsync,ftruncate"
+        log, count = desk.folder / "log", 0
+        for is_new in (True, False):
+            front = "new" if is_new else "old"
+            services = [f"{front}-{at}" for at in range(40)]
+            add(desk, *services)
+            for at, service in enumerate(services):
+                own = {"caller": service, "journal": f"{service}.journal"}
+                if not is_new:
+                    want(service, desk.do("tick", service, **own), DONE,
+                         shown(("Paused", 1, 20), service))
+                words = desk.words("promote", service, options=("--once", "key"), **own)
+                traced = ["strace", "-f", "-o", str(log), "-P", str(desk.folder / own["journal"]),
+                          "-P", str(desk.folder), "-e", f"trace={calls}"]
+                if at == 0:
+                    expect(service, run_traced(world, desk, traced, words),
+                           (DONE, shown(PROMOTED, service)))
+                    names = NAME.findall(log.read_text())
+                    continue
+                if at > len(names):
+                    break
+                call, when = names[at - 1], names[:at].count(names[at - 1])
+                row = f"{front}: call {at}, {call}, fails"
+                traced += ["-e", f"inject={call}:error={'EIO' if call != 'flock' else 'ENOLCK'}"
+                           f":when={when}"]
+                with process([*traced, world.program, *words], cwd=desk.folder, env=environment(),
+                             stdin=subprocess.DEVNULL, stdout=subprocess.PIPE,
+                             stderr=subprocess.PIPE) as client:
+                    found = client.communicate(timeout=60)
+                    expect(row, (client.returncode, *found),
+                           (LOCAL, b"", f"canary: {NO_JOURNAL_FILE}\n".encode()))
+                expect(f"{row}: in the log", "(INJECTED)" in log.read_text(), True)
+                for _ in range(2):
+                    want(row, desk.do("promote", service, options=("--once", "key"), **own), DONE,
+                         shown(PROMOTED, service))
+                want_delivered(row, desk, service, own["journal"])
+                count += 1
+        expect("promotions", set(desk.count("promote").values()), {1})
+    if count < 20:
+        raise Wrong(f"only {count} calls failed")
+    return f"{count} calls failed"
+
+
+@contextlib.contextmanager
+def attached(desk, *words):
+    """strace on a desk that runs."""
+    with process(["strace", "-f", "-o", str(desk.folder / "calls"), "-p", str(desk.process.pid),
+                  *words], stdin=subprocess.DEVNULL, stdout=subprocess.DEVNULL,
+                 stderr=subprocess.PIPE) as tracer:
+        if b"attached" not in (told := tracer.stderr.readline()):
+            raise Wrong(f"strace: {told!r}")
+        yield tracer
+        tracer.terminate()
+        tracer.wait()
+
+
+def try_desk_killed(world):
+    """The desk is killed at each of its calls while it settles a promotion, and started again; the
+    client is one process, and goes on."""
+    with world.desk("desk-killed") as desk:
+        add(desk, "traced")
+        want("the journal begins", desk.do("tick", "traced"), DONE,
+             shown(("Paused", 1, 20), "traced"))
+        with attached(desk):
+            want("traced", desk.do("promote", "traced"), DONE, shown(PROMOTED, "traced"))
+            time.sleep(.2)
+        names = NAME.findall((desk.folder / "calls").read_text())
+        services = [f"s{at}" for at in range(len(names))]
+        add(desk, *services)
+        kills = 0
+        for at, service in enumerate(services):
+            row = f"the desk killed at call {at}, {names[at]}"
+            call, when = names[at], names[:at + 1].count(names[at])
+            with attached(desk, "-e", f"trace={call}",
+                          "-e", f"inject={call}:signal=SIGKILL:when={when}"):
+                with process([world.program, *desk.words("promote", service, tries=40)],
+                             cwd=desk.folder, env=environment(), stdin=subprocess.DEVNULL,
+                             stdout=subprocess.PIPE, stderr=subprocess.DEVNULL) as client:
+                    while client.poll() is None and not desk.has_ended():
+                        time.sleep(.005)
+                    # a desk that is killed behind its reply is gone a little later
+                    for _ in range(20):
+                        if desk.has_ended():
+                            break
+                        time.sleep(.01)
+                    if desk.has_ended():
+                        kills += 1
+                        desk.restart()
+                    output = client.communicate(timeout=60)[0].decode()
+                    expect(row, (client.returncode, output), (DONE, shown(PROMOTED, service)))
+        if kills < 12:
+            raise Wrong(f"only {kills} kills of {len(names)} calls")
+        want_delivered("desk killed", desk)
+        expect("promotions", desk.count("promote"), {name: 1 for name in ("traced", *services)})
+    return f"{kills} kills at {len(names)} calls"
+
+
+# What the disk may hold.
+
+CALL = re.compile(r'^(?:\d+ +)?(\w+)\((.*)\) += +(-?\d+)', re.MULTILINE)
+BYTES = re.compile(r'"((?:\\x[0-9a-f]{2})*)"')
+
+
+class Disk:
+    """What a disk may hold of a journal's file: what was synced, and any part of what was changed
+    since."""
+
+    def __init__(self):
+        self.synced, self.changes = b"", []
+
+    def with_changes(self, changes):
+        found = bytearray(self.synced)
+        for place, written in changes:
+            if written is None:
+                found[:] = found[:place].ljust(place, b"\0")
+            else:
+                found.extend(bytes(max(0, place - len(found))))
+                found[place:place + len(written)] = written
+        return bytes(found)
+
+    def images(self):
+        """All of it, nothing of it, and each first part and each last part of a write alone."""
+        yield self.synced
+        yield self.with_changes(self.changes)
+        for at, (place, written) in enumerate(self.changes):
+            before = self.changes[:at]
+            if written is None:
+                continue
+            step = max(1, len(written) // PARTS)
+            for end in range(1, len(written), step):
+                yield self.with_changes([*before, (place, written[:end])])
+                yield self.with_changes([*before, (place + end, written[end:])])
+
+
+def unescaped(told):
+    return bytes.fromhex(told.replace("\\x", ""))
+
+
+def try_power_cuts(world):
+    """Whenever the power goes, the disk has the journal as it was or with the next entry. The
+    command is on the disk before its message goes out, and the reply is before it is printed."""
+    with world.desk("power") as desk:
+        add(desk)
+        log = desk.folder / "log"
+        words = desk.words("promote", "web", options=("--once", "key"))
+        front = ["strace", "-f", "-o", str(log), "-xx", "-s", "1000000"]
+        expect("a traced client", run_traced(world, desk, front, words), (DONE, shown(PROMOTED)))
+        path, disk, numbers, images = str(desk.folder / "ops.journal"), Disk(), set(), 0
+        sent = printed = folder_synced = False
+        folders = set()
+        for call, told, result in CALL.findall(log.read_text()):
+            number = told.split(",")[0]
+            if call == "openat":
+                opened = unescaped(BYTES.search(told)[1]).decode()
+                if opened == path:
+                    numbers.add(result)
+                folders.discard(result)
+                if opened == str(desk.folder):
+                    folders.add(result)
+            elif call == "pwrite64" and number in numbers:
+                place = int(told.rsplit(",", 1)[1])
+                disk.changes.append((place, unescaped(BYTES.search(told)[1])[:int(result)]))
+            elif call == "ftruncate" and number in numbers:
+                disk.changes.append((int(told.split(",")[1]), None))
+            elif call in ("fsync", "fdatasync") and number in numbers:
+                disk.synced, disk.changes = disk.with_changes(disk.changes), []
+            elif call == "fsync" and number in folders:
+                folder_synced = True
+            elif call == "sendto" and b"/requests/1 " in unescaped(BYTES.search(told)[1]):
+                sent = True
+                expect("the folder is synced before a request is sent", folder_synced, True)
+            elif call == "write" and number == "1":
+                printed = True
+            for image in disk.images():
+                images += 1
+                want_image(call, image, sent, printed)
+        expect("a request was sent, and its reply printed", (sent, printed), (True, True))
+        expect("the file is as the calls made it", disk.with_changes(disk.changes),
+               (desk.folder / "ops.journal").read_bytes())
+    return f"{images} files that a power cut may leave"
+
+
+def want_image(call, image, sent, printed):
+    """What a power cut may leave of the journal behind this call."""
+    found = journal_of(image)
+    if found is None and (sent or not is_new(image)):
+        raise Wrong(f"{call}: a power cut leaves {image!r}")
+    kept = [each.key for each in found.kept] if found else []
+    pending = found.pending.key if found and found.pending else None
+    if sent and not (kept == ["key"] or pending == "key"):
+        raise Wrong(f"{call}: sent, and a power cut leaves {image!r}")
+    if printed and kept != ["key"]:
+        raise Wrong(f"{call}: printed, and a power cut leaves {image!r}")

@@ -1,0 +1,104 @@
+"""The five minutes of README.md, and the session by curl of docs/API.md, run as they stand there:
+parts of client.py."""
+import json
+import os
+import pathlib
+import re
+import signal
+import subprocess
+
+from world import Wrong, environment, expect, free_port, running, shows
+
+ROOT = pathlib.Path(__file__).resolve().parents[2]
+FAILED = ('{"code":"ok","phases":["Failed"],"run":1,"service":"web","status":"Degraded","step":1,'
+          '"verdict":"Failed","weight":0}')
+ADDED, STARTED = shows("web", "Healthy", 2, 100), shows("web", "Paused", 1, 20)
+ATTEMPT = ["background run 1", "step 0 setWeight 20", "step 1 pause"]
+FIRST = ["created v1", "start v2", *ATTEMPT, "run 1 Failed", "abort run 1"]
+SECOND = ["retry v2", *(line.replace("run 1", "run 2") for line in ATTEMPT)]
+# Waits for the line of a desk that was begun in the line before.
+WAIT = "until grep -q listening told; do sleep 0.02; done; echo listening"
+
+
+def code_of(document, heading):
+    """The lines of code of one part of a document."""
+    text = (ROOT / document).read_text(encoding="utf-8")
+    found = re.search(rf"^(#+) {heading}\n(.*?)(?=^##? |\Z)", text, re.MULTILINE | re.DOTALL)
+    if found is None:
+        raise Wrong(f"{document} has no heading {heading}")
+    return [line[4:] for line in found[2].split("\n") if line.startswith("    ")]
+
+
+def script_of(lines, port):
+    """The lines as a script: a desk listens on that port, and is waited for."""
+    script = []
+    for line in lines:
+        line = line.replace("127.0.0.1:8080", f"127.0.0.1:{port}")
+        if line.endswith(" &"):
+            script += ["rm -f told", line[:-1] + "> told &", WAIT]
+        elif line.startswith("kill "):
+            script += [line, "wait $! 2> wait || true"]
+        else:
+            script.append(line)
+    return "\n".join(script) + "\n"
+
+
+def run_session(world, name, document, heading):
+    """What the lines of a document print in a new folder, and what they say."""
+    place, port = world.place(name), free_port()
+    (place / "canary-unproved").symlink_to(world.program)
+    (place / "examples").symlink_to(ROOT / "examples")
+    session = subprocess.Popen(
+        ["bash", "-c", script_of(code_of(document, heading), port)], cwd=place,
+        env=environment(CANARY_DESK=f"127.0.0.1:{port}"), stdin=subprocess.DEVNULL,
+        stdout=subprocess.PIPE, stderr=subprocess.PIPE, start_new_session=True)
+    running.add(session)
+    try:
+        output, errors = session.communicate(timeout=100)
+    finally:
+        try:
+            os.killpg(session.pid, signal.SIGKILL)
+        except ProcessLookupError:
+            pass
+        running.discard(session)
+    return place, output.decode().splitlines(), errors.decode()
+
+
+def history_in(line):
+    """The lines of a history, without their moments."""
+    return [each.split(" ", 1)[1] for each in json.loads(line)["lines"]]
+
+
+def try_five_minutes(world):
+    """README.md's session by the client."""
+    place, lines, errors = run_session(world, "minutes", "README.md", "Five minutes")
+    expect("README.md, up to the kill", lines[:6],
+           ["listening", '{"code":"ok","revision":1,"template":"errors"}', ADDED, STARTED,
+            "1 errors 1", FAILED])
+    expect("README.md: the history", history_in(lines[6]), FIRST)
+    expect("README.md, behind the kill", lines[7:10], ["listening", STARTED, FAILED])
+    expect("README.md: the history", history_in(lines[10]), FIRST + SECOND)
+    end = len(FIRST + SECOND)
+    expect("README.md: the last lines", [line.split(" ", 1)[1] for line in lines[-end:]],
+           FIRST + SECOND)
+    said = [line for line in errors.splitlines() if line.startswith("canary: ")]
+    expect("README.md: what the client says", said, [
+        "canary: nobody answers there; trying again",
+        "canary: pending: no answer came, so it may have acted or not; the same call again finds"
+        " out"])
+    if "web" not in (place / "desk.html").read_text(encoding="utf-8"):
+        raise Wrong("README.md: the page does not show web")
+    if not any(line.split()[:1] == ["web"] for line in lines[11:-end]):
+        raise Wrong(f"README.md: the status does not show web: {lines[11:-end]}")
+
+
+def try_session_by_curl(world):
+    """docs/API.md's session by curl."""
+    if "curl" in os.environ.get("CHECK_WITHOUT", "").split():
+        return "left out"
+    _, lines, _ = run_session(world, "curl", "docs/API.md", "A session by curl")
+    expect("docs/API.md", lines[:5],
+           ["listening", '{"code":"ok","revision":1,"template":"errors"}', ADDED, STARTED, FAILED])
+    expect("docs/API.md: the history", history_in(lines[5]), FIRST)
+    expect("docs/API.md: the report again", lines[6:], [FAILED])
+    return None

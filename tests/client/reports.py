@@ -1,0 +1,205 @@
+"""Reports, and measurements that are due: parts of client.py."""
+import csv
+import shutil
+import time
+
+from world import (
+    BEHIND, DONE, PENDING, PENDING_SAID, REFUSED, WORDS, Caller, Wrong, answering, ask, expect,
+    rollout, want, want_delivered,
+)
+
+NO_SERVICE = "there is no such service"
+NO_RUN = "there is no such run"
+NO_METRIC = "the run has no such metric"
+RESULT = "the result is neither a whole number nor a list of them, as [1,2]"
+NOT_IN_TIME = "what is waited for did not come in time"
+COMMAND = ("a command is promote, promote-full, abort, retry or tick SERVICE; start SERVICE VERSION;"
+           " template FILE; service FILE VERSION; report SERVICE RUN METRIC RESULT, or with"
+           " --failure TEXT in place of RESULT")
+INVALID_NAME = "the service is an invalid name"
+# Neither a whole number of 64 bits nor a list of 1 to 16 of them.
+NO_RESULTS = (
+    "", " ", "five", "5.0", "1e2", "0x5", "05", "-0", "+5", "--5", "-", "5 5", "5,6", "null",
+    "true", '"5"', "{}", "[]", "[1,]", "[[1]]", "[1,2", '["1"]', "[1.5]", "[-0]",
+    "9223372036854775808", "-9223372036854775809", "[9223372036854775808]",
+    "[1,2,3,4,5,6,7,8,9,10,11,12,13,14,15,16,17]", '5,"result":6', '5,"failure":"x"',
+    '5},{"metric":"m","ordinal":2,"taken":0,"result":6',
+    '5}],"run":2,"entries":[{"metric":"m","ordinal":1,"taken":0,"result":7',
+    '5}],"service":"other","entries":[{"metric":"m","ordinal":1,"taken":0,"result":7',
+)
+
+
+def metric(name, interval):
+    return {"name": name, "interval": interval, "failureLimit": 500,
+            "consecutiveErrorLimit": 500}
+
+
+def add_measured(desk, *metrics, name="web"):
+    """Adds a service whose background measures these, and starts it."""
+    setup = Caller(desk, f"setup-{name}")
+    setup.send({"template": {"metadata": {"name": f"of-{name}"}, "spec": {"metrics": [*metrics]}}})
+    setup.send({"service": {"version": "v1", "manifest": rollout(
+        name, {"setWeight": 20}, {"pause": {}},
+        analysis={"templates": [{"templateName": f"of-{name}"}]})}})
+    setup.send({"start": {"service": name, "version": "v2"}})
+    return setup
+
+
+def recorded(phase, service="web", run=1):
+    """The body of the reply to a report of one measurement, at the pause of a background's run."""
+    return (f'{{"code":"ok","phases":["{phase}"],"run":{run},"service":"{service}",'
+            '"status":"Paused","step":1,"verdict":"Running","weight":20}\n')
+
+
+def measured(desk, service="web"):
+    """The metric, ordinal, result and failure of each measurement, by an export of a copy."""
+    for end in ("", "-wal"):
+        shutil.copy(desk.folder / f"desk.db{end}", desk.folder / f"exported.db{end}")
+    found = desk.world.run(["export", "--db", "exported.db", "--caller", "a", service], desk.folder)
+    expect("export", found.status, 0)
+    rows = csv.DictReader(found.output.splitlines(keepends=True))
+    return sorted((row["metric"], int(row["ordinal"]), row["result"], row["failure"])
+                  for row in rows)
+
+
+def try_reports(world):
+    """A report gets the ordinal that comes next of its metric in its run, and the moment."""
+    text = 'he said "no",\nthen \\ left\t; \u00fcber \u2192 5'
+    with world.desk("reports") as desk:
+        add_measured(desk, metric("m", "0s"), metric("n", "0s"))
+        agent = {"caller": "agent", "journal": "agent.journal"}
+        begun = int(time.time())
+        for words, phase in (
+                (("m", "5"), "Successful"), (("m", "[1,2]"), "Successful"),
+                (("m", "--failure", text), "Error"), (("n", "--", "-5"), "Successful"),
+                (("m", "--failure=-5"), "Error"),
+                (("m", "9223372036854775807"), "Successful"),
+                (("n", "--", "-9223372036854775808"), "Successful"),
+                (("n", "--", "[-1,0,1,2,3,4,5,6,7,8,9,10,11,12,13,14]"), "Successful"),
+                (("n", "--failure", "x" * 200), "Error")):
+            options = [word for word in words if word.startswith("--failure")]
+            options += [words[2]] if "--failure" in words else []
+            rest = [word for word in words if word not in options]
+            want(words, desk.do("report", "web", "1", *rest, options=options, **agent), DONE,
+                 recorded(phase))
+        # somebody else reports, too
+        other = Caller(desk, "other")
+        other.send({"report": {"service": "web", "run": 1, "entries": [
+            {"metric": "m", "ordinal": 6, "taken": begun, "result": 7}]}}, 200)
+        want("behind another", desk.do("report", "web", "1", "m", "8", **agent), DONE,
+             recorded("Successful"))
+        expect("measurements", measured(desk), [
+            ("m", 1, "5", ""), ("m", 2, "[1;2]", ""), ("m", 3, "", text), ("m", 4, "", "-5"),
+            ("m", 5, "9223372036854775807", ""), ("m", 6, "7", ""), ("m", 7, "8", ""),
+            ("n", 1, "-5", ""), ("n", 2, "-9223372036854775808", ""),
+            ("n", 3, "[-1;0;1;2;3;4;5;6;7;8;9;10;11;12;13;14]", ""), ("n", 4, "", "x" * 200)])
+        taken = [row[0] for row in desk.rows("SELECT taken FROM measurement")]
+        if not begun <= min(taken) <= max(taken) <= time.time():
+            raise Wrong(f"the moments are {taken}, from {begun} on")
+        want_delivered("reports", desk, "agent", "agent.journal")
+
+
+def try_pending_report(world):
+    """A report that is pending is sent again as it was, with its ordinal and its moment; another
+    one gets the ordinal behind it."""
+    with world.desk("pending-report") as desk:
+        add_measured(desk, metric("m", "0s"))
+        unanswered = answering(lambda client: client.sendall(b"" if b"PUT" in (
+            message := client.recv(65536)) and b"/requests/1 " in message and ask(
+                desk.port, message) else ask(desk.port, message)))
+        with unanswered as port:
+            want("first", desk.do("report", "web", "1", "m", "5", port=port, tries=1), PENDING,
+                 said=PENDING_SAID)
+        body = desk.journal().pending.body_asked
+        time.sleep(1.1)
+        want("again", desk.do("report", "web", "1", "m", "5"), DONE, recorded("Successful"))
+        expect("its bytes", desk.journal().kept[0].body_asked, body)
+        expect("one measurement", measured(desk), [("m", 1, "5", "")])
+        desk.kill()
+        want("no desk", desk.do("tick", "web", tries=1), PENDING, said=PENDING_SAID)
+        desk.start()
+        want("behind", desk.do("report", "web", "1", "m", "6"), DONE, recorded("Successful"),
+             BEHIND)
+        expect("two measurements", measured(desk), [("m", 1, "5", ""), ("m", 2, "6", "")])
+        want_delivered("pending report", desk)
+
+
+def try_invalid_results(world):
+    """What is no result is refused before anything is sent, and no journal is begun."""
+    with world.desk("invalid-results") as desk:
+        add_measured(desk, metric("m", "0s"))
+        for result in NO_RESULTS:
+            want(repr(result), desk.do("report", "web", "1", "m", "--", result), WORDS,
+                 said=RESULT)
+        for row, found in (
+                ("no failure", desk.do("report", "web", "1", "m", options=("--failure", ""))),
+                ("a long one", desk.do("report", "web", "1", "m",
+                                       options=("--failure", "x" * 201))),
+                ("run 0", desk.do("report", "web", "0", "m", "5")),
+                ("a run too high", desk.do("report", "web", "1000000001", "m", "5"))):
+            expect(row, (found.status, found.output), (WORDS, ""))
+        for words in (("report", "web", "1", "m"), ("report", "web", "one", "m", "5"),
+                      ("report", "Web", "1", "m", "5"), ("report", "web", "1", "m m", "5"),
+                      ("report", "web", "-1", "m", "5"), ("report", "web", "1")):
+            want(words, desk.do("--", *words) if "-1" in words else desk.do(*words), WORDS,
+                 said=COMMAND)
+        want("both", desk.do("report", "web", "1", "m", "5", options=("--failure", "x")), WORDS,
+             said=COMMAND)
+        expect("no journal", (desk.folder / "ops.journal").exists(), False)
+        expect("no measurement", desk.rows("SELECT count(*) FROM measurement"), [(0,)])
+        expect("no request", desk.kept(), [])
+
+
+def try_unknown(world):
+    """A service, a run or a metric that is not there: nothing is asked."""
+    with world.desk("unknown") as desk:
+        add_measured(desk, metric("m", "0s"))
+        for words, said in ((("none", "1", "m", "5"), NO_SERVICE), (("web", "2", "m", "5"), NO_RUN),
+                            (("web", "1", "none", "5"), NO_METRIC)):
+            want(words, desk.do("report", *words), REFUSED, said=said)
+        found = desk.journal()
+        expect("the journal", (found.before, found.kept, found.pending), (0, [], None))
+        expect("no request", desk.kept(), [])
+
+
+def try_due(world):
+    """What is due, and waiting for it: the report behind it is never too early."""
+    with world.desk("due") as desk:
+        add_measured(desk, metric("m", "3s"), metric("slow", "1h"))
+        add_measured(desk, metric("slow", "1h"), name="seldom")
+        setup = Caller(desk, "setup")
+        setup.send({"service": {"version": "v1", "manifest": rollout("plain", {"pause": {}})}})
+        want("both", desk.ask("due", "web"), DONE, "1 m 1\n1 slow 1\n")
+        want("one", desk.ask("due", "seldom"), DONE, "1 slow 1\n")
+        want("report", desk.do("report", "seldom", "1", "slow", "5"), DONE,
+             recorded("Successful", "seldom"))
+        want("none", desk.ask("due", "seldom"), REFUSED)
+        begun = time.monotonic()
+        want("none in time", desk.ask("due", "--wait", "--timeout", "2", "seldom"), PENDING,
+             said=NOT_IN_TIME)
+        if not 2 <= time.monotonic() - begun < 20:
+            raise Wrong(f"due --timeout 2 took {time.monotonic() - begun} seconds")
+        for words in (["plain"], ["--wait", "plain"]):
+            want("no run", desk.ask("due", *words), REFUSED)
+        for words in (["none"], ["--wait", "none"]):
+            want("no service", desk.ask("due", *words), REFUSED, said=NO_SERVICE)
+        want("no name", desk.ask("due", "None"), WORDS, said=INVALID_NAME)
+        want("slow", desk.do("report", "web", "1", "slow", "5"), DONE, recorded("Successful"))
+        for ordinal in (1, 2, 3):
+            want(f"ordinal {ordinal}", desk.ask("due", "--wait", "--timeout", "60", "web"), DONE,
+                 f"1 m {ordinal}\n")
+            want(f"report {ordinal}", desk.do("report", "web", "1", "m", "5"), DONE,
+                 recorded("Successful"))
+        too_early = desk.do("report", "web", "1", "m", "5")
+        taken = desk.rows("SELECT max(taken) FROM measurement WHERE metric = 0")[0][0]
+        if too_early.status == REFUSED:
+            expect("too early", too_early.output,
+                   f'{{"at":0,"code":"too-early","due":{taken + 3}}}\n')
+        # the run ends while a call waits
+        with_wait = ["due", "--wait", "seldom"]
+        import threading
+        ending = threading.Timer(.5, lambda: setup.send({"promoteFull": {"service": "seldom"}}))
+        ending.start()
+        want(with_wait, desk.ask(*with_wait), REFUSED)
+        ending.join()
+        want_delivered("due", desk)

@@ -1,0 +1,125 @@
+"""Measurement files: parts of client.py."""
+import shutil
+import subprocess
+import time
+
+from reports import add_measured, metric
+from world import (
+    CONTRADICTION, DONE, LOCAL, PENDING, WORDS, Wrong, environment, expect, free_port, process,
+    want,
+)
+
+HEADER = "caller,number,service,run,metric,ordinal,taken,result,failure\n"
+ROW_PENDING = ("pending: no answer came to the next row; the same call again goes on from there")
+ROW_REUSED = ("reused: the desk settled another command under the number of this row. The file was"
+              " changed, or somebody else sends under this name")
+ROW_AHEAD = ("ahead: the desk has not settled what comes before this row. A row is missing, or the"
+             " desk was restored from an older copy")
+NO_HEADER = "the first record of the file is not the header of a measurement file"
+NO_FILE = "the file cannot be read"
+ROWS = 300
+
+
+def rows_of(count, taken):
+    """A file of so many measurements, of which each 50th failed."""
+    rows = [f"agent,{at},web,1,m,{at},{taken},{90 + at % 10}," if at % 50
+            else f'agent,{at},web,1,m,{at},{taken},,"no data, ""timeout"""'
+            for at in range(1, count + 1)]
+    return HEADER + "\n".join(rows) + "\n"
+
+
+def line(at, phase="Successful"):
+    return (f'{at} 200 {{"code":"ok","phases":["{phase}"],"run":1,"service":"web",'
+            '"status":"Paused","step":1,"verdict":"Running","weight":20}\n')
+
+
+def lines_of(count):
+    """The lines of such a file."""
+    return "".join(line(at, "Successful" if at % 50 else "Error") for at in range(1, count + 1))
+
+
+def counted(desk):
+    return desk.rows("SELECT count(*), count(DISTINCT ordinal), max(ordinal) FROM measurement")[0]
+
+
+def try_send(world):
+    """A file of 300 rows; the client is killed again and again, and the desk once. Each row is
+    recorded once, and the file sent again has the same lines."""
+    with world.desk("send") as desk:
+        add_measured(desk, metric("m", "0s"))
+        desk.write("rows.csv", rows_of(ROWS, int(time.time())))
+        whole, kills = lines_of(ROWS), 0
+        words = [world.program, "send", "--desk", f"127.0.0.1:{desk.port}", "--tries", "6",
+                 "rows.csv"]
+        for at in range(6):
+            with process(words, cwd=desk.folder, env=environment(), stdin=subprocess.DEVNULL,
+                         stdout=subprocess.PIPE, stderr=subprocess.DEVNULL) as client:
+                found = b"".join(client.stdout.readline() for _ in range(1 + 40 * at))
+                if at == 3:
+                    desk.restart()
+                    found += client.stdout.readline()
+                client.kill()
+                found += client.stdout.read()
+                kills += client.wait() < 0
+            if not whole.startswith(found.decode()):
+                raise Wrong(f"kill {at}: it wrote {found[-300:]!r}")
+        if kills < 5:
+            raise Wrong(f"only {kills} kills")
+        want("whole", desk.ask("send", "rows.csv"), DONE, whole)
+        want("again", desk.ask("send", "rows.csv"), DONE, whole)
+        with open(desk.folder / "rows.csv", "rb") as rows:
+            want("the input", desk.ask("send", "-", stdin=rows), DONE, whole)
+        expect("measurements", counted(desk), (ROWS, ROWS, ROWS))
+        # as import prints them
+        desk.kill()
+        found = world.run(["import", "--db", "desk.db", "rows.csv"], desk.folder)
+        expect("import", (found.status, found.output), (0, whole))
+    return f"{kills} kills"
+
+
+def try_rows(world):
+    """Rows that are refused, missing or changed, and files that are none."""
+    with world.desk("rows") as desk:
+        add_measured(desk, metric("m", "0s"))
+        taken = int(time.time())
+        row = f"agent,%d,web,1,m,%d,{taken},%s,\n"
+        refused = [row % (1, 1, 5), row % (2, 3, 5), row % (3, 2, 5), row % (4, 2, 6),
+                   "Agent,5,web,1,m,3,1,5,\n", "agent,0,web,1,m,3,1,5,\n", "agent,5,web\n",
+                   f"agent,5,web,1,m,3,{taken},5.5,\n", f"agent,5,web,2,m,3,{taken},5,\n",
+                   row % (6, 3, 7)]
+        desk.write("refused.csv", HEADER + "".join(refused))
+        lines = (line(1) + '2 422 {"at":0,"code":"out-of-turn","expected":2}\n' + line(3)
+                 + '4 422 {"at":0,"code":"recorded"}\n5 400 {"code":"bad-name"}\n'
+                 '6 400 {"code":"bad-number"}\n7 400 {"code":"unreadable"}\n'
+                 '8 400 {"code":"unreadable"}\n9 422 {"code":"unknown-run"}\n' + line(10))
+        for again in ("first", "again"):
+            want(again, desk.ask("send", "refused.csv"), DONE, lines)
+        # from here on the file has other rows
+        desk.write("missing.csv", HEADER + refused[0] + row % (7, 4, 5) + row % (9, 5, 5)
+                   + row % (10, 6, 5))
+        want("a row is missing", desk.ask("send", "missing.csv"), CONTRADICTION,
+             line(1) + line(2) + '3 409 {"code":"ahead","expected":8}\n', ROW_AHEAD)
+        desk.write("changed.csv", HEADER + refused[0] + refused[1].replace(",5,", ",6,")
+                   + refused[2])
+        want("a row is changed", desk.ask("send", "changed.csv"), CONTRADICTION,
+             line(1) + '2 409 {"code":"reused"}\n', ROW_REUSED)
+        expect("measurements", counted(desk), (4, 4, 4))
+        desk.write("other.csv", refused[0])
+        want("no header", desk.ask("send", "other.csv"), WORDS, said=NO_HEADER)
+        desk.write("empty.csv", "")
+        want("an empty file", desk.ask("send", "empty.csv"), DONE)
+        desk.write("header.csv", HEADER)
+        want("a header alone", desk.ask("send", "header.csv"), DONE)
+        for name in ("none.csv", "."):
+            want(name, desk.ask("send", name), LOCAL, said=NO_FILE)
+        before = desk.kept("agent")
+        found = world.run(["send", "--desk", f"127.0.0.1:{free_port()}", "--tries", "2",
+                           "refused.csv"], desk.folder)
+        want("no desk", found, PENDING, said=ROW_PENDING)
+        expect("kept", desk.kept("agent"), before)
+        # a file in which a desk that was restored lacks a row
+        shutil.copy(desk.folder / "refused.csv", desk.folder / "more.csv")
+        with open(desk.folder / "more.csv", "a", encoding="utf-8") as more:
+            more.write(row % (9, 5, 5))
+        want("ahead", desk.ask("send", "more.csv"), CONTRADICTION,
+             lines + '11 409 {"code":"ahead","expected":8}\n', ROW_AHEAD)

@@ -1,0 +1,259 @@
+"""Words, variables of the environment, terminals and closed outputs: parts of client.py."""
+import os
+import select
+import subprocess
+import time
+import tty
+
+from reports import COMMAND, add_measured, metric
+from world import (
+    CONTRADICTION, DONE, ENDED, KEY_USED, LOCAL, PROMOTED, REFUSED, STARTED, WORDS, Caller, Wrong,
+    add, environment, expect, free_port, process, running, shown, two_pauses, want,
+    want_delivered,
+)
+
+ADDRESS = "the desk's address is not IP:PORT (--desk or CANARY_DESK)"
+NO_CALLER = "a caller has to be given: --as NAME or CANARY_AS"
+BAD_CALLER = "the caller is an invalid name: 1 to 63 of a-z, 0-9 and '-', no '-' at an end"
+NO_JOURNAL = "a journal has to be given: --journal FILE or CANARY_JOURNAL"
+MANIFEST = "the desk would not take this manifest: 'canary check' says why"
+NO_FILE = "the file cannot be read"
+OUTPUT = "the output failed or was closed"
+
+
+def try_variables(world):
+    """Variables in the place of options; an option counts before its variable."""
+    with world.desk("variables") as desk:
+        add(desk, "web", "one", "two")
+        right = {"CANARY_DESK": f"127.0.0.1:{desk.port}", "CANARY_AS": "ops",
+                 "CANARY_JOURNAL": str(desk.folder / "ops.journal")}
+        wrong = {"CANARY_DESK": "nowhere", "CANARY_AS": "No Name",
+                 "CANARY_JOURNAL": str(desk.folder / "none" / "wrong.journal")}
+        words = {"CANARY_DESK": ["--desk", right["CANARY_DESK"]], "CANARY_AS": ["--as", "ops"],
+                 "CANARY_JOURNAL": ["--journal", right["CANARY_JOURNAL"]]}
+        want("variables", world.run(["do", "promote", "web"], desk.folder, variables=right), DONE,
+             shown(PROMOTED))
+        given = [word for option in words.values() for word in option]
+        want("options", world.run(["do", *given, "promote", "one"], desk.folder), DONE,
+             shown(PROMOTED, "one"))
+        want("both", world.run(["do", *given, "promote", "two"], desk.folder, variables=wrong),
+             DONE, shown(PROMOTED, "two"))
+        for name, said in (("CANARY_DESK", ADDRESS), ("CANARY_AS", BAD_CALLER),
+                           ("CANARY_JOURNAL", None)):
+            found = world.run(["do", "tick", "web"], desk.folder,
+                              variables={**right, name: wrong[name]})
+            expect(name, found.status, LOCAL if said is None else WORDS)
+            if said is not None:
+                want(name, found, WORDS, said=said)
+            want(f"{name} and its option",
+                 world.run(["do", *words[name], "tick", "web"], desk.folder,
+                           variables={**right, name: wrong[name]}), DONE, shown(PROMOTED))
+        for name, said in (("CANARY_AS", NO_CALLER), ("CANARY_JOURNAL", NO_JOURNAL)):
+            left = {other: value for other, value in right.items() if other != name}
+            want(f"no {name}", world.run(["do", "tick", "web"], desk.folder, variables=left), WORDS,
+                 said=said)
+        want("an empty journal", world.run(["do", "tick", "web"], desk.folder,
+                                           variables={**right, "CANARY_JOURNAL": ""}), WORDS,
+             said=NO_JOURNAL)
+        only_desk = {"CANARY_DESK": right["CANARY_DESK"]}
+        want("get", world.run(["get", "none"], desk.folder, variables=only_desk), REFUSED,
+             '{"code":"unknown-service"}\n')
+        want("watch", world.run(["watch", "--until", "Paused", "web"], desk.folder,
+                                variables=only_desk), DONE,
+             "web Paused, step 3, weight 50%, version v2\n")
+        want("due", world.run(["due", "web"], desk.folder, variables=only_desk), REFUSED)
+        for name in ("nowhere", "", "127.0.0.1", "localhost:80", "127.0.0.1:65536",
+                     "http://127.0.0.1:80"):
+            for command in (["do", "--as", "ops", "--journal", "new", "tick", "web"],
+                            ["get", "web"], ["watch", "web"], ["due", "web"], ["send", "x.csv"]):
+                found = world.run([command[0], "--desk", name, *command[1:]], desk.folder)
+                want(f"{command} at {name!r}", found, WORDS, said=ADDRESS)
+        for name in ("", "Ops", "-ops", "ops-", "o" * 64, "o p", "\u00f6"):
+            want(repr(name), desk.do("tick", "web", caller=name), WORDS, said=BAD_CALLER)
+        want_delivered("variables", desk)
+
+
+def try_words(world):
+    """Words that are no command, manifests that no desk takes, and options that are none."""
+    with world.desk("words") as desk:
+        add(desk)
+        desk.write("broken.json", "{")
+        desk.write("template.json", {"metadata": {"name": "t"}, "spec": {"metrics": []}})
+        desk.write("web.json", two_pauses())
+        desk.write("long.json", '{"metadata":{"name":"long"},"status":"' + "x" * 65536 + '"}')
+        for words in (("promote",), ("promote", "web", "v2"), ("promote", "Web"), ("start", "web"),
+                      ("start", "web", "v 2"), ("tick", "web", "1", "2"), ("promoteFull", "web"),
+                      ("template",), ("template", "t.json", "v1"), ("service", "web.json"),
+                      ("service", "web.json", ""), ("stop", "web"), ("",)):
+            want(words, desk.do(*words), WORDS, said=COMMAND)
+        want("a failure", desk.do("promote", "web", options=("--failure", "x")), WORDS,
+             said=COMMAND)
+        for words in (("template", "broken.json"), ("template", "template.json"),
+                      ("template", "web.json"), ("service", "broken.json", "v1"),
+                      ("service", "long.json", "v1")):
+            want(words, desk.do(*words), WORDS, said=MANIFEST)
+        for words in (("template", "none.json"), ("service", ".", "v1")):
+            want(words, desk.do(*words), LOCAL, said=NO_FILE)
+        for words in (["do"], ["get"], ["do", "--tries", "0", "tick", "web"],
+                      ["do", "--tries", "1001", "tick", "web"],
+                      ["get", "--timeout", "0", "web"], ["get", "--timeout", "86401", "web"],
+                      ["get", "--journal", "x", "web"], ["due", "--until", "Paused", "web"],
+                      ["send"], ["watch", "web", "other"]):
+            found = world.run(words, desk.folder)
+            expect(words, (found.status, found.output, found.errors.startswith("error: ")),
+                   (WORDS, "", True))
+        expect("no journal", (desk.folder / "ops.journal").exists(), False)
+        expect("no request", desk.kept(), [])
+
+
+def try_commands(world):
+    """Each command, and a manifest that is meant again though it is written otherwise."""
+    with world.desk("commands") as desk:
+        desk.write("t.json", {"metadata": {"name": "t"}, "spec": {"metrics": [
+            {"name": "m", "interval": "1h"}]}})
+        desk.write("again.json", '{ "spec": {"metrics": [{"interval": "60m", "name": "m"}]},\n'
+                                 '"status": {}, "metadata": {"name": "t"}}\n')
+        desk.write("web.json", two_pauses())
+        key = {"options": ("--once", "t")}
+        want("template", desk.do("template", "t.json", **key), DONE,
+             '{"code":"ok","revision":1,"template":"t"}\n')
+        want("the same", desk.do("template", "again.json", **key), DONE,
+             '{"code":"ok","revision":1,"template":"t"}\n')
+        want("another revision", desk.do("template", "again.json"), DONE,
+             '{"code":"ok","revision":2,"template":"t"}\n')
+        for words, place in ((("service", "web.json", "v1"), ENDED), (("start", "web", "v2"), STARTED),
+                             (("promote", "web"), PROMOTED), (("abort", "web"), ("Degraded", 3, 0)),
+                             (("retry", "web"), STARTED), (("tick", "web"), STARTED),
+                             (("promote-full", "web"), ENDED)):
+            want(words, desk.do(*words), DONE, shown(place))
+        for words, code in ((("service", "web.json", "v1"), "service-exists"),
+                            (("promote", "web"), "not-in-progress"),
+                            (("start", "web", "v2"), "already-stable"),
+                            (("tick", "none"), "unknown-service")):
+            want(words, desk.do(*words), REFUSED, f'{{"code":"{code}"}}\n')
+        want("the key", desk.do("tick", "web", **key), CONTRADICTION, said=KEY_USED)
+        want_delivered("commands", desk)
+
+
+def read_terminal(terminal):
+    found = b""
+    while select.select([terminal], [], [], 30)[0]:
+        try:
+            piece = os.read(terminal, 65536)
+        except OSError:
+            break
+        if not piece:
+            break
+        found += piece
+    return found.decode()
+
+
+def on_terminal(world, words, folder):
+    """The status of a client, and what its output, a terminal, showed."""
+    shows, terminal = os.openpty()
+    tty.setraw(terminal)
+    client = subprocess.Popen([world.program, *words], cwd=folder, env=environment(),
+                              stdin=subprocess.DEVNULL, stdout=terminal, stderr=subprocess.DEVNULL)
+    running.add(client)
+    os.close(terminal)
+    found = read_terminal(shows)
+    os.close(shows)
+    running.discard(client)
+    return client.wait(timeout=60), found
+
+
+def try_terminals(world):
+    """A plain line on a terminal in the place of the body, if there is one."""
+    with world.desk("terminals") as desk:
+        add_measured(desk, metric("m", "0s"))
+        desk.write("t.json", {"metadata": {"name": "t"}, "spec": {"metrics": [{"name": "m"}]}})
+        at = ["--desk", f"127.0.0.1:{desk.port}"]
+        refused = Caller(desk, "other")
+        refused.send({"service": {"version": "v1", "manifest": two_pauses("other")}})
+        for words, status, wanted in (
+                (desk.words("template", "t.json"), DONE, "template t, revision 1\n"),
+                (desk.words("tick", "web"), DONE, "web Paused, step 1, weight 20%\n"),
+                (desk.words("report", "web", "1", "m", "5"), DONE,
+                 "web Paused, step 1, weight 20%, verdict Running\n"),
+                (desk.words("promote", "other"), REFUSED, "refused: not-in-progress\n"),
+                (["get", *at, "web"], DONE, "web Paused, step 1, weight 20%, version v2\n"),
+                (["get", *at, "none"], REFUSED, "refused: unknown-service\n"),
+                (["watch", *at, "--until", "Paused", "web"], DONE,
+                 "web Paused, step 1, weight 20%, version v2\n")):
+            expect(words, on_terminal(world, words, desk.folder), (status, wanted))
+        # of a history there is no plainer line
+        history = desk.ask("get", "web", "history").output
+        expect("history", on_terminal(world, ["get", *at, "web", "history"], desk.folder),
+               (DONE, history))
+        want("on a pipe", desk.do("tick", "web"), DONE, shown(STARTED))
+        want_delivered("terminals", desk)
+
+
+def ended_with(world, words, folder, output):
+    with process([world.program, *words], cwd=folder, env=environment(), stdin=subprocess.DEVNULL,
+                 stdout=output, stderr=subprocess.PIPE) as client:
+        errors = client.communicate(timeout=60)[1].decode()
+        return client.returncode, errors
+
+
+def try_closed_outputs(world):
+    """An output that is closed or full: the command is done, its reply is in the journal, and with
+    its key it is found."""
+    with world.desk("outputs") as desk:
+        add(desk, "closed", "full")
+        desk.write("rows.csv", "caller,number,service,run,metric,ordinal,taken,result,failure\n"
+                               "Agent,1,web,1,m,1,1,5,\n")
+        at = ["--desk", f"127.0.0.1:{desk.port}"]
+        for name in ("closed", "full"):
+            for words in (desk.words("promote", name, options=("--once", name)),
+                          ["get", *at, name], ["watch", *at, "--until", "Paused", name],
+                          ["send", *at, "rows.csv"]):
+                if name == "full":
+                    output = os.open("/dev/full", os.O_WRONLY)
+                else:
+                    reader, output = os.pipe()
+                    os.close(reader)
+                found = ended_with(world, words, desk.folder, output)
+                os.close(output)
+                expect(f"{name}: {words}", found, (LOCAL, f"canary: {OUTPUT}\n"))
+            want("the key", desk.do("promote", name, options=("--once", name)), DONE,
+                 shown(PROMOTED, name))
+        # nobody reads the errors
+        reader, output = os.pipe()
+        os.close(reader)
+        with process([world.program, "get", "--desk", f"127.0.0.1:{free_port()}", "--tries", "2",
+                      "web"], cwd=desk.folder, env=environment(), stdin=subprocess.DEVNULL,
+                     stdout=subprocess.PIPE, stderr=output) as client:
+            os.close(output)
+            expect("no errors", (client.communicate(timeout=60)[0], client.returncode), (b"", 3))
+        expect("promotions", desk.count("promote"), {"closed": 1, "full": 1})
+        want_delivered("outputs", desk)
+
+
+def try_signals(world):
+    """A client that waits ends at once when it is told to, and the command is pending."""
+    import signal
+    from world import answering
+    with world.desk("signals") as desk:
+        add(desk)
+        want("tick", desk.do("tick", "web"), DONE, shown(STARTED))
+        for number in (signal.SIGTERM, signal.SIGINT, signal.SIGHUP):
+            come = []
+
+            def stall(client, come=come):
+                come.append(client.recv(65536))
+                client.recv(1)
+
+            with answering(stall) as port, process(
+                    [world.program, *desk.words("promote", "web", port=port, timeout=60)],
+                    cwd=desk.folder, env=environment(), stdin=subprocess.DEVNULL,
+                    stdout=subprocess.PIPE, stderr=subprocess.PIPE) as client:
+                while not come and client.poll() is None:
+                    time.sleep(.01)
+                begun = time.monotonic()
+                client.send_signal(number)
+                expect(number, client.wait(timeout=30), -number)
+                if time.monotonic() - begun > 5:
+                    raise Wrong(f"{number}: it took {time.monotonic() - begun} seconds")
+        want("again", desk.do("promote", "web"), DONE, shown(PROMOTED))
+        want_delivered("signals", desk)

@@ -1,0 +1,333 @@
+"""A desk on a file, the client, and what both have in their files: what the parts of tests/client
+share."""
+import collections
+import contextlib
+import http.client
+import json
+import os
+import pathlib
+import shutil
+import socket
+import sqlite3
+import subprocess
+import threading
+import time
+
+from journal_rule import journal_of
+
+DONE, REFUSED, WORDS, PENDING, CONTRADICTION, LOCAL, LATE = range(7)
+
+# What the client says, by docs/CLIENT.md.
+PENDING_SAID = ("pending: no answer came, so it may have acted or not; the same call again finds"
+                " out")
+BEHIND = "an earlier command is not answered yet, and goes first"
+TOO_LATE = "too late: the earlier command was settled, with this reply; this one did nothing"
+TOOK_PLACE = ("another command took its place, and was settled with this reply; this one did"
+              " nothing")
+REPLACED = "another command was asked in its place already, and is not answered yet"
+NOT_BEGUN = "no desk said which number of this caller comes next: nothing was asked"
+NO_DESK = "no desk answered"
+REUSED = ("reused: the desk settled another command under this number. Somebody else sends under"
+          " this name, or the journal is an old copy; nothing was sent after that")
+AHEAD = ("ahead: the desk has settled fewer commands of this caller than the journal has. The desk"
+         " was restored from an older copy, or it is another desk")
+BROKEN = "this file is no whole journal: it was cut short or changed. Restore it, or move it away"
+KEY_USED = "this key stands for another command in this journal"
+OTHER_CALLER = "this journal is another caller's"
+SPENT = "this caller has no number left: go on under another name"
+IN_USE = "another client has this journal open"
+NO_JOURNAL_FILE = "the journal cannot be opened, read or written"
+UNREACHABLE = "nobody answers there; trying again"
+LOST = "the reply was lost; trying again"
+FOREIGN = "the reply is none of a desk; trying again"
+UNAVAILABLE = "the desk cannot do it now; trying again"
+
+# What runs, so that all of it ends with the script.
+running = set()
+Ended = collections.namedtuple("Ended", "status output errors")
+
+
+class Wrong(Exception):
+    """Something is not as the rules say."""
+
+
+def expect(row, found, wanted):
+    if found != wanted:
+        raise Wrong(f"{row}: {found!r} in place of {wanted!r}")
+
+
+@contextlib.contextmanager
+def process(words, **options):
+    """A process that ends with the block."""
+    started = subprocess.Popen(words, **options)
+    running.add(started)
+    try:
+        yield started
+    finally:
+        end(started)
+
+
+def end(started):
+    started.kill()
+    started.wait()
+    for stream in (started.stdin, started.stdout, started.stderr):
+        if stream is not None:
+            stream.close()
+    running.discard(started)
+
+
+def environment(**more):
+    """The variables of this process, without those of the client, and with these."""
+    kept = {name: value for name, value in os.environ.items() if not name.startswith("CANARY_")}
+    return {**kept, **more}
+
+
+class World:
+    """The program that is tried, and a folder for the files of each part."""
+
+    def __init__(self, program, folder, is_whole, share):
+        self.program, self.folder = program, pathlib.Path(folder)
+        self.is_whole, self.share = is_whole, share
+
+    def place(self, name):
+        """A new folder."""
+        made = self.folder / name
+        made.mkdir()
+        return made
+
+    def some_of(self, rows, step):
+        """Each of these rows, or in the gate each step-th one, from one on that the commit
+        chooses."""
+        return rows if self.is_whole else rows[self.share % step::step]
+
+    @contextlib.contextmanager
+    def desk(self, name):
+        """A desk in a new folder."""
+        desk = Desk(self, self.place(name))
+        try:
+            yield desk
+        finally:
+            desk.kill()
+
+    def run(self, words, folder, timeout=120, variables=None, stdin=subprocess.DEVNULL, **more):
+        """Runs the client, and has what came of it."""
+        with process([self.program, *words], cwd=folder, stdin=stdin, stdout=subprocess.PIPE,
+                     stderr=subprocess.PIPE, env=environment(**(variables or {})),
+                     **more) as client:
+            output, errors = client.communicate(timeout=timeout)
+            return Ended(client.returncode, output.decode(), errors.decode())
+
+
+class Desk:
+    """A desk on a file."""
+
+    def __init__(self, world, folder, port=0):
+        self.world, self.folder, self.port, self.process = world, folder, port, None
+        self.start()
+
+    def start(self, front=()):
+        words = [*front, self.world.program, "serve", "--listen", f"127.0.0.1:{self.port}", "--db",
+                 "desk.db"]
+        self.process = subprocess.Popen(words, cwd=self.folder, stdin=subprocess.DEVNULL,
+                                        stdout=subprocess.PIPE, stderr=subprocess.DEVNULL)
+        running.add(self.process)
+        told = self.process.stdout.readline().decode()
+        if not told.startswith("listening 127.0.0.1:"):
+            raise Wrong(f"the desk does not listen: {told!r}")
+        self.port = int(told.rsplit(":", 1)[1])
+
+    def kill(self):
+        if self.process is not None:
+            end(self.process)
+            self.process = None
+
+    def restart(self):
+        self.kill()
+        self.start()
+
+    def has_ended(self):
+        return self.process.poll() is not None
+
+    def words(self, *words, caller="ops", journal="ops.journal", port=None, tries=2, timeout=5,
+              options=()):
+        """The words of `do` at this desk."""
+        return ["do", "--desk", f"127.0.0.1:{port or self.port}", f"--as={caller}", "--journal",
+                str(self.folder / journal), "--tries", str(tries), "--timeout", str(timeout),
+                *options, *words]
+
+    def do(self, *words, **options):
+        """A command by the client."""
+        return self.world.run(self.words(*words, **options), self.folder)
+
+    def ask(self, word, *words, tries=2, **more):
+        """`get`, `watch`, `send` or `due` by the client."""
+        words = [word, "--desk", f"127.0.0.1:{self.port}", "--tries", str(tries), *words]
+        return self.world.run(words, self.folder, **more)
+
+    def write(self, name, value):
+        """A file in the desk's folder: JSON, or a text as it is."""
+        text = value if isinstance(value, str) else json.dumps(value)
+        (self.folder / name).write_text(text, encoding="utf-8")
+        return name
+
+    def journal(self, name="ops.journal"):
+        """The journal in the file of this name, by the rule."""
+        found = journal_of((self.folder / name).read_bytes())
+        if found is None:
+            raise Wrong(f"{name} is no journal: {(self.folder / name).read_bytes()[-200:]!r}")
+        return found
+
+    def rows(self, statement, *values):
+        """Rows of the desk's tables, out of a copy of its file and its log."""
+        copy = self.folder / "copy.db"
+        for end_of_name in ("", "-wal"):
+            shutil.copy(self.folder / f"desk.db{end_of_name}", f"{copy}{end_of_name}")
+        with contextlib.closing(sqlite3.connect(copy)) as records:
+            found = records.execute(statement, values).fetchall()
+        for file in self.folder.glob("copy.db*"):
+            file.unlink()
+        return found
+
+    def kept(self, caller="ops"):
+        """The number, status and body of each request of the caller that is settled."""
+        return self.rows("SELECT number, status, body FROM kept WHERE caller = ? ORDER BY number",
+                         caller)
+
+    def count(self, line):
+        """How often each service has this line in its history."""
+        return dict(self.rows("SELECT service, count(*) FROM history WHERE line = ?"
+                              " GROUP BY service", line))
+
+
+class Caller:
+    """A caller that sends over HTTP by itself."""
+
+    def __init__(self, desk, name):
+        self.desk, self.name, self.number = desk, name, 0
+
+    def send(self, command, status=200):
+        """Sends the next command, which has to get this status; the body of the reply."""
+        self.number += 1
+        found = put(self.desk.port, self.name, self.number, json.dumps(command))
+        expect(f"{self.name}: {command}", found[0], status)
+        return json.loads(found[1])
+
+
+def put(port, caller, number, body):
+    """The status and the body of the reply to a request."""
+    with contextlib.closing(http.client.HTTPConnection("127.0.0.1", port, timeout=30)) as desk:
+        desk.request("PUT", f"/callers/{caller}/requests/{number}", body)
+        reply = desk.getresponse()
+        return reply.status, reply.read().decode()
+
+
+def rollout(name, *steps, **more):
+    return {"kind": "Rollout", "metadata": {"name": name},
+            "spec": {"strategy": {"canary": {"steps": list(steps), **more}}}}
+
+
+def two_pauses(name="web"):
+    """A service whose release is promoted twice."""
+    return rollout(name, {"setWeight": 20}, {"pause": {}}, {"setWeight": 50}, {"pause": {}})
+
+
+def shows(service, status, step, weight):
+    """The body that shows a service after a command (docs/API.md)."""
+    return (f'{{"code":"ok","service":"{service}","status":"{status}","step":{step},'
+            f'"weight":{weight}}}')
+
+
+# The replies to what is done to a service with two pauses.
+ADDED, STARTED = ("Healthy", 4, 100), ("Paused", 1, 20)
+PROMOTED, ENDED, ABORTED = ("Paused", 3, 50), ("Healthy", 4, 100), ("Degraded", 1, 0)
+
+
+def shown(place, service="web"):
+    return shows(service, *place) + "\n"
+
+
+def add(desk, *names):
+    """Adds services with two pauses, and starts them, by a caller of its own."""
+    names = names or ("web",)
+    setup = Caller(desk, f"setup-{names[0]}")
+    for name in names:
+        setup.send({"service": {"version": "v1", "manifest": two_pauses(name)}})
+        setup.send({"start": {"service": name, "version": "v2"}})
+
+
+def want(row, ended, status, output="", said=None):
+    """The client ended with this status, this output, and this sentence as its last one; none if
+    that is none."""
+    last = ended.errors.splitlines()[-1] if ended.errors else None
+    wanted = None if said is None else f"canary: {said}"
+    expect(row, (ended.status, ended.output, last), (status, output, wanted))
+
+
+def want_all_said(row, ended, *said):
+    """The client said these sentences, and no other."""
+    expect(f"{row}: what it said", ended.errors, "".join(f"canary: {line}\n" for line in said))
+
+
+def want_delivered(row, desk, caller="ops", journal="ops.journal"):
+    """What the desk settled of the caller is what its journal asked, each number once, and each
+    reply is the same byte for byte in both."""
+    found = desk.journal(journal)
+    expect(f"{row}: pending", found.pending, None)
+    kept = [(found.before + at, each.status, each.body)
+            for at, each in enumerate(found.kept, 1)]
+    expect(f"{row}: replies", kept, desk.kept(caller)[found.before:])
+    return len(kept)
+
+
+def ask(port, message):
+    """The bytes with which a desk answers those of a message, up to the end of the stream."""
+    found = b""
+    with socket.create_connection(("127.0.0.1", port), 10) as desk:
+        desk.sendall(message)
+        while piece := desk.recv(65536):
+            found += piece
+    return found
+
+
+@contextlib.contextmanager
+def answering(answer):
+    """A server whose each connection the function `answer` gets. Its port."""
+    server = socket.create_server(("127.0.0.1", 0), backlog=64)
+    is_over = threading.Event()
+
+    def serve():
+        while not is_over.is_set():
+            try:
+                client, _ = server.accept()
+            except OSError:
+                return
+            threading.Thread(target=give, args=(client,), daemon=True).start()
+
+    def give(client):
+        with client:
+            try:
+                client.settimeout(20)
+                answer(client)
+            except OSError:
+                pass
+
+    threading.Thread(target=serve, daemon=True).start()
+    try:
+        yield server.getsockname()[1]
+    finally:
+        is_over.set()
+        server.close()
+
+
+def free_port():
+    """A port on which nobody listens."""
+    with socket.create_server(("127.0.0.1", 0)) as server:
+        return server.getsockname()[1]
+
+
+def wait_until(row, is_so, seconds=60):
+    until = time.monotonic() + seconds
+    while not is_so():
+        if time.monotonic() > until:
+            raise Wrong(f"{row}: it did not come in {seconds} seconds")
+        time.sleep(.01)
