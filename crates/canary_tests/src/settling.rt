@@ -512,8 +512,8 @@ fn failing_after(file: &mut MemoryDevice, left: u32, halves: usize) -> Failing<'
     }
 }
 
-/// Whether p and q act once and their replies are kept, if the device fails at a call, and is opened
-/// again. The reply to p is lost once, and the message is once.
+/// Whether p and q act once and their replies are kept, if the device fails at a call, and is
+/// opened again. The reply to p is lost once, and the message is once.
 fn survives(alloc: Global, left: u32, halves: usize) -> Option<bool> {
     let mut network = network(alloc, "rla");
     let mut file = MemoryDevice::new(alloc, Vec::new(alloc));
