@@ -127,7 +127,7 @@ fn settle_asked<N: Network, D: Device, F: Write>(
     requires { IsKept D.seen D.may_leave kept.old }
     ensures { OnOk result (IsKept D.seen D.may_leave kept.new) }
 {
-    if is_asked_instead(&kept.journal, &asking) {
+    if key.is_none() && is_asked_instead(&kept.journal, &asking) {
         return resumed(rt.alloc(), network, kept, false, tries);
     }
     match kept.journal.place_of(asking.intent(), &key) {

@@ -1,8 +1,10 @@
 //! Replies in HTTP/1.1 (RFC 9112).
+ghost use Rattle.std.specs.Prelude.{length, All};
+ghost use Rattle.httparse.specs.Spans.{IsHeaderWithin, IsResponseWithin};
 use canary_base::lists::Text;
 use canary_sending::network::{Heard, Why};
 use httparse::Status;
-use httparse::spans::{EMPTY_HEADER_SPAN, HeaderSpan, parse_response};
+use httparse::spans::{EMPTY_HEADER_SPAN, HeaderSpan, ResponseSpans, parse_response};
 use std::alloc::Global;
 use std::str;
 
@@ -16,13 +18,23 @@ const MOST_FIELDS: usize = 64;
 /// UTF-8; `Memory`.
 pub fn reply_in(alloc: Global, bytes: &[u8]) -> Result<Option<Heard>, Why> {
     let mut fields = [EMPTY_HEADER_SPAN; MOST_FIELDS];
-    let head = match parse_response(bytes, &mut fields) {
-        Ok(Status::Complete(head)) => head,
-        Ok(Status::Partial) => return Ok(None),
-        Err(_) => return Err(Why::Foreign),
-    };
-    let fields = fields.get(..head.headers).unwrap_or(&[]);
-    let Some(length) = length_in(bytes, fields) else {
+    match parse_response(bytes, &mut fields) {
+        Ok(Status::Complete(head)) => reply_with_head(alloc, bytes, &fields, head),
+        Ok(Status::Partial) => Ok(None),
+        Err(_) => Err(Why::Foreign),
+    }
+}
+
+// The reply whose head this is.
+fn reply_with_head(
+    alloc: Global,
+    bytes: &[u8],
+    fields: &[HeaderSpan],
+    head: ResponseSpans,
+) -> Result<Option<Heard>, Why>
+    requires { IsResponseWithin bytes.now fields.now head }
+{
+    let Some(length) = length_in(bytes, &fields[..head.headers]) else {
         return Err(Why::Foreign);
     };
     let Some(end) = head.len.checked_add(length) else {
@@ -48,7 +60,9 @@ fn heard(alloc: Global, status: u16, body: &[u8]) -> Result<Heard, Why> {
 }
 
 // The number of the field `Content-Length`, if it stands there once.
-fn length_in(bytes: &[u8], fields: &[HeaderSpan]) -> Option<usize> {
+fn length_in(bytes: &[u8], fields: &[HeaderSpan]) -> Option<usize>
+    requires { All (IsHeaderWithin (length bytes.now)) fields.now }
+{
     let mut found = None;
     for field in fields {
         if field.name.of(bytes).eq_ignore_ascii_case(b"content-length") {

@@ -94,7 +94,7 @@ fn settled_before<N: Network>(
         let why = match network.exchange(alloc, message.as_str()) {
             Ok(heard) => match settled_of(alloc, &heard)? {
                 Some(settled) => return Ok(settled),
-                None => Why::Foreign,
+                None => why_again(alloc, &heard)?,
             },
             Err(Why::Memory) => return Err(Stop::Memory),
             Err(why) => why,
@@ -114,6 +114,14 @@ fn settled_of(alloc: Global, heard: &Heard) -> Result<Option<u32>, Stop>
     match meaning_of(alloc, heard.status, heard.body.as_str())? {
         Meaning::Ahead(expected) => Ok(expected.checked_sub(1)),
         _ => Ok(None),
+    }
+}
+
+// Why the number has to be asked for again if this reply came.
+fn why_again(alloc: Global, heard: &Heard) -> Result<Why, Stop> {
+    match meaning_of(alloc, heard.status, heard.body.as_str())? {
+        Meaning::Unavailable => Ok(Why::Unavailable),
+        _ => Ok(Why::Foreign),
     }
 }
 

@@ -4,9 +4,9 @@
 //! canary_sending. What comes of a call is its `Outcome`, whose number is the exit status. What the
 //! desk and the network do, no clause says.
 //!
-//! In use (canary_cli, src/asking.rt):
+//! In use (canary_cli, src/perform.rt):
 //!
-//!     Program::Get { desk, service, part } => get(rt, &desk, &service, &part, output, errors, shows),
+//!     Program::Send { desk, csv } => asked(send(rt, &desk, &csv, input, output, errors)),
 #![tactic(auto)]
 
 pub mod ask;

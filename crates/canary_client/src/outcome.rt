@@ -60,6 +60,10 @@ pub enum Stop {
     Command,
     /// The result is neither a whole number nor a list of them.
     Result,
+    /// Why a measurement failed is not a text that the desk takes.
+    Failure,
+    /// The run is an invalid number.
+    Run,
     /// The service is an invalid name.
     BadService,
     /// What is asked for of a service is neither `history` nor the number of a run.
@@ -137,7 +141,8 @@ impl Stop {
     pub fn outcome(self) -> Outcome {
         match self {
             Stop::Address | Stop::NoCaller | Stop::BadCaller | Stop::NoJournal => Outcome::Words,
-            Stop::Command | Stop::Result | Stop::BadService | Stop::Part => Outcome::Words,
+            Stop::Command | Stop::Result | Stop::Failure | Stop::Run => Outcome::Words,
+            Stop::BadService | Stop::Part => Outcome::Words,
             Stop::Status | Stop::Manifest | Stop::Header => Outcome::Words,
             Stop::OtherCaller | Stop::ReportInstead | Stop::KeyInstead => Outcome::Words,
             Stop::NoService | Stop::NoRun | Stop::NoMetric | Stop::Query => Outcome::Refused,
@@ -171,6 +176,8 @@ impl Stop {
             }
             Stop::NoJournal => "a journal has to be given: --journal FILE or CANARY_JOURNAL",
             Stop::Result => "the result is neither a whole number nor a list of them, as [1,2]",
+            Stop::Failure => "why a measurement failed is a text of 1 to 200 bytes",
+            Stop::Run => "the number of a run is 1 to 1000000000",
             Stop::BadService => "the service is an invalid name",
             Stop::Part => "of a service, 'history' or the number of a run can be asked for",
             Stop::Status => "a status is Healthy, Degraded, Paused or Progressing",

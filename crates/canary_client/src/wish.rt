@@ -14,6 +14,9 @@ use std::io::{ErrorKind, Read};
 // The most bytes of a manifest's file; the body of a request has fewer.
 const MOST_BYTES: u64 = 65_536;
 
+// The greatest number of a run.
+const LAST_RUN: u32 = 1_000_000_000;
+
 /// What words ask for.
 #[derive(Drop)]
 pub enum Asking {
@@ -46,8 +49,9 @@ impl Asking {
 /// What these words ask for.
 ///
 /// # Errors
-/// `Command` if they are no command, `Result` for a result that no measurement has, `File` if the
-/// manifest's file cannot be read, `Manifest` if the desk would not take what it says; `Memory`.
+/// `Command` if they are no command, `Run` if they name no run, `Result` or `Failure` for what no
+/// measurement has, `File` if the manifest's file cannot be read, `Manifest` if the desk would not
+/// take what it says; `Memory`.
 pub fn read_asking<P: Files + AllocGlobal>(rt: &P, words: &AskedCommand) -> Result<Asking, Stop> {
     match words.kind.as_str() {
         "template" => template(rt, words),
@@ -179,7 +183,7 @@ fn report(alloc: Global, words: &AskedCommand) -> Result<Asking, Stop> {
         return Err(Stop::Command);
     };
     let Some(run) = run_of(&words.second) else {
-        return Err(Stop::Command);
+        return Err(Stop::Run);
     };
     let measured = Measured {
         service,
@@ -187,28 +191,42 @@ fn report(alloc: Global, words: &AskedCommand) -> Result<Asking, Stop> {
         metric,
         outcome: outcome_of(alloc, words)?,
     };
-    is_taken(alloc, &measured)?;
+    is_taken(alloc, &measured, words.failure.is_some())?;
     let intent = intent_of(alloc, &measured)?;
     Ok(Asking::Report { intent, measured })
 }
 
 fn run_of(word: &Option<Text>) -> Option<u32> {
     match word {
-        Some(word) => word.as_str().parse::<u32>().ok(),
+        Some(word) => word.as_str().parse::<u32>().ok().filter(is_run),
         None => None,
     }
+}
+
+fn is_run(number: &u32) -> bool {
+    (1..=LAST_RUN).contains(number)
 }
 
 // The member of the outcome: the result, or why the measurement failed.
 fn outcome_of(alloc: Global, words: &AskedCommand) -> Result<Text, Stop> {
     match (&words.fourth, &words.failure) {
-        (Some(result), None) => {
+        (Some(result), None) if is_result(result.as_str()) => {
             let result = result.as_str();
             Ok(Text::of(format!(in alloc; "\"result\":{result}")?))
         }
+        (Some(_), None) => Err(Stop::Result),
         (None, Some(text)) => failure_of(alloc, text.as_str()),
         _ => Err(Stop::Command),
     }
+}
+
+// Whether a text has the characters of whole numbers and lists of them alone, so that no other
+// member of JSON can stand in it.
+fn is_result(text: &str) -> bool {
+    text.as_bytes().iter().all(|byte| match *byte {
+        b'0'..=b'9' | b'-' | b'[' | b']' | b',' => true,
+        _ => false,
+    })
 }
 
 fn failure_of(alloc: Global, text: &str) -> Result<Text, Stop> {
@@ -218,11 +236,12 @@ fn failure_of(alloc: Global, text: &str) -> Result<Text, Stop> {
 }
 
 // A report with this outcome has to be one that the desk reads, whatever its ordinal.
-fn is_taken(alloc: Global, measured: &Measured) -> Result<(), Stop> {
+fn is_taken(alloc: Global, measured: &Measured, is_failure: bool) -> Result<(), Stop> {
     let body = report_body(alloc, measured, 1, 0)?;
     match command_from_json(alloc, body.as_str().as_bytes()) {
         Ok(command) if has_one_entry(&command) => Ok(()),
         Err(WireFault::Memory) => Err(Stop::Memory),
+        _ if is_failure => Err(Stop::Failure),
         _ => Err(Stop::Result),
     }
 }

@@ -7,6 +7,12 @@
 //! Callers may rest on this: one number is pending at most, each wish has the next number of its
 //! caller, and a key stands for one wish. A file is read as the journal that its lines are, or it
 //! is refused.
+//!
+//! In use (canary_sending, src/kept.rt):
+//!
+//!     if let Some(refusal) = self.journal.refusal(&entry) {
+//!         return Err(KeepFault::Refused(refusal));
+//!     }
 #![tactic(auto)]
 
 pub mod entry;

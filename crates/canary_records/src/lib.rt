@@ -5,6 +5,11 @@
 //!
 //! Callers may rest on this: a text that was added is there after every crash, a crash while a text
 //! is added leaves the file with it or without it, and a file that is cut short is refused.
+//!
+//! In use (canary_sending, src/kept.rt):
+//!
+//!     let line = lines::line(alloc, entry)?;
+//!     store.append(alloc, &line)?;
 #![tactic(auto)]
 
 pub mod device;

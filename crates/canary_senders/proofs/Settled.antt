@@ -1,6 +1,6 @@
 -- What is sent and heard of a journal, as steps of the caller that it is of.
 use Rattle.std.proofs.Common.{◌≡◌, ℕ, zero, suc, ◌+◌, List, [], ◌∷◌, ◌++◌, length, Bool, true, false, Option, Some, None, refl, sym, ap, ◌∙◌, subst, arith}
-use Rattle.std.specs.Prelude.{◌==◌, not, if◌then◌else◌, ◌&&◌, map, option_map, is_some, is_none, unwrap_or, slice_get}
+use Rattle.std.specs.Prelude.{◌==◌, not, if◌then◌else◌, ◌&&◌, map, option_map, is_some, is_none, unwrap_or, slice_get, codes}
 use Rattle.std.proofs.lemmas.Bool.Decides.{nat_tests}
 use Rattle.serde_json.specs.Data.{Data}
 use Rattle.serde_json.specs.Read.{read}
@@ -94,7 +94,8 @@ by_conflict (Some code) next e = conflict_settles_not _ _ next e
 
 in_conflict : (d : Option Data) → meaning_in 409 d ≡ means.Settled → ⊥
 in_conflict None e = cc e
-in_conflict (Some d) e = by_conflict _ _ e
+in_conflict (Some d) e =
+    by_conflict (at (codes "code") as_str d) (at (codes "expected") word_in d) e
 
 by_not_found : (code : Option (List ℕ)) (next : Option ℕ) → meaning_by 404 code next ≡ means.Settled → ⊥
 by_not_found None next e = cc e
@@ -102,7 +103,8 @@ by_not_found (Some code) next e = cc e
 
 in_not_found : (d : Option Data) → meaning_in 404 d ≡ means.Settled → ⊥
 in_not_found None e = cc e
-in_not_found (Some d) e = by_not_found _ _ e
+in_not_found (Some d) e =
+    by_not_found (at (codes "code") as_str d) (at (codes "expected") word_in d) e
 
 settles_status : (status : ReplyStatus) (body : List ℕ) → meaning_of (status_code status) body ≡ means.Settled → settles status ≡ true
 settles_status Accepted body e = refl

@@ -1,3 +1,2 @@
-mod KeepLemmas
 mod NetworkLemmas
 mod SettleLemmas

@@ -1,5 +1,5 @@
 -- How a network goes on, call after call; and what was told stays told.
-use Rattle.std.proofs.Common.{◌≡◌, ◌⊎◌, ⊎_elim, inl, inr, ℕ, List, Bool, true, false, Some, refl, sym, ap, ◌∙◌}
+use Rattle.std.proofs.Common.{⊎_elim, inl, inr, ℕ, ◌<◌, List, Bool, false}
 use Rattle.canary_journal.specs.declared.entry.Asked.{Asked}
 use Rattle.canary_journal.specs.declared.meaning.Meaning.{Meaning}
 use Rattle.canary_journal.specs.declared.meaning.Meaning.TheVariants as means
@@ -7,20 +7,9 @@ use Rattle.canary_journal.specs.Journals.{JournalValue}
 use Rattle.canary_sending.specs.declared.network.Heard.{Heard}
 use Rattle.canary_sending.specs.declared.network.Why.{Why}
 use Rattle.canary_sending.specs.Networks.{GoesOn}
-use Rattle.canary_sending.specs.Sending.{message_of, IsTold, IsTooLate, IsAskedBy, IsWithoutAnswer, IsUnanswered}
+use Rattle.canary_sending.specs.Sending.{message_of, IsTold, IsTooLate, IsAskedBy, IsUnanswered, IsReused}
 
 module _ {N : Type 0} (was_sent : N → List ℕ → Type 0) (was_told : N → List ℕ → Heard → Type 0) (was_unanswered : N → List ℕ → Why → Type 0) where
-  -- nothing was called
-  pub stays : (old : N) (P : List ℕ → Type 0) → GoesOn was_sent was_told was_unanswered old old P
-  stays old P = record {
-    sent_still = λ m s. s;
-    told_still = λ m heard t. t;
-    unanswered_still = λ m why u. u;
-    sent = λ m s. inl s;
-    told = λ m heard t. inl t;
-    unanswered = λ m why u. inl u;
-  }
-
   -- two runs of calls, one after the other
   pub then_on : (old mid new : N) (P Q R : List ℕ → Type 0) → GoesOn was_sent was_told was_unanswered old mid P → GoesOn was_sent was_told was_unanswered mid new Q
       → ((m : List ℕ) → P m → R m) → ((m : List ℕ) → Q m → R m) → GoesOn was_sent was_told was_unanswered old new R
@@ -48,6 +37,9 @@ module _ (T U : List ℕ → Heard → Type 0) (more : (m : List ℕ) (heard : H
   pub told_more : (m : List ℕ) (meaning : Meaning) → IsTold T m meaning → IsTold U m meaning
   told_more m meaning t = (t.0, more m t.0 t.1, t.2)
 
+  pub reused_more : (j : JournalValue) (is_late : Bool) → IsReused T j is_late → IsReused U j is_late
+  reused_more j is_late r = (r.0, r.1, told_more (message_of j r.0 is_late) means.Reused r.2)
+
   pub late_more : (j : JournalValue) (a : Asked) → IsTooLate T j a → IsTooLate U j a
   late_more j a l = (l.0, told_more (message_of j a false) means.Reused l.1)
 
@@ -61,5 +53,21 @@ module _ (T U : List ℕ → Heard → Type 0) (more : (m : List ℕ) (heard : H
   }
 
   pub unanswered_more : (V W : List ℕ → Why → Type 0) (j : JournalValue) → ((m : List ℕ) (why : Why) → V m why → W m why) → IsUnanswered T V j → IsUnanswered U W j
-  unanswered_more V W j still u = (u.0, asked_more j u.0 u.1,
-    ⊎_elim (λ w. inl (w.0, still u.0 w.0 w.1)) (λ o. inr (⊎_elim (λ t. inl (told_more u.0 means.Unavailable t)) (λ t. inr (told_more u.0 means.Foreign t)) o)) u.2)
+  unanswered_more V W j still u = (
+    u.0,
+    asked_more j u.0 u.1,
+    ⊎_elim (λ w. inl (w.0, still u.0 w.0 w.1)) (λ o. inr (⊎_elim (λ t. inl (told_more u.0 means.Unavailable t)) (λ t. inr (told_more u.0 means.Foreign t)) o)) u.2,
+  )
+
+module _ {N : Type 0} (was_sent : N → List ℕ → Type 0) (was_told : N → List ℕ → Heard → Type 0) (was_unanswered : N → List ℕ → Why → Type 0) (tries : ℕ) (j : JournalValue) where
+  -- one try more
+  pub one_more : (old mid new : N) → 0 < tries → GoesOn was_sent was_told was_unanswered old mid (λ m. (0 < tries) × IsAskedBy (was_told mid) j m) → GoesOn was_sent was_told was_unanswered mid new (IsAskedBy (was_told new) j)
+      → GoesOn was_sent was_told was_unanswered old new (λ m. (0 < tries) × IsAskedBy (was_told new) j m)
+  one_more old mid new some first second =
+      then_on was_sent was_told was_unanswered old mid new _ _ _ first second (λ m a. (a.0, asked_more (was_told mid) (was_told new) second.told_still j m a.1)) (λ m a. (some, a))
+
+  -- and a pause
+  pub rested : (old mid new : N) → GoesOn was_sent was_told was_unanswered old mid (λ m. (0 < tries) × IsAskedBy (was_told mid) j m) → GoesOn was_sent was_told was_unanswered mid new (λ _. ⊥)
+      → GoesOn was_sent was_told was_unanswered old new (λ m. (0 < tries) × IsAskedBy (was_told new) j m)
+  rested old mid new first second =
+      then_on was_sent was_told was_unanswered old mid new _ _ _ first second (λ m a. (a.0, asked_more (was_told mid) (was_told new) second.told_still j m a.1)) (λ m no. absurd no)

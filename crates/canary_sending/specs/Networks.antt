@@ -1,5 +1,5 @@
 -- What a network was given and gave, call after call.
-use Rattle.std.specs.Prelude.{◌≡◌, ◌⊎◌, ℕ, List}
+use Rattle.std.specs.Prelude.{◌⊎◌, ℕ, List}
 use Rattle.canary_sending.specs.declared.network.Heard.{Heard}
 use Rattle.canary_sending.specs.declared.network.Why.{Why}
 
@@ -11,6 +11,6 @@ pub record GoesOn {N : Type 0} (was_sent : N → List ℕ → Type 0) (was_told 
   pub unanswered_still : (m : List ℕ) (why : Why) → was_unanswered old m why → was_unanswered new m why
   pub sent : (m : List ℕ) → was_sent new m → was_sent old m ⊎ P m
   pub told : (m : List ℕ) (heard : Heard) → was_told new m heard
-    → was_told old m heard ⊎ (was_sent new m × P m)
+      → was_told old m heard ⊎ (was_sent new m × P m)
   pub unanswered : (m : List ℕ) (why : Why) → was_unanswered new m why
-    → was_unanswered old m why ⊎ P m
+      → was_unanswered old m why ⊎ P m

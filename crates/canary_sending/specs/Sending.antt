@@ -1,5 +1,5 @@
 -- Sending what is pending in a journal until it is settled.
-use Rattle.std.specs.Prelude.{◌≡◌, ◌⊎◌, ℕ, ◌+◌, ◌^◌, ◌≤◌, length, Bool, true, false, if◌then◌else◌, List, Option, Some, None, option_map, unwrap_or, is_some}
+use Rattle.std.specs.Prelude.{◌≡◌, ◌⊎◌, ℕ, ◌+◌, ◌^◌, ◌≤◌, length, Bool, true, false, if◌then◌else◌, List, Some, None, option_map, unwrap_or, is_some}
 use Rattle.canary_journal.specs.declared.entry.Asked.{Asked}
 use Rattle.canary_journal.specs.declared.entry.Reply.{Reply}
 use Rattle.canary_journal.specs.declared.entry.Entry.TheVariants as entry

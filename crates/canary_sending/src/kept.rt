@@ -135,11 +135,7 @@ pub fn begin<D: Device + Drop>(
 }
 
 // Adds the line of an entry to a file.
-fn add_line<D: Device>(
-    alloc: Global,
-    store: &mut Store<D>,
-    entry: &Entry,
-) -> Result<(), KeepFault>
+fn add_line<D: Device>(alloc: Global, store: &mut Store<D>, entry: &Entry) -> Result<(), KeepFault>
     requires { IsSettled D.seen D.may_leave store.old.device store.old.gate }
     ensures rest { OnOk result (IsSettled D.seen D.may_leave store.new.device store.new.gate) }
     ensures line { OnOk result ((entry_in (line_of entry.now) ≡ Some entry.now)

@@ -5,9 +5,9 @@
 //! under the number that is pending, and is sent only once it stands on the device; and a number is
 //! settled in the journal only by a reply that the network gave to one of these messages.
 //!
-//! In use (canary_client, src/asking.rt):
+//! In use (canary_client, src/journals.rt):
 //!
-//!     match settle(rt.alloc(), network, kept, options.tries) {
+//!     match settle(alloc, network, kept, tries) {
 #![tactic(auto)]
 
 pub mod kept;

@@ -60,14 +60,13 @@ pub fn settle<N: Network, D: Device>(
     ensures why { IfErr result (IsWhy (N.was_told network.new) (N.was_unanswered network.new)
         kept.old.journal tries
         (IsFailed (N.was_told network.new) kept.old.journal
-            (D.has_failed kept.new.store.device) kept.old.store.gate)) }
+        (D.has_failed kept.new.store.device) kept.old.store.gate)) }
     ensures network { GoesOn N.was_sent N.was_told N.was_unanswered network.old network.new
         (λ m. (0 < tries) × IsAskedBy (N.was_told network.new) kept.old.journal m) }
     ensures any_moment { LeavesOnly D.moment D.left_since
         kept.old.store.device kept.new.store.device
         (IsSettledOrPending (N.was_told network.new) kept.old.journal) }
 {
-    canary_records::laws::files();
     let reply = reply_to(alloc, network, &kept.journal, tries)?;
     let number = kept.journal.number();
     match kept.keep(alloc, Entry::Settled { number, reply }) {

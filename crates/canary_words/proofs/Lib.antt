@@ -1,3 +1,5 @@
 pub mod Walks
 pub mod Chains
+pub mod Given
+pub mod Getting
 pub mod Spelled

@@ -150,12 +150,16 @@ with_command_words a = with_rule (with_rule (with_rule (with_rule (with_rule a
     (optional_word (codes "second"))) (optional_word (codes "third")))
     (optional_word (codes "fourth"))
 
--- `do --as NAME --journal FILE --once KEY --instead --failure TEXT COMMAND`, with its words
+-- `--as NAME --journal FILE --once KEY --instead --failure TEXT`
+abbrev pub with_do_options : App → App
+with_do_options a = with_rule (with_rule (with_rule (with_rule (with_rule a
+    (text_option (codes "as") false)) (text_option (codes "journal") false))
+    (text_option (codes "once") false)) (flag (codes "instead")))
+    (text_option (codes "failure") false)
+
+-- `do COMMAND`, with its options and the words of the command
 abbrev pub do_command : App
-do_command = with_command_words (with_rule (with_rule (with_rule (with_rule (with_rule
-    (with_desk_options (new_app (codes "do"))) (text_option (codes "as") false))
-    (text_option (codes "journal") false)) (text_option (codes "once") false))
-    (flag (codes "instead"))) (text_option (codes "failure") false))
+do_command = with_command_words (with_do_options (with_desk_options (new_app (codes "do"))))
 
 -- `get SERVICE PART`
 abbrev pub get_command : App

@@ -11,7 +11,7 @@ ghost use Rattle.canary_words.specs.CommandLine.{text_word, with_limits, with_nu
 ghost use Rattle.canary_words.specs.CommandLine.{optional_word, with_unsent, with_value};
 ghost use Rattle.canary_words.specs.CommandLine.{with_client_commands, do_command, get_command};
 ghost use Rattle.canary_words.specs.CommandLine.{watch_command, send_command, due_command};
-ghost use Rattle.canary_words.specs.CommandLine.{with_desk_options, with_command_words};
+ghost use Rattle.canary_words.specs.CommandLine.{with_desk_options, with_do_options, with_command_words};
 
 use crate::help;
 use canary_base::moments::LAST_MOMENT;
@@ -283,12 +283,19 @@ fn do_command<'a>(alloc: Global) -> Result<Command<'a>, AllocError>
         .override_usage(help::DO_USAGE)
         .after_help(help::DO_HELP);
     let asked = with_desk_options(alloc, asked, help::TIMEOUT_HELP)?;
+    let asked = with_do_options(alloc, asked)?;
+    with_command_words(alloc, asked)
+}
+
+// The command of `do` with its own options.
+fn with_do_options<'a>(alloc: Global, asked: Command<'a>) -> Result<Command<'a>, AllocError>
+    ensures { IfOk result (λ c. app_of c ≡ with_do_options (app_of asked.entry)) }
+{
     let asked = with_text(alloc, asked, "as", "NAME", false, help::AS_HELP)?;
     let asked = with_text(alloc, asked, "journal", "FILE", false, help::JOURNAL_HELP)?;
     let asked = with_text(alloc, asked, "once", "KEY", false, help::ONCE_HELP)?;
     let asked = with_flag(alloc, asked, "instead", help::INSTEAD_HELP)?;
-    let asked = with_text(alloc, asked, "failure", "TEXT", false, help::FAILURE_HELP)?;
-    with_command_words(alloc, asked)
+    with_text(alloc, asked, "failure", "TEXT", false, help::FAILURE_HELP)
 }
 
 // The command of `do` with the words of what it asks.

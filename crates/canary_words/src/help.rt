@@ -359,6 +359,8 @@ pub(crate) const DO_HELP: &str = concat!(
     "  report SERVICE RUN METRIC --failure TEXT\n\n",
     "FILE is a manifest. A report gets the ordinal that comes next in its run, and the present\n",
     "moment. A RESULT that begins with - stands after --, as in the last example.\n\n",
+    "do needs the caller's name and journal, by the options or by the variables. An option\n",
+    "counts before its variable.\n\n",
     "The command is in the journal before do sends it, and its reply before do prints it. While\n",
     "no answer comes, do sends the same bytes again. It settles what is pending in the journal\n",
     "before it goes on. It prints the body of the reply, and on a terminal a plain line in its\n",

@@ -142,8 +142,8 @@ pub enum Program {
         instead: bool,
         command: AskedCommand,
     },
-    /// The service that `service` names, if it is a name, as the desk has it: with a `part` what
-    /// happened to it, or the run of that number.
+    /// The service that `service` names, if it is a name, as the desk has it; or the `part` of it:
+    /// what happened to it, or the run of that number.
     Get {
         desk: AskedDesk,
         service: Text,

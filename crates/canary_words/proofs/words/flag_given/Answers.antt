@@ -1,5 +1,5 @@
 use Rattle.clap.specs.Words.{found_of}
-use Rattle.canary_words.proofs.Spelled.{flag_read}
+use Rattle.canary_words.proofs.Getting.{flag_read}
 use Rattle.canary_words.proofs.words.flag_given.Goals as goal
 
 pub returns : goal.returns

@@ -1,6 +1,6 @@
 use Rattle.std.specs.Str.Parse.{ExplainsUnsignedError, HasUnsignedDigitsIfOk, ParsesUnsigned}
 use Rattle.clap.specs.Words.{found_of}
-use Rattle.canary_words.proofs.Spelled.{optional_read}
+use Rattle.canary_words.proofs.Getting.{optional_read}
 use Rattle.canary_words.proofs.words.number_given.Goals as goal
 
 pub returns : goal.returns
