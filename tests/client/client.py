@@ -1,5 +1,5 @@
-"""Tries the client over desks on files: client.py PROGRAM FOLDER IS_WHOLE SHARE [PART..]. The comment
-at the top of tests/client/run says what is tried, and each part what it shows."""
+"""Tries the client over desks on files: client.py PROGRAM FOLDER IS_WHOLE SHARE [PART..]. The
+comment at the top of tests/client/run says what is tried, and each part what it shows."""
 import concurrent.futures
 import os
 import signal

@@ -85,8 +85,8 @@ def try_client_killed(world):
 
 
 def try_failing_calls(world):
-    """Each call on the journal and its folder fails in turn: the client says so and prints no reply,
-    and the same call again settles the command, once."""
+    """Each call on the journal and its folder fails in turn: the client says so and prints no
+    reply, and the same call again settles the command, once."""
     with world.desk("failing") as desk:
         calls = "openat,flock,read,pwrite64,fsync,ftruncate"
         log, count = desk.folder / "log", 0

@@ -16,8 +16,8 @@ PROMOTE = b'{"promote":{"service":"web"}}'
 
 def reply(status, body, fields="Content-Type: text/html\r\n"):
     body = body if isinstance(body, bytes) else body.encode()
-    return (f"HTTP/1.1 {status} Some Reason\r\n{fields}Content-Length: {len(body)}\r\n\r\n").encode() \
-        + body
+    head = f"HTTP/1.1 {status} Some Reason\r\n{fields}Content-Length: {len(body)}\r\n\r\n"
+    return head.encode() + body
 
 
 HTML = "<html><head><title>502 Bad Gateway</title></head></html>"
@@ -75,16 +75,15 @@ def try_foreign_replies(world):
         want("tick", desk.do("tick", "web"), DONE, shown(STARTED))
         for row, sent, said in REPLIES:
             with giving(sent) as port:
-                found = desk.do("promote", "web", port=port, timeout=3)
+                found = desk.do("promote", "web", port=port)
                 want(row, found, PENDING, said=PENDING_SAID)
                 want_all_said(row, found, said, PENDING_SAID)
-                found = desk.do("promote", "web", port=port, timeout=3, journal="new.journal",
-                                tries=1)
+                found = desk.do("promote", "web", port=port, journal="new.journal", tries=1)
                 want_all_said(f"{row}: a new journal", found, NOT_BEGUN)
                 want(f"{row}: a new journal", found, PENDING, said=NOT_BEGUN)
                 expect("nothing is begun", (desk.folder / "new.journal").read_bytes(), b"-")
-                found = world.run(["get", "--desk", f"127.0.0.1:{port}", "--tries", "2", "web"],
-                                  desk.folder)
+                found = world.run(["get", "--desk", f"127.0.0.1:{port}", "--tries", "2",
+                                   "--timeout", "20", "web"], desk.folder)
                 want_all_said(f"{row}: a query", found, said, NO_DESK)
                 want(f"{row}: a query", found, PENDING, said=NO_DESK)
         expect("promotions", desk.count("promote"), {})
@@ -124,7 +123,7 @@ def try_bytes_and_pauses(world):
         expect("messages", [message for _, message in heard], [wanted] * 6)
         pauses = [after - before for (before, _), (after, _) in zip(heard, heard[1:])]
         for pause, least in zip(pauses, (.1, .2, .4, .8)):
-            if not least <= pause < least + 2:
+            if not least <= pause < least + 10:
                 raise Wrong(f"a pause of {pause} in place of {least}")
 
 
@@ -237,9 +236,9 @@ def try_late_copies(world):
             client.sendall(ask(desk.port, messages[-1]))
 
         with answering(answer) as port:
-            for words, wanted in ((("promote", "web"), PROMOTED), (("abort", "web"), ("Degraded", 3, 0)),
-                                  (("retry", "web"), STARTED), (("promote", "web"), PROMOTED)):
-                want(words, desk.do(*words, port=port), DONE, shown(wanted))
+            for word, wanted in (("promote", PROMOTED), ("abort", ("Degraded", 3, 0)),
+                                 ("retry", STARTED), ("promote", PROMOTED)):
+                want(word, desk.do(word, "web", port=port), DONE, shown(wanted))
         kept = desk.kept()
         for message in reversed(messages[1:]):
             number = int(message.split(b" ")[1].rsplit(b"/", 1)[1])

@@ -1,27 +1,35 @@
 """Reports, and measurements that are due: parts of client.py."""
 import csv
+import os
+import pathlib
 import shutil
+import subprocess
+import threading
 import time
 
 from world import (
-    BEHIND, DONE, PENDING, PENDING_SAID, REFUSED, WORDS, Caller, Wrong, answering, ask, expect,
-    rollout, want, want_delivered,
+    BEHIND, DONE, PENDING, PENDING_SAID, REFUSED, WORDS, Caller, Wrong, answering, ask,
+    environment, expect, free_port, process, rollout, want, want_delivered,
 )
+
+AGENT = pathlib.Path(__file__).resolve().parents[2] / "examples" / "operations" / "report"
 
 NO_SERVICE = "there is no such service"
 NO_RUN = "there is no such run"
 NO_METRIC = "the run has no such metric"
+FAILURE = "why a measurement failed is a text of 1 to 200 bytes"
+RUN = "the number of a run is 1 to 1000000000"
 RESULT = "the result is neither a whole number nor a list of them, as [1,2]"
 NOT_IN_TIME = "what is waited for did not come in time"
-COMMAND = ("a command is promote, promote-full, abort, retry or tick SERVICE; start SERVICE VERSION;"
-           " template FILE; service FILE VERSION; report SERVICE RUN METRIC RESULT, or with"
-           " --failure TEXT in place of RESULT")
+COMMAND = ("a command is promote, promote-full, abort, retry or tick SERVICE; start SERVICE"
+           " VERSION; template FILE; service FILE VERSION; report SERVICE RUN METRIC RESULT, or"
+           " with --failure TEXT in place of RESULT")
 INVALID_NAME = "the service is an invalid name"
 # Neither a whole number of 64 bits nor a list of 1 to 16 of them.
 NO_RESULTS = (
-    "", " ", "five", "5.0", "1e2", "0x5", "05", "-0", "+5", "--5", "-", "5 5", "5,6", "null",
-    "true", '"5"', "{}", "[]", "[1,]", "[[1]]", "[1,2", '["1"]', "[1.5]", "[-0]",
-    "9223372036854775808", "-9223372036854775809", "[9223372036854775808]",
+    "", " ", " 5", "5\n", "[1, 2]", "five", "5.0", "1e2", "0x5", "05", "-0", "+5", "--5", "-",
+    "5 5", "5,6", "null", "true", '"5"', "{}", "[]", "[1,]", "[[1]]", "[1,2", '["1"]', "[1.5]",
+    "[-0]", "9223372036854775808", "-9223372036854775809", "[9223372036854775808]",
     "[1,2,3,4,5,6,7,8,9,10,11,12,13,14,15,16,17]", '5,"result":6', '5,"failure":"x"',
     '5},{"metric":"m","ordinal":2,"taken":0,"result":6',
     '5}],"run":2,"entries":[{"metric":"m","ordinal":1,"taken":0,"result":7',
@@ -104,10 +112,14 @@ def try_pending_report(world):
     one gets the ordinal behind it."""
     with world.desk("pending-report") as desk:
         add_measured(desk, metric("m", "0s"))
-        unanswered = answering(lambda client: client.sendall(b"" if b"PUT" in (
-            message := client.recv(65536)) and b"/requests/1 " in message and ask(
-                desk.port, message) else ask(desk.port, message)))
-        with unanswered as port:
+
+        def answer(client):
+            message = client.recv(65536)
+            reply = ask(desk.port, message)
+            if b"/requests/1 " not in message:
+                client.sendall(reply)
+
+        with answering(answer) as port:
             want("first", desk.do("report", "web", "1", "m", "5", port=port, tries=1), PENDING,
                  said=PENDING_SAID)
         body = desk.journal().pending.body_asked
@@ -131,18 +143,15 @@ def try_invalid_results(world):
         for result in NO_RESULTS:
             want(repr(result), desk.do("report", "web", "1", "m", "--", result), WORDS,
                  said=RESULT)
-        for row, found in (
-                ("no failure", desk.do("report", "web", "1", "m", options=("--failure", ""))),
-                ("a long one", desk.do("report", "web", "1", "m",
-                                       options=("--failure", "x" * 201))),
-                ("run 0", desk.do("report", "web", "0", "m", "5")),
-                ("a run too high", desk.do("report", "web", "1000000001", "m", "5"))):
-            expect(row, (found.status, found.output), (WORDS, ""))
-        for words in (("report", "web", "1", "m"), ("report", "web", "one", "m", "5"),
-                      ("report", "Web", "1", "m", "5"), ("report", "web", "1", "m m", "5"),
-                      ("report", "web", "-1", "m", "5"), ("report", "web", "1")):
-            want(words, desk.do("--", *words) if "-1" in words else desk.do(*words), WORDS,
-                 said=COMMAND)
+        for text in ("", "x" * 201, "\u00fc" * 101):
+            want(f"a failure of {len(text)}", desk.do("report", "web", "1", "m",
+                                                      options=("--failure", text)), WORDS,
+                 said=FAILURE)
+        for run in ("0", "1000000001", "4294967296", "one", "1.0", "", "-1"):
+            want(f"run {run!r}", desk.do("--", "report", "web", run, "m", "5"), WORDS, said=RUN)
+        for words in (("report", "web", "1", "m"), ("report", "Web", "1", "m", "5"),
+                      ("report", "web", "1", "m m", "5")):
+            want(words, desk.do(*words), WORDS, said=COMMAND)
         want("both", desk.do("report", "web", "1", "m", "5", options=("--failure", "x")), WORDS,
              said=COMMAND)
         expect("no journal", (desk.folder / "ops.journal").exists(), False)
@@ -160,6 +169,41 @@ def try_unknown(world):
         found = desk.journal()
         expect("the journal", (found.before, found.kept, found.pending), (0, [], None))
         expect("no request", desk.kept(), [])
+
+
+def try_agent(world):
+    """The agent of examples/operations: it settles what is pending, asks what is due, measures and
+    reports that, also if there was no desk meanwhile, or if a measurement cannot be taken."""
+    with world.desk("agent") as desk:
+        add_measured(desk, metric("m", "1s"), metric("n", "1s"))
+        (desk.folder / "bin").mkdir()
+        (desk.folder / "bin" / "canary").symlink_to(world.program)
+        script = desk.folder / "bin" / "measure"
+        script.write_text('#!/bin/sh\n[ "$1" = web ] && [ "$2" = m ] && echo -5\n')
+        script.chmod(0o755)
+        variables = {"PATH": f"{desk.folder}/bin:{os.environ['PATH']}",
+                     "CANARY_DESK": f"127.0.0.1:{desk.port}", "AGENT_FOLDER": str(desk.folder)}
+
+        def call(row, status, output):
+            with process([str(AGENT), "web"], cwd=desk.folder, env=environment(**variables),
+                         stdin=subprocess.DEVNULL, stdout=subprocess.PIPE,
+                         stderr=subprocess.PIPE) as agent:
+                found = agent.communicate(timeout=120)
+                expect(row, (agent.returncode, found[0].decode()), (status, output))
+
+        both = recorded("Successful") + recorded("Error")
+        call("first", 0, both)
+        desk.kill()
+        variables["CANARY_DESK"] = f"127.0.0.1:{free_port()}"
+        call("no desk", PENDING, "")
+        desk.start()
+        variables["CANARY_DESK"] = f"127.0.0.1:{desk.port}"
+        time.sleep(1.1)
+        call("second", 0, both)
+        expect("measurements", measured(desk), [
+            ("m", 1, "-5", ""), ("m", 2, "-5", ""), ("n", 1, "", "not measured"),
+            ("n", 2, "", "not measured")])
+        want_delivered("agent", desk, "agent-web", "web.journal")
 
 
 def try_due(world):
@@ -197,7 +241,6 @@ def try_due(world):
                    f'{{"at":0,"code":"too-early","due":{taken + 3}}}\n')
         # the run ends while a call waits
         with_wait = ["due", "--wait", "seldom"]
-        import threading
         ending = threading.Timer(.5, lambda: setup.send({"promoteFull": {"service": "seldom"}}))
         ending.start()
         want(with_wait, desk.ask(*with_wait), REFUSED)

@@ -1,4 +1,5 @@
-"""A network that loses, repeats late and cuts, and both ends killed at random: parts of client.py."""
+"""A network that loses, repeats late and cuts, and both ends killed at random: parts of
+client.py."""
 import contextlib
 import pathlib
 import random
@@ -7,7 +8,7 @@ import sys
 import time
 
 from world import (
-    ABORTED, DONE, ENDED, LATE, PENDING, PROMOTED, REFUSED, STARTED, Caller, Wrong, environment,
+    ADDED, DONE, ENDED, LATE, PENDING, PROMOTED, REFUSED, STARTED, Caller, Wrong, environment,
     expect, process, shown, two_pauses, want, want_delivered,
 )
 
@@ -77,7 +78,8 @@ def try_storm(world):
     die = random.Random(1)
     with world.desk("storm") as desk, chaos(desk, 5) as (port, done):
         storm = Storm(world, desk, port, die)
-        wanted = {"service": ENDED, "start": STARTED, "promote": PROMOTED, "abort": ("Degraded", 3, 0)}
+        wanted = {"service": ADDED, "start": STARTED, "promote": PROMOTED,
+                  "abort": ("Degraded", 3, 0)}
         for at in range(services):
             name = f"s{at}"
             desk.write(f"{name}.json", two_pauses(name))

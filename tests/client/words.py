@@ -1,15 +1,16 @@
 """Words, variables of the environment, terminals and closed outputs: parts of client.py."""
 import os
 import select
+import signal
 import subprocess
 import time
 import tty
 
 from reports import COMMAND, add_measured, metric
 from world import (
-    CONTRADICTION, DONE, ENDED, KEY_USED, LOCAL, PROMOTED, REFUSED, STARTED, WORDS, Caller, Wrong,
-    add, environment, expect, free_port, process, running, shown, two_pauses, want,
-    want_delivered,
+    ADDED, CONTRADICTION, DONE, ENDED, KEY_USED, LOCAL, PROMOTED, REFUSED, STARTED, WORDS, Caller,
+    Wrong, add, answering, environment, expect, free_port, process, running, shown, two_pauses,
+    want, want_delivered,
 )
 
 ADDRESS = "the desk's address is not IP:PORT (--desk or CANARY_DESK)"
@@ -121,10 +122,11 @@ def try_commands(world):
              '{"code":"ok","revision":1,"template":"t"}\n')
         want("another revision", desk.do("template", "again.json"), DONE,
              '{"code":"ok","revision":2,"template":"t"}\n')
-        for words, place in ((("service", "web.json", "v1"), ENDED), (("start", "web", "v2"), STARTED),
-                             (("promote", "web"), PROMOTED), (("abort", "web"), ("Degraded", 3, 0)),
-                             (("retry", "web"), STARTED), (("tick", "web"), STARTED),
-                             (("promote-full", "web"), ENDED)):
+        for words, place in (
+                (("service", "web.json", "v1"), ADDED), (("start", "web", "v2"), STARTED),
+                (("promote", "web"), PROMOTED), (("abort", "web"), ("Degraded", 3, 0)),
+                (("retry", "web"), STARTED), (("tick", "web"), STARTED),
+                (("promote-full", "web"), ENDED)):
             want(words, desk.do(*words), DONE, shown(place))
         for words, code in ((("service", "web.json", "v1"), "service-exists"),
                             (("promote", "web"), "not-in-progress"),
@@ -232,8 +234,6 @@ def try_closed_outputs(world):
 
 def try_signals(world):
     """A client that waits ends at once when it is told to, and the command is pending."""
-    import signal
-    from world import answering
     with world.desk("signals") as desk:
         add(desk)
         want("tick", desk.do("tick", "web"), DONE, shown(STARTED))

@@ -148,7 +148,7 @@ class Desk:
     def has_ended(self):
         return self.process.poll() is not None
 
-    def words(self, *words, caller="ops", journal="ops.journal", port=None, tries=2, timeout=5,
+    def words(self, *words, caller="ops", journal="ops.journal", port=None, tries=2, timeout=20,
               options=()):
         """The words of `do` at this desk."""
         return ["do", "--desk", f"127.0.0.1:{port or self.port}", f"--as={caller}", "--journal",
@@ -159,7 +159,7 @@ class Desk:
         """A command by the client."""
         return self.world.run(self.words(*words, **options), self.folder)
 
-    def ask(self, word, *words, tries=2, **more):
+    def ask(self, word, *words, tries=5, **more):
         """`get`, `watch`, `send` or `due` by the client."""
         words = [word, "--desk", f"127.0.0.1:{self.port}", "--tries", str(tries), *words]
         return self.world.run(words, self.folder, **more)

@@ -49,11 +49,13 @@ packages_of() {
 left_out_without() {
     case $1 in
         cc) echo "cc: refused allocations (tests/allocations/run)" ;;
-        strace) echo "strace: calls that fail (tests/cli/run, tests/disk/run, tests/migrate/run)," \
-            "power cuts (the last two), and how much a desk writes at once (tests/listener/run)" ;;
+        strace) echo "strace: calls that fail (tests/cli/run, tests/disk/run, tests/migrate/run," \
+            "tests/client/run), power cuts (the last three), a client and a desk killed at each" \
+            "call (tests/client/run), and how much a desk writes at once (tests/listener/run)" ;;
         sqlite3) echo "sqlite3: what it reads in a desk's file, and files that it changed" \
             "(tests/tables/run, tests/files/run)" ;;
-        curl) echo "curl: its long request (tests/listener/run)" ;;
+        curl) echo "curl: its long request (tests/listener/run), and docs/API.md's session" \
+            "(tests/client/run)" ;;
     esac
 }
 
