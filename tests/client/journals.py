@@ -3,6 +3,7 @@ import fcntl
 import os
 import shutil
 import subprocess
+import time
 
 from journal_rule import LAST, at_rest, is_new, journal_of, line_of, lines_in
 from world import (
@@ -222,7 +223,7 @@ def try_two_clients(world):
                 cwd=desk.folder, env=environment(), stdout=subprocess.PIPE,
                 stderr=subprocess.PIPE) as first:
             while not come and first.poll() is None:
-                pass
+                time.sleep(.01)
             want("the second client", desk.do("abort", "web"), LOCAL, said=IN_USE)
             _, errors = first.communicate(timeout=60)
             expect("the first client", (first.returncode, errors.decode()),
