@@ -1,5 +1,5 @@
 //! Messages to a desk, and the replies to them.
-ghost use Rattle.std.specs.Prelude.{◌≡◌, ◌⊎◌, List, ℕ, Ok, Err, IfOk, IfErr};
+ghost use Rattle.std.specs.Prelude.{◌≡◌, ◌⊎◌, List, ℕ, Ok, Err, IfOk, IfErr, OnOk};
 ghost use Rattle.canary_sending.specs.declared.network.Heard.{Heard};
 ghost use Rattle.canary_sending.specs.declared.network.Why.{Why};
 ghost use Rattle.canary_sending.specs.Messages.{request_text, query_text};
@@ -49,6 +49,7 @@ pub trait Network {
     fn exchange(&mut self, alloc: Global, message: &str) -> Result<Heard, Why>
         ensures network { GoesOn was_sent was_told was_unanswered self.old self.new
             (λ m. m ≡ message.now) }
+        ensures sent { OnOk result (was_sent self.new message.now) }
         ensures told { IfOk result (λ heard. was_told self.new message.now heard) }
         ensures unanswered { IfErr result (λ why. was_unanswered self.new message.now why) }
         ensures only { (m : List ℕ) (heard : Heard) → was_told self.new m heard
