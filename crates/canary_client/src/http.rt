@@ -1,6 +1,7 @@
 //! Replies in HTTP/1.1 (RFC 9112).
 ghost use Rattle.std.specs.Prelude.{length, All};
 ghost use Rattle.httparse.specs.Spans.{IsHeaderWithin, IsResponseWithin};
+
 use canary_base::lists::Text;
 use canary_sending::network::{Heard, Why};
 use httparse::Status;

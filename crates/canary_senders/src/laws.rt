@@ -49,9 +49,9 @@ pub fn delivery()
     laws::running_on();
 }
 
-/// A journal of canary_journal is that of such a caller: each entry that may stand next in it is the
-/// step of the same name, under the caller's next number, if the desk reads the body as the step's
-/// command, and if a reply is the desk's answer to a body that was asked under the number.
+/// A journal of canary_journal is that of such a caller: each entry that may stand next in it is
+/// the step of the same name, under the caller's next number, if the desk reads the body as the
+/// step's command, and if a reply is the desk's answer to a body that was asked under the number.
 pub fn journals()
     ensures begins { Begins }
     ensures asks { Asks }
@@ -59,9 +59,9 @@ pub fn journals()
     ensures hears { Hears }
 {}
 
-/// What canary_sending does with such a journal are steps of its caller: a message that is asked for
-/// is one of the commands that are pending, under the caller's next number; and a reply that settles
-/// is heard, if it is the desk's answer to that message.
+/// What canary_sending does with such a journal are steps of its caller: a message that is asked
+/// for is one of the commands that are pending, under the caller's next number; and a reply that
+/// settles is heard, if it is the desk's answer to that message.
 pub fn sending()
     ensures sends { Sends }
     ensures settles { Settles }

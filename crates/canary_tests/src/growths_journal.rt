@@ -206,7 +206,11 @@ fn settled(alloc: Global) -> Option<bool> {
     kept.keep(alloc, asked(alloc)?).ok()?;
     let mut network = answering(alloc)?;
     let is_settled = send(alloc, &mut network, &mut kept, 1)?;
-    if network.was_refused { None } else { Some(is_settled) }
+    if network.was_refused {
+        None
+    } else {
+        Some(is_settled)
+    }
 }
 
 #[test]

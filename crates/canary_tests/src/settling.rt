@@ -326,7 +326,10 @@ fn tell<N: Network, D: Device>(
 
 /// Whether a reply is that to this body.
 fn is_reply_to(reply: &Reply, body: &str) -> bool {
-    let rest = reply.body.as_str().strip_prefix("{\"code\":\"ok\",\"did\":\"");
+    let rest = reply
+        .body
+        .as_str()
+        .strip_prefix("{\"code\":\"ok\",\"did\":\"");
     match rest {
         Some(rest) => reply.status == 200 && rest.strip_suffix("\"}") == Some(body),
         None => false,
@@ -410,7 +413,10 @@ fn holds(alloc: Global, row: &str) -> Option<bool> {
 #[test]
 fn each_number_acts_once(rt: HostRuntime) -> Result<(), Fail> {
     for row in FATES.lines() {
-        assert!(rt; holds(rt.alloc(), row).or(holds(rt.alloc(), row)) == Some(true), "{row}");
+        assert!(rt;
+            holds(rt.alloc(), row).or(holds(rt.alloc(), row)) == Some(true),
+            "{row}"
+        );
     }
     Ok(())
 }
@@ -488,11 +494,7 @@ impl Device for Failing<'_> {
 
 /// Goes on by the journal that a device has, until p and q are settled; whether it has their
 /// replies then. None if the device failed, or memory was refused.
-fn go_on<N: Network, D: Device + Drop>(
-    alloc: Global,
-    network: &mut N,
-    device: D,
-) -> Option<bool> {
+fn go_on<N: Network, D: Device + Drop>(alloc: Global, network: &mut N, device: D) -> Option<bool> {
     let mut kept = journal(alloc, device)?;
     let _ = send_pending(alloc, network, &mut kept)?;
     let _ = ask_unless(alloc, network, &mut kept, 0, "p")?;
@@ -501,7 +503,7 @@ fn go_on<N: Network, D: Device + Drop>(
 }
 
 /// The file, failing after so many calls.
-fn failing(file: &mut MemoryDevice, left: u32, halves: usize) -> Failing<'_> {
+fn failing_after(file: &mut MemoryDevice, left: u32, halves: usize) -> Failing<'_> {
     Failing {
         file,
         left,
@@ -510,13 +512,17 @@ fn failing(file: &mut MemoryDevice, left: u32, halves: usize) -> Failing<'_> {
     }
 }
 
-/// Whether p and q act once and their replies are kept, if the device fails at a call, and is opened
-/// again. The reply to p is lost once, and the message is once.
+/// Whether p and q act once and their replies are kept, if the device fails at a call, and is
+/// opened again. The reply to p is lost once, and the message is once.
 fn survives(alloc: Global, left: u32, halves: usize) -> Option<bool> {
     let mut network = network(alloc, "rla");
     let mut file = MemoryDevice::new(alloc, Vec::new(alloc));
-    let _ = go_on(alloc, &mut network, failing(&mut file, left, halves));
-    let is_whole = go_on(alloc, &mut network, failing(&mut file, u32::MAX, halves))?;
+    let _ = go_on(alloc, &mut network, failing_after(&mut file, left, halves));
+    let is_whole = go_on(
+        alloc,
+        &mut network,
+        failing_after(&mut file, u32::MAX, halves),
+    )?;
     Some(is_whole && network.desk.acted.as_str() == "pq")
 }
 

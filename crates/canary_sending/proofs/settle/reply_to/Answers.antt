@@ -9,6 +9,11 @@ returns-in_err-reply-clause-why g c =
     let p = err_from_is_err_and c.from_residual.result c.from_residual.ensures.1 in
     rw (p.1, p.2) (c.in_err-reply.ensures.why c.args.tries)
 
+pub returns-in_err-reply-clause-network : goal.returns-in_err-reply-clause-network
+returns-in_err-reply-clause-network g c =
+    let some : 0 < c.args.tries = omega (arith, c.loop-tried-test.true) in
+    one_more g.N.Network.was_sent g.N.Network.was_told g.N.Network.was_unanswered c.args.tries c.args.journal.now c.args.network.now c.loop-tried.network c.try_each.new.network some c.loop-tried.invariant.network c.try_each.ensures.network
+
 pub returns-in-Settled-clause-network : goal.returns-in-Settled-clause-network
 returns-in-Settled-clause-network g c =
     let some : 0 < c.args.tries = omega (arith, c.loop-tried-test.true) in
