@@ -56,7 +56,10 @@ def try_part(name, world):
 
 def end_all(*_):
     for process in [*running]:
-        process.kill()
+        if getattr(process, "is_of_group", False):
+            os.killpg(process.pid, signal.SIGKILL)
+        else:
+            process.kill()
     os._exit(143)
 
 

@@ -52,6 +52,7 @@ def run_session(world, name, document, heading):
         ["bash", "-c", script_of(code_of(document, heading), port)], cwd=place,
         env=environment(CANARY_DESK=f"127.0.0.1:{port}"), stdin=subprocess.DEVNULL,
         stdout=subprocess.PIPE, stderr=subprocess.PIPE, start_new_session=True)
+    session.is_of_group = True
     running.add(session)
     try:
         output, errors = session.communicate(timeout=100)

@@ -54,7 +54,8 @@ def line(status, step, weight, version="v2"):
 
 @contextlib.contextmanager
 def watching(world, desk, *words):
-    with process([world.program, "watch", "--desk", f"127.0.0.1:{desk.port}", *words, "web"],
+    with process([world.program, "watch", "--desk", f"127.0.0.1:{desk.port}", "--tries", "100",
+                  *words, "web"],
                  cwd=desk.folder, env=environment(), stdin=subprocess.DEVNULL,
                  stdout=subprocess.PIPE, stderr=subprocess.PIPE) as watch:
         yield watch

@@ -93,7 +93,7 @@ def try_reports(world):
         # somebody else reports, too
         other = Caller(desk, "other")
         other.send({"report": {"service": "web", "run": 1, "entries": [
-            {"metric": "m", "ordinal": 6, "taken": begun, "result": 7}]}}, 200)
+            {"metric": "m", "ordinal": 6, "taken": int(time.time()), "result": 7}]}})
         want("behind another", desk.do("report", "web", "1", "m", "8", **agent), DONE,
              recorded("Successful"))
         expect("measurements", measured(desk), [

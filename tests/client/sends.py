@@ -49,7 +49,7 @@ def try_send(world):
         add_measured(desk, metric("m", "0s"))
         desk.write("rows.csv", rows_of(ROWS, int(time.time())))
         whole, kills = lines_of(ROWS), 0
-        words = [world.program, "send", "--desk", f"127.0.0.1:{desk.port}", "--tries", "6",
+        words = [world.program, "send", "--desk", f"127.0.0.1:{desk.port}", "--tries", "100",
                  "rows.csv"]
         for at in range(6):
             with process(words, cwd=desk.folder, env=environment(), stdin=subprocess.DEVNULL,
