@@ -2,10 +2,10 @@
 //! on the same arguments, as in growths.rt. A call that may not be made again on what it left is
 //! made anew.
 ghost use Rattle.std.specs.Prelude.{IfSome};
-ghost use Rattle.canary_sending.specs.Keeping.{IsKept};
+ghost use Rattle.canary_records.specs.Texts.{HasNoLf};
 
 use crate::growths::{is_right, refused};
-use crate::settling::{answering, journal, reply, send, text, wish};
+use crate::settling::{answering, journal, reply, send, wish};
 use canary_base::error::Memory;
 use canary_base::lists::Text;
 use canary_base::names::Name;
@@ -25,10 +25,7 @@ use std::alloc::Global;
 use std::process::Abort;
 use std::test::Fail;
 
-/// The line with which the journal of ops begins, of whom the desk had settled four requests.
-const BEGUN: &str = "{\"begun\":{\"caller\":\"ops\",\"settled\":4}}";
-
-/// A file with that line.
+/// A file in which the journal of ops begins, of whom the desk had settled four requests.
 const FILE: &str = "+{\"begun\":{\"caller\":\"ops\",\"settled\":4}}\n-";
 
 /// The line of a wish whose body is p.
@@ -62,9 +59,19 @@ fn recovered(alloc: Global, device: &mut MemoryDevice) -> Option<bool> {
     }
 }
 
+fn begun_line(alloc: Global) -> Option<Text>
+    ensures { IfSome result HasNoLf }
+{
+    let caller = ops()?;
+    match lines::line(alloc, &Entry::Begun { caller, settled: 4 }) {
+        Ok(line) => Some(line),
+        Err(Memory) => None,
+    }
+}
+
 // Whether a text is added to an empty file.
 fn added(alloc: Global) -> Option<bool> {
-    let line = text(alloc, BEGUN)?;
+    let line = begun_line(alloc)?;
     let mut device = device(alloc, "")?;
     let found = recover(alloc, &mut device).ok()??;
     let mut store = Store {
