@@ -8,6 +8,7 @@ import struct
 import subprocess
 import sys
 
+from asking import ask_refused
 from conversation import STILL_AT_B, reply_of
 from serving import converse_with_desk
 from story_tables import expect_tables
@@ -315,6 +316,11 @@ def try_shown(trial, share):
         try_line(trial, row, words, (0, shown, b""), share, on_file=True)
 
 
+def try_client(trial, _):
+    """The client, with each of its own allocations refused, beside a desk that has memory."""
+    ask_refused(trial, EACH)
+
+
 def try_backup(trial, share):
     """`backup` makes a copy of a desk's file, or leaves none."""
     make_files(trial)
@@ -341,7 +347,8 @@ def try_backup(trial, share):
     share.refuse_each("backup", refuse)
 
 
-CASES = (try_lines, try_stream, try_file, try_opened, try_serve, try_import, try_shown, try_backup)
+CASES = (try_lines, try_stream, try_file, try_opened, try_serve, try_import, try_shown, try_client,
+         try_backup)
 
 
 def main():

@@ -1,7 +1,7 @@
 -- How a call of `do` ends by what settled a number.
-use Rattle.std.specs.Prelude.{◌==◌, ◌||◌, Bool, if◌then◌else◌, is_none}
-use Rattle.core.specs.Bool.{beq}
+use Rattle.std.specs.Prelude.{◌==◌, ◌||◌, Bool, true, false, if◌then◌else◌, is_none}
 use Rattle.canary_journal.specs.declared.entry.Kept.{Kept}
+use Rattle.canary_journal.specs.declared.entry.Reply.{Reply}
 use Rattle.canary_client.specs.declared.outcome.Outcome.{Outcome}
 use Rattle.canary_client.specs.declared.outcome.Outcome.TheVariants.{Done, Refused, Late}
 
@@ -9,7 +9,11 @@ use Rattle.canary_client.specs.declared.outcome.Outcome.TheVariants.{Done, Refus
 abbrev pub acted : Kept → Bool
 acted k = is_none k.asked.instead || k.reply.is_late
 
--- of the wish and what was asked in its place one acted: by its reply that one's call ends
+-- by the reply to the command that acted
+abbrev pub by_reply : Reply → Outcome
+by_reply reply = if reply.status == 200 then Done else Refused
+
+-- of the wish, or of what was asked in its place: one of the two acted
 abbrev pub outcome_by : Bool → Kept → Outcome
-outcome_by is_wish k =
-    if beq (acted k) is_wish then (if k.reply.status == 200 then Done else Refused) else Late
+outcome_by true k = if acted k then by_reply k.reply else Late
+outcome_by false k = if acted k then Late else by_reply k.reply

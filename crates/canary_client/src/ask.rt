@@ -1,7 +1,7 @@
 //! `do`: a command, once.
 ghost use Rattle.std.specs.Prelude.{IfOk, OnOk, ◌≡◌};
 ghost use Rattle.canary_sending.specs.Keeping.{IsKept};
-ghost use Rattle.canary_client.specs.Asking.{acted, outcome_by};
+ghost use Rattle.canary_client.specs.Asking.{acted, by_reply, outcome_by};
 
 use crate::journals::{asked, asked_instead, journal_on, settled};
 use crate::outcome::{Outcome, Stop, say, show, tell};
@@ -11,7 +11,7 @@ use crate::report::{next_ordinal, report_body};
 use crate::tcp::Tcp;
 use crate::wish::{Asking, read_asking};
 use canary_base::lists::Text;
-use canary_journal::entry::{Kept, Place, Wish};
+use canary_journal::entry::{Kept, Place, Reply, Wish};
 use canary_journal::journal::Journal;
 use canary_records::device::Device;
 use canary_records::file::{FileDevice, OpenFault, sync_folder};
@@ -271,9 +271,23 @@ fn show_settled<D: Device, W: Write, F: Write>(
 fn outcome_of(kept: &Kept, is_wish: bool) -> Outcome
     ensures { result ≡ outcome_by is_wish kept.now }
 {
-    if acted(kept) != is_wish {
+    if is_wish {
+        if acted(kept) {
+            by_reply(&kept.reply)
+        } else {
+            Outcome::Late
+        }
+    } else if acted(kept) {
         Outcome::Late
-    } else if kept.reply.status == 200 {
+    } else {
+        by_reply(&kept.reply)
+    }
+}
+
+fn by_reply(reply: &Reply) -> Outcome
+    ensures { result ≡ by_reply reply.now }
+{
+    if reply.status == 200 {
         Outcome::Done
     } else {
         Outcome::Refused

@@ -1,0 +1,72 @@
+"""The client, of which one allocation is refused, beside a desk in memory: a part of refused.py."""
+import contextlib
+import os
+import re
+import subprocess
+
+from story_words import Wrong, expect
+
+LISTENING = re.compile(rb"listening (127\.0\.0\.1:\d+)\n")
+MANIFEST = (b'{"metadata":{"name":"web"},"spec":{"strategy":{"canary":{"steps":[{"setWeight":20},'
+            b'{"pause":{}}]}}}}')
+PAUSED = b'{"code":"ok","service":"web","status":"Paused","step":1,"weight":20}\n'
+# What a call may come to if it finds no memory: nothing was asked, or it is asked again.
+NO_MEMORY = [
+    (1, b"", b"canary: memory"),
+    (5, b"", b"canary: out of memory"),
+    (5, b"", b"canary: the journal cannot be opened, read or written"),
+]
+
+
+@contextlib.contextmanager
+def desk_of(program):
+    """A desk in memory, and the address on which it listens."""
+    words = [program, "serve", "--listen", "127.0.0.1:0"]
+    with subprocess.Popen(words, stdout=subprocess.PIPE, stderr=subprocess.DEVNULL,
+                          stdin=subprocess.DEVNULL) as desk:
+        try:
+            yield LISTENING.fullmatch(desk.stdout.readline())[1].decode()
+        finally:
+            desk.kill()
+
+
+def call(trial, address, words):
+    """The words of a call of `do` with the trial's journal."""
+    return ["do", "--desk", address, "--as", "ops", "--journal", trial.file, *words]
+
+
+def refuse_in(trial, row, words, wanted):
+    """A function that refuses an allocation of a call, and makes it again with nothing refused."""
+    def refuse(number):
+        found = trial.run(words(number), number)
+        asked = trial.asked()
+        if found[:2] != wanted[:2] and found not in NO_MEMORY:
+            raise Wrong(f"{row}: when allocation {number} is refused: {found!r}")
+        expect(f"{row}: after a refusal of allocation {number}", trial.run(words(number)), wanted)
+        return asked
+
+    return refuse
+
+
+def ask_refused(trial, share):
+    """Commands with keys of their own, and a query: each gets its reply, or says why not; and the
+    same call gets it then."""
+    manifest = trial.rows
+    with open(manifest, "wb") as file:
+        file.write(MANIFEST)
+    with contextlib.suppress(FileNotFoundError):
+        os.remove(trial.file)
+    with desk_of(trial.program) as address:
+        begun = trial.run(call(trial, address, ["service", manifest, "v1"]))
+        expect("client: a service", begun[0], 0)
+        started = trial.run(call(trial, address, ["start", "web", "v2"]))
+        expect("client: a start", started, (0, PAUSED, b""))
+        wanted = (0, PAUSED, b"")
+        share.refuse_each("client do", refuse_in(
+            trial, "client do",
+            lambda number: call(trial, address, ["--once", str(number), "tick", "web"]), wanted))
+        query = ["get", "--desk", address, "web", "history"]
+        shown = trial.run(query)
+        expect("client: a history", shown[0], 0)
+        share.refuse_each("client get", refuse_in(
+            trial, "client get", lambda number: query, shown))
