@@ -1,6 +1,6 @@
 -- Each entry of a journal is a step of the caller that it is of.
-use Rattle.std.proofs.Common.{◌≡◌, ◌≢◌, ℕ, zero, suc, ◌+◌, List, [], ◌∷◌, ◌++◌, length, Bool, true, false, Option, Some, None, refl, sym, ap, ◌∙◌, subst, arith, append-nil, length-append}
-use Rattle.std.specs.Prelude.{◌==◌, not, nat_lt, cond, if◌then◌else◌, ◌&&◌, map, option_map, is_some, is_none, unwrap_or, ⊤}
+use Rattle.std.proofs.Common.{◌≡◌, ℕ, suc, ◌+◌, List, [], ◌∷◌, ◌++◌, length, Bool, true, false, Option, Some, None, refl, sym, ap, ◌∙◌, subst, arith, append-nil, length-append}
+use Rattle.std.specs.Prelude.{◌==◌, not, nat_lt, if◌then◌else◌, ◌&&◌, map, option_map, is_some, is_none, unwrap_or}
 use Rattle.std.proofs.lemmas.Bool.Decides.{nat_tests}
 use Rattle.canary_plan.specs.declared.command.Command.{Command}
 use Rattle.canary_once.specs.declared.book.Receipt.{Receipt}
@@ -13,9 +13,9 @@ use Rattle.canary_journal.specs.declared.entry.Reply.{Reply}
 use Rattle.canary_journal.specs.declared.entry.Entry.TheVariants as entry
 use Rattle.canary_journal.specs.declared.entry.Refusal.{Refusal}
 use Rattle.canary_journal.specs.declared.entry.Refusal.TheVariants as refusal
-use Rattle.canary_journal.specs.Journals.{JournalValue, number_of, is_used, refusal_of, with_entry, kept_with, replaced}
-use Rattle.canary_senders.specs.Delivery.{World, Answered, asks, asks_instead, with_last, notes, hears, settles}
-use Rattle.canary_senders.specs.Journaling.{one_if_any, bodies_of, asked_in, replied_body, AreAsked, IsHeard, AreHeard, IsJournalOf, Begins, Asks, AsksInstead, Hears}
+use Rattle.canary_journal.specs.Journals.{JournalValue, number_of, is_used, with_entry, kept_with, replaced}
+use Rattle.canary_senders.specs.Delivery.{World, asks, asks_instead, with_last, notes, hears}
+use Rattle.canary_senders.specs.Journaling.{one_if_any, bodies_of, asked_in, AreAsked, IsHeard, AreHeard, IsJournalOf, Begins, Asks, AsksInstead, Hears}
 
 -- Lengths.
 

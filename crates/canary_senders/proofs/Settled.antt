@@ -19,16 +19,15 @@ use Rattle.canary_journal.specs.declared.entry.Reply.{Reply}
 use Rattle.canary_journal.specs.declared.entry.Refusal.{Refusal}
 use Rattle.canary_journal.specs.declared.entry.Refusal.TheVariants as refusal
 use Rattle.canary_journal.specs.declared.entry.Entry.TheVariants as entry
-use Rattle.canary_journal.specs.declared.meaning.Meaning.{Meaning}
 use Rattle.canary_journal.specs.declared.meaning.Meaning.TheVariants as means
 use Rattle.canary_journal.specs.Journals as journals
 use Rattle.canary_journal.specs.Journals.{JournalValue, number_of, refusal_of}
-use Rattle.canary_journal.specs.Meanings.{ahead, conflict, meaning_by, meaning_in, meaning_of}
+use Rattle.canary_journal.specs.Meanings.{ahead, meaning_by, meaning_in, meaning_of}
 use Rattle.canary_sending.specs.Messages.{request_text}
-use Rattle.canary_sending.specs.Sending.{body_of, message_of}
-use Rattle.canary_senders.specs.Delivery.{World, settles, hears, one_of}
-use Rattle.canary_senders.specs.Journaling.{one_if_any, bodies_of, asked_in, AreAsked, AreHeard, IsJournalOf}
-use Rattle.canary_senders.specs.Settling.{IsRequest, Sends, IsAnswer, Settles}
+use Rattle.canary_sending.specs.Sending.{body_of}
+use Rattle.canary_senders.specs.Delivery.{settles, hears, one_of}
+use Rattle.canary_senders.specs.Journaling.{one_if_any, bodies_of, AreAsked, IsJournalOf}
+use Rattle.canary_senders.specs.Settling.{Sends, Settles}
 use Rattle.canary_senders.proofs.Journaled.{length_heard, length_map, hears_step}
 
 -- Sent.
