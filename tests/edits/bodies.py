@@ -1,18 +1,20 @@
 """The functions of a source file in the layout of `rt fmt`, by its lines, and their names in what a
-check says: `durations::Seconds::new`, `names::NameDisplay::fmt`."""
+check says: `Seconds::new` of the module `durations::`, `NameDisplay::fmt` of `names::`."""
 import collections
 import re
 
-# A function of a file: its name with its module, and the numbers of its first line, of the line
-# that opens its body and of its last line, from 1.
-Function = collections.namedtuple("Function", "name first body last")
+# A function of a file: the module by which it is named, which is that of its type if the impl is of
+# no trait; its name there; and the numbers of its first line, of the line that opens its body and
+# of its last line, from 1.
+Function = collections.namedtuple("Function", "module name first body last")
 
 HEAD = re.compile(r"( *)(?:pub(?:\(\w+\))? )?fn (\w+)")
+TYPE = re.compile(r"^(?:pub(?:\(\w+\))? )?(?:struct|enum) (\w+)", re.MULTILINE)
 BLOCK = re.compile(r"(?:pub(?:\(\w+\))? )?(?:impl\b|trait (\w+))(.*)")
 
 
 def without_parameters(text):
-    """The text without its outermost `<..>`."""
+    """The text without what stands between `<` and `>`."""
     made, depth = "", 0
     for letter in text:
         depth += letter == "<"
@@ -21,26 +23,27 @@ def without_parameters(text):
     return made
 
 
-def name_of_impl(text):
-    """`Seconds` for `Seconds`, `SecondsDisplay` for `fmt::Display for Seconds`, and
-    `MemoryFromAllocError` for `From<AllocError> for Memory`."""
+def after_parameters(text):
+    """The text behind the parameters with which it begins, if it does."""
     depth = 0
-    if text.startswith("<"):
-        for at, letter in enumerate(text):
-            depth += (letter == "<") - (letter == ">")
-            if depth == 0:
-                text = text[at + 1 :]
-                break
-    of_trait, is_of_trait, of_type = text.partition(" for ")
+    for at, letter in enumerate(text if text.startswith("<") else ""):
+        depth += (letter == "<") - (letter == ">")
+        if depth == 0:
+            return text[at + 1 :]
+    return text
+
+
+def name_of_impl(text):
+    """The type of an impl that is of no trait, and the name of the impl: `Seconds` twice for
+    `Seconds`; none and `MemoryFromAllocError` for `From<AllocError> for Memory`."""
+    first, is_of_trait, second = after_parameters(text).partition(" for ")
+    of_type = without_parameters(second or first).partition(" where ")[0].strip()
+    name = re.search(r"\w+$", of_type)[0]
     if not is_of_trait:
-        of_trait, of_type = "", text
-    last = re.compile(r"(\w+)\s*(?:where.*)?$", re.DOTALL)
-    name = last.search(without_parameters(of_type).strip())[1]
-    if of_trait:
-        trait, _, given = of_trait.strip().partition("<")
-        given = re.findall(r"\w+(?![\w:'])", without_parameters(given.removesuffix(">")))
-        name += trait.split("::")[-1] + "".join(given)
-    return name
+        return name, name
+    trait, _, given = first.strip().partition("<")
+    given = re.findall(r"\w+(?![\w:'])", without_parameters(given.removesuffix(">")))
+    return None, name + trait.split("::")[-1] + "".join(given)
 
 
 def module_of(file):
@@ -49,22 +52,31 @@ def module_of(file):
     return "" if path in ("lib", "main") else path.replace("/", "::") + "::"
 
 
+def homes_of(files):
+    """The modules of the types that the files declare, by name; `files` has texts by paths."""
+    return {name: module_of(file) for file, text in files.items() for name in TYPE.findall(text)}
+
+
 def body_of(lines, at, indent):
     """The places of the lines that open and close the body of the function that begins at a place;
     both are the last line of the head if there is none."""
+    depth = 0
     for place in range(at, len(lines)):
         line = lines[place]
         is_clause = place > at and line.startswith(f"{indent}  ")
-        if line.endswith(("{}", ";")):
+        depth += sum(line.count(it) for it in "({") - sum(line.count(it) for it in ")}")
+        if depth == 0 and line.endswith(("{}", ";")):
             return place, place
         if line.endswith("{") and not is_clause:
             return place, lines.index(f"{indent}}}", place)
     raise ValueError(f"no body: {lines[at]}")
 
 
-def functions_of(file, text):
-    """The functions of a file, in their order."""
-    lines, found, block, place = text.split("\n"), [], "", 0
+def functions_of(file, text, homes):
+    """The functions of a file, in their order. `homes` has the modules of types, by name."""
+    lines, found, place = text.split("\n"), [], 0
+    block, own = "", module_of(file)
+    module = own
     while place < len(lines):
         line = lines[place]
         opened = BLOCK.match(line)
@@ -73,14 +85,14 @@ def functions_of(file, text):
             while not head.endswith("{"):
                 place += 1
                 head += " " + lines[place]
-            block = opened[1] or name_of_impl(head.removesuffix("{").strip())
+            name = (None, opened[1]) if opened[1] else name_of_impl(head[:-1].strip())
+            module, block = homes.get(name[0], own), name[1] + "::"
         elif line == "}":
-            block = ""
+            module, block = own, ""
         head = HEAD.match(lines[place])
         if head and head[1] == (" " * 4 if block else ""):
             body, last = body_of(lines, place, head[1])
-            name = module_of(file) + (f"{block}::" if block else "") + head[2]
-            found.append(Function(name, place + 1, body + 1, last + 1))
+            found.append(Function(module, block + head[2], place + 1, body + 1, last + 1))
             place = last
         place += 1
     return found

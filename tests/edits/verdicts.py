@@ -4,6 +4,9 @@ import re
 from bodies import module_of
 
 REFUSED, BY_NAME, AT_LIMIT = "refused", "refused by a name alone", "refused by a limit"
+# A goal is open, and a proof file names what is gone: the first may be so for the second alone.
+WITH_NAME = "refused, with a name gone"
+REFUSALS = {REFUSED, BY_NAME, AT_LIMIT, WITH_NAME}
 PROVED, BAD, UNTRIED = "PROVED", "bad edit", "not tried"
 
 LOCATED = re.compile(r"(?:note: )?(?:\./)?((?:src|specs|proofs)/\S+?):(\d+):\d+: (.*)")
@@ -13,12 +16,16 @@ NAMES = re.compile(r"(?:note: )?(?:\./)?proofs/.*"
 COMPILER = re.compile(r"(?:\./)?(src/\S+?):(\d+):\d+: error\[[\w-]+\]")
 
 
-def places_of(file, name):
-    """How the folder of a function's proof begins, and that of one of its closures."""
-    module = module_of(file)
-    rest = name.removeprefix(module)
-    for path in (module + rest, f"{module}fn::{rest}"):
-        yield "proofs/" + path.replace("::", "/") + "/"
+def paths_of(file, function):
+    """How a function's name begins below its crate, and how that of a closure in it may."""
+    yield function.module + function.name
+    for module in sorted({function.module, module_of(file)}):
+        yield f"{module}fn::{function.name}"
+
+
+def folders_of(file, function):
+    """The folders of a function's proof, and of those of its closures."""
+    return ["proofs/" + it.replace("::", "/") + "/" for it in paths_of(file, function)]
 
 
 def is_about(line, file, function):
@@ -28,45 +35,62 @@ def is_about(line, file, function):
         return False
     if at[1] == file:
         return function.first <= int(at[2]) <= function.last
-    return any(at[1].startswith(it) for it in places_of(file, function.name))
+    return any(at[1].startswith(it) for it in folders_of(file, function))
 
 
 def fails(lines, crate, file, function):
     """Whether a check says that the function, or a closure in it, has no proof."""
-    module = module_of(file)
-    rest = function.name.removeprefix(module)
-    heads = (f"fn {crate}::{function.name}: ", f"fn {crate}::{module}fn::{rest}::")
+    own, *closures = (f"fn {crate}::{it}" for it in paths_of(file, function))
+    heads = (f"{own}: ", *(f"{it}::" for it in closures))
     said = [it for it in lines if it.startswith(heads)]
     return any(re.search(": (?:no proof|not proved)", it) for it in said)
 
 
 def reads(lines):
     """Whether the check came to the prover, and went through all that it could."""
-    return bool(lines) and lines[-1].startswith("logic=not-proved")
+    return bool(lines) and lines[-1].startswith(("logic=", "only="))
+
+
+def of_lines(told):
+    """The verdict by these lines of a check, and the line that tells it; no verdict, and why, if it
+    is not clear."""
+    named = [it for it in told if NAMES.match(it)]
+    # An open goal, or one that its answer or a lemma does not prove.
+    goals = [it for it in told if "it is not proved that" in it or ": error: `" in it]
+    goals = [it for it in goals if it not in named]
+    gone = [it for it in named if "was not admitted" not in it]
+    if goals:
+        return WITH_NAME if gone else REFUSED, goals[0]
+    if named:
+        return BY_NAME, named[0]
+    return None, f"not clear: {told[0]}" if told else "what it changes is proved"
 
 
 def of_edit(lines, crate, edit):
-    """The verdict on a bug of a group, and the line that tells it; none if it is not clear."""
+    """The verdict on a bug of a group, by what is said of the functions that it changes."""
     told = []
-    for file, function in edit.functions:
+    for file, function in sorted(edit.changed):
         if fails(lines, crate, file, function):
             told += [it for it in lines if is_about(it, file, function)]
-    told = [it for it in told if ": error" in it or it.startswith("note: ")]
-    clear = [it for it in told if not NAMES.match(it)]
-    goals = [it for it in clear if "it is not proved that" in it]
-    if goals and len(clear) == len(told):
-        return REFUSED, goals[0]
-    if told and not clear:
-        return BY_NAME, told[0]
-    return None
+    return of_lines(told)
+
+
+def of_laws(lines):
+    """The verdict on a bug, by all that a check of the laws says."""
+    is_proved = re.fullmatch(r"only=(\d+) proved=\1", lines[-1])
+    return of_lines([it for it in lines if LOCATED.match(it) and not is_proved])
 
 
 def faulty(lines, edits):
-    """The bugs of a group in whose functions the compiler finds an error."""
-    errors = [(it[1], int(it[2])) for it in map(COMPILER.match, lines) if it]
-    return [edit for edit in edits for at, line in errors
-            if any(at == file and function.first <= line <= function.last
-                   for file, function in edit.functions)]
+    """The bugs of a group in whose functions the compiler finds an error, with its first line."""
+    errors = [(it[1], int(it[2]), it.string) for it in map(COMPILER.match, lines) if it]
+    found = []
+    for edit in edits:
+        told = [said for at, line, said in errors
+                if any(at == file and function.first <= line <= function.last
+                       for file, function in edit.changed)]
+        found += [(edit, told[0])] if told else []
+    return found
 
 
 def of_try(kind, said):

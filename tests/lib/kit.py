@@ -68,13 +68,17 @@ def stamp_in(clone, crate):
         return None
 
 
+def take_library(crate, clone):
+    """Takes the library of a crate from another clone, where it is built of the same sources."""
+    if not crate.is_program and not crate.is_built() and stamp_in(clone, crate) == crate.stamp():
+        link(f"{clone}/crates/{crate.name}/out/rlib", f"{crate.folder}/out/rlib")
+
+
 def take(crates, clone):
     """Takes from another clone what its checks kept, and each library of the same sources."""
     for crate in sorted(crates, key=lambda it: len(it.below())):
-        there = f"{clone}/crates/{crate.name}/out"
+        there = f"{clone}/crates/{crate.name}/out/incremental"
         kept = f"{crate.folder}/out/incremental"
-        if os.path.isdir(f"{there}/incremental") and not os.path.isdir(kept):
-            link(f"{there}/incremental", kept)
-        is_lacking = not crate.is_program and not crate.is_built()
-        if is_lacking and stamp_in(clone, crate) == crate.stamp():
-            link(f"{there}/rlib", f"{crate.folder}/out/rlib")
+        if os.path.isdir(there) and not os.path.isdir(kept):
+            link(there, kept)
+        take_library(crate, clone)
