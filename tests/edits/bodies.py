@@ -4,8 +4,8 @@ import collections
 import re
 
 # A function of a file: the module by which it is named, which is that of its type if the impl is of
-# no trait; its name there; and the numbers of its first line, of the line that opens its body and
-# of its last line, from 1.
+# no trait; its name there; and the numbers of its first line, attributes among them, of the line
+# that opens its body and of its last line, from 1.
 Function = collections.namedtuple("Function", "module name first body last")
 
 HEAD = re.compile(r"( *)(?:pub(?:\(\w+\))? )?fn (\w+)")
@@ -72,6 +72,13 @@ def body_of(lines, at, indent):
     raise ValueError(f"no body: {lines[at]}")
 
 
+def first_of(lines, at):
+    """The place of the first line of the function at a place, with its attributes."""
+    while at > 0 and lines[at - 1] and not lines[at - 1].endswith(("}", ";", "{")):
+        at -= 1
+    return at
+
+
 def functions_of(file, text, homes):
     """The functions of a file, in their order. `homes` has the modules of types, by name."""
     lines, found, place = text.split("\n"), [], 0
@@ -92,7 +99,8 @@ def functions_of(file, text, homes):
         head = HEAD.match(lines[place])
         if head and head[1] == (" " * 4 if block else ""):
             body, last = body_of(lines, place, head[1])
-            found.append(Function(module, block + head[2], place + 1, body + 1, last + 1))
+            first = first_of(lines, place)
+            found.append(Function(module, block + head[2], first + 1, body + 1, last + 1))
             place = last
         place += 1
     return found

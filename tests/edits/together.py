@@ -3,7 +3,9 @@ import argparse
 import collections
 import concurrent.futures
 import os
+import resource
 import shutil
+import signal
 import subprocess
 import sys
 import tempfile
@@ -52,16 +54,19 @@ class Trial:
     def call(self, words, room):
         words = [self.rt.rtlib.RATTLE, "check", *words]
         how = {"cwd": room, "stdin": subprocess.DEVNULL, "stdout": subprocess.PIPE,
-               "stderr": subprocess.STDOUT, "errors": "replace", "timeout": self.limit}
-        try:
-            ran = subprocess.run([*self.rt.rtlib.guarded(), *words], **how, check=False)
-        except subprocess.TimeoutExpired:
-            ran = subprocess.CompletedProcess(words, 124, f"no end in {self.limit} seconds\n")
+               "stderr": subprocess.STDOUT, "errors": "replace", "preexec_fn": self.limit_time}
+        ran = subprocess.run([*self.rt.rtlib.guarded(), *words], **how, check=False)
+        if ran.returncode in (-signal.SIGXCPU, -signal.SIGKILL):
+            ran.returncode, ran.stdout = 124, f"no end in {self.limit} seconds\n"
         with open(f"{self.logs}/{self.log}.log", "w", encoding="utf-8") as it:
             it.write(f"{ran.stdout}\nstatus {ran.returncode}\n")
         if ran.returncode == 2:
             raise Stopped(ran.stdout.split("\n")[0])
         return ran
+
+    def limit_time(self):
+        """Has this process end after so many seconds of a processor, also on a busy machine."""
+        resource.setrlimit(resource.RLIMIT_CPU, (self.limit, self.limit + 5))
 
     def check_group(self, edits, flags=()):
         """What a check says of the functions that the bugs change."""
@@ -78,8 +83,13 @@ class Trial:
 
     def settle(self, edit, verdict, how, said):
         self.verdicts[edit.name] = (verdict, how, said)
+        self.note(f"{edit.name}: {verdict}, {how}: {said}")
         if verdict != verdicts.REFUSED:
             print(f"{self.crate.name}/{edit.name}: {verdict}, {how}: {said}", flush=True)
+
+    def note(self, text):
+        with open(f"{self.logs}/verdicts", "a", encoding="utf-8") as it:
+            it.write(f"{text}\n")
 
     def try_group(self, edits, number):
         """Plants a group at once, and gives the bugs of which it tells nothing clear, with why."""
@@ -111,7 +121,7 @@ class Trial:
         return self.settle(edit, verdicts.of_try(kind, said), "alone", said.replace("\n", " | "))
 
     def try_laws(self, edit, why):
-        """Tries a bug that changes more than bodies on the crate's laws; a lean trial does no more."""
+        """Tries a bug that changes more than bodies on the laws. A lean trial does no more."""
         if edit.stays_inside or planting.LAWS not in self.source.texts:
             return self.settle(edit, verdicts.UNTRIED, "lean", why)
         lines = self.check_group([edit], ["--only", "laws"])
@@ -140,15 +150,12 @@ class Trial:
         told = ", ".join(f"{count} {verdict}" for verdict, count in counts.most_common())
         times = f"{self.checks} checks, {seconds:.0f} s"
         print(f"{self.crate.name}: {len(edits)} planted bugs: {told}; {times}", flush=True)
-        with open(f"{self.logs}/verdicts", "a", encoding="utf-8") as it:
-            for edit in edits:
-                it.write(f"{edit.name}: {': '.join(self.verdicts[edit.name])}\n")
-            it.write(f"{times}\n")
+        self.note(f"{len(edits)} planted bugs: {told}; {times}")
 
 
 def made_ready(crate, given):
-    """Whether the libraries below the crate are built here; and, unless the trial is lean, the crate
-    is proved, and what its check kept is there."""
+    """Whether the libraries below the crate are built here; and, unless the trial is lean, the
+    crate is proved, and what its check kept is there."""
     clone = given.clone and os.path.abspath(given.clone)
     for it in crate.below():
         if clone:
@@ -172,7 +179,7 @@ def words_given(words):
     made.add_argument("--lanes", type=int, default=1, help="so many crates at a time")
     made.add_argument("--from", dest="clone", help="a clone whose proved work is taken")
     made.add_argument("--lean", action="store_true", help="for a crate that is not proved yet")
-    made.add_argument("--limit", type=int, default=900, help="the most seconds of a check")
+    made.add_argument("--limit", type=int, default=900, help="the most processor seconds of a check")
     made.add_argument("crates", nargs="*", metavar="CRATE[/EDIT]", help="these alone")
     return made.parse_intermixed_args(words)
 

@@ -13,6 +13,8 @@ LOCATED = re.compile(r"(?:note: )?(?:\./)?((?:src|specs|proofs)/\S+?):(\d+):\d+:
 # A line of a proof file that names what a bug took away; `rt must-fail` has the same.
 NAMES = re.compile(r"(?:note: )?(?:\./)?proofs/.*"
                    r"(?:has no field|is not in scope|has no `|was not admitted)")
+# An open goal, or one that its answer or a lemma does not prove.
+GOAL = re.compile(r"it is not proved that|`search` found no proof|: error: `")
 COMPILER = re.compile(r"(?:\./)?(src/\S+?):(\d+):\d+: error\[[\w-]+\]")
 
 
@@ -38,41 +40,45 @@ def is_about(line, file, function):
     return any(at[1].startswith(it) for it in folders_of(file, function))
 
 
-def fails(lines, crate, file, function):
-    """Whether a check says that the function, or a closure in it, has no proof."""
+def said_of(lines, crate, file, function):
+    """The lines in which a check says that the function, or a closure in it, has no proof."""
     own, *closures = (f"fn {crate}::{it}" for it in paths_of(file, function))
     heads = (f"{own}: ", *(f"{it}::" for it in closures))
     said = [it for it in lines if it.startswith(heads)]
-    return any(re.search(": (?:no proof|not proved)", it) for it in said)
+    return [it for it in said if re.search(": (?:no proof|not proved|could not tell)", it)]
 
 
 def reads(lines):
     """Whether the check came to the prover, and went through all that it could."""
-    return bool(lines) and lines[-1].startswith(("logic=", "only="))
+    return bool(lines) and lines[-1].startswith(("logic=", "only=", "rattle: no verdict"))
 
 
 def of_lines(told):
     """The verdict by these lines of a check, and the line that tells it; no verdict, and why, if it
     is not clear."""
     named = [it for it in told if NAMES.match(it)]
-    # An open goal, or one that its answer or a lemma does not prove.
-    goals = [it for it in told if "it is not proved that" in it or ": error: `" in it]
-    goals = [it for it in goals if it not in named]
+    goals = [it for it in told if GOAL.search(it) and it not in named]
     gone = [it for it in named if "was not admitted" not in it]
     if goals:
         return WITH_NAME if gone else REFUSED, goals[0]
     if named:
         return BY_NAME, named[0]
-    return None, f"not clear: {told[0]}" if told else "what it changes is proved"
+    return None, f"not clear: {told[0]}" if told else "it is proved"
 
 
 def of_edit(lines, crate, edit):
     """The verdict on a bug of a group, by what is said of the functions that it changes."""
-    told = []
+    told, unproved = [], []
     for file, function in sorted(edit.changed):
-        if fails(lines, crate, file, function):
-            told += [it for it in lines if is_about(it, file, function)]
-    return of_lines(told)
+        said = said_of(lines, crate, file, function)
+        told += [it for it in lines if said and is_about(it, file, function)]
+        unproved += said
+    verdict, said = of_lines(told)
+    limits = [it for it in unproved if ": could not tell" in it]
+    if limits and not verdict:
+        return AT_LIMIT, limits[0]
+    # A function may have no proof for what it calls alone.
+    return (verdict, said) if verdict or not unproved else (None, f"not clear: {unproved[0]}")
 
 
 def of_laws(lines):
