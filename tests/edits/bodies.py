@@ -47,7 +47,7 @@ def name_of_impl(text):
 
 
 def module_of(file):
-    """`a::b::` for src/a/b.rt, and nothing for the root."""
+    """`a::b::` for the file b in the folder a of src, and nothing for the root."""
     path = file.removeprefix("src/").removesuffix(".rt").removesuffix("/mod")
     return "" if path in ("lib", "main") else path.replace("/", "::") + "::"
 

@@ -2,6 +2,7 @@
 which proves whatever they ensure. So they are proved in no time, and the functions that call them
 as ever: each is proved against the clauses of the others. Such a copy is for a trial alone."""
 
+MODULE = "cut_off"
 NEVER = """//! Proves everything.
 unsafe extern "C" {
     safe fn rattle_never() -> u8
@@ -14,7 +15,7 @@ pub fn never() -> u8
     rattle_never()
 }
 """
-BODY = "{ let _ = crate::cut_off::never(); unreachable!() }"
+BODY = f"{{ let _ = crate::{MODULE}::never(); unreachable!() }}"
 
 
 def cut_off(text, functions):
@@ -31,5 +32,5 @@ def cut_off(text, functions):
 def add_never(texts):
     """Gives the crate of these texts, by their paths, the function that proves everything."""
     root = "src/main.rt" if "src/main.rt" in texts else "src/lib.rt"
-    texts[root] += "\nmod cut_off;\n"
-    texts["src/cut_off.rt"] = NEVER
+    texts[root] += f"\nmod {MODULE};\n"
+    texts[f"src/{MODULE}.rt"] = NEVER

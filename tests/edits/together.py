@@ -27,7 +27,8 @@ class Trial:
     Else a check reads the whole crate, over a copy by links of what its own check kept."""
 
     def __init__(self, crate, rt, logs, given):
-        self.crate, self.rt, self.limit, self.is_lean = crate, rt, given.limit, given.lean
+        self.crate, self.kit_rt = crate, rt
+        self.limit, self.is_lean = given.limit, given.lean
         self.source = planting.Source(crate.folder)
         self.logs, self.log = f"{logs}/{crate.name}", ""
         self.checks, self.verdicts, self.is_done = 0, {}, False
@@ -37,7 +38,7 @@ class Trial:
         """Checks the crate with these texts, and without the folders `gone`."""
         out, self.checks = f"{self.crate.folder}/out", self.checks + 1
         with tempfile.TemporaryDirectory(prefix=f"together-{os.getpid()}-", dir=out) as room:
-            for part in self.rt.rtlib.PARTS:
+            for part in self.kit_rt.rtlib.PARTS:
                 if os.path.isdir(f"{self.crate.folder}/{part}"):
                     shutil.copytree(f"{self.crate.folder}/{part}", f"{room}/{part}")
             for path in gone:
@@ -52,10 +53,10 @@ class Trial:
             return self.call([*words, "--incremental", kept], room)
 
     def call(self, words, room):
-        words = [self.rt.rtlib.RATTLE, "check", *words]
+        words = [self.kit_rt.rtlib.RATTLE, "check", *words]
         how = {"cwd": room, "stdin": subprocess.DEVNULL, "stdout": subprocess.PIPE,
                "stderr": subprocess.STDOUT, "errors": "replace", "preexec_fn": self.limit_time}
-        ran = subprocess.run([*self.rt.rtlib.guarded(), *words], **how, check=False)
+        ran = subprocess.run([*self.kit_rt.rtlib.guarded(), *words], **how, check=False)
         if ran.returncode in (-signal.SIGXCPU, -signal.SIGKILL):
             ran.returncode, ran.stdout = 124, f"no end in {self.limit} seconds\n"
         with open(f"{self.logs}/{self.log}.log", "w", encoding="utf-8") as it:
@@ -116,16 +117,18 @@ class Trial:
         self.log = edit.name
         if self.is_lean:
             return self.try_laws(edit, why)
-        kind, said = self.rt.must_fail(self.crate, edit.file, [])[:2]
+        kind, said = self.kit_rt.must_fail(self.crate, edit.file, [])[:2]
         said = said.removeprefix(f"must-fail {self.crate.name}/{edit.name}.edit: ")
         return self.settle(edit, verdicts.of_try(kind, said), "alone", said.replace("\n", " | "))
 
     def try_laws(self, edit, why):
-        """Tries a bug that changes more than bodies on the laws. A lean trial does no more."""
-        if edit.stays_inside or planting.LAWS not in self.source.texts:
+        """Tries a bug that changes more than bodies on the laws and the functions that it changes.
+        A lean trial does no more."""
+        laws = ["--only", "laws"] if planting.LAWS in self.source.texts else []
+        if edit.stays_inside or not (laws or edit.changed):
             return self.settle(edit, verdicts.UNTRIED, "lean", why)
-        lines = self.check_group([edit], ["--only", "laws"])
-        if not verdicts.reads(lines) or any(self.rt.unread(it, edit.texts) for it in lines):
+        lines = self.check_group([edit], laws)
+        if not verdicts.reads(lines) or any(self.kit_rt.unread(it, edit.texts) for it in lines):
             return self.settle(edit, verdicts.BAD, "laws", lines[0])
         verdict, said = verdicts.of_laws(lines)
         return self.settle(edit, verdict or verdicts.UNTRIED, "laws", said)
@@ -135,7 +138,7 @@ class Trial:
         folder, begun = f"{self.crate.folder}/planted", time.time()
         files = sorted(it for it in os.listdir(folder) if it.endswith(".edit"))
         files = [it for it in files if not names or it.removesuffix(".edit") in names]
-        edits = [planting.Edit(f"{folder}/{it}", self.source, self.rt) for it in files]
+        edits = [planting.Edit(f"{folder}/{it}", self.source, self.kit_rt) for it in files]
         alone = [(it, "it changes more than bodies") for it in edits if not it.stays_inside]
         groups = planting.grouped([it for it in edits if it.stays_inside])
         for number, group in enumerate(groups, 1):

@@ -11,9 +11,9 @@ import threading
 KIT = os.path.dirname(os.path.dirname(os.path.realpath(shutil.which("rt"))))
 
 
-def load(name, file):
-    """The Python program `bin/FILE` of the kit as the module NAME."""
-    loader = importlib.machinery.SourceFileLoader(name, f"{KIT}/bin/{file}")
+def load(name, suffix=""):
+    """The Python program of this name in the kit's folder `bin` as a module."""
+    loader = importlib.machinery.SourceFileLoader(name, f"{KIT}/bin/{name}{suffix}")
     spec = importlib.util.spec_from_loader(name, loader)
     made = importlib.util.module_from_spec(spec)
     sys.modules[name] = made
@@ -23,12 +23,12 @@ def load(name, file):
 
 def load_rtlib():
     """The library of `rt`."""
-    return load("rtlib", "rtlib.py")
+    return load("rtlib", ".py")
 
 
 def load_rt():
     """`rt` itself, which has the library as `rtlib`, and tries must-fail edits."""
-    return load("rt", "rt")
+    return load("rt")
 
 
 def share_stamps(rtlib):
