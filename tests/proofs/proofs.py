@@ -1,70 +1,12 @@
 """Proves crates side by side over the work that earlier checks kept: see tests/proofs/prove."""
 
 import argparse
-import importlib.machinery
-import importlib.util
 import os
-import shutil
-import subprocess
 import sys
 import threading
 import time
 
-KIT = os.path.dirname(os.path.dirname(os.path.realpath(shutil.which("rt"))))
-
-
-def load_rtlib():
-    """The library of `rt`, which knows a crate's files, libraries and stamps."""
-    loader = importlib.machinery.SourceFileLoader("rtlib", f"{KIT}/bin/rtlib.py")
-    spec = importlib.util.spec_from_loader("rtlib", loader)
-    made = importlib.util.module_from_spec(spec)
-    sys.modules["rtlib"] = made
-    loader.exec_module(made)
-    return made
-
-
-def share_stamps(rtlib):
-    """Makes the stamp of each crate once for each question, not once for each way down to it."""
-    make, known = rtlib.Crate.stamp, threading.local()
-
-    def stamp(crate):
-        if (found := getattr(known, "stamps", None)) is not None:
-            if crate.folder not in found:
-                found[crate.folder] = make(crate)
-            return found[crate.folder]
-        known.stamps = {}
-        try:
-            return make(crate)
-        finally:
-            known.stamps = None
-
-    rtlib.Crate.stamp = stamp
-
-
-def link(source, target):
-    """Gives `target` the files of the folder `source`, by hard links.
-
-    A check replaces such files, and writes none in place.
-    """
-    shutil.rmtree(target, ignore_errors=True)
-    os.makedirs(os.path.dirname(target), exist_ok=True)
-    subprocess.run(["cp", "-al", source, target], check=True)
-
-
-def take(crates, clone):
-    """Takes from another clone what its checks kept, and each library of the same sources."""
-    for crate in sorted(crates, key=lambda it: len(it.below())):
-        there = f"{clone}/crates/{crate.name}/out"
-        kept = f"{crate.folder}/out/incremental"
-        if os.path.isdir(f"{there}/incremental") and not os.path.isdir(kept):
-            link(f"{there}/incremental", kept)
-        try:
-            with open(f"{there}/rlib/stamp", encoding="utf-8") as file:
-                stamp = file.read()
-        except OSError:
-            continue
-        if not crate.is_program and not crate.is_built() and stamp == crate.stamp():
-            link(f"{there}/rlib", f"{crate.folder}/out/rlib")
+from kit import load_rtlib, share_stamps, take
 
 
 def wanted(crates, names):

@@ -1,0 +1,107 @@
+"""What a check of a crate with many planted bugs says of each of them."""
+import re
+
+from bodies import module_of
+
+REFUSED, BY_NAME, AT_LIMIT = "refused", "refused by a name alone", "refused by a limit"
+# A goal is open, and a proof file names what is gone: the first may be so for the second alone.
+WITH_NAME = "refused, with a name gone"
+REFUSALS = {REFUSED, BY_NAME, AT_LIMIT, WITH_NAME}
+PROVED, BAD, UNTRIED = "PROVED", "bad edit", "not tried"
+
+LOCATED = re.compile(r"(?:note: )?(?:\./)?((?:src|specs|proofs)/\S+?):(\d+):\d+: (.*)")
+# A line of a proof file that names what a bug took away; `rt must-fail` has the same.
+NAMES = re.compile(r"(?:note: )?(?:\./)?proofs/.*"
+                   r"(?:has no field|is not in scope|has no `|was not admitted)")
+# An open goal, or one that its answer or a lemma does not prove.
+GOAL = re.compile(r"it is not proved that|`search` found no proof|: error: `")
+COMPILER = re.compile(r"(?:\./)?(src/\S+?):(\d+):\d+: error\[[\w-]+\]")
+
+
+def paths_of(file, function):
+    """How a function's name begins below its crate, and how that of a closure in it may."""
+    yield function.module + function.name
+    for module in sorted({function.module, module_of(file)}):
+        yield f"{module}fn::{function.name}"
+
+
+def folders_of(file, function):
+    """The folders of a function's proof, and of those of its closures."""
+    return ["proofs/" + it.replace("::", "/") + "/" for it in paths_of(file, function)]
+
+
+def is_about(line, file, function):
+    """Whether a line tells of a place in the function or in its proof."""
+    at = LOCATED.match(line)
+    if not at:
+        return False
+    if at[1] == file:
+        return function.first <= int(at[2]) <= function.last
+    return any(at[1].startswith(it) for it in folders_of(file, function))
+
+
+def said_of(lines, crate, file, function):
+    """The lines in which a check says that the function, or a closure in it, has no proof."""
+    own, *closures = (f"fn {crate}::{it}" for it in paths_of(file, function))
+    heads = (f"{own}: ", *(f"{it}::" for it in closures))
+    said = [it for it in lines if it.startswith(heads)]
+    return [it for it in said if re.search(": (?:no proof|not proved|could not tell)", it)]
+
+
+def reads(lines):
+    """Whether the check came to the prover, and went through all that it could."""
+    return bool(lines) and lines[-1].startswith(("logic=", "only=", "rattle: no verdict"))
+
+
+def of_lines(told):
+    """The verdict by these lines of a check, and the line that tells it; no verdict, and why, if it
+    is not clear."""
+    named = [it for it in told if NAMES.match(it)]
+    goals = [it for it in told if GOAL.search(it) and it not in named]
+    gone = [it for it in named if "was not admitted" not in it]
+    if goals:
+        return WITH_NAME if gone else REFUSED, goals[0]
+    if named:
+        return BY_NAME, named[0]
+    return None, f"not clear: {told[0]}" if told else "it is proved"
+
+
+def of_edit(lines, crate, edit):
+    """The verdict on a bug of a group, by what is said of the functions that it changes."""
+    told, unproved = [], []
+    for file, function in sorted(edit.changed):
+        said = said_of(lines, crate, file, function)
+        told += [it for it in lines if said and is_about(it, file, function)]
+        unproved += said
+    verdict, said = of_lines(told)
+    limits = [it for it in unproved if ": could not tell" in it]
+    if limits and not verdict:
+        return AT_LIMIT, limits[0]
+    # A function may have no proof for what it calls alone.
+    return (verdict, said) if verdict or not unproved else (None, f"not clear: {unproved[0]}")
+
+
+def of_laws(lines):
+    """The verdict on a bug, by all that a check of the laws says."""
+    is_proved = re.fullmatch(r"only=(\d+) proved=\1", lines[-1])
+    return of_lines([it for it in lines if LOCATED.match(it) and not is_proved])
+
+
+def faulty(lines, edits):
+    """The bugs of a group in whose functions the compiler finds an error, with its first line."""
+    errors = [(it[1], int(it[2]), it.string) for it in map(COMPILER.match, lines) if it]
+    found = []
+    for edit in edits:
+        told = [said for at, line, said in errors
+                if any(at == file and function.first <= line <= function.last
+                       for file, function in edit.changed)]
+        found += [(edit, told[0])] if told else []
+    return found
+
+
+def of_try(kind, said):
+    """The verdict on a bug that `must_fail` of the kit's `rt` tried alone, by what it says."""
+    kinds = {"limit": AT_LIMIT, "missed": PROVED, "bad": BAD, "unsure": UNTRIED}
+    if kind == "refused":
+        return BY_NAME if "only because a proof file names" in said else REFUSED
+    return kinds[kind]
