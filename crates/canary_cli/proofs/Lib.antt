@@ -1,2 +1,3 @@
 pub mod Served
 pub mod TurnedAway
+pub mod Checked

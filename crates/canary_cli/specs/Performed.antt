@@ -16,6 +16,7 @@ use Rattle.canary_programs.specs.Faults.{done_of}
 use Rattle.canary_cli.specs.declared.perform.Outcome.{Outcome}
 use Rattle.canary_cli.specs.declared.perform.Outcome.TheVariants.{Done, Findings, Unclear, Asked}
 use Rattle.canary_client.specs.Outcomes as client
+use Rattle.canary_client.specs.declared.outcome.Outcome as client_outcome
 use Rattle.canary_listen.specs.declared.limits.Limits.{Limits}
 use Rattle.canary_words.specs.declared.words.AskedLimits.{AskedLimits}
 use Rattle.canary_words.specs.declared.words.Program.{Program}
@@ -98,6 +99,10 @@ IsCheckShown taken w new_w (Ok Unclear) = ⊥
 IsCheckShown taken w new_w (Ok (Asked outcome)) = ⊥
 IsCheckShown taken w new_w (Err f) = (f ≡ fault.Memory) ⊎ (f ≡ fault.Write)
 
+-- a check is no client of a desk
+abbrev pub IsNoClient : Result Outcome Fault → Type 0
+IsNoClient done = (outcome : client_outcome.Outcome) → done ≡ Ok (Asked outcome) → ⊥
+
 -- where a check found nothing, it wrote `ok`
 abbrev pub IsChecked : Known → Known → Result Outcome Fault → Type 0
 IsChecked w new_w done = done ≡ Ok Done → Appends w new_w (codes "ok\n")
@@ -116,7 +121,8 @@ IsRun r new_r w new_w (Status db watch json) done = new_r ≡ r
 IsRun r new_r w new_w (Page db out watch) done = new_r ≡ r
 IsRun r new_r w new_w (Backup db copy) done = new_r ≡ r
 IsRun r new_r w new_w (Migrate db dry_run) done = new_r ≡ r
-IsRun r new_r w new_w (Check file request) done = (new_r ≡ r) × IsChecked w new_w done
+IsRun r new_r w new_w (Check file request) done =
+    (new_r ≡ r) × IsChecked w new_w done × IsNoClient done
 IsRun r new_r w new_w (Do desk caller journal key instead command) done = new_r ≡ r
 IsRun r new_r w new_w (Get desk service part) done = new_r ≡ r
 IsRun r new_r w new_w (Watch desk until service) done = new_r ≡ r

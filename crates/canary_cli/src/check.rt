@@ -2,7 +2,7 @@
 ghost use Rattle.std.specs.Prelude.{◌≡◌, Ok, codes};
 ghost use Rattle.std.specs.Io.KnownBytes.{Appends};
 ghost use Rattle.canary_check.specs.Taken.{is_request_taken, is_taken};
-ghost use Rattle.canary_cli.specs.Performed.{IsCheckShown};
+ghost use Rattle.canary_cli.specs.Performed.{IsCheckShown, IsNoClient};
 
 use crate::perform::Outcome;
 use canary_base::lists::Text;
@@ -25,8 +25,9 @@ pub(crate) fn check<P: Files + AllocGlobal, W: Write, F: Write>(
     output: &mut W,
     errors: &mut F,
 ) -> Result<Outcome, Fault>
-    ensures { result ≡ Ok Outcome.Done
+    ensures shown { result ≡ Ok Outcome.Done
         → Appends (W.contents output.old) (W.contents output.new) (codes "ok\n") }
+    ensures client { IsNoClient result }
 {
     match file {
         Some(file) => match request {
@@ -48,8 +49,9 @@ fn check_manifest<P: Files + AllocGlobal, W: Write, F: Write>(
     output: &mut W,
     errors: &mut F,
 ) -> Result<Outcome, Fault>
-    ensures { result ≡ Ok Outcome.Done
+    ensures shown { result ≡ Ok Outcome.Done
         → Appends (W.contents output.old) (W.contents output.new) (codes "ok\n") }
+    ensures client { IsNoClient result }
 {
     let manifest = read_file(rt, file)?;
     check_bytes(rt.alloc(), manifest.as_slice(), output, errors)
@@ -62,8 +64,9 @@ fn check_request<P: Files + AllocGlobal, W: Write, F: Write>(
     output: &mut W,
     errors: &mut F,
 ) -> Result<Outcome, Fault>
-    ensures { result ≡ Ok Outcome.Done
+    ensures shown { result ≡ Ok Outcome.Done
         → Appends (W.contents output.old) (W.contents output.new) (codes "ok\n") }
+    ensures client { IsNoClient result }
 {
     let body = read_file(rt, file)?;
     check_body(rt.alloc(), body.as_slice(), output, errors)
@@ -76,8 +79,9 @@ fn check_bytes<W: Write, F: Write>(
     output: &mut W,
     errors: &mut F,
 ) -> Result<Outcome, Fault>
-    ensures { IsCheckShown (is_taken manifest.now)
+    ensures shown { IsCheckShown (is_taken manifest.now)
         (W.contents output.old) (W.contents output.new) result }
+    ensures client { IsNoClient result }
 {
     let Ok(findings) = canary_check::check::check(alloc, manifest) else {
         return Err(Fault::Memory);
@@ -98,8 +102,9 @@ fn check_body<W: Write, F: Write>(
     output: &mut W,
     errors: &mut F,
 ) -> Result<Outcome, Fault>
-    ensures { IsCheckShown (is_request_taken body.now)
+    ensures shown { IsCheckShown (is_request_taken body.now)
         (W.contents output.old) (W.contents output.new) result }
+    ensures client { IsNoClient result }
 {
     let Ok(findings) = canary_check::request::check_request(alloc, body) else {
         return Err(Fault::Memory);
