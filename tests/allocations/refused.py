@@ -316,9 +316,9 @@ def try_shown(trial, share):
         try_line(trial, row, words, (0, shown, b""), share, on_file=True)
 
 
-def try_client(trial, _):
-    """The client, with each of its own allocations refused, beside a desk that has memory."""
-    ask_refused(trial, EACH)
+def try_client(trial, share):
+    """The client, with one of its own allocations refused, beside a desk that has memory."""
+    ask_refused(trial, share)
 
 
 def try_backup(trial, share):
