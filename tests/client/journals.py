@@ -3,6 +3,7 @@ import fcntl
 import os
 import shutil
 import subprocess
+import threading
 import time
 
 from journal_rule import LAST, at_rest, is_new, journal_of, line_of, lines_in
@@ -212,19 +213,20 @@ def try_two_clients(world):
             want("locked", desk.do("promote", "web"), LOCAL, said=IN_USE)
         expect("locked: the file", (desk.folder / "ops.journal").read_bytes(), before)
         # one client waits for its reply, and the other one comes
-        come = []
+        come, let_go = [], threading.Event()
 
         def stall(client):
             come.append(client.recv(65536))
-            client.recv(1)
+            let_go.wait(20)
 
         with answering(stall) as port, process(
-                [world.program, *desk.words("promote", "web", port=port, tries=1, timeout=3)],
+                [world.program, *desk.words("promote", "web", port=port, tries=1, timeout=20)],
                 cwd=desk.folder, env=environment(), stdout=subprocess.PIPE,
                 stderr=subprocess.PIPE) as first:
             while not come and first.poll() is None:
                 time.sleep(.01)
             want("the second client", desk.do("abort", "web"), LOCAL, said=IN_USE)
+            let_go.set()
             _, errors = first.communicate(timeout=60)
             expect("the first client", (first.returncode, errors.decode()),
                    (PENDING, f"canary: {PENDING_SAID}\n"))
