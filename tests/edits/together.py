@@ -182,7 +182,8 @@ def words_given(words):
     made.add_argument("--lanes", type=int, default=1, help="so many crates at a time")
     made.add_argument("--from", dest="clone", help="a clone whose proved work is taken")
     made.add_argument("--lean", action="store_true", help="for a crate that is not proved yet")
-    made.add_argument("--limit", type=int, default=900, help="the most processor seconds of a check")
+    made.add_argument("--limit", type=int, default=900,
+                      help="processor seconds of a check, at most")
     made.add_argument("crates", nargs="*", metavar="CRATE[/EDIT]", help="these alone")
     return made.parse_intermixed_args(words)
 
