@@ -63,13 +63,10 @@ def end_all(*_):
     os._exit(143)
 
 
-def main():
-    program, folder, is_whole, share, *wanted = sys.argv[1:]
-    world = World(os.path.realpath(program), folder, is_whole == "1", int(share))
-    names, failed = chosen(wanted), []
-    for number in (signal.SIGTERM, signal.SIGINT, signal.SIGHUP):
-        signal.signal(number, end_all)
-    with concurrent.futures.ThreadPoolExecutor(BESIDE) as pool:
+def try_all(world, names, beside):
+    """Tries parts, so many at a time, and has those that failed."""
+    failed = []
+    with concurrent.futures.ThreadPoolExecutor(beside) as pool:
         tried = {name: pool.submit(try_part, name, world) for name in names}
         for name, part in tried.items():
             try:
@@ -78,6 +75,23 @@ def main():
                 failed.append(name)
                 print(f"client: {name} FAILED\n{traceback.format_exc()}", file=sys.stderr,
                       flush=True)
+    return failed
+
+
+def main():
+    program, folder, is_whole, share, *wanted = sys.argv[1:]
+    world = World(os.path.realpath(program), folder, is_whole == "1", int(share))
+    names = chosen(wanted)
+    for number in (signal.SIGTERM, signal.SIGINT, signal.SIGHUP):
+        signal.signal(number, end_all)
+    failed = try_all(world, names, BESIDE)
+    if failed:
+        # A desk that is killed leaves its port, which a server of another part may then be given.
+        # So what failed beside other parts is tried once more, alone, in a folder of its own.
+        again = os.path.join(folder, "again")
+        os.mkdir(again)
+        world = World(os.path.realpath(program), again, is_whole == "1", int(share))
+        failed = try_all(world, failed, 1)
     if failed:
         fail(f"{len(failed)} of {len(names)} parts failed: {' '.join(failed)}")
     print(f"client: {len(names)} parts passed", file=sys.stderr)
