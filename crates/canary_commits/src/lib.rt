@@ -7,8 +7,8 @@
 //!
 //! In use (canary_tables, src/settle.rt):
 //!
-//!     let is_there = is_there(conn, change)?;
-//!     let is_bound = is_bound(conn, command, change)?;
+//!     let is_there = is_there(conn, &settlement.change, known)?;
+//!     let is_bound = is_bound(conn, alloc, settlement, known)?;
 //!     commit(conn, alloc, settlement, is_there, is_bound)
 #![tactic(auto)]
 

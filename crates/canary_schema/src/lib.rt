@@ -13,6 +13,8 @@
 //!             alloc,
 //!             conn,
 //!             notes: Notes::none(),
+//!             kept: Kept::new(alloc, DEFAULT_ROOM),
+//!             room: DEFAULT_ROOM,
 //!         }),
 //!         Err(fault) => Err((fault.into(), conn)),
 //!     }

@@ -17,6 +17,8 @@ use Rattle.canary_schema.specs.Stores.{IsHeld, IsUsable}
 use Rattle.canary_stored.specs.Reading.{contents_of, HoldsContents}
 use Rattle.canary_reads.specs.Finds.{IsSame}
 use Rattle.canary_tables.specs.declared.notes.Notes.{Notes}
+use Rattle.canary_tables.specs.declared.kept.Kept.{Kept}
+use Rattle.canary_tables.specs.Kept.{AreKept}
 use Rattle.canary_tables.specs.Desk.{contents_in, IsDesk, IsBook, book_state}
 use Rattle.canary_tables.specs.Notes.{AreTrue, no_notes}
 use Rattle.canary_tables.proofs.Noted.{none_noted}
@@ -41,21 +43,35 @@ module _ {S : Type 0} (g : Ghosts S) where
   }
 
   -- what was noted stays true
-  pub noted_still : (old new : Held S) (notes : Notes) → IsBook g old notes → IsSame (state g old) (state g new) → IsUsable (state g new) → AreTrue (state g new).now notes
-  noted_still old new notes book same usable = subst (λ (db : Database). AreTrue db notes) (sym (same usable).1) (book.noted (same usable).0)
+  pub noted_still : (old new : Held S) (notes : Notes) (kept : Kept) → IsBook g old notes kept → IsSame (state g old) (state g new) → IsUsable (state g new) → AreTrue (state g new).now notes
+  noted_still old new notes kept book same usable = subst (λ (db : Database). AreTrue db notes) (sym (same usable).1) (book.noted (same usable).0)
+
+  -- and what was kept is what it contains
+  pub kept_still : (old new : Held S) (notes : Notes) (kept : Kept) → IsBook g old notes kept → IsSame (state g old) (state g new) → IsUsable (state g new) → AreKept kept (contents_in (state g new))
+  kept_still old new notes kept book same usable = subst (AreKept kept) (sym (contents_stay old new (same usable).1)) (book.kept (same usable).0)
 
   -- a read leaves a book
-  pub still_book : (old new : Held S) (notes : Notes) → IsBook g old notes → new.in_transaction ≡ false → IsSame (state g old) (state g new) → IsBook g new notes
-  still_book old new notes book mode same = record {
+  pub still_book : (old new : Held S) (notes : Notes) (kept : Kept) → IsBook g old notes kept → new.in_transaction ≡ false → IsSame (state g old) (state g new) → IsBook g new notes kept
+  still_book old new notes kept book mode same = record {
     autocommit = mode;
     desk = λ usable. desk_stays old new (same usable).1 (book.desk (same usable).0);
-    noted = noted_still old new notes book same;
+    noted = noted_still old new notes kept book same;
+    kept = kept_still old new notes kept book same;
+  }
+
+  -- also where it keeps more, or less
+  pub book_keeps : (old new : Held S) (notes : Notes) (before after : Kept) → IsBook g old notes before → new.in_transaction ≡ false → IsSame (state g old) (state g new) → (IsUsable (state g new) → AreKept after (contents_in (state g new))) → IsBook g new notes after
+  book_keeps old new notes before after book mode same kept = record {
+    autocommit = mode;
+    desk = λ usable. desk_stays old new (same usable).1 (book.desk (same usable).0);
+    noted = noted_still old new notes before book same;
+    kept = kept;
   }
 
   -- and finds what the contents have
-  pub finds : {A : Type 0} (value : Contents → A) (old new : Held S) (notes : Notes) (r : Result A BookFault) → IsBook g old notes → IsSame (state g old) (state g new)
+  pub finds : {A : Type 0} (value : Contents → A) (old new : Held S) (notes : Notes) (kept : Kept) (r : Result A BookFault) → IsBook g old notes kept → IsSame (state g old) (state g new)
       → (IsUsable (state g new) → IfOk r (λ x. x ≡ value (contents_in (state g old)))) → Finds value (book_state g old) (book_state g new) r
-  finds value old new notes r book same found = record {
+  finds value old new notes kept r book same found = record {
     honest = λ usable. (same usable).0;
     in_memory = λ h. (h.0, h.0 new);
     lawful = λ usable. (book.desk (same usable).0).holds.lawful;
@@ -66,10 +82,10 @@ module _ {S : Type 0} (g : Ghosts S) where
   }
 
   -- a request that is settled
-  pub settled_so : SettlementsKeep → (s : Settlement) (old new : Held S) (notes : Notes) → s.number ≤ 1000000000 → IsBook g old notes → (IsUsable (state g old) → IsSettling (contents_in (state g old)) s)
+  pub settled_so : SettlementsKeep → (s : Settlement) (old new : Held S) (notes : Notes) (kept : Kept) → s.number ≤ 1000000000 → IsBook g old notes kept → (IsUsable (state g old) → IsSettling (contents_in (state g old)) s)
       → (IsUsable (state g new) → IsUsable (state g old)) → (IsUsable (state g new) → IsDesk (state g new)) → (IsUsable (state g new) → contents_in (state g new) ≡ with_settlement (contents_in (state g old)) s)
       → Commits s (book_state g old) (book_state g new) (Ok tt)
-  settled_so law s old new notes few book settling held desk settled =
+  settled_so law s old new notes kept few book settling held desk settled =
       let keeps = λ (usable : IsUsable (state g new)). law (contents_in (state g old)) s few (settling (held usable)) (book.desk (held usable)).holds.lawful in
       record {
         honest = held;
@@ -84,9 +100,9 @@ module _ {S : Type 0} (g : Ghosts S) where
       }
 
   -- and one that is not
-  pub failed_so : (s : Settlement) (old new : Held S) (notes : Notes) (fault : BookFault) → IsBook g old notes → (IsUsable (state g new) → IsUsable (state g old)) → (IsUsable (state g new) → (state g new).now ≡ (state g old).now)
+  pub failed_so : (s : Settlement) (old new : Held S) (notes : Notes) (kept : Kept) (fault : BookFault) → IsBook g old notes kept → (IsUsable (state g new) → IsUsable (state g old)) → (IsUsable (state g new) → (state g new).now ≡ (state g old).now)
       → Commits s (book_state g old) (book_state g new) (Err fault)
-  failed_so s old new notes fault book held same =
+  failed_so s old new notes kept fault book held same =
       let stay = λ (usable : IsUsable (state g new)). contents_stay old new (same usable) in
       record {
         honest = held;
@@ -101,9 +117,10 @@ module _ {S : Type 0} (g : Ghosts S) where
       }
 
   -- what was not settled leaves a book that has noted nothing
-  pub failed_book : (old new : Held S) (before after : Notes) → after ≡ no_notes → IsBook g old before → new.in_transaction ≡ false → (IsUsable (state g new) → IsUsable (state g old)) → (IsUsable (state g new) → (state g new).now ≡ (state g old).now) → IsBook g new after
-  failed_book old new before after none book mode held same =
-      record { autocommit = mode; desk = λ usable. desk_stays old new (same usable) (book.desk (held usable)); noted = λ usable. none_noted (state g new).now after none }
+  pub failed_book : (old new : Held S) (before after : Notes) (kept keeps : Kept) → after ≡ no_notes → IsBook g old before kept → new.in_transaction ≡ false → (IsUsable (state g new) → IsUsable (state g old)) → (IsUsable (state g new) → (state g new).now ≡ (state g old).now)
+      → (IsUsable (state g new) → AreKept keeps (contents_in (state g new))) → IsBook g new after keeps
+  failed_book old new before after kept keeps none book mode held same are =
+      record { autocommit = mode; desk = λ usable. desk_stays old new (same usable) (book.desk (held usable)); noted = λ usable. none_noted (state g new).now after none; kept = are }
 
-  pub settled_book : (new : Held S) (after : Notes) → after ≡ no_notes → new.in_transaction ≡ false → (IsUsable (state g new) → IsDesk (state g new)) → IsBook g new after
-  settled_book new after none mode desk = record { autocommit = mode; desk = desk; noted = λ usable. none_noted (state g new).now after none }
+  pub settled_book : (new : Held S) (after : Notes) (keeps : Kept) → after ≡ no_notes → new.in_transaction ≡ false → (IsUsable (state g new) → IsDesk (state g new)) → (IsUsable (state g new) → AreKept keeps (contents_in (state g new))) → IsBook g new after keeps
+  settled_book new after keeps none mode desk are = record { autocommit = mode; desk = desk; noted = λ usable. none_noted (state g new).now after none; kept = are }

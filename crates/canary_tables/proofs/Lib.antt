@@ -8,3 +8,6 @@ mod TemplateLemmas
 mod FoundPlans
 mod FoundServices
 mod Adopting
+mod EntryLemmas
+mod KeptLemmas
+mod KnownRows

@@ -6,6 +6,8 @@ use Rattle.canary_schema.specs.Cells.{tables_in}
 use Rattle.canary_schema.specs.Stores.{IsUsable, IsHeld}
 use Rattle.canary_stored.specs.Reading.{contents_of, HoldsContents}
 use Rattle.canary_reads.specs.Finds.{IsSame}
+use Rattle.canary_tables.specs.declared.kept.Kept.{Kept}
+use Rattle.canary_tables.specs.Kept.{AreKept}
 use Rattle.canary_tables.specs.Desk.{IsDesk, contents_in}
 
 -- it stays a desk
@@ -28,3 +30,7 @@ same_then old between new first second usable = let s = second usable in let f =
 -- its rows are the same
 pub tables_stay : (old new : State) → IsSame old new → IsUsable new → tables_in new.now ≡ tables_in old.now
 tables_stay old new same usable = ap (λ (db : Database). tables_in db) (same usable).1
+
+-- and what is kept of it is what it contains
+pub kept_stays : (old new : State) (kept : Kept) → (IsUsable old → AreKept kept (contents_in old)) → IsSame old new → IsUsable new → AreKept kept (contents_in new)
+kept_stays old new kept are same usable = subst (AreKept kept) (sym (contents_stay old new same usable)) (are (same usable).0)

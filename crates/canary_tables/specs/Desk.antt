@@ -14,6 +14,8 @@ use Rattle.canary_stored.specs.Finding.{strategy_by}
 use Rattle.canary_stored.specs.Reading.{contents_of, first_row, HoldsContents}
 use Rattle.canary_tables.specs.declared.notes.Notes.{Notes}
 use Rattle.canary_tables.specs.Notes.{AreTrue}
+use Rattle.canary_tables.specs.declared.kept.Kept.{Kept}
+use Rattle.canary_tables.specs.Kept.{AreKept}
 
 -- what a database contains, whatever it is
 abbrev pub contents_in : State → Contents
@@ -44,8 +46,11 @@ book_state g h =
       is_sure = false;
     }
 
--- a book's connection stands outside a transaction, over a desk's database, of which its notes hold
-pub record IsBook {S : Type 0} (g : Ghosts S) (h : Held S) (notes : Notes) : Type 0 where
+-- a book's connection stands outside a transaction, over a desk's database. Its notes hold of that,
+-- and what it keeps is what that contains
+pub record IsBook {S : Type 0} (g : Ghosts S) (h : Held S) (notes : Notes) (keeps : Kept)
+    : Type 0 where
   pub autocommit : h.in_transaction ≡ false
   pub desk : IsUsable (state g h) → IsDesk (state g h)
   pub noted : IsUsable (state g h) → AreTrue (state g h).now notes
+  pub kept : IsUsable (state g h) → AreKept keeps (contents_in (state g h))

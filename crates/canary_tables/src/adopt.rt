@@ -10,8 +10,9 @@ ghost use Rattle.canary_tables.specs.Adopts.{IsBelieved, IsAdopted, TellsTables,
 ghost use Rattle.canary_tables.specs.Adopts.{IsLeftBy, IsOutside};
 ghost use Rattle.canary_tables.specs.declared.fault.TableFault.TheVariants as fault;
 
-use crate::book::TableBook;
+use crate::book::{DEFAULT_ROOM, TableBook};
 use crate::fault::{Left, TableFault};
+use crate::kept::Kept;
 use crate::notes::Notes;
 use canary_adopting::judge::judge;
 use canary_adopting::progress::Progress;
@@ -137,6 +138,8 @@ impl<S: Alter + Drop> TableBook<S> {
                 alloc,
                 conn,
                 notes: Notes::none(),
+                kept: Kept::new(alloc, DEFAULT_ROOM),
+                room: DEFAULT_ROOM,
             }),
             Err(fault) => Err((fault, Left::Connection(conn))),
         }

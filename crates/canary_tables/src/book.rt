@@ -4,9 +4,9 @@ ghost use Rattle.canary_once.specs.declared.book.BookFault.TheVariants as book_f
 ghost use Rattle.canary_schema.specs.declared.fault.StoreFault.TheVariants as store_fault;
 ghost use Rattle.canary_tables.specs.Faults.{book_fault_of};
 
+use crate::kept::Kept;
 use crate::notes::Notes;
-use crate::settle::settle;
-use crate::{found, found_plans, found_runs, found_services, pages};
+use crate::{found, found_runs, known, pages};
 use canary_base::lists::Listed;
 use canary_base::names::Name;
 use canary_base::numbers::Number;
@@ -22,12 +22,17 @@ use sqlite::{Alter, Connection};
 use std::alloc::Global;
 use std::marker::Model;
 
+/// The room for what a book keeps of its tables, in bytes by estimate, if none is given.
+pub const DEFAULT_ROOM: u64 = 64 << 20;
+
 /// The book whose contents are the rows of ten tables. Nobody else writes them meanwhile.
 #[derive(Drop)]
 pub struct TableBook<S: Alter> {
     pub(crate) alloc: Global,
     pub(crate) conn: Connection<S>,
     pub(crate) notes: Notes,
+    pub(crate) kept: Kept,
+    pub(crate) room: u64,
 }
 
 impl<S: Alter> Model for TableBook<S> {
@@ -40,7 +45,7 @@ impl<S: Alter> Model for TableBook<S> {
 
     ghost view = { λ b. b.conn };
 
-    ghost invariant = { λ b. IsBook S.Store b.conn b.notes };
+    ghost invariant = { λ b. IsBook S.Store b.conn b.notes b.kept };
 }
 
 pub(crate) fn book_fault(fault: StoreFault) -> BookFault
@@ -59,6 +64,17 @@ impl<S: Alter> TableBook<S> {
     {
         self.conn
     }
+
+    /// The same book with room for so many bytes of what it keeps of its tables, by estimate. It
+    /// keeps nothing yet, and without room it keeps nothing at all.
+    pub fn with_room(self, bytes: u64) -> TableBook<S>
+        ensures { result ≡ self }
+    {
+        let mut book = self;
+        book.kept = Kept::new(book.alloc, bytes);
+        book.room = bytes;
+        book
+    }
 }
 
 impl<S: Alter> Book for TableBook<S> {
@@ -67,7 +83,7 @@ impl<S: Alter> Book for TableBook<S> {
     ghost state = { book_state S.Store };
 
     fn settled(&mut self, caller: &Name) -> Result<u32, BookFault> {
-        found::count(&mut self.conn, caller).map_err(book_fault)
+        known::count(&mut self.conn, &mut self.kept, caller).map_err(book_fault)
     }
 
     fn receipt(&mut self, caller: &Name, number: Number) -> Result<Option<Receipt>, BookFault> {
@@ -75,11 +91,11 @@ impl<S: Alter> Book for TableBook<S> {
     }
 
     fn templates(&mut self, names: &[Name]) -> Result<Templates, BookFault> {
-        found_plans::templates(&mut self.conn, self.alloc, names).map_err(book_fault)
+        known::templates(&mut self.conn, self.alloc, &mut self.kept, names).map_err(book_fault)
     }
 
     fn service(&mut self, name: &Name) -> Result<Option<Service>, BookFault> {
-        found_services::service(&mut self.conn, self.alloc, name).map_err(book_fault)
+        known::service(&mut self.conn, self.alloc, &mut self.kept, name).map_err(book_fault)
     }
 
     fn history(&mut self, name: &Name) -> Result<Listed<Line>, BookFault> {
@@ -110,9 +126,12 @@ impl<S: Alter> Book for TableBook<S> {
         laws::settlements();
         let _ = settlement.number.get();
         self.notes = Notes::none();
-        match settle(&mut self.conn, self.alloc, &settlement) {
+        match known::commit(&mut self.conn, self.alloc, &mut self.kept, settlement) {
             Ok(()) => Ok(()),
-            Err(fault) => Err(book_fault(fault)),
+            Err(fault) => {
+                self.kept = Kept::new(self.alloc, self.room);
+                Err(book_fault(fault))
+            }
         }
     }
 }

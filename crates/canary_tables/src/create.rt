@@ -7,8 +7,9 @@ ghost use Rattle.canary_schema.specs.Stores.{IsUsable};
 ghost use Rattle.canary_tables.specs.Desk.{contents_in};
 ghost use Rattle.canary_tables.specs.declared.fault.TableFault.TheVariants as fault;
 
-use crate::book::TableBook;
+use crate::book::{DEFAULT_ROOM, TableBook};
 use crate::fault::TableFault;
+use crate::kept::Kept;
 use crate::notes::Notes;
 use canary_schema::known::is_empty;
 use canary_schema::{create, laws as schema_laws};
@@ -62,6 +63,8 @@ impl<S: Alter> TableBook<S> {
                 alloc,
                 conn,
                 notes: Notes::none(),
+                kept: Kept::new(alloc, DEFAULT_ROOM),
+                room: DEFAULT_ROOM,
             }),
             Err(fault) => Err((fault.into(), conn)),
         }

@@ -19,13 +19,17 @@
 pub mod adopt;
 pub mod book;
 pub mod create;
+mod entries;
 pub mod fault;
 mod found;
 mod found_plans;
 mod found_runs;
 mod found_services;
+mod kept;
+mod known;
 mod names;
 mod notes;
 pub mod open;
 mod pages;
 mod settle;
+mod weights;

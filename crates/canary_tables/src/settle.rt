@@ -1,48 +1,119 @@
 //! A request is settled in a desk's database.
-ghost use Rattle.std.specs.Prelude.{◌≡◌, IfOk, OnOk, OnErr, true, false};
+ghost use Rattle.std.specs.Prelude.{◌≡◌, IfOk, OnOk, OnErr, true, false, not};
+ghost use Rattle.std.specs.Prelude.{option_copied, length, ◌==◌};
 ghost use Rattle.sqlite.specs.Held.{state};
 ghost use Rattle.canary_once.specs.Contents.{IsSettling, with_settlement};
 ghost use Rattle.canary_rows.specs.Tables.{Tables};
 ghost use Rattle.canary_reads.specs.Finds.{IsSame, FindsSuch};
 ghost use Rattle.canary_schema.specs.Stores.{IsUsable};
 ghost use Rattle.canary_tables.specs.Desk.{IsDesk, contents_in};
-ghost use Rattle.canary_stored.specs.Settling.{begins, has_bindings};
+ghost use Rattle.canary_plan.specs.Plans.{all_revisions};
+ghost use Rattle.canary_stored.specs.Settling.{begins, has_service, has_bindings};
+ghost use Rattle.canary_tables.specs.Kept.{IsKnown, IsKnownAs};
 ghost use Rattle.canary_commits.specs.Commits.{IsThereSaid, IsBoundSaid};
 
+use canary_base::error::Memory;
 use canary_base::names::Name;
 use canary_canonical::command::CanonicalCommand;
 use canary_commits::begins::begins;
 use canary_commits::commit::commit;
 use canary_once::book::Settlement;
+use canary_plan::bound::Bound;
 use canary_reads::services::{has_bindings, has_service};
 use canary_release::decide::DeskChange;
+use canary_release::service::Service;
 use canary_schema::fault::StoreFault;
 use canary_schema::laws as schema_laws;
 use canary_stored::laws;
 use sqlite::{Alter, Connection};
 use std::alloc::Global;
 
-// Whether the service that the change names is there.
-fn is_there<S: Alter>(conn: &mut Connection<S>, change: &DeskChange) -> Result<bool, StoreFault>
+// Whether the service of that name is there. One that is known is.
+fn has_row<S: Alter>(
+    conn: &mut Connection<S>,
+    name: &Name,
+    known: Option<&Service>,
+) -> Result<bool, StoreFault>
     requires autocommit { conn.old.in_transaction ≡ false }
+    requires desk { IsUsable (state S.Store conn.old) → IsDesk (state S.Store conn.old) }
+    requires known { IsUsable (state S.Store conn.old) → IsKnownAs (option_copied known)
+        name.now (contents_in (state S.Store conn.old)) }
+    ensures mode { conn.new.in_transaction ≡ false }
+    ensures same { IsSame (state S.Store conn.old) (state S.Store conn.new) }
+    ensures found { FindsSuch (λ t has. has ≡ has_service name.now t)
+        (state S.Store conn.old) (state S.Store conn.new) result }
+{
+    schema_laws::one_reading();
+    match known {
+        Some(_) => Ok(true),
+        None => Ok(has_service(conn, name)?),
+    }
+}
+
+// Whether the service that the change names is there.
+fn is_there<S: Alter>(
+    conn: &mut Connection<S>,
+    change: &DeskChange,
+    known: Option<&Service>,
+) -> Result<bool, StoreFault>
+    requires autocommit { conn.old.in_transaction ≡ false }
+    requires desk { IsUsable (state S.Store conn.old) → IsDesk (state S.Store conn.old) }
+    requires known { IsUsable (state S.Store conn.old) → IsKnown (option_copied known)
+        change.now (contents_in (state S.Store conn.old)) }
     ensures mode { conn.new.in_transaction ≡ false }
     ensures same { IsSame (state S.Store conn.old) (state S.Store conn.new) }
     ensures found { FindsSuch (λ t is_there. IsThereSaid is_there change.now t)
         (state S.Store conn.old) (state S.Store conn.new) result }
 {
     match change {
-        DeskChange::Service { service, .. } => Ok(has_service(conn, &service.name())?),
+        DeskChange::Service { service, .. } => has_row(conn, &service.name(), known),
         _ => Ok(false),
     }
+}
+
+// Whether the present attempt of the service of that name is bound. What is known of the service
+// says so.
+fn has_rows<S: Alter>(
+    conn: &mut Connection<S>,
+    alloc: Global,
+    name: &Name,
+    known: Option<&Service>,
+) -> Result<bool, StoreFault>
+    requires autocommit { conn.old.in_transaction ≡ false }
+    requires desk { IsUsable (state S.Store conn.old) → IsDesk (state S.Store conn.old) }
+    requires known { IsUsable (state S.Store conn.old) → IsKnownAs (option_copied known)
+        name.now (contents_in (state S.Store conn.old)) }
+    ensures mode { conn.new.in_transaction ≡ false }
+    ensures same { IsSame (state S.Store conn.old) (state S.Store conn.new) }
+    ensures found { FindsSuch (λ t has. has ≡ has_bindings name.now t)
+        (state S.Store conn.old) (state S.Store conn.new) result }
+{
+    schema_laws::one_reading();
+    match known {
+        Some(service) => Ok(is_bound_to_any(alloc, service.bound())?),
+        None => Ok(has_bindings(conn, name)?),
+    }
+}
+
+fn is_bound_to_any(alloc: Global, bound: &Bound) -> Result<bool, Memory>
+    ensures { IfOk result (λ any. any ≡ not (length (all_revisions bound.now) == 0)) }
+{
+    let revisions = bound.revisions(alloc)?;
+    Ok(!revisions.as_slice().is_empty())
 }
 
 // Whether the service's present attempt is bound, if the command begins another one.
 fn has_attempt<S: Alter>(
     conn: &mut Connection<S>,
+    alloc: Global,
     command: &CanonicalCommand,
     name: &Name,
+    known: Option<&Service>,
 ) -> Result<bool, StoreFault>
     requires autocommit { conn.old.in_transaction ≡ false }
+    requires desk { IsUsable (state S.Store conn.old) → IsDesk (state S.Store conn.old) }
+    requires known { IsUsable (state S.Store conn.old) → IsKnownAs (option_copied known)
+        name.now (contents_in (state S.Store conn.old)) }
     ensures mode { conn.new.in_transaction ≡ false }
     ensures same { IsSame (state S.Store conn.old) (state S.Store conn.new) }
     ensures found { FindsSuch
@@ -50,7 +121,7 @@ fn has_attempt<S: Alter>(
         (state S.Store conn.old) (state S.Store conn.new) result }
 {
     if begins(command) {
-        Ok(has_bindings(conn, name)?)
+        has_rows(conn, alloc, name, known)
     } else {
         Ok(false)
     }
@@ -59,22 +130,31 @@ fn has_attempt<S: Alter>(
 // The same of the service that the change names.
 fn is_bound<S: Alter>(
     conn: &mut Connection<S>,
-    command: &CanonicalCommand,
-    change: &DeskChange,
+    alloc: Global,
+    settlement: &Settlement,
+    known: Option<&Service>,
 ) -> Result<bool, StoreFault>
     requires autocommit { conn.old.in_transaction ≡ false }
+    requires desk { IsUsable (state S.Store conn.old) → IsDesk (state S.Store conn.old) }
+    requires known { IsUsable (state S.Store conn.old) → IsKnown (option_copied known)
+        settlement.now.change (contents_in (state S.Store conn.old)) }
     ensures mode { conn.new.in_transaction ≡ false }
     ensures same { IsSame (state S.Store conn.old) (state S.Store conn.new) }
-    ensures found { FindsSuch (λ t is_bound. IsBoundSaid is_bound command.now change.now t)
+    ensures found { FindsSuch
+        (λ t is_bound. IsBoundSaid is_bound settlement.now.receipt.command settlement.now.change t)
         (state S.Store conn.old) (state S.Store conn.new) result }
 {
-    match change {
-        DeskChange::Service { service, .. } => has_attempt(conn, command, &service.name()),
+    let command = &settlement.receipt.command;
+    match &settlement.change {
+        DeskChange::Service { service, .. } => {
+            has_attempt(conn, alloc, command, &service.name(), known)
+        }
         _ => Ok(false),
     }
 }
 
-/// Settles a request, with all that it changes, or does nothing.
+/// Settles a request, with all that it changes, or does nothing. What is known of the service that
+/// it changes need not be asked.
 ///
 /// # Errors
 /// `Memory` where an allocation was refused, `Storage` where the store failed; nothing changed.
@@ -82,9 +162,12 @@ pub(crate) fn settle<S: Alter>(
     conn: &mut Connection<S>,
     alloc: Global,
     settlement: &Settlement,
+    known: Option<&Service>,
 ) -> Result<(), StoreFault>
     requires autocommit { conn.old.in_transaction ≡ false }
     requires desk { IsUsable (state S.Store conn.old) → IsDesk (state S.Store conn.old) }
+    requires known { IsUsable (state S.Store conn.old) → IsKnown (option_copied known)
+        settlement.now.change (contents_in (state S.Store conn.old)) }
     requires settling { IsUsable (state S.Store conn.old)
         → IsSettling (contents_in (state S.Store conn.old)) settlement.now }
     ensures mode { conn.new.in_transaction ≡ false }
@@ -100,8 +183,7 @@ pub(crate) fn settle<S: Alter>(
     laws::requests();
     schema_laws::one_reading();
     let _ = settlement.number.get();
-    let (command, change) = (&settlement.receipt.command, &settlement.change);
-    let is_there = is_there(conn, change)?;
-    let is_bound = is_bound(conn, command, change)?;
+    let is_there = is_there(conn, &settlement.change, known)?;
+    let is_bound = is_bound(conn, alloc, settlement, known)?;
     commit(conn, alloc, settlement, is_there, is_bound)
 }

@@ -23,6 +23,7 @@ invariant_of-result g c =
       autocommit = search rules;
       desk = is_desk c.one_reading.ensures (state g.S.Store c.in-Ok.opened.0) (state g.S.Store c.believe.new.conn) c.believe.ensures.same c.in-Ok-believe.ensures.believed;
       noted = search rules;
+      kept = λ usable. c.new.ensures.kept _;
     }
 
 pub returns-in-Ok-believe-clause-adopted : goal.returns-in-Ok-believe-clause-adopted

@@ -1,0 +1,148 @@
+-- Two tree maps under names, of which the first goes before the second, as one finite map.
+use Rattle.std.proofs.Common.{◌≡◌, ◌≤◌, ℕ, ◌+◌, ◌-◌, List, [], ◌∷◌, ◌++◌, map, length, Bool, true, false, Some, None, refl, sym, ap, ◌∙◌, subst, arith, Ordering, Less, Equal, Greater}
+use Rattle.std.specs.Prelude.{Option, cond, option_map}
+use Rattle.std.specs.Option.{option_or}
+use Rattle.std.specs.Ordering.{nat_cmp, is_eq, match_ordering}
+use Rattle.std.specs.Cmp.Lexicographic.{slice_cmp, nat_list_cmp_total}
+use Rattle.std.specs.Cmp.{eq_by_cmp_equiv}
+use Rattle.std.specs.FinMap.{FinMap, get, insert, remove, empty, from_entries, find, get-from_entries, get-insert, get-remove, get-empty, same_map, slice_cmp-IsAntisymmetric, nat_cmp-IsAntisymmetric}
+use Rattle.std.specs.BTreeMap.{BTreeMap, is_at, insert_entry}
+use Rattle.std.specs.Map.{lookup, remove_entry}
+use Rattle.canary_tables.specs.declared.entries.Weighed.{Weighed}
+use Rattle.canary_tables.specs.Entries.{Named, IsWithin, unweighed, weights, weight_if, value_if, at_name, first_of}
+
+abbrev Items : Type 0 → Type 0
+Items A = List (List ℕ × Weighed A)
+
+abbrev Found : Type 0 → Type 0
+Found A = Option (Weighed A)
+
+-- whether a name is that one
+abbrev pub is_it : List ℕ → List ℕ → Bool
+is_it k q = is_at (slice_cmp nat_cmp k) q
+
+-- the map of two lists of entries
+abbrev pub held : {A : Type 0} → Items A → Items A → Named A
+held es fs = from_entries (map unweighed (es ++ fs))
+
+find_first : {A : Type 0} (es fs : Items A) (q : List ℕ) → find (slice_cmp nat_cmp) q (map unweighed (es ++ fs)) ≡ value_if (first_of es fs q)
+find_first [] [] q = refl
+find_first {A} [] (f ∷ fs) q = elim (is_it q f.0) as (λ (b : Bool). cond b (Some f.1.value) (find (slice_cmp nat_cmp) q (map unweighed fs)) ≡ value_if (cond b (Some f.1) (at_name fs q))) [ true ↦ refl | false ↦ find_first [] fs q ]
+find_first {A} (e ∷ es) fs q = elim (is_it q e.0) as (λ (b : Bool). cond b (Some e.1.value) (find (slice_cmp nat_cmp) q (map unweighed (es ++ fs))) ≡ value_if (option_or (cond b (Some e.1) (at_name es q)) (at_name fs q))) [ true ↦ refl | false ↦ find_first es fs q ]
+
+-- what it answers
+pub get_held : {A : Type 0} (es fs : Items A) (q : List ℕ) → get (held es fs) q ≡ value_if (first_of es fs q)
+get_held es fs q = get-from_entries nat_list_cmp_total (map unweighed (es ++ fs)) q ∙ find_first es fs q
+
+-- maps that answer alike are the same
+pub alike : {A : Type 0} (m n : Named A) → ((q : List ℕ) → get m q ≡ get n q) → m ≡ n
+alike m n h = same_map nat_list_cmp_total (slice_cmp-IsAntisymmetric nat_cmp-IsAntisymmetric) m n h
+
+the_same : (k q : List ℕ) → is_it k q ≡ is_it q k
+the_same k q = (eq_by_cmp_equiv nat_list_cmp_total).symm k q
+
+-- One is taken out.
+
+taken : {A : Type 0} (b : Bool) (a f : Found A) → value_if (option_or (cond b None a) (cond b None f)) ≡ cond b None (value_if (option_or a f))
+taken true a f = refl
+taken false a f = refl
+
+pub removed : {A : Type 0} (es fs ds gs : Items A) (k : List ℕ) → ((q : List ℕ) → at_name ds q ≡ cond (is_it k q) None (at_name es q)) → ((q : List ℕ) → at_name gs q ≡ cond (is_it k q) None (at_name fs q)) → held ds gs ≡ remove (held es fs) k
+removed {A} es fs ds gs k first second =
+    alike (held ds gs) (remove (held es fs) k) (λ q.
+    get_held ds gs q
+    ∙ ap (λ (a : Found A). value_if (option_or a (at_name gs q))) (first q)
+    ∙ ap (λ (f : Found A). value_if (option_or (cond (is_it k q) None (at_name es q)) f)) (second q)
+    ∙ taken (is_it k q) (at_name es q) (at_name fs q)
+    ∙ ap (λ (b : Bool). cond b None (value_if (first_of es fs q))) (the_same k q)
+    ∙ ap (cond (is_it q k) None) (sym (get_held es fs q))
+    ∙ sym (get-remove nat_list_cmp_total (held es fs) k q))
+
+-- Some leave.
+
+still : {A : Type 0} (v : A) (a f g : Found A) (b : Bool) → g ≡ cond b None f → value_if (option_or a g) ≡ Some v → value_if (option_or a f) ≡ Some v
+still v (Some x) f g b is e = e
+still v None f g true is e = let none : None ≡ Some v = sym (ap value_if is) ∙ e in cc
+still v None f g false is e = sym (ap value_if is) ∙ e
+
+pub less_is_within : {A : Type 0} (m : Named A) (es fs ds gs hs : Items A) (k : List ℕ) → held es fs ≡ m → ((q : List ℕ) → first_of ds gs q ≡ first_of es fs q) → ((q : List ℕ) → at_name hs q ≡ cond (is_it k q) None (at_name gs q)) → IsWithin (held ds hs) m
+less_is_within {A} m es fs ds gs hs k view same less q v there =
+    ap (λ (n : Named A). get n q) (sym view) ∙ get_held es fs q ∙ ap value_if (sym (same q))
+    ∙ still v (at_name ds q) (at_name gs q) (at_name hs q) (is_it k q) (less q) (sym (get_held ds hs q) ∙ there)
+
+pub same_is_within : {A : Type 0} (m : Named A) (es fs ds gs : Items A) → held es fs ≡ m → ((q : List ℕ) → first_of ds gs q ≡ first_of es fs q) → IsWithin (held ds gs) m
+same_is_within {A} m es fs ds gs view same q v there = ap (λ (n : Named A). get n q) (sym view) ∙ get_held es fs q ∙ ap value_if (sym (same q)) ∙ sym (get_held ds gs q) ∙ there
+
+-- One is put.
+
+not_there : {A : Type 0} (x : Option A) → ((v : A) → x ≡ Some v → None ≡ Some v) → x ≡ None
+not_there None h = refl
+not_there (Some v) h = sym (h v refl)
+
+absent : {A : Type 0} (m o : Named A) (k : List ℕ) → IsWithin m o → get o k ≡ None → get m k ≡ None
+absent m o k within none = not_there (get m k) (λ v is. sym none ∙ within k v is)
+
+there_or : {A : Type 0} (v w : A) (x : Option A) (b : Bool) → (b ≡ true → x ≡ Some v → None ≡ Some v) → x ≡ Some v → cond b (Some w) x ≡ Some v
+there_or v w x true h is = let none : None ≡ Some v = h refl is in cc
+there_or v w x false h is = is
+
+pub equal_names : (q k : List ℕ) → is_it q k ≡ true → q ≡ k
+equal_names q k is = slice_cmp-IsAntisymmetric nat_cmp-IsAntisymmetric q k (equal (slice_cmp nat_cmp q k) is) where
+  equal : (r : Ordering) → is_eq r ≡ true → r ≡ Equal
+  equal Less h = cc
+  equal Equal h = refl
+  equal Greater h = cc
+
+-- nothing is put
+pub kept_within : {A : Type 0} (m o : Named A) (k : List ℕ) (w : A) → IsWithin m o → get o k ≡ None → IsWithin m (insert o k w)
+kept_within {A} m o k w within none q v is =
+    get-insert nat_list_cmp_total o k w q
+    ∙ there_or v w (get o q) (is_it q k) (λ same there. sym none ∙ ap (get o) (sym (equal_names q k same)) ∙ there) (within q v is)
+
+put_or : {A : Type 0} (v : A) (w : Weighed A) (a f : Found A) (x : Option A) (b : Bool) → (value_if (option_or a f) ≡ Some v → x ≡ Some v) → value_if (option_or (cond b (Some w) a) f) ≡ Some v → cond b (Some w.value) x ≡ Some v
+put_or v w a f x true h is = is
+put_or v w a f x false h is = h is
+
+pub put_within : {A : Type 0} (o : Named A) (es fs ds : Items A) (k : List ℕ) (w : Weighed A) → IsWithin (held es fs) o → ((q : List ℕ) → at_name ds q ≡ cond (is_it k q) (Some w) (at_name es q)) → IsWithin (held ds fs) (insert o k w.value)
+put_within {A} o es fs ds k w within more q v is =
+    get-insert nat_list_cmp_total o k w.value q
+    ∙ ap (λ (b : Bool). cond b (Some w.value) (get o q)) (the_same q k)
+    ∙ put_or v w (at_name es q) (at_name fs q) (get o q) (is_it k q) (λ there. within q v (get_held es fs q ∙ there))
+    (ap (λ (a : Found A). value_if (option_or a (at_name fs q))) (sym (more q)) ∙ sym (get_held ds fs q) ∙ is)
+
+pub put_there : {A : Type 0} (fs ds : Items A) (k : List ℕ) (w : Weighed A) → at_name ds k ≡ Some w → get (held ds fs) k ≡ Some w.value
+put_there {A} fs ds k w is = get_held ds fs k ∙ ap (λ (a : Found A). value_if (option_or a (at_name fs k))) is
+
+-- Weights.
+
+pub weights_more : {A : Type 0} (es : Items A) (k : List ℕ) (w : Weighed A) → weights (insert_entry (slice_cmp nat_cmp) es k w) ≤ w.weight + weights es
+weights_more [] k w = omega arith
+weights_more {A} (e ∷ es) k w =
+    let rest = weights_more es k w in
+    elim (slice_cmp nat_cmp k e.0) as (λ (r : Ordering). weights (match_ordering r ((k, w) ∷ e ∷ es) ((e.0, w) ∷ es) (e ∷ insert_entry (slice_cmp nat_cmp) es k w)) ≤ w.weight + (e.1.weight + weights es)) [ Less ↦ omega arith | Equal ↦ omega arith | Greater ↦ omega (arith, rest) ]
+
+pub weights_less : {A : Type 0} (es : Items A) (test : List ℕ → Bool) → weights (remove_entry test es) + weight_if (lookup test es) ≡ weights es
+weights_less [] test = refl
+weights_less {A} (e ∷ es) test =
+    let rest = weights_less es test in
+    elim (test e.0) as (λ (b : Bool). weights (cond b es (e ∷ remove_entry test es)) + weight_if (cond b (Some e.1) (lookup test es)) ≡ e.1.weight + weights es) [ true ↦ omega arith | false ↦ omega (arith, rest) ]
+
+-- what was taken out weighed that much
+pub taken_weighs : {A : Type 0} (es ds : Items A) (k : List ℕ) (r : Found A) (n : ℕ) → n ≡ weight_if r → r ≡ at_name es k → ds ≡ remove_entry (is_it k) es → weights ds + n ≡ weights es
+taken_weighs {A} es ds k r n weight found entries =
+    ap (λ (m : ℕ). weights ds + m) (weight ∙ ap weight_if found) ∙ ap (λ (l : Items A). weights l + weight_if (at_name es k)) entries ∙ weights_less es (is_it k)
+
+-- Turned.
+
+no_entries : {A : Type 0} (es : Items A) → length es ≡ 0 → es ≡ []
+no_entries [] e = refl
+no_entries (x ∷ es) e = absurd (omega arith)
+
+or_none : {X : Type 0} (x : Option X) → x ≡ option_or x None
+or_none None = refl
+or_none (Some x) = refl
+
+pub turned : {A : Type 0} (es fs ds gs : Items A) → length fs ≡ 0 → ds ≡ fs → gs ≡ es → (q : List ℕ) → first_of ds gs q ≡ first_of es fs q
+turned {A} es fs ds gs none d g q =
+    let empty : fs ≡ [] = no_entries fs none in
+    ap (λ (x : Items A). first_of x gs q) (d ∙ empty) ∙ ap (λ (x : Items A). at_name x q) g ∙ or_none (at_name es q) ∙ ap (λ (x : Items A). first_of es x q) (sym empty)

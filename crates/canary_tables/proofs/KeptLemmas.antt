@@ -1,0 +1,285 @@
+-- What is kept of what was read stays what the contents have.
+use Rattle.std.proofs.Common.{◌≡◌, ◌≤◌, ℕ, ◌+◌, ◌==◌, List, [], ◌∷◌, ◌++◌, length, Bool, true, false, ◌&&◌, ◌||◌, Some, None, Result, Ok, Err, refl, sym, ap, ◌∙◌, subst, arith, length-append, eqb-true}
+use Rattle.std.specs.Prelude.{Option, cond, not, option_map, unwrap_or, filter}
+use Rattle.std.specs.List.{list_any, find, last_or}
+use Rattle.std.specs.Str.{bytes_eq}
+use Rattle.std.specs.Ordering.{nat_cmp}
+use Rattle.std.specs.Cmp.Lexicographic.{slice_cmp, nat_list_cmp_total}
+use Rattle.std.specs.FinMap.{get, insert, remove, empty, get-insert, get-remove, get-empty}
+use Rattle.std.proofs.lemmas.Map.Text.{is_eq-slice_cmp}
+use Rattle.std.proofs.lemmas.Slice.Eq.{bytes_eq-Decides}
+use Rattle.canary_plan.specs.declared.analysis_parts.Revision.{Revision}
+use Rattle.canary_plan.specs.declared.command.Command.{Command}
+use Rattle.canary_plan.specs.declared.command.Command.TheVariants.{Template as AddTemplate, Service as AddService, Start, Promote, PromoteFull, Abort, Retry, Tick, Report}
+use Rattle.canary_plan.specs.declared.template.Template.{Template}
+use Rattle.canary_plan.specs.declared.refusal.Refusal.{Refusal}
+use Rattle.canary_plan.specs.Plans.{Templates}
+use Rattle.canary_plan.specs.Plans.{all_revisions}
+use Rattle.canary_plan.specs.Commands.{subject_of}
+use Rattle.canary_release.specs.declared.service.ServiceParts.{ServiceParts}
+use Rattle.canary_release.specs.declared.effect.Effect.{Effect}
+use Rattle.canary_release.specs.declared.decide.DeskChange.{DeskChange}
+use Rattle.canary_release.specs.declared.decide.DeskChange.TheVariants.{Nothing, Template as AddsTemplate, Service as Updates}
+use Rattle.canary_release.specs.Commands.{Acted}
+use Rattle.canary_release.specs.Courses.{Course}
+use Rattle.canary_release.specs.Desks.{ModelService, Desk, course_of, after, ruling_on, apply, newest, revisions_of, rules, adds_unless, rule_service}
+use Rattle.canary_release.specs.Shapes.{shape, seen, said, changed, kept_by, KeepsWhatIsSeen}
+use Rattle.canary_release.specs.Order.{AreInOrder}
+use Rattle.canary_once.specs.declared.book.Receipt.{Receipt}
+use Rattle.canary_once.specs.declared.book.Settlement.{Settlement}
+use Rattle.canary_once.specs.Contents.{Contents, count_of, receipts_of, IsSettling, with_settlement, put_some}
+use Rattle.canary_rows.specs.declared.rows.BindingRow.{BindingRow}
+use Rattle.canary_rows.specs.Tables.{Tables, is_service, is_binding, is_binding_of}
+use Rattle.canary_stored.specs.Values.{service_row, binding_row}
+use Rattle.canary_stored.specs.Tables.{row_if, binding_rows, is_of_template}
+use Rattle.canary_stored.specs.Reading.{contents_of, HoldsContents}
+use Rattle.canary_stored.specs.Settling.{has_service, has_bindings}
+use Rattle.sqlite.specs.State.{State}
+use Rattle.sqlite.specs.Effect.{Database}
+use Rattle.canary_schema.specs.Cells.{tables_in}
+use Rattle.canary_schema.specs.Stores.{IsUsable, Stores}
+use Rattle.canary_schema.specs.Laws.{OneReading}
+use Rattle.canary_tables.specs.Desk.{IsDesk, contents_in}
+use Rattle.canary_tables.specs.declared.kept.Kept.{Kept}
+use Rattle.canary_tables.specs.Entries.{Named, IsWithin}
+use Rattle.canary_tables.specs.Kept.{AreCounts, AreServices, AreTemplates, AreKept, without_changed, without_revised, with_changed, kept_of, IsKnown, IsKnownAs}
+use Rattle.canary_tables.proofs.EntryLemmas.{is_it, equal_names, kept_within}
+
+pub there_is : (o : Option ModelService) (k : ServiceParts) → option_map shape o ≡ Some k → (m : ModelService) × ((o ≡ Some m) × (shape m ≡ k))
+there_is None k e = let never : ⊥ = cc in absurd never
+there_is (Some m) k e = (m, (refl, cc))
+
+-- what is known of the service that a change names
+pub known_so : (c : Contents) (services : Named ServiceParts) (change : DeskChange) (known : Option ServiceParts) → AreServices services c → known ≡ kept_of services change → IsKnown known change c
+known_so c services Nothing known are is = tt
+known_so c services (AddsTemplate template) known are is = tt
+known_so c services (Updates s effects) known are is = λ k e. are s.stand.name k (sym is ∙ e)
+
+-- Some leaves, and one is added.
+
+pub fewer_counts : (c : Contents) (m n : Named ℕ) → AreCounts m c → IsWithin n m → AreCounts n c
+fewer_counts c m n are within = λ name count is. are name count (within name count is)
+
+pub fewer_services : (c : Contents) (m n : Named ServiceParts) → AreServices m c → IsWithin n m → AreServices n c
+fewer_services c m n are within = λ name s is. are name s (within name s is)
+
+not_none : {A : Type 0} (b : Bool) (x : Option A) (v : A) → cond b None x ≡ Some v → x ≡ Some v
+not_none true x v e = let never : ⊥ = cc in absurd never
+not_none false x v e = e
+
+pub without_is_within : {A : Type 0} (m : Named A) (k : List ℕ) → IsWithin (remove m k) m
+without_is_within {A} m k q v is = not_none (is_it q k) (get m q) v (sym (get-remove nat_list_cmp_total m k q) ∙ is)
+
+pub one_count_more : (c : Contents) (m n : Named ℕ) (caller : List ℕ) (count : ℕ) → AreCounts m c → count ≡ count_of c caller → IsWithin n (insert m caller count) → AreCounts n c
+one_count_more c m n caller count are is within q k there =
+    one (is_it q caller) (equal_names q caller) (sym (get-insert nat_list_cmp_total m caller count q) ∙ within q k there) where
+      one : (b : Bool) → (b ≡ true → q ≡ caller) → cond b (Some count) (get m q) ≡ Some k → k ≡ count_of c q
+      one true same e = let same_count : count ≡ k = cc in sym same_count ∙ is ∙ ap (count_of c) (sym (same refl))
+      one false same e = are q k e
+
+pub one_service_more : (c : Contents) (m n : Named ServiceParts) (name : List ℕ) (found : Option ServiceParts) → AreServices m c → found ≡ seen c.desk name → IsWithin n (put_some m name found) → AreServices n c
+one_service_more c m n name None are is within = fewer_services c m n are within
+one_service_more c m n name (Some s) are is within = λ q v there.
+    one q v (is_it q name) (equal_names q name) (sym (get-insert nat_list_cmp_total m name s q) ∙ within q v there) where
+      one : (q : List ℕ) (v : ServiceParts) (b : Bool) → (b ≡ true → q ≡ name) → cond b (Some s) (get m q) ≡ Some v → seen c.desk q ≡ Some v
+      one q v true same e = ap (seen c.desk) (same refl) ∙ sym is ∙ e
+      one q v false same e = are q v e
+
+pub one_template_more : (c : Contents) (m n : Named Template) (name : List ℕ) (found : Option Template) → AreTemplates m c → found ≡ newest c.desk.templates name → IsWithin n (put_some m name found) → AreTemplates n c
+one_template_more c m n name None are is within = λ q v there. are q v (within q v there)
+one_template_more c m n name (Some t) are is within = λ q v there.
+    one q v (is_it q name) (equal_names q name) (sym (get-insert nat_list_cmp_total m name t q) ∙ within q v there) where
+      one : (q : List ℕ) (v : Template) (b : Bool) → (b ≡ true → q ≡ name) → cond b (Some t) (get m q) ≡ Some v → newest c.desk.templates q ≡ Some v
+      one q v true same e = ap (newest c.desk.templates) (same refl) ∙ sym is ∙ e
+      one q v false same e = are q v e
+
+-- A request is settled.
+
+count_after : (c : Contents) (s : Settlement) (m n : Named ℕ) → s.number ≡ count_of c s.caller + 1 → AreCounts m c → IsWithin n (insert (remove m s.caller) s.caller s.number) → AreCounts n (with_settlement c s)
+count_after c s m n next are within q k there =
+    subst (λ (o : Option (List Receipt)). k ≡ length (unwrap_or o [])) (sym (get-insert nat_list_cmp_total c.callers s.caller (receipts_of c s.caller ++ s.receipt ∷ []) q))
+    (one (is_it q s.caller) (sym (get-insert nat_list_cmp_total (remove m s.caller) s.caller s.number q ∙ ap (cond (is_it q s.caller) (Some s.number)) (get-remove nat_list_cmp_total m s.caller q)) ∙ within q k there)) where
+      one : (b : Bool) → cond b (Some s.number) (cond b None (get m q)) ≡ Some k → k ≡ length (unwrap_or (cond b (Some (receipts_of c s.caller ++ s.receipt ∷ [])) (get c.callers q)) [])
+      one true e = let same : s.number ≡ k = cc in sym same ∙ next ∙ sym (length-append (receipts_of c s.caller) (s.receipt ∷ []))
+      one false e = are q k e
+
+services_after : KeepsWhatIsSeen → (desk : Desk) (now : ℕ) (command : Command) (change : DeskChange) → change ≡ said (ruling_on desk now command).change → changed desk command change ≡ (apply desk now command).desk → AreInOrder (changed desk command change)
+    → (m n : Named ServiceParts) → ((name : List ℕ) (s : ServiceParts) → get m name ≡ Some s → seen desk name ≡ Some s) → IsWithin n (with_changed (without_changed m change) change)
+    → (name : List ℕ) (s : ServiceParts) → get n name ≡ Some s → seen (changed desk command change) name ≡ Some s
+services_after law desk now command Nothing is next_desk order m n are within = λ name s there. are name s (within name s there)
+services_after law desk now command (AddsTemplate template) is next_desk order m n are within = λ name s there. are name s (within name s there)
+services_after law desk now command (Updates s effects) is next_desk order m n are within = λ q v there.
+    one q v (is_it q s.stand.name) (equal_names q s.stand.name) refl
+    (sym (get-insert nat_list_cmp_total (remove m s.stand.name) s.stand.name s q ∙ ap (cond (is_it q s.stand.name) (Some s)) (get-remove nat_list_cmp_total m s.stand.name q)) ∙ within q v there) where
+      next : Desk
+      next = changed desk command (Updates s effects)
+
+      brought : seen next (subject_of command) ≡ Some s
+      brought = subst (λ (d : Desk). seen d (subject_of command) ≡ Some s) (sym next_desk) (law desk now command s (ap kept_by (sym is)))
+
+      named : s.stand.name ≡ subject_of command
+      named = let m = there_is (get next.services (subject_of command)) s brought in ap (λ (p : ServiceParts). p.stand.name) (sym m.1.1) ∙ (order.services (subject_of command) m.0 m.1.0).shown
+
+      becomes : ModelService
+      becomes = after (get desk.services (subject_of command)) s.stand effects
+
+      one : (q : List ℕ) (v : ServiceParts) (b : Bool) → (b ≡ true → q ≡ s.stand.name) → is_it q s.stand.name ≡ b → cond b (Some s) (cond b None (get m q)) ≡ Some v → seen next q ≡ Some v
+      one q v true same is_b e = ap (seen next) (same refl ∙ named) ∙ brought ∙ e
+      one q v false same is_b e =
+          ap (option_map shape) (get-insert nat_list_cmp_total desk.services (subject_of command) becomes q ∙ ap (λ (b : Bool). cond b (Some becomes) (get desk.services q)) (ap (is_it q) (sym named) ∙ is_b)) ∙ are q v e
+
+-- a change that adds a revision is that of a command on its template
+no_revision : (r : Result Acted Refusal) (t : Template) → AddsTemplate t ≡ said (rules r).change → ⊥
+no_revision (Ok a) t e = cc
+no_revision (Err refusal) t e = cc
+
+no_revision_of : (known : Templates) (found : Option Course) (now : ℕ) (command : Command) (t : Template) → AddsTemplate t ≡ said (rule_service known found now command).change → ⊥
+no_revision_of known None now command t e = no_revision _ t e
+no_revision_of known (Some c) now command t e = no_revision _ t e
+
+no_revision_on : (desk : Desk) (now : ℕ) (command : Command) (t : Template) → AddsTemplate t ≡ said (rule_service (newest desk.templates) (option_map course_of (get desk.services (subject_of command))) now command).change → ⊥
+no_revision_on desk now command t e = no_revision_of (newest desk.templates) (option_map course_of (get desk.services (subject_of command))) now command t e
+
+revision_added : (o : Option Refusal) (t u : Template) → AddsTemplate t ≡ said (adds_unless o u).change → t ≡ u
+revision_added None t u e = cc
+revision_added (Some refusal) t u e = let never : ⊥ = cc in absurd never
+
+revised : (desk : Desk) (now : ℕ) (command : Command) (t : Template) → AddsTemplate t ≡ said (ruling_on desk now command).change → t.spec.name ≡ subject_of command
+revised desk now (AddTemplate spec) t e = ap (λ (u : Template). u.spec.name) (revision_added _ t _ e)
+revised desk now (AddService spec) t e = absurd (no_revision_on desk now (AddService spec) t e)
+revised desk now (Start service version) t e = absurd (no_revision_on desk now (Start service version) t e)
+revised desk now (Promote service) t e = absurd (no_revision_on desk now (Promote service) t e)
+revised desk now (PromoteFull service) t e = absurd (no_revision_on desk now (PromoteFull service) t e)
+revised desk now (Abort service) t e = absurd (no_revision_on desk now (Abort service) t e)
+revised desk now (Retry service) t e = absurd (no_revision_on desk now (Retry service) t e)
+revised desk now (Tick service) t e = absurd (no_revision_on desk now (Tick service) t e)
+revised desk now (Report report) t e = absurd (no_revision_on desk now (Report report) t e)
+
+others_stay : (desk : Desk) (u : Template) (name : List ℕ) (m : Named Template) → ((q : List ℕ) (t : Template) → get m q ≡ Some t → newest desk.templates q ≡ Some t)
+    → (q : List ℕ) (t : Template) → get (remove m name) q ≡ Some t → newest (insert desk.templates name (revisions_of desk.templates name ++ u ∷ [])) q ≡ Some t
+others_stay desk u name m are q t there =
+    ap (λ (o : Option (List Template)). last_or None (unwrap_or o [])) (get-insert nat_list_cmp_total desk.templates name (revisions_of desk.templates name ++ u ∷ []) q)
+    ∙ one (is_it q name) (sym (get-remove nat_list_cmp_total m name q) ∙ there) where
+      one : (b : Bool) → cond b None (get m q) ≡ Some t → last_or None (unwrap_or (cond b (Some (revisions_of desk.templates name ++ u ∷ [])) (get desk.templates q)) []) ≡ Some t
+      one true e = let never : ⊥ = cc in absurd never
+      one false e = are q t e
+
+templates_after : (desk : Desk) (now : ℕ) (command : Command) (change : DeskChange) → change ≡ said (ruling_on desk now command).change → (m n : Named Template) → ((name : List ℕ) (t : Template) → get m name ≡ Some t → newest desk.templates name ≡ Some t)
+    → n ≡ without_revised m change → (name : List ℕ) (t : Template) → get n name ≡ Some t → newest (changed desk command change).templates name ≡ Some t
+templates_after desk now command Nothing is m n are same name t there = are name t (ap (λ (x : Named Template). get x name) (sym same) ∙ there)
+templates_after desk now command (Updates s effects) is m n are same name t there = are name t (ap (λ (x : Named Template). get x name) (sym same) ∙ there)
+templates_after desk now command (AddsTemplate u) is m n are same name t there =
+    others_stay desk u (subject_of command) m are name t
+    (ap (λ (k : List ℕ). get (remove m k) name) (sym (revised desk now command u is)) ∙ ap (λ (x : Named Template). get x name) (sym same) ∙ there)
+
+pub kept_after : KeepsWhatIsSeen → (c : Contents) (s : Settlement) (old new : Kept) → IsSettling c s → AreInOrder (with_settlement c s).desk → AreKept old c
+    → IsWithin new.counts (insert (remove old.counts s.caller) s.caller s.number) → IsWithin new.services (with_changed (without_changed old.services s.change) s.change) → new.templates ≡ without_revised old.templates s.change
+    → AreKept new (with_settlement c s)
+kept_after law c s old new settling order are counts services templates =
+    record {
+      counts = count_after c s old.counts new.counts settling.number are.counts counts;
+      services = services_after law c.desk settling.step.0 s.receipt.command s.change settling.step.1.change settling.step.1.desk_after order old.services new.services are.services services;
+      templates = templates_after c.desk settling.step.0 s.receipt.command s.change settling.step.1.change old.templates new.templates are.templates templates;
+    }
+
+-- what a failed commit leaves
+without_changed_is_within : (m : Named ServiceParts) (change : DeskChange) → IsWithin (without_changed m change) m
+without_changed_is_within m Nothing = λ name s is. is
+without_changed_is_within m (AddsTemplate template) = λ name s is. is
+without_changed_is_within m (Updates s effects) = without_is_within m s.stand.name
+
+without_revised_is_within : (m : Named Template) (change : DeskChange) → IsWithin (without_revised m change) m
+without_revised_is_within m Nothing = λ name t is. is
+without_revised_is_within m (Updates s effects) = λ name t is. is
+without_revised_is_within m (AddsTemplate template) = without_is_within m template.spec.name
+
+pub forgotten : (c : Contents) (s : Settlement) (old new : Kept) → AreKept old c → new.counts ≡ remove old.counts s.caller → new.services ≡ without_changed old.services s.change → new.templates ≡ without_revised old.templates s.change → AreKept new c
+forgotten c s old new are counts services templates =
+    record {
+      counts = subst (λ (m : Named ℕ). AreCounts m c) (sym counts) (fewer_counts c old.counts (remove old.counts s.caller) are.counts (without_is_within old.counts s.caller));
+      services = subst (λ (m : Named ServiceParts). AreServices m c) (sym services) (fewer_services c old.services (without_changed old.services s.change) are.services (without_changed_is_within old.services s.change));
+      templates = subst (λ (m : Named Template). AreTemplates m c) (sym templates) (λ name t is. are.templates name t (without_revised_is_within old.templates s.change name t is));
+    }
+
+-- of what was taken out nothing is kept
+
+same_name : (k : List ℕ) → is_it k k ≡ true
+same_name k = is_eq-slice_cmp k k ∙ (bytes_eq-Decides k k).1 refl
+
+pub none_there : {A : Type 0} (m : Named A) (k : List ℕ) → get (remove m k) k ≡ None
+none_there {A} m k = get-remove nat_list_cmp_total m k k ∙ ap (λ (b : Bool). cond b None (get m k)) (same_name k)
+
+pub none_of_change : (m : Named ServiceParts) (change : DeskChange) → kept_of (without_changed m change) change ≡ None
+none_of_change m Nothing = refl
+none_of_change m (AddsTemplate template) = refl
+none_of_change m (Updates s effects) = none_there m s.stand.name
+
+-- One is read.
+
+pub count_kept : (c : Contents) (old new : Kept) (caller : List ℕ) (count : ℕ) → AreKept old c → count ≡ count_of c caller → IsWithin new.counts (insert old.counts caller count) → new.services ≡ old.services → new.templates ≡ old.templates → AreKept new c
+count_kept c old new caller count are is counts services templates =
+    record {
+      counts = one_count_more c old.counts new.counts caller count are.counts is counts;
+      services = subst (λ (m : Named ServiceParts). AreServices m c) (sym services) are.services;
+      templates = subst (λ (m : Named Template). AreTemplates m c) (sym templates) are.templates;
+    }
+
+pub service_kept : (c : Contents) (old new : Kept) (name : List ℕ) (found : Option ServiceParts) → AreKept old c → found ≡ seen c.desk name → new.counts ≡ old.counts → IsWithin new.services (put_some old.services name found) → new.templates ≡ old.templates → AreKept new c
+service_kept c old new name found are is counts services templates =
+    record {
+      counts = subst (λ (m : Named ℕ). AreCounts m c) (sym counts) are.counts;
+      services = one_service_more c old.services new.services name found are.services is services;
+      templates = subst (λ (m : Named Template). AreTemplates m c) (sym templates) are.templates;
+    }
+
+pub template_kept : (c : Contents) (old new : Kept) (name : List ℕ) (found : Option Template) → AreKept old c → found ≡ newest c.desk.templates name → new.counts ≡ old.counts → new.services ≡ old.services → IsWithin new.templates (put_some old.templates name found) → AreKept new c
+template_kept c old new name found are is counts services templates =
+    record {
+      counts = subst (λ (m : Named ℕ). AreCounts m c) (sym counts) are.counts;
+      services = subst (λ (m : Named ServiceParts). AreServices m c) (sym services) are.services;
+      templates = one_template_more c old.templates new.templates name found are.templates is templates;
+    }
+
+-- what is kept of a database is that of one that contains the same
+pub kept_of_same : (old new : State) (kept : Kept) → AreKept kept (contents_in old) → new.now ≡ old.now → AreKept kept (contents_in new)
+kept_of_same old new kept are same = subst (λ (db : Database). AreKept kept (contents_of (tables_in db))) (sym same) are
+
+-- what is kept anew once a request is settled
+pub settled_kept : KeepsWhatIsSeen → (old new : State) (s : Settlement) (before forgot after : Kept) → IsSettling (contents_in old) s → IsDesk new → contents_in new ≡ with_settlement (contents_in old) s → AreKept before (contents_in old)
+    → forgot.counts ≡ remove before.counts s.caller → forgot.services ≡ without_changed before.services s.change → forgot.templates ≡ without_revised before.templates s.change → IsWithin after.counts (insert forgot.counts s.caller s.number) → IsWithin after.services (with_changed forgot.services s.change) → after.templates ≡ forgot.templates
+    → AreKept after (contents_in new)
+settled_kept law old new s before forgot after settling desk settled are counts services templates more_counts more_services same_templates =
+    subst (AreKept after) (sym settled)
+    (kept_after law (contents_in old) s before after settling (subst (λ (c : Contents). AreInOrder c.desk) settled desk.holds.lawful.desk) are
+    (subst (λ (m : Named ℕ). IsWithin after.counts (insert m s.caller s.number)) counts more_counts)
+    (subst (λ (m : Named ServiceParts). IsWithin after.services (with_changed m s.change)) services more_services)
+    (same_templates ∙ templates))
+
+-- A change of a service, by its parts.
+
+pub changed_so : (m n : Named ServiceParts) (change : DeskChange) (s : ServiceParts) (effects : List Effect) (name : List ℕ) → change ≡ Updates s effects → name ≡ s.stand.name → IsWithin n (insert m name s) → IsWithin n (with_changed m change)
+changed_so m n change s effects name is named within =
+    subst (λ (x : DeskChange). IsWithin n (with_changed m x)) (sym is) (subst (λ (k : List ℕ). IsWithin n (insert m k s)) named within)
+
+-- nothing is put
+pub nothing_put : {A : Type 0} (m : Named A) (name : List ℕ) (found : Option A) → get m name ≡ None → IsWithin m (put_some m name found)
+nothing_put m name None none = λ q v is. is
+nothing_put m name (Some s) none = kept_within m m name s (λ q v is. is) none
+
+pub found_put : {A : Type 0} (m n : Named A) (name : List ℕ) (found : Option A) (s copy : A) → found ≡ Some s → copy ≡ s → IsWithin n (insert m name copy) → IsWithin n (put_some m name found)
+found_put {A} m n name found s copy is same within =
+    subst (λ (o : Option A). IsWithin n (put_some m name o)) (sym is) (subst (λ (x : A). IsWithin n (insert m name x)) same within)
+
+-- Nothing is kept.
+
+none_of_nothing : {A : Type 0} (m : Named A) (k : List ℕ) (v : A) → m ≡ empty → get m k ≡ Some v → ⊥
+none_of_nothing {A} m k v is e =
+    let none : None ≡ Some v = sym (get-empty (slice_cmp nat_cmp) k) ∙ ap (λ (n : Named A). get n k) (sym is) ∙ e in cc
+
+pub nothing_kept : (kept : Kept) (c : Contents) → kept.counts ≡ empty → kept.services ≡ empty → kept.templates ≡ empty → AreKept kept c
+nothing_kept kept c counts services templates =
+    record {
+      counts = λ name count e. absurd (none_of_nothing kept.counts name count counts e);
+      services = λ name s e. absurd (none_of_nothing kept.services name s services e);
+      templates = λ name t e. absurd (none_of_nothing kept.templates name t templates e);
+    }

@@ -1,0 +1,178 @@
+//! What a book keeps is asked before its tables.
+ghost use Rattle.std.specs.Prelude.{◌≡◌, false, IfOk, OnOk, OnErr};
+ghost use Rattle.sqlite.specs.Held.{state};
+ghost use Rattle.canary_release.specs.Desks.{newest};
+ghost use Rattle.canary_release.specs.Shapes.{seen};
+ghost use Rattle.canary_once.specs.Contents.{count_of, templates_named};
+ghost use Rattle.canary_once.specs.Contents.{IsSettling, with_settlement};
+ghost use Rattle.canary_schema.specs.Stores.{IsUsable};
+ghost use Rattle.canary_reads.specs.Finds.{IsSame};
+ghost use Rattle.canary_tables.specs.Desk.{IsDesk, contents_in};
+ghost use Rattle.canary_tables.specs.Kept.{AreKept};
+
+use crate::kept::Kept;
+use crate::settle::settle;
+use crate::{found, found_plans, found_services};
+use canary_base::names::Name;
+use canary_once::book::Settlement;
+use canary_plan::template::Template;
+use canary_plan::templates::Templates;
+use canary_release::laws as desk_laws;
+use canary_release::service::Service;
+use canary_schema::fault::StoreFault;
+use sqlite::{Alter, Connection};
+use std::alloc::Global;
+
+/// The number of settled requests of a caller. If it is not kept yet, it is read from the tables and
+/// kept.
+///
+/// # Errors
+/// `Memory` if an allocation was refused, `Storage` if the database fails or holds what no desk
+/// writes.
+pub(crate) fn count<S: Alter>(
+    conn: &mut Connection<S>,
+    kept: &mut Kept,
+    caller: &Name,
+) -> Result<u32, StoreFault>
+    requires autocommit { conn.old.in_transaction ≡ false }
+    requires desk { IsUsable (state S.Store conn.old) → IsDesk (state S.Store conn.old) }
+    requires kept { IsUsable (state S.Store conn.old)
+        → AreKept kept.old (contents_in (state S.Store conn.old)) }
+    ensures mode { conn.new.in_transaction ≡ false }
+    ensures same { IsSame (state S.Store conn.old) (state S.Store conn.new) }
+    ensures kept { IsUsable (state S.Store conn.new)
+        → AreKept kept.new (contents_in (state S.Store conn.new)) }
+    ensures found { IsUsable (state S.Store conn.new) → IfOk result
+        (λ count. count ≡ count_of (contents_in (state S.Store conn.old)) caller.now) }
+{
+    if let Some(count) = kept.counts.get(*caller) {
+        return Ok(*count);
+    }
+    let count = found::count(conn, caller)?;
+    kept.keep_count(*caller, count);
+    Ok(count)
+}
+
+/// The service of that name, if there is one. If it is not kept yet, it is read from the tables, and
+/// a copy is kept if there is memory for one.
+///
+/// # Errors
+/// `Memory` if there is not enough, `Storage` if the database fails or holds what no desk writes.
+pub(crate) fn service<S: Alter>(
+    conn: &mut Connection<S>,
+    alloc: Global,
+    kept: &mut Kept,
+    name: &Name,
+) -> Result<Option<Service>, StoreFault>
+    requires autocommit { conn.old.in_transaction ≡ false }
+    requires desk { IsUsable (state S.Store conn.old) → IsDesk (state S.Store conn.old) }
+    requires kept { IsUsable (state S.Store conn.old)
+        → AreKept kept.old (contents_in (state S.Store conn.old)) }
+    ensures mode { conn.new.in_transaction ≡ false }
+    ensures same { IsSame (state S.Store conn.old) (state S.Store conn.new) }
+    ensures kept { IsUsable (state S.Store conn.new)
+        → AreKept kept.new (contents_in (state S.Store conn.new)) }
+    ensures found { IsUsable (state S.Store conn.new) → IfOk result (λ found.
+        found ≡ seen (contents_in (state S.Store conn.old)).desk name.now) }
+{
+    if let Some(service) = kept.services.get(*name) {
+        return Ok(Some(service.copy(alloc)?));
+    }
+    let found = found_services::service(conn, alloc, name)?;
+    kept.keep_copy(alloc, *name, found.as_ref());
+    Ok(found)
+}
+
+// The newest revision of the template of that name, if there is one. If it is not kept yet, it is
+// read from the tables, and a copy is kept if there is memory for one.
+fn template<S: Alter>(
+    conn: &mut Connection<S>,
+    alloc: Global,
+    kept: &mut Kept,
+    name: &Name,
+) -> Result<Option<Template>, StoreFault>
+    requires autocommit { conn.old.in_transaction ≡ false }
+    requires desk { IsUsable (state S.Store conn.old) → IsDesk (state S.Store conn.old) }
+    requires kept { IsUsable (state S.Store conn.old)
+        → AreKept kept.old (contents_in (state S.Store conn.old)) }
+    ensures mode { conn.new.in_transaction ≡ false }
+    ensures same { IsSame (state S.Store conn.old) (state S.Store conn.new) }
+    ensures kept { IsUsable (state S.Store conn.new)
+        → AreKept kept.new (contents_in (state S.Store conn.new)) }
+    ensures found { IsUsable (state S.Store conn.new) → IfOk result (λ found.
+        found ≡ newest (contents_in (state S.Store conn.old)).desk.templates name.now) }
+{
+    if let Some(template) = kept.templates.get(*name) {
+        return Ok(Some(template.copy(alloc)?));
+    }
+    let found = found_plans::template(conn, alloc, name)?;
+    kept.keep_template(alloc, *name, found.as_ref());
+    Ok(found)
+}
+
+/// The newest revisions of the templates that have one of these names. Those that are not kept yet
+/// are read from the tables, and copies of them are kept as far as there is memory.
+///
+/// # Errors
+/// `Memory` if there is not enough, `Storage` if the database fails or holds what no desk writes.
+pub(crate) fn templates<S: Alter>(
+    conn: &mut Connection<S>,
+    alloc: Global,
+    kept: &mut Kept,
+    names: &[Name],
+) -> Result<Templates, StoreFault>
+    requires autocommit { conn.old.in_transaction ≡ false }
+    requires desk { IsUsable (state S.Store conn.old) → IsDesk (state S.Store conn.old) }
+    requires kept { IsUsable (state S.Store conn.old)
+        → AreKept kept.old (contents_in (state S.Store conn.old)) }
+    ensures mode { conn.new.in_transaction ≡ false }
+    ensures same { IsSame (state S.Store conn.old) (state S.Store conn.new) }
+    ensures kept { IsUsable (state S.Store conn.new)
+        → AreKept kept.new (contents_in (state S.Store conn.new)) }
+    ensures found { IsUsable (state S.Store conn.new) → IfOk result (λ found.
+        found ≡ templates_named (contents_in (state S.Store conn.old)) names.now) }
+{
+    let mut found = Templates::new(alloc);
+    for name in names {
+        if let Some(template) = template(conn, alloc, kept, name)? {
+            found.insert(*name, template)?;
+        }
+    }
+    Ok(found)
+}
+
+/// Settles a request, with all that it changes, or does nothing. What is kept of its caller and of
+/// the service that it changes is forgotten first, and kept anew once it is settled.
+///
+/// # Errors
+/// `Memory` if an allocation was refused, `Storage` if the store failed; nothing changed.
+pub(crate) fn commit<S: Alter>(
+    conn: &mut Connection<S>,
+    alloc: Global,
+    kept: &mut Kept,
+    settlement: Settlement,
+) -> Result<(), StoreFault>
+    requires autocommit { conn.old.in_transaction ≡ false }
+    requires desk { IsUsable (state S.Store conn.old) → IsDesk (state S.Store conn.old) }
+    requires kept { IsUsable (state S.Store conn.old)
+        → AreKept kept.old (contents_in (state S.Store conn.old)) }
+    requires settling { IsUsable (state S.Store conn.old)
+        → IsSettling (contents_in (state S.Store conn.old)) settlement }
+    ensures mode { conn.new.in_transaction ≡ false }
+    ensures held { IsUsable (state S.Store conn.new) → IsUsable (state S.Store conn.old) }
+    ensures desk { IsUsable (state S.Store conn.new)
+        → OnOk result (IsDesk (state S.Store conn.new)) }
+    ensures kept { IsUsable (state S.Store conn.new)
+        → AreKept kept.new (contents_in (state S.Store conn.new)) }
+    ensures settled { IsUsable (state S.Store conn.new)
+        → OnOk result (contents_in (state S.Store conn.new)
+        ≡ with_settlement (contents_in (state S.Store conn.old)) settlement) }
+    ensures failed { IsUsable (state S.Store conn.new)
+        → OnErr result ((state S.Store conn.new).now ≡ (state S.Store conn.old).now) }
+{
+    desk_laws::changes();
+    let known = kept.forget(&settlement);
+    settle(conn, alloc, &settlement, known.as_ref())?;
+    kept.keep(settlement);
+    Ok(())
+}

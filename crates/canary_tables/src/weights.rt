@@ -1,0 +1,81 @@
+//! About how many bytes what a book keeps takes in memory.
+use canary_base::lists::Text;
+use canary_plan::bound::Bound;
+use canary_plan::bound_analysis::BoundAnalysis;
+use canary_plan::template::Template;
+use canary_plan::template_spec::MetricSpec;
+use canary_release::service::Service;
+
+/// A count of requests, with its caller's name.
+pub(crate) const BYTES_OF_COUNT: u64 = 128;
+
+// A service, and each step, metric and tally of it.
+const BYTES_OF_SERVICE: u64 = 1024;
+
+const BYTES_OF_STEP: u64 = 256;
+
+const BYTES_OF_METRIC: u64 = 1024;
+
+const BYTES_OF_TALLY: u64 = 64;
+
+// A template, and each name of it that is to be dry-run; of each condition's byte the byte, and at
+// most one part of a condition that has been read.
+const BYTES_OF_TEMPLATE: u64 = 512;
+
+const BYTES_OF_DRY_RUN: u64 = 128;
+
+const BYTES_OF_CONDITION_BYTE: u64 = 48;
+
+/// A service, with its name. A metric counts as one with short conditions.
+pub(crate) fn bytes_of_service(service: &Service) -> u64 {
+    let steps = BYTES_OF_STEP.saturating_mul(service.strategy().steps().len() as u64);
+    let metrics = BYTES_OF_METRIC.saturating_mul(metrics_of(service.bound()));
+    let tallies = BYTES_OF_TALLY.saturating_mul(tallies_of(service));
+    let parts = steps.saturating_add(metrics).saturating_add(tallies);
+    BYTES_OF_SERVICE.saturating_add(parts)
+}
+
+fn metrics_of(bound: &Bound) -> u64 {
+    let mut count = metrics_in(bound.analysis(None));
+    for analysis in bound.steps() {
+        count = count.saturating_add(metrics_in(analysis.as_ref()));
+    }
+    count
+}
+
+fn metrics_in(analysis: Option<&BoundAnalysis>) -> u64 {
+    match analysis {
+        Some(analysis) => analysis.metrics().len() as u64,
+        None => 0,
+    }
+}
+
+fn tallies_of(service: &Service) -> u64 {
+    let mut count: u64 = 0;
+    for run in service.open_runs() {
+        count = count.saturating_add(run.tallies.as_slice().len() as u64);
+    }
+    count
+}
+
+/// A template, with its name.
+pub(crate) fn bytes_of_template(template: &Template) -> u64 {
+    let dry_run = template.spec.dry_run.as_slice().len() as u64;
+    let mut bytes = BYTES_OF_TEMPLATE.saturating_add(BYTES_OF_DRY_RUN.saturating_mul(dry_run));
+    for metric in template.spec.metrics.as_slice() {
+        bytes = bytes.saturating_add(bytes_of_metric(metric));
+    }
+    bytes
+}
+
+fn bytes_of_metric(metric: &MetricSpec) -> u64 {
+    let condition_bytes = length_of(&metric.success).saturating_add(length_of(&metric.failure));
+    BYTES_OF_METRIC.saturating_add(BYTES_OF_CONDITION_BYTE.saturating_mul(condition_bytes))
+}
+
+fn length_of(text: &Option<Text>) -> u64 {
+    match text {
+        Some(text) => text.as_str().len() as u64,
+        None => 0,
+    }
+}
