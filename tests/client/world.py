@@ -39,7 +39,7 @@ IN_USE = "another client has this journal open"
 NO_JOURNAL_FILE = "the journal cannot be opened, read or written"
 UNREACHABLE = "nobody answers there; trying again"
 LOST = "the reply was lost; trying again"
-FOREIGN = "the reply is none of a desk; trying again"
+FOREIGN = "the reply is not a desk's; trying again"
 UNAVAILABLE = "the desk cannot do it now; trying again"
 
 # What runs, so that all of it ends with the script.

@@ -4,7 +4,7 @@
 
 # Answers standard input over the file $1, from the moment $2 on.
 serve_file() {
-    "$desk_program" pipe --at "$2" --step "$step" --db "$1"
+    "$desk_program" pipe --at "$2" --step "$step" --db "$1" "${@:3}"
 }
 
 # What the program says of the file $1: `ok`, or the word for why there is no book over it.

@@ -18,9 +18,11 @@ use Rattle.canary_cli.specs.declared.perform.Outcome.TheVariants.{Done, Findings
 use Rattle.canary_client.specs.Outcomes as client
 use Rattle.canary_client.specs.declared.outcome.Outcome as client_outcome
 use Rattle.canary_listen.specs.declared.limits.Limits.{Limits}
+use Rattle.canary_words.specs.declared.words.Asked.{Asked as AskedOf}
+use Rattle.canary_words.specs.declared.words.Asked.TheVariants.{Do, Get, Watch, Send, Due}
 use Rattle.canary_words.specs.declared.words.AskedLimits.{AskedLimits}
 use Rattle.canary_words.specs.declared.words.Program.{Program}
-use Rattle.canary_words.specs.declared.words.Program.TheVariants.{Pipe, Serve, Import, History, Export, Status, Page, Backup, Migrate, Check, Do, Get, Watch, Send, Due}
+use Rattle.canary_words.specs.declared.words.Program.TheVariants.{Pipe, Serve, Import, History, Export, Status, Page, Backup, Migrate, Check, Ask}
 use Rattle.canary_words.specs.declared.words.WordsFault.{WordsFault}
 use Rattle.canary_words.specs.declared.words.WordsFault.TheVariants.{Help, Usage, Memory as NoMemory}
 use Rattle.canary_words.specs.CommandLine.{IsFor, faults_of, program_of}
@@ -107,14 +109,22 @@ IsNoClient done = (outcome : client_outcome.Outcome) → done ≡ Ok (Asked outc
 abbrev pub IsChecked : Known → Known → Result Outcome Fault → Type 0
 IsChecked w new_w done = done ≡ Ok Done → Appends w new_w (codes "ok\n")
 
+-- of the clients of a desk `send` alone reads the input
+abbrev pub IsAsked : Known → Known → AskedOf → Type 0
+IsAsked r new_r (Do call) = new_r ≡ r
+IsAsked r new_r (Get desk service part) = new_r ≡ r
+IsAsked r new_r (Watch desk until service) = new_r ≡ r
+IsAsked r new_r (Send desk csv) = Unit {0}
+IsAsked r new_r (Due desk wait service) = new_r ≡ r
+
 -- the program was run so; `pipe`, `import` and `send` alone read the input
 abbrev pub IsRun : Known → Known → Known → Known → Program → Result Outcome Fault → Type 0
-IsRun r new_r w new_w (Pipe at step None) done =
+IsRun r new_r w new_w (Pipe at step None cache) done =
     (piped : Result (Unit {0}) Fault) × (done ≡ outcome_of piped)
     × IsPiped r new_r w new_w at step piped
-IsRun r new_r w new_w (Pipe at step (Some db)) done = Unit {0}
-IsRun r new_r w new_w (Serve listen db connections limits) done = new_r ≡ r
-IsRun r new_r w new_w (Import db csv) done = Unit {0}
+IsRun r new_r w new_w (Pipe at step (Some db) cache) done = Unit {0}
+IsRun r new_r w new_w (Serve listen db cache connections limits) done = new_r ≡ r
+IsRun r new_r w new_w (Import db cache csv) done = Unit {0}
 IsRun r new_r w new_w (History db service) done = new_r ≡ r
 IsRun r new_r w new_w (Export db caller service) done = new_r ≡ r
 IsRun r new_r w new_w (Status db watch json) done = new_r ≡ r
@@ -123,11 +133,7 @@ IsRun r new_r w new_w (Backup db copy) done = new_r ≡ r
 IsRun r new_r w new_w (Migrate db dry_run) done = new_r ≡ r
 IsRun r new_r w new_w (Check file request) done =
     (new_r ≡ r) × IsChecked w new_w done × IsNoClient done
-IsRun r new_r w new_w (Do desk caller journal key instead command) done = new_r ≡ r
-IsRun r new_r w new_w (Get desk service part) done = new_r ≡ r
-IsRun r new_r w new_w (Watch desk until service) done = new_r ≡ r
-IsRun r new_r w new_w (Send desk csv) done = Unit {0}
-IsRun r new_r w new_w (Due desk wait service) done = new_r ≡ r
+IsRun r new_r w new_w (Ask asked) done = IsAsked r new_r asked
 
 -- the program was run so, and ended with this exit status
 abbrev pub IsRunTo : Known → Known → Known → Known → Program → ℕ → Type 0
@@ -142,7 +148,7 @@ IsPipedTo r new_r w new_w at step status = (piped : Result (Unit {0}) Fault)
 -- it may write on the error stream though it is done: what a desk in memory says of itself, how
 -- connections ended, how far it has come, that it made a file, or what a check warns of
 abbrev pub MayTell : Program → Type 0
-MayTell (Pipe at step None) = ⊥
+MayTell (Pipe at step None cache) = ⊥
 MayTell (Backup db copy) = ⊥
 MayTell _ = Unit {0}
 

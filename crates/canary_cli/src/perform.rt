@@ -7,13 +7,13 @@ ghost use Rattle.canary_words.specs.CommandLine.{faults_of, program_of};
 ghost use Rattle.canary_cli.specs.Performed.{outcome_of, status_of};
 ghost use Rattle.canary_cli.specs.Performed.{IsPiped, IsPipedTo, IsRun, IsRunTo, IsTold};
 ghost use Rattle.canary_cli.specs.Performed.{IsTurnedAway};
-ghost use Rattle.canary_cli.specs.Performed.{MayTell, AsksForOneThatTells, limits_of};
+ghost use Rattle.canary_cli.specs.Performed.{MayTell, AsksForOneThatTells, IsAsked, limits_of};
 
 use crate::check::check;
 use crate::place::Place;
 use canary_base::lists::Text;
 use canary_base::moments::Moment;
-use canary_client::ask::{Call, ask};
+use canary_client::ask::ask;
 use canary_client::due::due;
 use canary_client::get::get;
 use canary_client::outcome as client;
@@ -24,6 +24,7 @@ use canary_database::export::export;
 use canary_database::history::history;
 use canary_database::import::import;
 use canary_database::migrate::migrate;
+use canary_database::open::DeskFile;
 use canary_database::page::page;
 use canary_database::status::status;
 use canary_database::{pipe, serve};
@@ -34,7 +35,7 @@ use canary_overview::overview::Form;
 use canary_programs::fault::{Fault, done_of};
 use canary_programs::overview::Drawing;
 use canary_programs::show::show;
-use canary_words::words::{AskedLimits, Program, WordsFault, read_words};
+use canary_words::words::{Asked, AskedLimits, Program, WordsFault, read_words};
 use std::alloc::Global;
 use std::io::{self, ErrorKind, Read, Write};
 
@@ -100,8 +101,8 @@ pub fn perform<R: Read, W: Write, F: Write>(
     errors: &mut F,
     terminals: Terminals,
 ) -> u8
-    ensures piped { (at step : ℕ) → faults_of (map string_bytes words.now) ≡ []
-        → program_of (map string_bytes words.now) ≡ Some (Program.Pipe at step None)
+    ensures piped { (at step : ℕ) (cache : Option ℕ) → faults_of (map string_bytes words.now) ≡ []
+        → program_of (map string_bytes words.now) ≡ Some (Program.Pipe at step None cache)
         → IsPipedTo (R.remaining input.old) (R.remaining input.new)
         (W.contents output.old) (W.contents output.new) at step result }
     ensures checked { (file request : Option (List ℕ)) → faults_of (map string_bytes words.now) ≡ []
@@ -185,22 +186,29 @@ fn run<R: Read, W: Write, F: Write>(
 {
     let shows = terminals.errors;
     match program {
-        Program::Pipe { at, step, db } => {
-            run_pipe(rt, at, step, db, input, output, errors, shows)
-        }
+        Program::Pipe {
+            at,
+            step,
+            db,
+            cache,
+        } => { run_pipe(rt, at, step, db, cache, input, output, errors, shows) }
         Program::Serve {
             listen,
             db,
+            cache,
             connections,
             limits,
         } => {
-            let desk = ListeningDesk { listen, db };
+            let desk = ListeningDesk { listen, db, cache };
             let limits = limits_of(limits);
             done(serve(rt, &desk, connections, limits, output, errors, shows))
         }
-        Program::Import { db, csv } => {
-            let (db, csv) = (db.as_str(), csv.as_str());
-            done(import(rt, db, csv, input, output, errors, shows))
+        Program::Import { db, cache, csv } => {
+            let file = DeskFile {
+                name: db.as_str(),
+                cache,
+            };
+            done(import(rt, file, csv.as_str(), input, output, errors, shows))
         }
         Program::Check { file, request } => check(rt, &file, &request, output, errors),
         Program::Backup { db, copy } => done(backup(rt, db.as_str(), copy.as_str())),
@@ -228,70 +236,70 @@ fn run<R: Read, W: Write, F: Write>(
             let (db, out) = (db.as_str(), out.as_str());
             done(page(rt, db, out, watch, output, errors, shows))
         }
-        Program::Do {
-            desk,
-            caller,
-            journal,
-            key,
-            instead,
-            command,
-        } => {
-            let call = Call {
-                desk,
-                caller,
-                journal,
-                key,
-                is_instead: instead,
-                command,
-            };
-            asked(ask(rt, call, output, errors, terminals.output))
+        Program::Ask(asked) => {
+            let is_terminal = terminals.output;
+            let outcome = run_client(rt, asked, input, output, errors, is_terminal);
+            Ok(Outcome::Asked(outcome))
         }
-        Program::Get {
-            desk,
-            service,
-            part,
-        } => asked(get(rt, &desk, &service, &part, output, errors, terminals.output)),
-        Program::Watch {
-            desk,
-            until,
-            service,
-        } => asked(watch(rt, &desk, &service, &until, output, errors)),
-        Program::Send { desk, csv } => asked(send(rt, &desk, &csv, input, output, errors)),
-        Program::Due {
-            desk,
-            wait,
-            service,
-        } => asked(due(rt, &desk, &service, wait, output, errors)),
     }
 }
 
-// What comes of a program that is a client of a desk.
-fn asked(outcome: client::Outcome) -> Result<Outcome, Fault>
-    ensures { result ≡ Ok (Outcome.Asked outcome) }
+// Asks a desk.
+fn run_client<R: Read, W: Write, F: Write>(
+    rt: &HostRuntime,
+    asked: Asked,
+    input: &mut R,
+    output: &mut W,
+    errors: &mut F,
+    is_terminal: bool,
+) -> client::Outcome
+    ensures { IsAsked (R.remaining input.old) (R.remaining input.new) asked }
 {
-    Ok(Outcome::Asked(outcome))
+    match asked {
+        Asked::Do(call) => ask(rt, call, output, errors, is_terminal),
+        Asked::Get {
+            desk,
+            service,
+            part,
+        } => get(rt, &desk, &service, &part, output, errors, is_terminal),
+        Asked::Watch {
+            desk,
+            until,
+            service,
+        } => watch(rt, &desk, &service, &until, output, errors),
+        Asked::Send { desk, csv } => send(rt, &desk, &csv, input, output, errors),
+        Asked::Due {
+            desk,
+            wait,
+            service,
+        } => due(rt, &desk, &service, wait, output, errors),
+    }
 }
 
-// Answers a stream, over the desk in a file where there is one.
+// Answers a stream, over the desk in a file if there is one.
 fn run_pipe<R: Read, W: Write, F: Write>(
     rt: &HostRuntime,
     at: Moment,
     step: Moment,
     db: Option<Text>,
+    cache: Option<u64>,
     input: &mut R,
     output: &mut W,
     errors: &mut F,
     shows: bool,
 ) -> Result<Outcome, Fault>
     ensures ran { IsRun (R.remaining input.old) (R.remaining input.new)
-        (W.contents output.old) (W.contents output.new) (Program.Pipe at step db) result }
-    ensures quiet { (MayTell (Program.Pipe at step db) → ⊥) → errors.new ≡ errors.old }
+        (W.contents output.old) (W.contents output.new) (Program.Pipe at step db cache) result }
+    ensures quiet { (MayTell (Program.Pipe at step db cache) → ⊥) → errors.new ≡ errors.old }
 {
     match db {
         None => done(pipe(rt.alloc(), at, step, input, output)),
         Some(db) => {
-            let db = db.as_str();
-            done(pipe::pipe(rt, at, step, db, input, output, errors, shows))
+            let file = DeskFile {
+                name: db.as_str(),
+                cache,
+            };
+            done(pipe::pipe(rt, at, step, file, input, output, errors, shows))
         }
     }
 }
@@ -321,14 +329,15 @@ fn limits_of(asked: AskedLimits) -> Limits
     }
 }
 
-// Where a desk listens, and the file that it works on.
+// Where a desk listens, and the file that it works on, with the room for what it keeps of that.
 #[derive(Drop)]
 struct ListeningDesk {
     listen: Text,
     db: Option<Text>,
+    cache: Option<u64>,
 }
 
-// Serves clients, over the desk in a file where there is one.
+// Serves clients, over the desk in a file if there is one.
 fn serve<W: Write, F: Write>(
     rt: &HostRuntime,
     desk: &ListeningDesk,
@@ -340,7 +349,10 @@ fn serve<W: Write, F: Write>(
 ) -> Result<(), Fault> {
     let listen = desk.listen.as_str();
     let file = match &desk.db {
-        Some(db) => Some(db.as_str()),
+        Some(db) => Some(DeskFile {
+            name: db.as_str(),
+            cache: desk.cache,
+        }),
         None => None,
     };
     serve::serve(rt, listen, file, connections, limits, output, errors, shows)

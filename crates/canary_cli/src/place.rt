@@ -97,7 +97,7 @@ fn files_of(alloc: Global, program: &Program) -> Result<String, AllocError> {
     match program {
         Program::Pipe { db, .. } => listed(alloc, db.as_ref(), None),
         Program::Serve { db, .. } => listed(alloc, db.as_ref(), None),
-        Program::Import { db, csv } => listed(alloc, Some(db), Some(csv)),
+        Program::Import { db, csv, .. } => listed(alloc, Some(db), Some(csv)),
         Program::History { db, .. } => listed(alloc, Some(db), None),
         Program::Export { db, .. } => listed(alloc, Some(db), None),
         Program::Status { db, .. } => listed(alloc, Some(db), None),
@@ -105,10 +105,7 @@ fn files_of(alloc: Global, program: &Program) -> Result<String, AllocError> {
         Program::Backup { db, copy } => listed(alloc, Some(db), Some(copy)),
         Program::Migrate { db, .. } => listed(alloc, Some(db), None),
         Program::Check { file, request } => listed(alloc, file.as_ref(), request.as_ref()),
-        Program::Do { .. } | Program::Get { .. } | Program::Watch { .. } => listed(
-            alloc, None, None,
-        ),
-        Program::Send { .. } | Program::Due { .. } => listed(alloc, None, None),
+        Program::Ask(_) => listed(alloc, None, None),
     }
 }
 
@@ -120,12 +117,7 @@ fn db_of(alloc: Global, program: &Program) -> Result<String, AllocError> {
         Program::Export { db, .. } | Program::Status { db, .. } => listed(alloc, Some(db), None),
         Program::Page { db, .. } => listed(alloc, Some(db), None),
         Program::Backup { db, .. } | Program::Migrate { db, .. } => listed(alloc, Some(db), None),
-        Program::Check { .. } | Program::Do { .. } | Program::Get { .. } => {
-            listed(alloc, None, None)
-        }
-        Program::Watch { .. } | Program::Send { .. } | Program::Due { .. } => {
-            listed(alloc, None, None)
-        }
+        Program::Check { .. } | Program::Ask(_) => listed(alloc, None, None),
     }
 }
 

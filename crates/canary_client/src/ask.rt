@@ -17,7 +17,7 @@ use canary_records::device::Device;
 use canary_records::file::{FileDevice, OpenFault, sync_folder};
 use canary_sending::kept::KeptJournal;
 use canary_sending::network::Network;
-use canary_words::words::{AskedCommand, AskedDesk};
+use canary_words::words::Call;
 use std::alloc::Global;
 use std::io::Write;
 use std::time::SystemTime;
@@ -31,23 +31,6 @@ const TOO_LATE: &str =
 
 const REPLACED: &str =
     "another command took its place, and was settled with this reply; this one did nothing";
-
-/// A call of `do`, as a command line says it.
-#[derive(Debug, Drop)]
-pub struct Call {
-    /// The desk.
-    pub desk: AskedDesk,
-    /// The caller.
-    pub caller: Option<Text>,
-    /// The file of the caller's journal.
-    pub journal: Option<Text>,
-    /// The key of the wish.
-    pub key: Option<Text>,
-    /// Whether the command takes the place of the one that is pending.
-    pub is_instead: bool,
-    /// The command.
-    pub command: AskedCommand,
-}
 
 /// Asks a command of a desk, once, and shows its reply on `output`: the body, or on a terminal a
 /// plain line. If it did not come to that, a sentence on `errors` says why.

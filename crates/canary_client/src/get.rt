@@ -11,8 +11,8 @@ use std::alloc::Global;
 use std::io::Write;
 
 /// Shows what a desk has of a service: how it stands, or with the part `history` what happened to
-/// it, or with a number that run: the body of the reply, or on a terminal a plain line. `Refused` if
-/// there is no such thing.
+/// it, or with a number that run: the body of the reply, or on a terminal a plain line. `Refused`
+/// if there is no such thing.
 pub fn get<W: Write, F: Write>(
     rt: &HostRuntime,
     desk: &AskedDesk,

@@ -6,7 +6,7 @@
 //!
 //! In use (canary_cli, src/perform.rt):
 //!
-//!     Program::Send { desk, csv } => asked(send(rt, &desk, &csv, input, output, errors)),
+//!     Asked::Send { desk, csv } => send(rt, &desk, &csv, input, output, errors),
 #![tactic(auto)]
 
 pub mod ask;

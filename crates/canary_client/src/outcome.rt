@@ -9,6 +9,10 @@ use canary_sending::settle::Unsettled;
 use std::alloc::AllocError;
 use std::io::Write;
 
+// What is said if no answer came.
+const UNANSWERED: &str =
+    "pending: no answer came, so it may have acted or not; the same call again finds out";
+
 /// How a call ends.
 #[derive(Clone, Copy, Debug, PartialEq, Eq)]
 pub enum Outcome {
@@ -203,9 +207,7 @@ impl Stop {
             Stop::NotBegun => {
                 "no desk said which number of this caller comes next: nothing was asked"
             }
-            Stop::Unanswered => {
-                "pending: no answer came, so it may have acted or not; the same call again finds out"
-            }
+            Stop::Unanswered => UNANSWERED,
             Stop::RowUnanswered => {
                 "pending: no answer came to the next row; the same call again goes on from there"
             }

@@ -20,10 +20,10 @@ use std::io::{Read, Write};
 // The word that stands for the input.
 const INPUT: &str = "-";
 
-/// Sends the rows of a measurement file (RFC 4180, as `import` reads it), each until it is answered,
-/// and shows a line for each, as `import` does: the number of the row from 1 on, the status, and the
-/// body. The file `csv` is the input if that is `-`. Sent again as a whole, each row that was
-/// settled gets its kept reply, and so the call goes on where another one stopped.
+/// Sends the rows of a measurement file (RFC 4180, as `import` reads it), each until it is
+/// answered, and shows a line for each, as `import` does: the number of the row from 1 on, the
+/// status, and the body. The file `csv` is the input if that is `-`. Sent again as a whole, each
+/// row that was settled gets its kept reply, and so the call goes on where another one stopped.
 pub fn send<R: Read, W: Write, F: Write>(
     rt: &HostRuntime,
     desk: &AskedDesk,

@@ -119,7 +119,7 @@ fn text_of(why: Why) -> &'static str {
     match why {
         Why::Unreachable => "nobody answers there; trying again",
         Why::Lost => "the reply was lost; trying again",
-        Why::Foreign => "the reply is none of a desk; trying again",
+        Why::Foreign => "the reply is not a desk's; trying again",
         Why::Unavailable => "the desk cannot do it now; trying again",
         Why::Memory => "out of memory; trying again",
     }

@@ -3,6 +3,7 @@ ghost use Rattle.std.specs.Prelude.{◌≡◌, ◌≢◌, Err, IsTrue};
 ghost use Rattle.canary_base.specs.Names.{is_name};
 ghost use Rattle.canary_programs.specs.declared.fault.Fault.TheVariants as fault;
 
+use crate::open::DeskFile;
 use crate::work::{Work, without_input};
 use canary_programs::fault::Fault;
 use canary_programs::show::name_of;
@@ -31,5 +32,6 @@ pub fn export<W: Write, F: Write>(
 {
     let (caller, service) = (name_of(caller)?, name_of(service)?);
     let work = Work::Export { service, caller };
+    let file = DeskFile::named(file);
     without_input(rt, file, work, output, errors, is_terminal)
 }

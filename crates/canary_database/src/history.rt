@@ -3,6 +3,7 @@ ghost use Rattle.std.specs.Prelude.{◌≡◌, ◌≢◌, Err, IsTrue};
 ghost use Rattle.canary_base.specs.Names.{is_name};
 ghost use Rattle.canary_programs.specs.declared.fault.Fault.TheVariants as fault;
 
+use crate::open::DeskFile;
 use crate::work::{Work, without_input};
 use canary_programs::fault::Fault;
 use canary_programs::show::name_of;
@@ -28,5 +29,6 @@ pub fn history<W: Write, F: Write>(
 {
     let service = name_of(service)?;
     let work = Work::History { service };
+    let file = DeskFile::named(file);
     without_input(rt, file, work, output, errors, is_terminal)
 }

@@ -1,4 +1,5 @@
 //! `import`: the rows of a measurement file as requests.
+use crate::open::DeskFile;
 use crate::work::{Work, on_file};
 use canary_programs::fault::Fault;
 use std::fs::{self, OpenFile};
@@ -17,7 +18,7 @@ const INPUT: &str = "-";
 /// what was settled is settled.
 pub fn import<R: Read, W: Write, F: Write>(
     rt: &HostRuntime,
-    file: &str,
+    file: DeskFile<'_>,
     csv: &str,
     input: &mut R,
     output: &mut W,

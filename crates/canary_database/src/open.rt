@@ -8,11 +8,33 @@ use canary_base::names::Name;
 use canary_programs::fault::Fault;
 use canary_schema::first::is_first;
 use canary_schema::known::is_desk;
-use canary_tables::book::TableBook;
+use canary_tables::book::{DEFAULT_ROOM, TableBook};
 use canary_tables::fault::TableFault;
 use sqlite::{Alter, Connection, Error, ErrorCode, File, FileStore};
 use std::fs::{self, Files};
 use std::io::{self, ErrorKind, Read, Write};
+
+/// The file of a desk, and the room in bytes for what is kept of it in memory; if none is given,
+/// that of canary_tables.
+#[derive(Clone, Copy)]
+pub struct DeskFile<'a> {
+    /// Its name.
+    pub name: &'a str,
+    /// The room.
+    pub cache: Option<u64>,
+}
+
+impl<'a> DeskFile<'a> {
+    /// The file of this name, with the room that canary_tables gives.
+    pub fn named(name: &'a str) -> DeskFile<'a> {
+        DeskFile { name, cache: None }
+    }
+
+    // The room for what is kept of it.
+    pub(crate) fn room(&self) -> u64 {
+        self.cache.unwrap_or(DEFAULT_ROOM)
+    }
+}
 
 // The first bytes of each database of SQLite.
 const FIRST_BYTES: &[u8] = b"SQLite format 3\0";

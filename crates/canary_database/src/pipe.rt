@@ -1,4 +1,5 @@
 //! `pipe`: a stream answered over the book in a file.
+use crate::open::DeskFile;
 use crate::work::{Work, on_file};
 use canary_base::moments::Moment;
 use canary_programs::fault::Fault;
@@ -14,7 +15,7 @@ pub fn pipe<R: Read, W: Write, F: Write>(
     rt: &HostRuntime,
     at: Moment,
     step: Moment,
-    file: &str,
+    file: DeskFile<'_>,
     input: &mut R,
     output: &mut W,
     errors: &mut F,

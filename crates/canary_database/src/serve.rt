@@ -1,4 +1,5 @@
 //! `serve`: the desk on a socket.
+use crate::open::DeskFile;
 use crate::work::{Work, without_input};
 use canary_listen::limits::Limits;
 use canary_programs::fault::Fault;
@@ -18,7 +19,7 @@ use std::io::Write;
 pub fn serve<W: Write, F: Write>(
     rt: &HostRuntime,
     listen: &str,
-    file: Option<&str>,
+    file: Option<DeskFile<'_>>,
     connections: Option<u64>,
     limits: Limits,
     output: &mut W,

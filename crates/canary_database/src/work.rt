@@ -3,7 +3,7 @@ ghost use Rattle.std.specs.Prelude.{◌≡◌, ◌≢◌, Err};
 ghost use Rattle.canary_database.specs.Opened.{IsReading, settles, tells_of_made};
 ghost use Rattle.canary_programs.specs.declared.fault.Fault.TheVariants as fault;
 
-use crate::open::{is_missing, open};
+use crate::open::{DeskFile, is_missing, open};
 use crate::progress::{Counted, Shown, tell_made};
 use canary_base::moments::Moment;
 use canary_base::names::Name;
@@ -58,7 +58,7 @@ impl Work {
 /// `Storage` where the file fails as it is closed; what was settled is settled.
 pub(crate) fn on_file<R: Read, W: Write, F: Write>(
     rt: &HostRuntime,
-    file: &str,
+    file: DeskFile<'_>,
     work: Work,
     input: &mut R,
     output: &mut W,
@@ -67,10 +67,10 @@ pub(crate) fn on_file<R: Read, W: Write, F: Write>(
 ) -> Result<(), Fault>
     ensures { IsReading work → result ≢ Err fault.BadName }
 {
-    let makes = work.tells_of_made() && is_missing(rt, file);
-    let mut book = open(rt, file, errors, is_terminal)?;
+    let makes = work.tells_of_made() && is_missing(rt, file.name);
+    let mut book = open(rt, file.name, errors, is_terminal)?.with_room(file.room());
     if makes {
-        tell_made(rt.alloc(), file, errors, is_terminal);
+        tell_made(rt.alloc(), file.name, errors, is_terminal);
     }
     let settles = work.settles();
     let done = on_book(rt, &mut book, work, input, output, errors, is_terminal);
@@ -85,7 +85,7 @@ pub(crate) fn on_file<R: Read, W: Write, F: Write>(
 /// As `on_file`, of work that reads no input.
 pub(crate) fn without_input<W: Write, F: Write>(
     rt: &HostRuntime,
-    file: &str,
+    file: DeskFile<'_>,
     work: Work,
     output: &mut W,
     errors: &mut F,

@@ -23,8 +23,8 @@ use canary_schema::fault::StoreFault;
 use sqlite::{Alter, Connection};
 use std::alloc::Global;
 
-/// The number of settled requests of a caller. If it is not kept yet, it is read from the tables and
-/// kept.
+/// The number of settled requests of a caller. If it is not kept yet, it is read from the tables
+/// and kept.
 ///
 /// # Errors
 /// `Memory` if an allocation was refused, `Storage` if the database fails or holds what no desk
@@ -53,8 +53,8 @@ pub(crate) fn count<S: Alter>(
     Ok(count)
 }
 
-/// The service of that name, if there is one. If it is not kept yet, it is read from the tables, and
-/// a copy is kept if there is memory for one.
+/// The service of that name, if there is one. If it is not kept yet, it is read from the tables,
+/// and a copy is kept if there is memory for one.
 ///
 /// # Errors
 /// `Memory` if there is not enough, `Storage` if the database fails or holds what no desk writes.

@@ -11,7 +11,7 @@ use Rattle.clap.specs.Kinds.{check_kinds}
 use Rattle.clap.specs.Faults.{check_fault, level_fault}
 use Rattle.clap.specs.declared.builder.value_parser.ValueParser.TheVariants.{Bool as bool_parser, Unsigned}
 use Rattle.clap.proofs.ValueTestLemmas.{accepts-Accepts}
-use Rattle.canary_words.specs.CommandLine.{desk_command, number_option, pipe_command, HasAsked, HasDesk, HasDo, HasDue, HasExport, HasListener, HasMigrate, HasMoments, HasPage, HasStatus, HasTexts, IsTrueOrFalse}
+use Rattle.canary_words.specs.CommandLine.{desk_command, number_option, pipe_command, HasAsked, HasDesk, HasDo, HasDue, HasExport, HasImport, HasListener, HasMigrate, HasPage, HasPipe, HasStatus, HasTexts, IsTrueOrFalse}
 use Rattle.canary_words.proofs.Walks.{AreOptions, AreRead, given_text, optional_text, read-level}
 
 -- the desk and its commands, as they are built
@@ -69,13 +69,13 @@ due = built_at 14
 -- ---- what each command has to be given
 
 pipe_options : AreOptions pipe.rules pipe.rules
-pipe_options = (record { own = refl; default = tt; takes = inl (refl, refl) }, (record { own = refl; default = tt; takes = inl (refl, refl) }, (record { own = refl; default = tt; takes = inl (refl, refl) }, (record { own = refl; default = tt; takes = inr (inr refl) }, tt))))
+pipe_options = (record { own = refl; default = tt; takes = inl (refl, refl) }, (record { own = refl; default = tt; takes = inl (refl, refl) }, (record { own = refl; default = tt; takes = inl (refl, refl) }, (record { own = refl; default = tt; takes = inl (refl, refl) }, (record { own = refl; default = tt; takes = inr (inr refl) }, tt)))))
 
 serve_options : AreOptions serve.rules serve.rules
-serve_options = (record { own = refl; default = tt; takes = inl (refl, refl) }, (record { own = refl; default = tt; takes = inl (refl, refl) }, (record { own = refl; default = tt; takes = inl (refl, refl) }, (record { own = refl; default = tt; takes = inl (refl, refl) }, (record { own = refl; default = tt; takes = inl (refl, refl) }, (record { own = refl; default = tt; takes = inl (refl, refl) }, (record { own = refl; default = tt; takes = inl (refl, refl) }, (record { own = refl; default = tt; takes = inl (refl, refl) }, (record { own = refl; default = tt; takes = inr (inr refl) }, tt)))))))))
+serve_options = (record { own = refl; default = tt; takes = inl (refl, refl) }, (record { own = refl; default = tt; takes = inl (refl, refl) }, (record { own = refl; default = tt; takes = inl (refl, refl) }, (record { own = refl; default = tt; takes = inl (refl, refl) }, (record { own = refl; default = tt; takes = inl (refl, refl) }, (record { own = refl; default = tt; takes = inl (refl, refl) }, (record { own = refl; default = tt; takes = inl (refl, refl) }, (record { own = refl; default = tt; takes = inl (refl, refl) }, (record { own = refl; default = tt; takes = inl (refl, refl) }, (record { own = refl; default = tt; takes = inr (inr refl) }, tt))))))))))
 
 import_options : AreOptions import.rules import.rules
-import_options = (record { own = refl; default = tt; takes = inl (refl, refl) }, (record { own = refl; default = tt; takes = inl (refl, refl) }, (record { own = refl; default = tt; takes = inr (inr refl) }, tt)))
+import_options = (record { own = refl; default = tt; takes = inl (refl, refl) }, (record { own = refl; default = tt; takes = inl (refl, refl) }, (record { own = refl; default = tt; takes = inl (refl, refl) }, (record { own = refl; default = tt; takes = inr (inr refl) }, tt))))
 
 history_options : AreOptions history.rules history.rules
 history_options = (record { own = refl; default = tt; takes = inl (refl, refl) }, (record { own = refl; default = tt; takes = inl (refl, refl) }, (record { own = refl; default = tt; takes = inr (inr refl) }, tt)))
@@ -126,23 +126,26 @@ all_given true true false none = cc
 all_given true false c none = cc
 all_given false b c none = cc
 
+-- a text that passed the parser of a number is one
+number_passed : (most : ℕ) (o : Option Text) → IfSome o (λ t. (text : Text) × (t ≡ text) × (accepts false (Unsigned 1 most) text ≡ true)) → IfSome o (IsUnsignedIn 1 most)
+number_passed most None passed = tt
+number_passed most (Some t) passed =
+    subst (IsUnsignedIn 1 most) (sym passed.1) (accepts-Accepts false (Unsigned 1 most) passed.0 passed.2)
+
 -- the rows of `pipe`
-pub pipe_rows : (words : List Text) → level_fault pipe [] nothing_held words false [] ≡ [] → HasMoments (rows_after pipe.rules [] words)
+pub pipe_rows : (words : List Text) → level_fault pipe [] nothing_held words false [] ≡ [] → HasPipe (rows_after pipe.rules [] words)
 pipe_rows words none =
     let level = read-level pipe [] words false [] pipe_options none in
     let rows : List Row = rows_after pipe.rules [] words in
     let given = both_given (is_given (codes "at") rows) (is_given (codes "step") rows) level.1 in
     let at = given_text pipe.rules (codes "at") _ rows refl level.0 given.0 in
     let step = given_text pipe.rules (codes "step") _ rows refl level.0 given.1 in (
-      (at.0, at.1, accepts-Accepts false (Unsigned 0 253370764799) at.0 at.3),
-      (step.0, step.1, accepts-Accepts false (Unsigned 0 253370764799) step.0 step.3),
+      (
+        (at.0, at.1, accepts-Accepts false (Unsigned 0 253370764799) at.0 at.3),
+        (step.0, step.1, accepts-Accepts false (Unsigned 0 253370764799) step.0 step.3),
+      ),
+      number_passed 68719476736 (one_of (codes "cache") rows) (optional_text pipe.rules (codes "cache") _ rows refl level.0),
     )
-
--- a text that passed the parser of a number is one
-number_passed : (most : ℕ) (o : Option Text) → IfSome o (λ t. (text : Text) × (t ≡ text) × (accepts false (Unsigned 1 most) text ≡ true)) → IfSome o (IsUnsignedIn 1 most)
-number_passed most None passed = tt
-number_passed most (Some t) passed =
-    subst (IsUnsignedIn 1 most) (sym passed.1) (accepts-Accepts false (Unsigned 1 most) passed.0 passed.2)
 
 -- the rows of `serve`
 pub serve_rows : (words : List Text) → level_fault serve [] nothing_held words false [] ≡ [] → HasListener (rows_after serve.rules [] words)
@@ -151,6 +154,7 @@ serve_rows words none =
     let rows : List Row = rows_after serve.rules [] words in
     let listen = given_text serve.rules (codes "listen") _ rows refl level.0 (one_given (is_given (codes "listen") rows) level.1) in (
       (listen.0, listen.2),
+      number_passed 68719476736 (one_of (codes "cache") rows) (optional_text serve.rules (codes "cache") _ rows refl level.0),
       number_passed 1000000 (one_of (codes "connections") rows) (optional_text serve.rules (codes "connections") _ rows refl level.0),
       (
         number_passed 86400 (one_of (codes "read-timeout") rows) (optional_text serve.rules (codes "read-timeout") _ rows refl level.0),
@@ -173,9 +177,13 @@ two_texts s name first second words options is_first is_second required none =
     let other = given_text s.rules name second rows is_second level.0 given.1 in
     ((db.0, db.2), (other.0, other.2))
 
-pub import_rows : (words : List Text) → level_fault import [] nothing_held words false [] ≡ [] → HasTexts (codes "csv") (rows_after import.rules [] words)
+pub import_rows : (words : List Text) → level_fault import [] nothing_held words false [] ≡ [] → HasImport (rows_after import.rules [] words)
 import_rows words none =
-    two_texts import (codes "csv") _ _ words import_options refl refl (both_given (is_given (codes "db") (rows_after import.rules [] words)) (is_given (codes "csv") (rows_after import.rules [] words))) none
+    let level = read-level import [] words false [] import_options none in
+    let rows : List Row = rows_after import.rules [] words in (
+      two_texts import (codes "csv") _ _ words import_options refl refl (both_given (is_given (codes "db") rows) (is_given (codes "csv") rows)) none,
+      number_passed 68719476736 (one_of (codes "cache") rows) (optional_text import.rules (codes "cache") _ rows refl level.0),
+    )
 
 pub history_rows : (words : List Text) → level_fault history [] nothing_held words false [] ≡ [] → HasTexts (codes "service") (rows_after history.rules [] words)
 history_rows words none =

@@ -15,10 +15,11 @@ use Rattle.clap.specs.declared.error.kind.ErrorKind.{ErrorKind}
 use Rattle.clap.specs.declared.error.kind.ErrorKind.TheVariants.{MissingSubcommand}
 use Rattle.clap.specs.declared.parser.matches.ArgMatches.{ArgMatches}
 use Rattle.clap.specs.declared.parser.matches.ArgMatches.TheViews.{out-ArgMatches, out-SubCommand}
-use Rattle.canary_words.specs.CommandLine.{desk_command, faults_of, exported, export_of, flag_given, limits_of, number_given, of_two, pipe_of, piped, program_in, program_of, text_given, with_db, HasAsked, HasClientProgram, HasDo, HasDue, HasExport, HasListener, HasMigrate, HasMoment, HasMoments, HasNothing, HasPage, HasProgram, HasRecordsProgram, HasStatus, HasText, HasTexts}
+use Rattle.canary_words.specs.CommandLine.{desk_command, faults_of, exported, export_of, flag_given, limits_of, number_given, of_two, pipe_of, piped, program_in, program_of, text_given, with_db, HasAsked, HasClientProgram, HasDo, HasDue, HasExport, HasImport, HasListener, HasMigrate, HasMoment, HasNothing, HasPipe, HasPage, HasProgram, HasRecordsProgram, HasStatus, HasText, HasTexts}
 use Rattle.canary_words.specs.CommandLine.{command_of, desk_of, do_of}
 use Rattle.canary_words.specs.declared.words.Program.{Program}
-use Rattle.canary_words.specs.declared.words.Program.TheVariants.{Serve, Import, History, Status, Page, Backup, Migrate, Get, Watch, Send, Due}
+use Rattle.canary_words.specs.declared.words.Asked.TheVariants.{Get, Watch, Send, Due}
+use Rattle.canary_words.specs.declared.words.Program.TheVariants.{Serve, Import, History, Status, Page, Backup, Migrate, Ask}
 use Rattle.canary_words.proofs.Chains.{ok_then}
 use Rattle.canary_words.proofs.Given.{backup, backup_rows, check, desk, do_rows, due, due_rows, export, export_rows, get, get_rows, history, history_rows, import, import_rows, migrate, migrate_rows, page, page_rows, pipe, pipe_rows, send, send_rows, serve, serve_rows, status, status_rows, asking, watch, watch_rows}
 use Rattle.canary_words.proofs.Walks.{IsNoHelp, below_none, stop-no_help}
@@ -150,13 +151,14 @@ number_is : (name : Text) (rows : List Row) (h : HasMoment name rows) → number
 number_is name rows h = ap (option_map (λ text. digits_value 10 (without_leading_plus text))) h.1
 
 -- the moments of `pipe` spell its program
-pipe_spelled : (rows : List Row) → HasMoments rows → IsSome (pipe_of rows)
+pipe_spelled : (rows : List Row) → HasPipe rows → IsSome (pipe_of rows)
 pipe_spelled rows h =
-    let at : ℕ = digits_value 10 (without_leading_plus h.0.0) in
-    let step : ℕ = digits_value 10 (without_leading_plus h.1.0) in
+    let at : ℕ = digits_value 10 (without_leading_plus h.0.0.0) in
+    let step : ℕ = digits_value 10 (without_leading_plus h.0.1.0) in
     let db : Option Text = text_given (codes "db") rows in
-    let is : pipe_of rows ≡ piped (Some at) (Some step) db =
-    ap (λ o. piped o (number_given (codes "step") rows) db) (number_is (codes "at") rows h.0) ∙ ap (λ o. piped (Some at) o db) (number_is (codes "step") rows h.1) in
+    let cache : Option ℕ = number_given (codes "cache") rows in
+    let is : pipe_of rows ≡ piped (Some at) (Some step) db cache =
+    ap (λ o. piped o (number_given (codes "step") rows) db cache) (number_is (codes "at") rows h.0.0) ∙ ap (λ o. piped (Some at) o db cache) (number_is (codes "step") rows h.0.1) in
     subst IsSome (sym is) refl
 
 -- a text that was given is made into something
@@ -194,17 +196,17 @@ met_so o name rows is some = subst (λ (o : Option (Text × List Row)). IsSome (
 -- what was met of the commands that ask a desk spells a program
 client_met : (met : Option (Text × List Row)) → HasClientProgram met → IsSome (option_and_then program_in met)
 client_met met (inl h) = met_so met _ h.0 h.1 (do_spelled h.0 h.2)
-client_met met (inr (inl h)) = met_so met _ h.0 h.1 (made (λ service. Get (desk_of h.0) service (text_given (codes "part") h.0)) (codes "service") h.0 h.2.1)
-client_met met (inr (inr (inl h))) = met_so met _ h.0 h.1 (made (λ service. Watch (desk_of h.0) (text_given (codes "until") h.0) service) (codes "service") h.0 h.2.1)
-client_met met (inr (inr (inr (inl h)))) = met_so met _ h.0 h.1 (made (Send (desk_of h.0)) (codes "csv") h.0 h.2.1)
-client_met met (inr (inr (inr (inr h)))) = met_so met _ h.0 h.1 (made (Due (desk_of h.0) (flag_given (codes "wait") h.0)) (codes "service") h.0 h.2.0.1)
+client_met met (inr (inl h)) = met_so met _ h.0 h.1 (made (λ service. Ask (Get (desk_of h.0) service (text_given (codes "part") h.0))) (codes "service") h.0 h.2.1)
+client_met met (inr (inr (inl h))) = met_so met _ h.0 h.1 (made (λ service. Ask (Watch (desk_of h.0) (text_given (codes "until") h.0) service)) (codes "service") h.0 h.2.1)
+client_met met (inr (inr (inr (inl h)))) = met_so met _ h.0 h.1 (made (λ csv. Ask (Send (desk_of h.0) csv)) (codes "csv") h.0 h.2.1)
+client_met met (inr (inr (inr (inr h)))) = met_so met _ h.0 h.1 (made (λ service. Ask (Due (desk_of h.0) (flag_given (codes "wait") h.0) service)) (codes "service") h.0 h.2.0.1)
 
 -- what was met spells a program
 program_met : (met : Option (Text × List Row)) → HasProgram met → IsSome (option_and_then program_in met)
 program_met met (inl h) = met_so met _ h.0 h.1 (pipe_spelled h.0 h.2)
 program_met met (inr (inl h)) =
-    met_so met _ h.0 h.1 (made (λ address. Serve address (text_given (codes "db") h.0) (number_given (codes "connections") h.0) (limits_of h.0)) (codes "listen") h.0 h.2.0)
-program_met met (inr (inr (inl (inl h)))) = met_so met _ h.0 h.1 (two_made Import (codes "csv") h.0 h.2)
+    met_so met _ h.0 h.1 (made (λ address. Serve address (text_given (codes "db") h.0) (number_given (codes "cache") h.0) (number_given (codes "connections") h.0) (limits_of h.0)) (codes "listen") h.0 h.2.0)
+program_met met (inr (inr (inl (inl h)))) = met_so met _ h.0 h.1 (two_made (λ db csv. Import db (number_given (codes "cache") h.0) csv) (codes "csv") h.0 h.2.0)
 program_met met (inr (inr (inl (inr (inl h))))) = met_so met _ h.0 h.1 (two_made History (codes "service") h.0 h.2)
 program_met met (inr (inr (inl (inr (inr (inl h)))))) = met_so met _ h.0 h.1 (export_spelled h.0 h.2)
 program_met met (inr (inr (inl (inr (inr (inr (inl h))))))) =
@@ -237,9 +239,9 @@ IsAskedFor name rows = choose (bytes_eq name (codes "do")) (HasDo rows)
 
 -- what the command of this name has to be given
 abbrev pub IsGivenFor : Text → List Row → Type 0
-IsGivenFor name rows = choose (bytes_eq name (codes "pipe")) (HasMoments rows)
+IsGivenFor name rows = choose (bytes_eq name (codes "pipe")) (HasPipe rows)
     (choose (bytes_eq name (codes "serve")) (HasListener rows)
-    (choose (bytes_eq name (codes "import")) (HasTexts (codes "csv") rows)
+    (choose (bytes_eq name (codes "import")) (HasImport rows)
     (choose (bytes_eq name (codes "history")) (HasTexts (codes "service") rows)
     (choose (bytes_eq name (codes "export")) (HasExport rows)
     (choose (bytes_eq name (codes "status")) (HasStatus rows)

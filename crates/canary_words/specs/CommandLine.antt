@@ -12,14 +12,14 @@ use Rattle.clap.specs.declared.builder.action.ArgAction.TheVariants.{Set, SetTru
 use Rattle.clap.specs.declared.builder.value_parser.ValueParser.TheVariants.{Unsigned}
 use Rattle.clap.specs.declared.error.kind.ErrorKind.{ErrorKind}
 use Rattle.clap.specs.declared.error.kind.ErrorKind.TheVariants.{DisplayHelp, DisplayVersion}
+use Rattle.canary_words.specs.declared.words.Asked.TheVariants.{Do, Get, Watch, Send, Due}
 use Rattle.canary_words.specs.declared.words.AskedCommand.{AskedCommand}
 use Rattle.canary_words.specs.declared.words.AskedDesk.{AskedDesk}
 use Rattle.canary_words.specs.declared.words.AskedLimits.{AskedLimits}
 use Rattle.canary_words.specs.declared.words.Program.{Program}
 use Rattle.canary_words.specs.declared.words.Program.TheVariants.{Pipe, Serve, Import, History}
 use Rattle.canary_words.specs.declared.words.Program.TheVariants.{Export, Status, Page, Backup}
-use Rattle.canary_words.specs.declared.words.Program.TheVariants.{Migrate, Check, Do, Get}
-use Rattle.canary_words.specs.declared.words.Program.TheVariants.{Watch, Send, Due}
+use Rattle.canary_words.specs.declared.words.Program.TheVariants.{Migrate, Check, Ask}
 use Rattle.canary_words.specs.declared.words.WordsFault.{WordsFault}
 use Rattle.canary_words.specs.declared.words.WordsFault.TheVariants.{Help, Usage, Memory}
 
@@ -72,10 +72,14 @@ db_option = text_option (codes "db") true
 abbrev pub optional_db : Rule
 optional_db = text_option (codes "db") false
 
--- `pipe --at SECONDS --step SECONDS --db FILE`
+-- `--cache BYTES`
+abbrev pub cache_option : Rule
+cache_option = number_option (codes "cache") 68719476736
+
+-- `pipe --at SECONDS --step SECONDS --db FILE --cache BYTES`
 abbrev pub pipe_command : App
-pipe_command = with_rule (with_rule (with_rule (new_app (codes "pipe"))
-    (moment_option (codes "at"))) (moment_option (codes "step"))) optional_db
+pipe_command = with_rule (with_rule (with_rule (with_rule (new_app (codes "pipe"))
+    (moment_option (codes "at"))) (moment_option (codes "step"))) optional_db) cache_option
 
 -- `--max-unsent BYTES --max-unsent-total BYTES`
 abbrev pub with_unsent : App → App
@@ -88,16 +92,16 @@ with_limits a = with_unsent (with_rule (with_rule (with_rule a
     (number_option (codes "read-timeout") 86400)) (number_option (codes "idle-timeout") 86400))
     (number_option (codes "max-clients") 65536))
 
--- `serve --listen ADDRESS --db FILE --connections N`, with limits
+-- `serve --listen ADDRESS --db FILE --cache BYTES --connections N`, with limits
 abbrev pub serve_command : App
-serve_command = with_limits (with_rule (with_rule (with_rule (new_app (codes "serve"))
-    (text_option (codes "listen") true)) optional_db)
+serve_command = with_limits (with_rule (with_rule (with_rule (with_rule (new_app (codes "serve"))
+    (text_option (codes "listen") true)) optional_db) cache_option)
     (number_option (codes "connections") 1000000))
 
--- `import --db FILE CSV`
+-- `import --db FILE --cache BYTES CSV`
 abbrev pub import_command : App
-import_command =
-    with_rule (with_rule (new_app (codes "import")) db_option) (text_word (codes "csv"))
+import_command = with_rule (with_rule (with_rule (new_app (codes "import")) db_option)
+    cache_option) (text_word (codes "csv"))
 
 -- `history --db FILE SERVICE`
 abbrev pub history_command : App
@@ -226,13 +230,13 @@ flag_given name rows = option_map_or (bytes_eq (codes "true")) (one_of name rows
 abbrev pub text_given : Text → List Row → Option Text
 text_given = first_of
 
-abbrev pub piped : Option ℕ → Option ℕ → Option Text → Option Program
-piped (Some at) (Some step) db = Some (Pipe at step db)
-piped _ _ db = None
+abbrev pub piped : Option ℕ → Option ℕ → Option Text → Option ℕ → Option Program
+piped (Some at) (Some step) db cache = Some (Pipe at step db cache)
+piped _ _ db cache = None
 
 abbrev pub pipe_of : List Row → Option Program
 pipe_of rows = piped (number_given (codes "at") rows) (number_given (codes "step") rows)
-    (text_given (codes "db") rows)
+    (text_given (codes "db") rows) (number_given (codes "cache") rows)
 
 -- the limits of a listener that were given
 abbrev pub limits_of : List Row → AskedLimits
@@ -246,7 +250,8 @@ limits_of rows = record {
 
 abbrev pub serve_of : List Row → Option Program
 serve_of rows = option_map (λ address. Serve address (text_given (codes "db") rows)
-    (number_given (codes "connections") rows) (limits_of rows)) (text_given (codes "listen") rows)
+    (number_given (codes "cache") rows) (number_given (codes "connections") rows)
+    (limits_of rows)) (text_given (codes "listen") rows)
 
 -- what two texts make, where both were given
 abbrev pub of_two : (Text → Text → Program) → Option Text → Option Text → Option Program
@@ -258,7 +263,8 @@ abbrev pub with_db : (Text → Text → Program) → Text → List Row → Optio
 with_db make name rows = of_two make (text_given (codes "db") rows) (text_given name rows)
 
 abbrev pub import_of : List Row → Option Program
-import_of = with_db Import (codes "csv")
+import_of rows =
+    with_db (λ db csv. Import db (number_given (codes "cache") rows) csv) (codes "csv") rows
 
 abbrev pub history_of : List Row → Option Program
 history_of = with_db History (codes "service")
@@ -309,23 +315,31 @@ command_of rows = option_map (λ kind. record {
 }) (text_given (codes "command") rows)
 
 abbrev pub do_of : List Row → Option Program
-do_of rows = option_map (λ command. Do (desk_of rows) (text_given (codes "as") rows)
-    (text_given (codes "journal") rows) (text_given (codes "once") rows)
-    (flag_given (codes "instead") rows) command) (command_of rows)
+do_of rows = option_map (λ command. Ask (Do record {
+  desk = desk_of rows;
+  caller = text_given (codes "as") rows;
+  journal = text_given (codes "journal") rows;
+  key = text_given (codes "once") rows;
+  is_instead = flag_given (codes "instead") rows;
+  command = command;
+})) (command_of rows)
 
 abbrev pub get_of : List Row → Option Program
-get_of rows = option_map (λ service. Get (desk_of rows) service (text_given (codes "part") rows))
+get_of rows =
+    option_map (λ service. Ask (Get (desk_of rows) service (text_given (codes "part") rows)))
     (text_given (codes "service") rows)
 
 abbrev pub watch_of : List Row → Option Program
-watch_of rows = option_map (λ service. Watch (desk_of rows) (text_given (codes "until") rows)
-    service) (text_given (codes "service") rows)
+watch_of rows =
+    option_map (λ service. Ask (Watch (desk_of rows) (text_given (codes "until") rows) service))
+    (text_given (codes "service") rows)
 
 abbrev pub send_of : List Row → Option Program
-send_of rows = option_map (Send (desk_of rows)) (text_given (codes "csv") rows)
+send_of rows = option_map (λ csv. Ask (Send (desk_of rows) csv)) (text_given (codes "csv") rows)
 
 abbrev pub due_of : List Row → Option Program
-due_of rows = option_map (Due (desk_of rows) (flag_given (codes "wait") rows))
+due_of rows =
+    option_map (λ service. Ask (Due (desk_of rows) (flag_given (codes "wait") rows) service))
     (text_given (codes "service") rows)
 
 -- the program of the command that asks a desk
@@ -393,8 +407,14 @@ IsTrueOrFalse text = (text ≡ codes "true") ⊎ (text ≡ codes "false")
 abbrev pub MayHaveFlag : Text → List Row → Type 0
 MayHaveFlag name rows = IfSome (one_of name rows) IsTrueOrFalse
 
+abbrev pub HasCache : List Row → Type 0
+HasCache rows = MayHaveNumber (codes "cache") 68719476736 rows
+
 abbrev pub HasMoments : List Row → Type 0
 HasMoments rows = HasMoment (codes "at") rows × HasMoment (codes "step") rows
+
+abbrev pub HasPipe : List Row → Type 0
+HasPipe rows = HasMoments rows × HasCache rows
 
 abbrev pub HasLimits : List Row → Type 0
 HasLimits rows = MayHaveNumber (codes "read-timeout") 86400 rows
@@ -404,12 +424,15 @@ HasLimits rows = MayHaveNumber (codes "read-timeout") 86400 rows
     × MayHaveNumber (codes "max-unsent-total") 68719476736 rows
 
 abbrev pub HasListener : List Row → Type 0
-HasListener rows = HasText (codes "listen") rows
+HasListener rows = HasText (codes "listen") rows × HasCache rows
     × MayHaveNumber (codes "connections") 1000000 rows × HasLimits rows
 
 -- the file of the records and the text of this name were given
 abbrev pub HasTexts : Text → List Row → Type 0
 HasTexts name rows = HasText (codes "db") rows × HasText name rows
+
+abbrev pub HasImport : List Row → Type 0
+HasImport rows = HasTexts (codes "csv") rows × HasCache rows
 
 abbrev pub HasExport : List Row → Type 0
 HasExport rows = HasText (codes "db") rows × HasText (codes "caller") rows
@@ -448,7 +471,7 @@ Meets name Holds met = (rows : List Row) × (met ≡ Some (name, rows)) × Holds
 
 -- one of the commands on the file of a desk's records was met, with all that it has to be given
 abbrev pub HasRecordsProgram : Option (Text × List Row) → Type 0
-HasRecordsProgram met = Meets (codes "import") (HasTexts (codes "csv")) met
+HasRecordsProgram met = Meets (codes "import") HasImport met
     ⊎ (Meets (codes "history") (HasTexts (codes "service")) met
     ⊎ (Meets (codes "export") HasExport met ⊎ (Meets (codes "status") HasStatus met
     ⊎ (Meets (codes "page") HasPage met ⊎ (Meets (codes "backup") (HasTexts (codes "copy")) met
@@ -463,6 +486,6 @@ HasClientProgram met = Meets (codes "do") HasDo met
 
 -- one of the commands was met, with all that it has to be given
 abbrev pub HasProgram : Option (Text × List Row) → Type 0
-HasProgram met = Meets (codes "pipe") HasMoments met
+HasProgram met = Meets (codes "pipe") HasPipe met
     ⊎ (Meets (codes "serve") HasListener met ⊎ (HasRecordsProgram met
     ⊎ (Meets (codes "check") HasNothing met ⊎ HasClientProgram met)))

@@ -11,7 +11,8 @@ ghost use Rattle.canary_words.specs.CommandLine.{text_word, with_limits, with_nu
 ghost use Rattle.canary_words.specs.CommandLine.{optional_word, with_unsent, with_value};
 ghost use Rattle.canary_words.specs.CommandLine.{with_client_commands, do_command, get_command};
 ghost use Rattle.canary_words.specs.CommandLine.{watch_command, send_command, due_command};
-ghost use Rattle.canary_words.specs.CommandLine.{with_desk_options, with_do_options, with_command_words};
+ghost use Rattle.canary_words.specs.CommandLine.{with_desk_options, with_do_options};
+ghost use Rattle.canary_words.specs.CommandLine.{with_command_words, cache_option};
 
 use crate::help;
 use canary_base::moments::LAST_MOMENT;
@@ -33,6 +34,9 @@ pub const MOST_UNSENT: u64 = 1_073_741_824;
 
 /// The most unsent bytes of all clients together that can be asked for: 64 gibibytes.
 pub const MOST_UNSENT_TOTAL: u64 = 68_719_476_736;
+
+/// The most bytes of a file that can be asked to be kept in memory: 64 gibibytes.
+pub const MOST_CACHE: u64 = 68_719_476_736;
 
 /// The most seconds between two looks at a desk: a day.
 pub const MOST_WATCH: u64 = 86_400;
@@ -95,7 +99,7 @@ fn with_command<'a>(
     desk.subcommand(command?)
 }
 
-// `pipe --at SECONDS --step SECONDS` and its further option.
+// `pipe --at SECONDS --step SECONDS` and its further options.
 fn pipe_command<'a>(alloc: Global) -> Result<Command<'a>, AllocError>
     ensures { IfOk result (λ c. app_of c ≡ pipe_command) }
 {
@@ -105,7 +109,22 @@ fn pipe_command<'a>(alloc: Global) -> Result<Command<'a>, AllocError>
         .after_help(help::PIPE_HELP);
     let pipe = with_moment(alloc, pipe, "at", help::AT_HELP)?;
     let pipe = with_moment(alloc, pipe, "step", help::STEP_HELP)?;
-    with_text(alloc, pipe, "db", "FILE", false, help::DB_OR_MEMORY_HELP)
+    let pipe = with_text(alloc, pipe, "db", "FILE", false, help::DB_OR_MEMORY_HELP)?;
+    with_cache(alloc, pipe)
+}
+
+// A command with the option of how much it keeps of its file in memory.
+fn with_cache<'a>(alloc: Global, command: Command<'a>) -> Result<Command<'a>, AllocError>
+    ensures { IfOk result (λ c. app_of c ≡ with_rule (app_of command.entry) cache_option) }
+{
+    with_number(
+        alloc,
+        command,
+        "cache",
+        "BYTES",
+        MOST_CACHE,
+        help::CACHE_HELP,
+    )
 }
 
 // `serve --listen ADDRESS` and its further options.
@@ -117,6 +136,7 @@ fn serve_command<'a>(alloc: Global) -> Result<Command<'a>, AllocError>
         .after_help(help::SERVE_HELP);
     let serve = with_text(alloc, serve, "listen", "ADDRESS", true, help::LISTEN_HELP)?;
     let serve = with_text(alloc, serve, "db", "FILE", false, help::DB_OR_MEMORY_HELP)?;
+    let serve = with_cache(alloc, serve)?;
     let most = MOST_CONNECTIONS;
     let serve = with_number(
         alloc,
@@ -183,7 +203,7 @@ fn with_unsent<'a>(alloc: Global, serve: Command<'a>) -> Result<Command<'a>, All
     )
 }
 
-// `import --db FILE CSV`.
+// `import --db FILE CSV` and its further option.
 fn import_command<'a>(alloc: Global) -> Result<Command<'a>, AllocError>
     ensures { IfOk result (λ c. app_of c ≡ import_command) }
 {
@@ -191,6 +211,7 @@ fn import_command<'a>(alloc: Global) -> Result<Command<'a>, AllocError>
         .about(help::IMPORT_ABOUT)
         .after_help(help::IMPORT_HELP);
     let import = with_text(alloc, import, "db", "FILE", true, help::DB_OR_MADE_HELP)?;
+    let import = with_cache(alloc, import)?;
     with_word(alloc, import, "csv", "CSV", help::CSV_HELP)
 }
 

@@ -33,6 +33,11 @@ pub(crate) const DB_OR_MEMORY_HELP: &str =
 pub(crate) const DB_OR_MADE_HELP: &str =
     "The file with the desk's records, made if it does not exist";
 
+pub(crate) const CACHE_HELP: &str = concat!(
+    "Bytes of memory for what the desk keeps of FILE, 1 to 68719476736 ",
+    "[default: 67108864]"
+);
+
 pub(crate) const SERVICE_HELP: &str = "The name of the service";
 
 pub(crate) const WATCH_OPTION_HELP: &str =
@@ -428,7 +433,8 @@ pub(crate) const WATCH_HELP: &str = concat!(
 
 pub(crate) const SEND_ABOUT: &str = "Sends the measurements of a CSV file to a desk, each once";
 
-pub(crate) const SEND_CSV_HELP: &str = "The file with the measurements, as import takes it";
+pub(crate) const SEND_CSV_HELP: &str =
+    "The file with the measurements, as import takes it; - is standard input";
 
 pub(crate) const SEND_HELP: &str = concat!(
     "Each record behind the header is a row: a request of its caller, under its number, to\n",

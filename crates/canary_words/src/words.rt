@@ -9,11 +9,11 @@ ghost use Rattle.canary_words.specs.CommandLine.{import_of, history_of, export_o
 ghost use Rattle.canary_words.specs.CommandLine.{page_of, backup_of, migrate_of, check_of};
 ghost use Rattle.canary_words.specs.CommandLine.{flag_given, MayHaveFlag, HasPage, HasMigrate};
 ghost use Rattle.canary_words.specs.CommandLine.{IsFor, HasProgram, HasMoment, HasText};
-ghost use Rattle.canary_words.specs.CommandLine.{MayHaveNumber, HasMoments, HasListener, HasLimits};
+ghost use Rattle.canary_words.specs.CommandLine.{MayHaveNumber, HasPipe, HasListener, HasLimits};
 ghost use Rattle.canary_words.specs.CommandLine.{HasTexts, HasExport, HasStatus, do_of, get_of};
 ghost use Rattle.canary_words.specs.CommandLine.{watch_of, send_of, due_of, desk_of, command_of};
 ghost use Rattle.canary_words.specs.CommandLine.{HasClientProgram, HasDesk, HasAsked, HasDo};
-ghost use Rattle.canary_words.specs.CommandLine.{HasDue};
+ghost use Rattle.canary_words.specs.CommandLine.{HasDue, HasImport};
 
 use crate::commands::desk_command;
 use canary_base::lists::Text;
@@ -65,8 +65,59 @@ pub struct AskedCommand {
     pub failure: Option<Text>,
 }
 
-/// What a command line asks for. Where it has a `db`, that is the name of the file with the desk's
-/// records; without one they are in memory.
+/// A command for a desk, in whose name, and how.
+#[derive(Debug, Drop)]
+pub struct Call {
+    /// The desk.
+    pub desk: AskedDesk,
+    /// The caller.
+    pub caller: Option<Text>,
+    /// The file of the caller's journal.
+    pub journal: Option<Text>,
+    /// The key under which the command is asked once.
+    pub key: Option<Text>,
+    /// Whether the command takes the place of the one that is pending.
+    pub is_instead: bool,
+    /// The command.
+    pub command: AskedCommand,
+}
+
+/// What a client asks of a desk.
+#[derive(Debug, Drop)]
+pub enum Asked {
+    /// A command, once.
+    Do(Call),
+    /// The service that `service` names, if it is a name, as the desk has it; or the `part` of it:
+    /// what happened to it, or the run of that number.
+    Get {
+        desk: AskedDesk,
+        service: Text,
+        part: Option<Text>,
+    },
+    /// How that service stands, each time that it stands otherwise, until it has one of the
+    /// statuses that `until` lists.
+    Watch {
+        desk: AskedDesk,
+        until: Option<Text>,
+        service: Text,
+    },
+    /// The rows of the CSV file of this name, or of standard input if it is `-`, each sent to the
+    /// desk.
+    Send {
+        desk: AskedDesk,
+        csv: Text,
+    },
+    /// The measurements of that service that are due; with `wait` as soon as there is one.
+    Due {
+        desk: AskedDesk,
+        wait: bool,
+        service: Text,
+    },
+}
+
+/// What a command line asks for. If it has a `db`, that is the name of the file with the desk's
+/// records; without one they are in memory. A `cache` is the room in bytes for what the desk keeps
+/// in memory of that file.
 #[derive(Debug, Drop)]
 pub enum Program {
     /// HTTP from standard input to standard output. The first message is at the moment `at`, and
@@ -75,18 +126,21 @@ pub enum Program {
         at: Moment,
         step: Moment,
         db: Option<Text>,
+        cache: Option<u64>,
     },
     /// HTTP on the address that `listen` spells, within these limits for its clients; and its end
     /// after so many connections, or never.
     Serve {
         listen: Text,
         db: Option<Text>,
+        cache: Option<u64>,
         connections: Option<u64>,
         limits: AskedLimits,
     },
-    /// The measurements of the CSV file of this name, or of standard input where it is `-`.
+    /// The measurements of the CSV file of this name, or of standard input if it is `-`.
     Import {
         db: Text,
+        cache: Option<u64>,
         csv: Text,
     },
     /// What happened to the service that `service` names, if it is a name.
@@ -132,41 +186,8 @@ pub enum Program {
         file: Option<Text>,
         request: Option<Text>,
     },
-    /// The command, asked of the desk once, in the name of `caller`, who keeps this journal: under
-    /// the key, if there is one, and with `instead` in the place of what is pending.
-    Do {
-        desk: AskedDesk,
-        caller: Option<Text>,
-        journal: Option<Text>,
-        key: Option<Text>,
-        instead: bool,
-        command: AskedCommand,
-    },
-    /// The service that `service` names, if it is a name, as the desk has it; or the `part` of it:
-    /// what happened to it, or the run of that number.
-    Get {
-        desk: AskedDesk,
-        service: Text,
-        part: Option<Text>,
-    },
-    /// How that service stands, each time that it stands otherwise, until it has one of the
-    /// statuses that `until` lists.
-    Watch {
-        desk: AskedDesk,
-        until: Option<Text>,
-        service: Text,
-    },
-    /// The rows of the CSV file of this name, each sent to the desk.
-    Send {
-        desk: AskedDesk,
-        csv: Text,
-    },
-    /// The measurements of that service that are due; with `wait` as soon as there is one.
-    Due {
-        desk: AskedDesk,
-        wait: bool,
-        service: Text,
-    },
+    /// What a client asks of a desk.
+    Ask(Asked),
 }
 
 /// Why a command line gives no program.
@@ -266,13 +287,14 @@ fn client_program_of(alloc: Global, matches: &ArgMatches<'_>) -> Result<Program,
 
 // The program of `pipe` with these matches.
 fn pipe_of(alloc: Global, pipe: &ArgMatches<'_>) -> Result<Program, AllocError>
-    requires { HasMoments (rows_of (found_of pipe.now)) }
+    requires { HasPipe (rows_of (found_of pipe.now)) }
     ensures { IfOk result (λ p. pipe_of (rows_of (found_of pipe.now)) ≡ Some p) }
 {
     Ok(Program::Pipe {
         at: moment_given(pipe, "at"),
         step: moment_given(pipe, "step"),
         db: optional_text(alloc, pipe, "db")?,
+        cache: number_given(pipe, "cache"),
     })
 }
 
@@ -284,6 +306,7 @@ fn serve_of(alloc: Global, serve: &ArgMatches<'_>) -> Result<Program, AllocError
     Ok(Program::Serve {
         listen: text_given(alloc, serve, "listen")?,
         db: optional_text(alloc, serve, "db")?,
+        cache: number_given(serve, "cache"),
         connections: number_given(serve, "connections"),
         limits: limits_of(serve),
     })
@@ -291,11 +314,12 @@ fn serve_of(alloc: Global, serve: &ArgMatches<'_>) -> Result<Program, AllocError
 
 // The program of `import` with these matches.
 fn import_of(alloc: Global, import: &ArgMatches<'_>) -> Result<Program, AllocError>
-    requires { HasTexts (codes "csv") (rows_of (found_of import.now)) }
+    requires { HasImport (rows_of (found_of import.now)) }
     ensures { IfOk result (λ p. import_of (rows_of (found_of import.now)) ≡ Some p) }
 {
     Ok(Program::Import {
         db: text_given(alloc, import, "db")?,
+        cache: number_given(import, "cache"),
         csv: text_given(alloc, import, "csv")?,
     })
 }
@@ -384,14 +408,14 @@ fn do_of(alloc: Global, asked: &ArgMatches<'_>) -> Result<Program, AllocError>
     requires { HasDo (rows_of (found_of asked.now)) }
     ensures { IfOk result (λ p. do_of (rows_of (found_of asked.now)) ≡ Some p) }
 {
-    Ok(Program::Do {
+    Ok(Program::Ask(Asked::Do(Call {
         desk: desk_of(alloc, asked)?,
         caller: optional_text(alloc, asked, "as")?,
         journal: optional_text(alloc, asked, "journal")?,
         key: optional_text(alloc, asked, "once")?,
-        instead: flag_given(asked, "instead"),
+        is_instead: flag_given(asked, "instead"),
         command: command_of(alloc, asked)?,
-    })
+    })))
 }
 
 // The program of `get` with these matches.
@@ -399,11 +423,11 @@ fn get_of(alloc: Global, get: &ArgMatches<'_>) -> Result<Program, AllocError>
     requires { HasAsked (codes "service") (rows_of (found_of get.now)) }
     ensures { IfOk result (λ p. get_of (rows_of (found_of get.now)) ≡ Some p) }
 {
-    Ok(Program::Get {
+    Ok(Program::Ask(Asked::Get {
         desk: desk_of(alloc, get)?,
         service: text_given(alloc, get, "service")?,
         part: optional_text(alloc, get, "part")?,
-    })
+    }))
 }
 
 // The program of `watch` with these matches.
@@ -411,11 +435,11 @@ fn watch_of(alloc: Global, watch: &ArgMatches<'_>) -> Result<Program, AllocError
     requires { HasAsked (codes "service") (rows_of (found_of watch.now)) }
     ensures { IfOk result (λ p. watch_of (rows_of (found_of watch.now)) ≡ Some p) }
 {
-    Ok(Program::Watch {
+    Ok(Program::Ask(Asked::Watch {
         desk: desk_of(alloc, watch)?,
         until: optional_text(alloc, watch, "until")?,
         service: text_given(alloc, watch, "service")?,
-    })
+    }))
 }
 
 // The program of `send` with these matches.
@@ -423,10 +447,10 @@ fn send_of(alloc: Global, send: &ArgMatches<'_>) -> Result<Program, AllocError>
     requires { HasAsked (codes "csv") (rows_of (found_of send.now)) }
     ensures { IfOk result (λ p. send_of (rows_of (found_of send.now)) ≡ Some p) }
 {
-    Ok(Program::Send {
+    Ok(Program::Ask(Asked::Send {
         desk: desk_of(alloc, send)?,
         csv: text_given(alloc, send, "csv")?,
-    })
+    }))
 }
 
 // The program of `due` with these matches.
@@ -434,11 +458,11 @@ fn due_of(alloc: Global, due: &ArgMatches<'_>) -> Result<Program, AllocError>
     requires { HasDue (rows_of (found_of due.now)) }
     ensures { IfOk result (λ p. due_of (rows_of (found_of due.now)) ≡ Some p) }
 {
-    Ok(Program::Due {
+    Ok(Program::Ask(Asked::Due {
         desk: desk_of(alloc, due)?,
         wait: flag_given(due, "wait"),
         service: text_given(alloc, due, "service")?,
-    })
+    }))
 }
 
 // Where the desk is, and how patiently it is asked, as far as it was given.

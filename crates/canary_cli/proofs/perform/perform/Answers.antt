@@ -8,7 +8,7 @@ use Rattle.canary_cli.proofs.TurnedAway.{only_memory}
 use Rattle.canary_cli.proofs.perform.perform.Goals as goal
 
 pub returns-in-Err-clause-piped : goal.returns-in-Err-clause-piped
-returns-in-Err-clause-piped g c at step none is =
+returns-in-Err-clause-piped g c at step cache none is =
     let told = only_memory _ c.in-Err.fault _ _ _ none c.in-Err.ensures.fault c.turn_away.ensures.told in
     (Err Memory, told.0, (Err NoMemory, refl, (refl, told.1)))
 
