@@ -1,6 +1,6 @@
 -- What is kept of what was read stays what the contents have.
 use Rattle.std.proofs.Common.{◌≡◌, ◌≤◌, ℕ, ◌+◌, ◌==◌, List, [], ◌∷◌, ◌++◌, length, Bool, true, false, ◌&&◌, ◌||◌, Some, None, Result, Ok, Err, refl, sym, ap, ◌∙◌, subst, arith, length-append, eqb-true}
-use Rattle.std.specs.Prelude.{Option, cond, not, option_map, unwrap_or, filter}
+use Rattle.std.specs.Prelude.{Option, cond, not, option_map, unwrap_or, filter, slice_get, ◌-◌}
 use Rattle.std.specs.List.{list_any, find, last_or}
 use Rattle.std.specs.Str.{bytes_eq}
 use Rattle.std.specs.Ordering.{nat_cmp}
@@ -27,7 +27,8 @@ use Rattle.canary_release.specs.Shapes.{shape, seen, said, changed, kept_by, Kee
 use Rattle.canary_release.specs.Order.{AreInOrder}
 use Rattle.canary_once.specs.declared.book.Receipt.{Receipt}
 use Rattle.canary_once.specs.declared.book.Settlement.{Settlement}
-use Rattle.canary_once.specs.Contents.{Contents, count_of, receipts_of, IsSettling, with_settlement, put_some}
+use Rattle.canary_once.specs.Contents.{Contents, count_of, receipt_at, receipts_of, IsSettling, with_settlement, put_some}
+use Rattle.canary_once.proofs.Events.{keep_keeps}
 use Rattle.canary_rows.specs.declared.rows.BindingRow.{BindingRow}
 use Rattle.canary_rows.specs.Tables.{Tables, is_service, is_binding, is_binding_of}
 use Rattle.canary_stored.specs.Values.{service_row, binding_row}
@@ -41,8 +42,9 @@ use Rattle.canary_schema.specs.Stores.{IsUsable, Stores}
 use Rattle.canary_schema.specs.Laws.{OneReading}
 use Rattle.canary_tables.specs.Desk.{IsDesk, contents_in}
 use Rattle.canary_tables.specs.declared.kept.Kept.{Kept}
+use Rattle.canary_tables.specs.declared.kept.NumberedReceipt.{NumberedReceipt}
 use Rattle.canary_tables.specs.Entries.{Named, IsWithin}
-use Rattle.canary_tables.specs.Kept.{AreCounts, AreServices, AreTemplates, AreKept, without_changed, without_revised, with_changed, kept_of, IsKnown, IsKnownAs}
+use Rattle.canary_tables.specs.Kept.{AreCounts, AreServices, AreTemplates, AreReceipts, AreKept, without_changed, without_revised, with_changed, kept_of, IsKnown, IsKnownAs}
 use Rattle.canary_tables.proofs.EntryLemmas.{is_it, equal_names, kept_within}
 
 pub there_is : (o : Option ModelService) (k : ServiceParts) → option_map shape o ≡ Some k → (m : ModelService) × ((o ≡ Some m) × (shape m ≡ k))
@@ -93,7 +95,38 @@ one_template_more c m n name (Some t) are is within = λ q v there.
       one q v true same e = ap (newest c.desk.templates) (same refl) ∙ sym is ∙ e
       one q v false same e = are q v e
 
+pub one_receipt_more : (c : Contents) (m n : Named NumberedReceipt) (place : List ℕ) (r : NumberedReceipt) → AreReceipts m c → receipt_at c r.caller r.number ≡ Some r.receipt → IsWithin n (insert (remove m place) place r) → AreReceipts n c
+one_receipt_more c m n place r are is within = λ q v there.
+    one q v (is_it q place) (sym (get-insert nat_list_cmp_total (remove m place) place r q ∙ ap (cond (is_it q place) (Some r)) (get-remove nat_list_cmp_total m place q)) ∙ within q v there) where
+      one : (q : List ℕ) (v : NumberedReceipt) (b : Bool) → cond b (Some r) (cond b None (get m q)) ≡ Some v → receipt_at c v.caller v.number ≡ Some v.receipt
+      one q v true e = let same : r ≡ v = cc in subst (λ (x : NumberedReceipt). receipt_at c x.caller x.number ≡ Some x.receipt) same is
+      one q v false e = are q v e
+
+-- the receipt that is kept in a place is that of its caller and number
+pub of_its_own : (c : Contents) (r : NumberedReceipt) (caller : List ℕ) (number : ℕ) → (r.caller ≡ caller) × (r.number ≡ number) → receipt_at c r.caller r.number ≡ Some r.receipt → receipt_at c caller number ≡ Some r.receipt
+of_its_own c r caller number same is = ap (λ n. receipt_at c n number) (sym same.0) ∙ (ap (receipt_at c r.caller) (sym same.1) ∙ is)
+
 -- A request is settled.
+
+last_there : (receipts : List Receipt) (r : Receipt) → slice_get (receipts ++ r ∷ []) (length receipts) ≡ Some r
+last_there [] r = refl
+last_there (x ∷ receipts) r = last_there receipts r
+
+same_name : (k : List ℕ) → is_it k k ≡ true
+same_name k = is_eq-slice_cmp k k ∙ (bytes_eq-Decides k k).1 refl
+
+next_place : (number count : ℕ) → number ≡ count + 1 → number - 1 ≡ count
+next_place number count next = omega arith
+
+receipt_settled : (c : Contents) (s : Settlement) → s.number ≡ count_of c s.caller + 1 → receipt_at (with_settlement c s) s.caller s.number ≡ Some s.receipt
+receipt_settled c s next =
+    ap (λ (o : Option (List Receipt)). slice_get (unwrap_or o []) (s.number - 1))
+    (get-insert nat_list_cmp_total c.callers s.caller (receipts_of c s.caller ++ s.receipt ∷ []) s.caller ∙ ap (λ (b : Bool). cond b (Some (receipts_of c s.caller ++ s.receipt ∷ [])) (get c.callers s.caller)) (same_name s.caller))
+    ∙ (ap (slice_get (receipts_of c s.caller ++ s.receipt ∷ [])) (next_place s.number (count_of c s.caller) next) ∙ last_there (receipts_of c s.caller) s.receipt)
+
+-- receipts are still what the contents have once another request is settled
+receipts_stay : (c : Contents) (s : Settlement) (m : Named NumberedReceipt) → AreReceipts m c → AreReceipts m (with_settlement c s)
+receipts_stay c s m are = λ place r there. keep_keeps c (with_settlement c s).desk s.caller s.receipt r.caller r.number r.receipt (are place r there)
 
 count_after : (c : Contents) (s : Settlement) (m n : Named ℕ) → s.number ≡ count_of c s.caller + 1 → AreCounts m c → IsWithin n (insert (remove m s.caller) s.caller s.number) → AreCounts n (with_settlement c s)
 count_after c s m n next are within q k there =
@@ -174,12 +207,14 @@ templates_after desk now command (AddsTemplate u) is m n are same name t there =
 
 pub kept_after : KeepsWhatIsSeen → (c : Contents) (s : Settlement) (old new : Kept) → IsSettling c s → AreInOrder (with_settlement c s).desk → AreKept old c
     → IsWithin new.counts (insert (remove old.counts s.caller) s.caller s.number) → IsWithin new.services (with_changed (without_changed old.services s.change) s.change) → new.templates ≡ without_revised old.templates s.change
+    → ((k : Contents) → AreReceipts old.receipts k → receipt_at k s.caller s.number ≡ Some s.receipt → AreReceipts new.receipts k)
     → AreKept new (with_settlement c s)
-kept_after law c s old new settling order are counts services templates =
+kept_after law c s old new settling order are counts services templates receipts =
     record {
       counts = count_after c s old.counts new.counts settling.number are.counts counts;
       services = services_after law c.desk settling.step.0 s.receipt.command s.change settling.step.1.change settling.step.1.desk_after order old.services new.services are.services services;
       templates = templates_after c.desk settling.step.0 s.receipt.command s.change settling.step.1.change old.templates new.templates are.templates templates;
+      receipts = receipts (with_settlement c s) (receipts_stay c s old.receipts are.receipts) (receipt_settled c s settling.number);
     }
 
 -- what a failed commit leaves
@@ -193,18 +228,16 @@ without_revised_is_within m Nothing = λ name t is. is
 without_revised_is_within m (Updates s effects) = λ name t is. is
 without_revised_is_within m (AddsTemplate template) = without_is_within m template.spec.name
 
-pub forgotten : (c : Contents) (s : Settlement) (old new : Kept) → AreKept old c → new.counts ≡ remove old.counts s.caller → new.services ≡ without_changed old.services s.change → new.templates ≡ without_revised old.templates s.change → AreKept new c
-forgotten c s old new are counts services templates =
+pub forgotten : (c : Contents) (s : Settlement) (old new : Kept) → AreKept old c → new.counts ≡ remove old.counts s.caller → new.services ≡ without_changed old.services s.change → new.templates ≡ without_revised old.templates s.change → new.receipts ≡ old.receipts → AreKept new c
+forgotten c s old new are counts services templates receipts =
     record {
       counts = subst (λ (m : Named ℕ). AreCounts m c) (sym counts) (fewer_counts c old.counts (remove old.counts s.caller) are.counts (without_is_within old.counts s.caller));
       services = subst (λ (m : Named ServiceParts). AreServices m c) (sym services) (fewer_services c old.services (without_changed old.services s.change) are.services (without_changed_is_within old.services s.change));
       templates = subst (λ (m : Named Template). AreTemplates m c) (sym templates) (λ name t is. are.templates name t (without_revised_is_within old.templates s.change name t is));
+      receipts = subst (λ (m : Named NumberedReceipt). AreReceipts m c) (sym receipts) are.receipts;
     }
 
 -- of what was taken out nothing is kept
-
-same_name : (k : List ℕ) → is_it k k ≡ true
-same_name k = is_eq-slice_cmp k k ∙ (bytes_eq-Decides k k).1 refl
 
 pub none_there : {A : Type 0} (m : Named A) (k : List ℕ) → get (remove m k) k ≡ None
 none_there {A} m k = get-remove nat_list_cmp_total m k k ∙ ap (λ (b : Bool). cond b None (get m k)) (same_name k)
@@ -216,28 +249,41 @@ none_of_change m (Updates s effects) = none_there m s.stand.name
 
 -- One is read.
 
-pub count_kept : (c : Contents) (old new : Kept) (caller : List ℕ) (count : ℕ) → AreKept old c → count ≡ count_of c caller → IsWithin new.counts (insert old.counts caller count) → new.services ≡ old.services → new.templates ≡ old.templates → AreKept new c
-count_kept c old new caller count are is counts services templates =
+pub count_kept : (c : Contents) (old new : Kept) (caller : List ℕ) (count : ℕ) → AreKept old c → count ≡ count_of c caller → IsWithin new.counts (insert old.counts caller count) → new.services ≡ old.services → new.templates ≡ old.templates → new.receipts ≡ old.receipts → AreKept new c
+count_kept c old new caller count are is counts services templates receipts =
     record {
       counts = one_count_more c old.counts new.counts caller count are.counts is counts;
       services = subst (λ (m : Named ServiceParts). AreServices m c) (sym services) are.services;
       templates = subst (λ (m : Named Template). AreTemplates m c) (sym templates) are.templates;
+      receipts = subst (λ (m : Named NumberedReceipt). AreReceipts m c) (sym receipts) are.receipts;
     }
 
-pub service_kept : (c : Contents) (old new : Kept) (name : List ℕ) (found : Option ServiceParts) → AreKept old c → found ≡ seen c.desk name → new.counts ≡ old.counts → IsWithin new.services (put_some old.services name found) → new.templates ≡ old.templates → AreKept new c
-service_kept c old new name found are is counts services templates =
+pub service_kept : (c : Contents) (old new : Kept) (name : List ℕ) (found : Option ServiceParts) → AreKept old c → found ≡ seen c.desk name → new.counts ≡ old.counts → IsWithin new.services (put_some old.services name found) → new.templates ≡ old.templates → new.receipts ≡ old.receipts → AreKept new c
+service_kept c old new name found are is counts services templates receipts =
     record {
       counts = subst (λ (m : Named ℕ). AreCounts m c) (sym counts) are.counts;
       services = one_service_more c old.services new.services name found are.services is services;
       templates = subst (λ (m : Named Template). AreTemplates m c) (sym templates) are.templates;
+      receipts = subst (λ (m : Named NumberedReceipt). AreReceipts m c) (sym receipts) are.receipts;
     }
 
-pub template_kept : (c : Contents) (old new : Kept) (name : List ℕ) (found : Option Template) → AreKept old c → found ≡ newest c.desk.templates name → new.counts ≡ old.counts → new.services ≡ old.services → IsWithin new.templates (put_some old.templates name found) → AreKept new c
-template_kept c old new name found are is counts services templates =
+pub template_kept : (c : Contents) (old new : Kept) (name : List ℕ) (found : Option Template) → AreKept old c → found ≡ newest c.desk.templates name → new.counts ≡ old.counts → new.services ≡ old.services → IsWithin new.templates (put_some old.templates name found) → new.receipts ≡ old.receipts → AreKept new c
+template_kept c old new name found are is counts services templates receipts =
     record {
       counts = subst (λ (m : Named ℕ). AreCounts m c) (sym counts) are.counts;
       services = subst (λ (m : Named ServiceParts). AreServices m c) (sym services) are.services;
       templates = one_template_more c old.templates new.templates name found are.templates is templates;
+      receipts = subst (λ (m : Named NumberedReceipt). AreReceipts m c) (sym receipts) are.receipts;
+    }
+
+pub receipt_kept : (c : Contents) (old new : Kept) (caller : List ℕ) (number : ℕ) (found : Option Receipt) → AreKept old c → found ≡ receipt_at c caller number → new.counts ≡ old.counts → new.services ≡ old.services → new.templates ≡ old.templates
+    → ((k : Contents) → AreReceipts old.receipts k → found ≡ receipt_at k caller number → AreReceipts new.receipts k) → AreKept new c
+receipt_kept c old new caller number found are is counts services templates receipts =
+    record {
+      counts = subst (λ (m : Named ℕ). AreCounts m c) (sym counts) are.counts;
+      services = subst (λ (m : Named ServiceParts). AreServices m c) (sym services) are.services;
+      templates = subst (λ (m : Named Template). AreTemplates m c) (sym templates) are.templates;
+      receipts = receipts c are.receipts is;
     }
 
 -- what is kept of a database is that of one that contains the same
@@ -247,13 +293,15 @@ kept_of_same old new kept are same = subst (λ (db : Database). AreKept kept (co
 -- what is kept anew once a request is settled
 pub settled_kept : KeepsWhatIsSeen → (old new : State) (s : Settlement) (before forgot after : Kept) → IsSettling (contents_in old) s → IsDesk new → contents_in new ≡ with_settlement (contents_in old) s → AreKept before (contents_in old)
     → forgot.counts ≡ remove before.counts s.caller → forgot.services ≡ without_changed before.services s.change → forgot.templates ≡ without_revised before.templates s.change → IsWithin after.counts (insert forgot.counts s.caller s.number) → IsWithin after.services (with_changed forgot.services s.change) → after.templates ≡ forgot.templates
+    → forgot.receipts ≡ before.receipts → ((k : Contents) → AreReceipts forgot.receipts k → receipt_at k s.caller s.number ≡ Some s.receipt → AreReceipts after.receipts k)
     → AreKept after (contents_in new)
-settled_kept law old new s before forgot after settling desk settled are counts services templates more_counts more_services same_templates =
+settled_kept law old new s before forgot after settling desk settled are counts services templates more_counts more_services same_templates same_receipts more_receipts =
     subst (AreKept after) (sym settled)
     (kept_after law (contents_in old) s before after settling (subst (λ (c : Contents). AreInOrder c.desk) settled desk.holds.lawful.desk) are
     (subst (λ (m : Named ℕ). IsWithin after.counts (insert m s.caller s.number)) counts more_counts)
     (subst (λ (m : Named ServiceParts). IsWithin after.services (with_changed m s.change)) services more_services)
-    (same_templates ∙ templates))
+    (same_templates ∙ templates)
+    (λ k before_are is. more_receipts k (subst (λ (m : Named NumberedReceipt). AreReceipts m k) (sym same_receipts) before_are) is))
 
 -- A change of a service, by its parts.
 
@@ -276,10 +324,11 @@ none_of_nothing : {A : Type 0} (m : Named A) (k : List ℕ) (v : A) → m ≡ em
 none_of_nothing {A} m k v is e =
     let none : None ≡ Some v = sym (get-empty (slice_cmp nat_cmp) k) ∙ ap (λ (n : Named A). get n k) (sym is) ∙ e in cc
 
-pub nothing_kept : (kept : Kept) (c : Contents) → kept.counts ≡ empty → kept.services ≡ empty → kept.templates ≡ empty → AreKept kept c
-nothing_kept kept c counts services templates =
+pub nothing_kept : (kept : Kept) (c : Contents) → kept.counts ≡ empty → kept.services ≡ empty → kept.templates ≡ empty → kept.receipts ≡ empty → AreKept kept c
+nothing_kept kept c counts services templates receipts =
     record {
       counts = λ name count e. absurd (none_of_nothing kept.counts name count counts e);
       services = λ name s e. absurd (none_of_nothing kept.services name s services e);
       templates = λ name t e. absurd (none_of_nothing kept.templates name t templates e);
+      receipts = λ place r e. absurd (none_of_nothing kept.receipts place r receipts e);
     }

@@ -7,9 +7,10 @@ use Rattle.canary_release.specs.declared.decide.DeskChange.{DeskChange}
 use Rattle.canary_release.specs.declared.decide.DeskChange.TheVariants.{Nothing, Template as AddsTemplate, Service as Updates}
 use Rattle.canary_release.specs.Desks.{newest}
 use Rattle.canary_release.specs.Shapes.{seen}
-use Rattle.canary_once.specs.Contents.{Contents, count_of}
+use Rattle.canary_once.specs.Contents.{Contents, count_of, receipt_at}
 use Rattle.canary_tables.specs.Entries.{Named}
 use Rattle.canary_tables.specs.declared.kept.Kept.{Kept}
+use Rattle.canary_tables.specs.declared.kept.NumberedReceipt.{NumberedReceipt}
 
 -- each count is that of its caller
 abbrev pub AreCounts : Named ℕ → Contents → Type 0
@@ -27,11 +28,18 @@ AreTemplates templates c =
     (name : List ℕ) (t : Template) → get templates name ≡ Some t
     → newest c.desk.templates name ≡ Some t
 
+-- each receipt is that of its caller under its number, wherever it is kept
+abbrev pub AreReceipts : Named NumberedReceipt → Contents → Type 0
+AreReceipts receipts c =
+    (place : List ℕ) (r : NumberedReceipt) → get receipts place ≡ Some r
+    → receipt_at c r.caller r.number ≡ Some r.receipt
+
 -- what is kept is what the contents have
 pub record AreKept (kept : Kept) (c : Contents) : Type 0 where
   pub counts : AreCounts kept.counts c
   pub services : AreServices kept.services c
   pub templates : AreTemplates kept.templates c
+  pub receipts : AreReceipts kept.receipts c
 
 -- without the service that a change names
 abbrev pub without_changed : Named ServiceParts → DeskChange → Named ServiceParts

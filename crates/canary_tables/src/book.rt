@@ -6,7 +6,7 @@ ghost use Rattle.canary_tables.specs.Faults.{book_fault_of};
 
 use crate::kept::Kept;
 use crate::notes::Notes;
-use crate::{found, found_runs, known, pages};
+use crate::{found_runs, known, pages};
 use canary_base::lists::Listed;
 use canary_base::names::Name;
 use canary_base::numbers::Number;
@@ -87,7 +87,9 @@ impl<S: Alter> Book for TableBook<S> {
     }
 
     fn receipt(&mut self, caller: &Name, number: Number) -> Result<Option<Receipt>, BookFault> {
-        found::receipt(&mut self.conn, self.alloc, caller, number).map_err(book_fault)
+        known::receipt(&mut self.conn, self.alloc, &mut self.kept, caller, number).map_err(
+            book_fault,
+        )
     }
 
     fn templates(&mut self, names: &[Name]) -> Result<Templates, BookFault> {

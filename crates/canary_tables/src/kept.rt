@@ -1,25 +1,76 @@
-//! What a book keeps of what it has read: how many requests of callers are settled, services, and
-//! templates.
-ghost use Rattle.std.specs.Prelude.{◌≡◌, None, option_copied};
+//! What a book keeps of what it has read: how many requests of callers are settled, services,
+//! templates, and receipts.
+ghost use Rattle.std.specs.Prelude.{◌≡◌, true, None, Some, IfSome, option_copied};
 ghost use Rattle.std.specs.FinMap as map;
-ghost use Rattle.canary_once.specs.Contents.{Contents, put_some};
+ghost use Rattle.canary_once.specs.Contents.{Contents, put_some, receipt_at};
 ghost use Rattle.canary_tables.specs.Entries.{IsWithin};
 ghost use Rattle.canary_tables.specs.Kept.{AreKept, without_changed, with_changed, kept_of};
-ghost use Rattle.canary_tables.specs.Kept.{without_revised};
+ghost use Rattle.canary_tables.specs.Kept.{without_revised, AreReceipts};
 
 use crate::entries::Entries;
-use crate::weights::{BYTES_OF_COUNT, bytes_of_service, bytes_of_template};
+use crate::weights::{BYTES_OF_COUNT, bytes_of_receipt, bytes_of_service, bytes_of_template};
 use canary_base::names::Name;
-use canary_once::book::Settlement;
+use canary_base::numbers::Number;
+use canary_once::book::{Receipt, Settlement};
 use canary_plan::template::Template;
 use canary_release::decide::DeskChange;
 use canary_release::service::Service;
 use std::alloc::Global;
 
-// Counts and templates each have one part in so many of the room, and services have the rest.
+// Counts, templates and receipts each have one part in so many of the room, and services have the
+// rest.
 const PARTS_OF_COUNTS: u64 = 4;
 
 const PARTS_OF_TEMPLATES: u64 = 8;
+
+const PARTS_OF_RECEIPTS: u64 = 8;
+
+// The receipts of a caller have as many places as there are two letters.
+const LETTERS: u32 = 26;
+
+// The most bytes of a name.
+const MOST_BYTES: usize = 63;
+
+/// A receipt, and whose it is: of this caller, under this number.
+#[derive(Drop)]
+pub(crate) struct NumberedReceipt {
+    caller: Name,
+    number: Number,
+    receipt: Receipt,
+}
+
+impl NumberedReceipt {
+    // Whether it is that of this caller under this number.
+    fn is_of(&self, caller: &Name, number: Number) -> bool
+        ensures { result ≡ true → (self.now.caller ≡ caller.now) × (self.now.number ≡ number) }
+    {
+        self.caller == *caller && self.number == number
+    }
+}
+
+// The name of the place for a receipt: two letters by its number, and what its caller's name begins
+// with. Of receipts with one place the last one is kept.
+fn place_of(caller: &Name, number: Number) -> Name {
+    let number = number.get();
+    let name = caller.as_bytes();
+    let shared = if name.len() > MOST_BYTES - 2 {
+        MOST_BYTES - 2
+    } else {
+        name.len()
+    };
+    let mut bytes = [0; MOST_BYTES];
+    bytes[0] = letter(number);
+    bytes[1] = letter(number / LETTERS);
+    bytes[2..2 + shared].copy_from_slice(&name[..shared]);
+    match Name::read(&bytes[..2 + shared]) {
+        Some(place) => place,
+        None => *caller,
+    }
+}
+
+fn letter(number: u32) -> u8 {
+    b'a'.wrapping_add((number % LETTERS) as u8)
+}
 
 /// What a book keeps of what it has read, as far as there is room for it.
 #[derive(Drop)]
@@ -29,6 +80,8 @@ pub(crate) struct Kept {
     pub(crate) services: Entries<Service>,
     /// The newest revisions of templates.
     pub(crate) templates: Entries<Template>,
+    /// Receipts, each in a place of its caller and number.
+    receipts: Entries<NumberedReceipt>,
 }
 
 impl Kept {
@@ -37,15 +90,19 @@ impl Kept {
         ensures counts { result.counts ≡ map.empty }
         ensures services { result.services ≡ map.empty }
         ensures templates { result.templates ≡ map.empty }
+        ensures receipts { result.receipts ≡ map.empty }
         ensures kept { (c : Contents) → AreKept result c }
     {
         let room_for_counts = room / PARTS_OF_COUNTS;
         let room_for_templates = room / PARTS_OF_TEMPLATES;
-        let room_for_services = room - room_for_counts - room_for_templates;
+        let room_for_receipts = room / PARTS_OF_RECEIPTS;
+        let others = room_for_counts + room_for_templates + room_for_receipts;
+        let room_for_services = room - others;
         Kept {
             counts: Entries::new(alloc, room_for_counts),
             services: Entries::new(alloc, room_for_services),
             templates: Entries::new(alloc, room_for_templates),
+            receipts: Entries::new(alloc, room_for_receipts),
         }
     }
 
@@ -55,6 +112,7 @@ impl Kept {
         ensures counts { IsWithin self.new.counts (map.insert self.old.counts caller count) }
         ensures services { self.new.services ≡ self.old.services }
         ensures templates { self.new.templates ≡ self.old.templates }
+        ensures receipts { self.new.receipts ≡ self.old.receipts }
     {
         self.counts.put(caller, count, BYTES_OF_COUNT);
     }
@@ -67,6 +125,7 @@ impl Kept {
         ensures services { IsWithin self.new.services
             (put_some self.old.services name (option_copied found.entry)) }
         ensures templates { self.new.templates ≡ self.old.templates }
+        ensures receipts { self.new.receipts ≡ self.old.receipts }
     {
         let Some(service) = found else {
             return;
@@ -85,6 +144,7 @@ impl Kept {
         ensures services { self.new.services ≡ self.old.services }
         ensures templates { IsWithin self.new.templates
             (put_some self.old.templates name (option_copied found.entry)) }
+        ensures receipts { self.new.receipts ≡ self.old.receipts }
     {
         let Some(template) = found else {
             return;
@@ -103,6 +163,7 @@ impl Kept {
             ≡ without_changed self.old.services settlement.now.change }
         ensures templates { self.new.templates
             ≡ without_revised self.old.templates settlement.now.change }
+        ensures receipts { self.new.receipts ≡ self.old.receipts }
         ensures known { result ≡ kept_of self.old.services settlement.now.change }
     {
         let _ = self.counts.take(settlement.caller);
@@ -117,14 +178,68 @@ impl Kept {
         ensures counts { self.new.counts ≡ self.old.counts }
         ensures services { self.new.services ≡ self.old.services }
         ensures templates { self.new.templates ≡ without_revised self.old.templates change.now }
+        ensures receipts { self.new.receipts ≡ self.old.receipts }
     {
         if let DeskChange::Template(template) = change {
             let _ = self.templates.take(template.spec.name);
         }
     }
 
-    /// Keeps what a settled request left: how many requests of its caller are settled now, and the
-    /// service that it changed. Nothing is kept of either.
+    /// The receipt under a caller's number, if it is kept.
+    pub(crate) fn receipt_of(&self, caller: &Name, number: Number) -> Option<&Receipt>
+        ensures { (c : Contents) → AreReceipts self.now.receipts c
+            → IfSome (option_copied result) (λ receipt.
+            receipt_at c caller.now number ≡ Some receipt) }
+    {
+        match self.receipts.get(place_of(caller, number)) {
+            Some(kept) if kept.is_of(caller, number) => Some(&kept.receipt),
+            _ => None,
+        }
+    }
+
+    /// Keeps a copy of a receipt that was read, if one was and there is memory for it.
+    pub(crate) fn keep_receipt(
+        &mut self,
+        alloc: Global,
+        caller: Name,
+        number: Number,
+        found: Option<&Receipt>,
+    )
+        ensures counts { self.new.counts ≡ self.old.counts }
+        ensures services { self.new.services ≡ self.old.services }
+        ensures templates { self.new.templates ≡ self.old.templates }
+        ensures receipts { (c : Contents) → AreReceipts self.old.receipts c
+            → option_copied found.entry ≡ receipt_at c caller number
+            → AreReceipts self.new.receipts c }
+    {
+        let Some(receipt) = found else {
+            return;
+        };
+        if let Ok(receipt) = receipt.copy(alloc) {
+            self.put_receipt(NumberedReceipt {
+                caller,
+                number,
+                receipt,
+            });
+        }
+    }
+
+    fn put_receipt(&mut self, receipt: NumberedReceipt)
+        ensures counts { self.new.counts ≡ self.old.counts }
+        ensures services { self.new.services ≡ self.old.services }
+        ensures templates { self.new.templates ≡ self.old.templates }
+        ensures receipts { (c : Contents) → AreReceipts self.old.receipts c
+            → receipt_at c receipt.caller receipt.number ≡ Some receipt.receipt
+            → AreReceipts self.new.receipts c }
+    {
+        let place = place_of(&receipt.caller, receipt.number);
+        let weight = bytes_of_receipt(&receipt.receipt);
+        let _ = self.receipts.take(place);
+        self.receipts.put(place, receipt, weight);
+    }
+
+    /// Keeps what a settled request left: how many requests of its caller are settled now, the
+    /// service that it changed, and its receipt. Nothing is kept of caller and service.
     pub(crate) fn keep(&mut self, settlement: Settlement)
         requires caller { map.get self.old.counts settlement.caller ≡ None }
         requires service { kept_of self.old.services settlement.change ≡ None }
@@ -133,9 +248,17 @@ impl Kept {
         ensures services { IsWithin self.new.services
             (with_changed self.old.services settlement.change) }
         ensures templates { self.new.templates ≡ self.old.templates }
+        ensures receipts { (c : Contents) → AreReceipts self.old.receipts c
+            → receipt_at c settlement.caller settlement.number ≡ Some settlement.receipt
+            → AreReceipts self.new.receipts c }
     {
         self.keep_count(settlement.caller, settlement.number.get());
         self.keep_changed(settlement.change);
+        self.put_receipt(NumberedReceipt {
+            caller: settlement.caller,
+            number: settlement.number,
+            receipt: settlement.receipt,
+        });
     }
 
     fn keep_changed(&mut self, change: DeskChange)
@@ -143,6 +266,7 @@ impl Kept {
         ensures counts { self.new.counts ≡ self.old.counts }
         ensures services { IsWithin self.new.services (with_changed self.old.services change) }
         ensures templates { self.new.templates ≡ self.old.templates }
+        ensures receipts { self.new.receipts ≡ self.old.receipts }
     {
         if let DeskChange::Service { service, .. } = change {
             let weight = bytes_of_service(&service);

@@ -3,7 +3,7 @@ ghost use Rattle.std.specs.Prelude.{◌≡◌, false, IfOk, OnOk, OnErr};
 ghost use Rattle.sqlite.specs.Held.{state};
 ghost use Rattle.canary_release.specs.Desks.{newest};
 ghost use Rattle.canary_release.specs.Shapes.{seen};
-ghost use Rattle.canary_once.specs.Contents.{count_of, templates_named};
+ghost use Rattle.canary_once.specs.Contents.{count_of, receipt_at, templates_named};
 ghost use Rattle.canary_once.specs.Contents.{IsSettling, with_settlement};
 ghost use Rattle.canary_schema.specs.Stores.{IsUsable};
 ghost use Rattle.canary_reads.specs.Finds.{IsSame};
@@ -14,7 +14,8 @@ use crate::kept::Kept;
 use crate::settle::settle;
 use crate::{found, found_plans, found_services};
 use canary_base::names::Name;
-use canary_once::book::Settlement;
+use canary_base::numbers::Number;
+use canary_once::book::{Receipt, Settlement};
 use canary_plan::template::Template;
 use canary_plan::templates::Templates;
 use canary_release::laws as desk_laws;
@@ -51,6 +52,37 @@ pub(crate) fn count<S: Alter>(
     let count = found::count(conn, caller)?;
     kept.keep_count(*caller, count);
     Ok(count)
+}
+
+/// The receipt under a caller's number; none if no request of that number is settled. If it is not
+/// kept, it is read from the tables, and a copy is kept if there is memory for one.
+///
+/// # Errors
+/// `Memory` if there is not enough, `Storage` if the database fails or holds what no desk writes.
+pub(crate) fn receipt<S: Alter>(
+    conn: &mut Connection<S>,
+    alloc: Global,
+    kept: &mut Kept,
+    caller: &Name,
+    number: Number,
+) -> Result<Option<Receipt>, StoreFault>
+    requires autocommit { conn.old.in_transaction ≡ false }
+    requires desk { IsUsable (state S.Store conn.old) → IsDesk (state S.Store conn.old) }
+    requires kept { IsUsable (state S.Store conn.old)
+        → AreKept kept.old (contents_in (state S.Store conn.old)) }
+    ensures mode { conn.new.in_transaction ≡ false }
+    ensures same { IsSame (state S.Store conn.old) (state S.Store conn.new) }
+    ensures kept { IsUsable (state S.Store conn.new)
+        → AreKept kept.new (contents_in (state S.Store conn.new)) }
+    ensures found { IsUsable (state S.Store conn.new) → IfOk result (λ found.
+        found ≡ receipt_at (contents_in (state S.Store conn.old)) caller.now number) }
+{
+    if let Some(receipt) = kept.receipt_of(caller, number) {
+        return Ok(Some(receipt.copy(alloc)?));
+    }
+    let found = found::receipt(conn, alloc, caller, number)?;
+    kept.keep_receipt(alloc, *caller, number, found.as_ref());
+    Ok(found)
 }
 
 /// The service of that name, if there is one. If it is not kept yet, it is read from the tables,

@@ -1,5 +1,6 @@
 //! About how many bytes what a book keeps takes in memory.
 use canary_base::lists::Text;
+use canary_once::book::Receipt;
 use canary_plan::bound::Bound;
 use canary_plan::bound_analysis::BoundAnalysis;
 use canary_plan::template::Template;
@@ -8,6 +9,9 @@ use canary_release::service::Service;
 
 /// A count of requests, with its caller's name.
 pub(crate) const BYTES_OF_COUNT: u64 = 128;
+
+// A receipt without its texts.
+const BYTES_OF_RECEIPT: u64 = 512;
 
 // A service, and each step, metric and tally of it.
 const BYTES_OF_SERVICE: u64 = 1024;
@@ -25,6 +29,15 @@ const BYTES_OF_TEMPLATE: u64 = 512;
 const BYTES_OF_DRY_RUN: u64 = 128;
 
 const BYTES_OF_CONDITION_BYTE: u64 = 48;
+
+/// A receipt, with whose it is.
+pub(crate) fn bytes_of_receipt(receipt: &Receipt) -> u64 {
+    let command = receipt.command.text().len() as u64;
+    let body = receipt.reply.body.as_str().len() as u64;
+    BYTES_OF_RECEIPT
+        .saturating_add(command)
+        .saturating_add(body)
+}
 
 /// A service, with its name. A metric counts as one with short conditions.
 pub(crate) fn bytes_of_service(service: &Service) -> u64 {

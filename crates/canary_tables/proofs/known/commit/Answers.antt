@@ -21,10 +21,10 @@ pub returns-in_err-settle-clause-kept : goal.returns-in_err-settle-clause-kept
 returns-in_err-settle-clause-kept g c = λ usable.
     forgotten (contents_in (state g.S.Store c.settle.new.conn)) c.args.settlement c.args.kept.now c.forget-known.new.self
     (kept_of_same (state g.S.Store c.args.conn.now) (state g.S.Store c.settle.new.conn) c.args.kept.now (c.requires.kept (c.settle.ensures.held usable)) (c.in_err-settle.ensures.failed usable))
-    c.forget-known.ensures.counts c.forget-known.ensures.services c.forget-known.ensures.templates
+    c.forget-known.ensures.counts c.forget-known.ensures.services c.forget-known.ensures.templates c.forget-known.ensures.receipts
 
 pub returns-clause-kept : goal.returns-clause-kept
 returns-clause-kept g c = λ usable.
     settled_kept c.changes.ensures (state g.S.Store c.args.conn.now) (state g.S.Store c.settle.new.conn) c.args.settlement c.args.kept.now c.forget-known.new.self c.keep.new.self
     (c.requires.settling (c.settle.ensures.held usable)) (c.in_ok-settle.ensures.desk usable) (c.in_ok-settle.ensures.settled usable) (c.requires.kept (c.settle.ensures.held usable))
-    c.forget-known.ensures.counts c.forget-known.ensures.services c.forget-known.ensures.templates c.keep.ensures.counts c.keep.ensures.services c.keep.ensures.templates
+    c.forget-known.ensures.counts c.forget-known.ensures.services c.forget-known.ensures.templates c.keep.ensures.counts c.keep.ensures.services c.keep.ensures.templates c.forget-known.ensures.receipts c.keep.ensures.receipts

@@ -14,7 +14,7 @@ returns-clause-kept g c = λ usable.
     count_kept (contents_in new) c.args.kept.now c.keep_count.new.self c.args.caller.now c.in_ok-count.count
     (kept_stays old new c.args.kept.now c.requires.kept c.count.ensures.same usable)
     (c.in_ok-count.ensures.found usable ∙ ap (λ k. count_of k c.args.caller.now) (sym (contents_stay old new c.count.ensures.same usable)))
-    c.keep_count.ensures.counts c.keep_count.ensures.services c.keep_count.ensures.templates
+    c.keep_count.ensures.counts c.keep_count.ensures.services c.keep_count.ensures.templates c.keep_count.ensures.receipts
 
 pub returns-in-Some-clause-found : goal.returns-in-Some-clause-found
 returns-in-Some-clause-found g c = λ usable.

@@ -18,7 +18,7 @@ returns-clause-kept g c = λ usable.
     (c.in_ok-found.ensures.found usable ∙ ap (λ k. seen k.desk c.args.name.now) (sym (contents_stay old new c.service.ensures.same usable)))
     c.keep_copy.ensures.counts
     (subst (λ o. IsWithin c.keep_copy.new.self.services (put_some c.args.kept.now.services c.args.name.now o)) c.as_ref.ensures.value c.keep_copy.ensures.services)
-    c.keep_copy.ensures.templates
+    c.keep_copy.ensures.templates c.keep_copy.ensures.receipts
 
 pub returns-in-Some-clause-found : goal.returns-in-Some-clause-found
 returns-in-Some-clause-found g c = λ usable.

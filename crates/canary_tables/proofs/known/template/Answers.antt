@@ -18,6 +18,7 @@ returns-clause-kept g c = λ usable.
     (c.in_ok-found.ensures.found usable ∙ ap (λ k. newest k.desk.templates c.args.name.now) (sym (contents_stay old new c.template.ensures.same usable)))
     c.keep_template.ensures.counts c.keep_template.ensures.services
     (subst (λ o. IsWithin c.keep_template.new.self.templates (put_some c.args.kept.now.templates c.args.name.now o)) c.as_ref.ensures.value c.keep_template.ensures.templates)
+    c.keep_template.ensures.receipts
 
 pub returns-in-Some-clause-found : goal.returns-in-Some-clause-found
 returns-in-Some-clause-found g c = λ usable.

@@ -3,7 +3,7 @@ use Rattle.sqlite.specs.Held.{state}
 use Rattle.canary_once.specs.Contents.{receipt_at}
 use Rattle.canary_once.specs.Books.{Finds}
 use Rattle.canary_tables.specs.Desk.{book_state}
-use Rattle.canary_tables.proofs.Booked.{finds, still_book}
+use Rattle.canary_tables.proofs.Booked.{finds, book_keeps}
 use Rattle.canary_tables.proofs.book.TableBookBook.receipt.Goals as goal
 
 pub returns : goal.returns
@@ -12,4 +12,4 @@ returns g c =
     (finds g.S.Store (λ k. receipt_at k c.args.caller.now c.args.number) c.self.inside.conn c.receipt.new.conn c.self.inside.notes c.self.inside.kept c.map_err.result c.self.invariant c.receipt.ensures.same (λ usable. search rules))
 
 pub invariant_of-self : goal.invariant_of-self
-invariant_of-self g c = still_book g.S.Store c.self.inside.conn c.receipt.new.conn c.self.inside.notes c.self.inside.kept c.self.invariant c.receipt.ensures.mode c.receipt.ensures.same
+invariant_of-self g c = book_keeps g.S.Store c.self.inside.conn c.receipt.new.conn c.self.inside.notes c.self.inside.kept c.receipt.new.kept c.self.invariant c.receipt.ensures.mode c.receipt.ensures.same c.receipt.ensures.kept
