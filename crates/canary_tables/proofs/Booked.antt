@@ -1,8 +1,7 @@
 -- What the calls of a book over a connection come to.
-use Rattle.std.proofs.Common.{◌≡◌, ◌≤◌, Bool, false, Result, Ok, Err, refl, sym, ap, subst, ◌∙◌}
-use Rattle.std.specs.Prelude.{IfOk, IfErr, OnOk, OnErr}
+use Rattle.std.proofs.Common.{◌≡◌, ◌≤◌, false, Result, Ok, Err, refl, sym, ap, subst}
+use Rattle.std.specs.Prelude.{IfOk, IfErr}
 use Rattle.sqlite.specs.Held.{Held, state}
-use Rattle.sqlite.specs.State.{State}
 use Rattle.sqlite.specs.Effect.{Database}
 use Rattle.sqlite_trees.specs.declared.store.Store.{Ghosts}
 use Rattle.canary_once.specs.declared.book.BookFault.{BookFault}

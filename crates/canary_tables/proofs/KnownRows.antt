@@ -1,33 +1,14 @@
 -- What is known of a service says what its rows are.
-use Rattle.std.proofs.Common.{◌≡◌, ◌≤◌, ℕ, ◌+◌, ◌==◌, List, [], ◌∷◌, ◌++◌, length, Bool, true, false, ◌&&◌, ◌||◌, Some, None, Result, Ok, Err, refl, sym, ap, ◌∙◌, subst, arith, length-append, eqb-true}
-use Rattle.std.specs.Prelude.{Option, cond, not, option_map, unwrap_or, filter}
-use Rattle.std.specs.List.{list_any, find, last_or}
+use Rattle.std.proofs.Common.{◌≡◌, ◌≤◌, ℕ, ◌==◌, List, [], ◌∷◌, length, Bool, true, false, ◌&&◌, ◌||◌, Some, refl, sym, ap, ◌∙◌, subst, arith, eqb-true}
+use Rattle.std.specs.Prelude.{Option, cond, not, filter}
+use Rattle.std.specs.List.{list_any, find}
 use Rattle.std.specs.Str.{bytes_eq}
-use Rattle.std.specs.Ordering.{nat_cmp}
-use Rattle.std.specs.Cmp.Lexicographic.{slice_cmp, nat_list_cmp_total}
-use Rattle.std.specs.FinMap.{get, insert, remove, empty, get-insert, get-remove, get-empty}
-use Rattle.std.proofs.lemmas.Map.Text.{is_eq-slice_cmp}
+use Rattle.std.specs.FinMap.{get}
 use Rattle.std.proofs.lemmas.Slice.Eq.{bytes_eq-Decides}
 use Rattle.canary_plan.specs.declared.analysis_parts.Revision.{Revision}
-use Rattle.canary_plan.specs.declared.command.Command.{Command}
-use Rattle.canary_plan.specs.declared.command.Command.TheVariants.{Template as AddTemplate, Service as AddService, Start, Promote, PromoteFull, Abort, Retry, Tick, Report}
-use Rattle.canary_plan.specs.declared.template.Template.{Template}
-use Rattle.canary_plan.specs.declared.refusal.Refusal.{Refusal}
-use Rattle.canary_plan.specs.Plans.{Templates}
 use Rattle.canary_plan.specs.Plans.{all_revisions}
-use Rattle.canary_plan.specs.Commands.{subject_of}
 use Rattle.canary_release.specs.declared.service.ServiceParts.{ServiceParts}
-use Rattle.canary_release.specs.declared.effect.Effect.{Effect}
-use Rattle.canary_release.specs.declared.decide.DeskChange.{DeskChange}
-use Rattle.canary_release.specs.declared.decide.DeskChange.TheVariants.{Nothing, Template as AddsTemplate, Service as Updates}
-use Rattle.canary_release.specs.Commands.{Acted}
-use Rattle.canary_release.specs.Courses.{Course}
-use Rattle.canary_release.specs.Desks.{ModelService, Desk, course_of, after, ruling_on, apply, newest, revisions_of, rules, adds_unless, rule_service}
-use Rattle.canary_release.specs.Shapes.{shape, seen, said, changed, kept_by, KeepsWhatIsSeen}
-use Rattle.canary_release.specs.Order.{AreInOrder}
-use Rattle.canary_once.specs.declared.book.Receipt.{Receipt}
-use Rattle.canary_once.specs.declared.book.Settlement.{Settlement}
-use Rattle.canary_once.specs.Contents.{Contents, count_of, receipts_of, IsSettling, with_settlement, put_some}
+use Rattle.canary_release.specs.Shapes.{seen}
 use Rattle.canary_rows.specs.declared.rows.BindingRow.{BindingRow}
 use Rattle.canary_rows.specs.Tables.{Tables, is_service, is_binding, is_binding_of}
 use Rattle.canary_stored.specs.Values.{service_row, binding_row}
@@ -35,15 +16,11 @@ use Rattle.canary_stored.specs.Tables.{row_if, binding_rows, is_of_template}
 use Rattle.canary_stored.specs.Reading.{contents_of, HoldsContents}
 use Rattle.canary_stored.specs.Settling.{has_service, has_bindings}
 use Rattle.sqlite.specs.State.{State}
-use Rattle.sqlite.specs.Effect.{Database}
 use Rattle.canary_schema.specs.Cells.{tables_in}
 use Rattle.canary_schema.specs.Stores.{IsUsable, Stores}
 use Rattle.canary_schema.specs.Laws.{OneReading}
 use Rattle.canary_tables.specs.Desk.{IsDesk, contents_in}
-use Rattle.canary_tables.specs.declared.kept.Kept.{Kept}
-use Rattle.canary_tables.specs.Entries.{Named, IsWithin}
-use Rattle.canary_tables.specs.Kept.{AreCounts, AreServices, AreTemplates, AreKept, without_changed, without_revised, with_changed, kept_of, IsKnown, IsKnownAs}
-use Rattle.canary_tables.proofs.EntryLemmas.{is_it, equal_names, kept_within}
+use Rattle.canary_tables.specs.Kept.{IsKnownAs}
 use Rattle.canary_tables.proofs.KeptLemmas.{there_is}
 
 any_of_filter : {A : Type 0} (test : A → Bool) (xs : List A) (y : A) (ys : List A) → filter test xs ≡ y ∷ ys → list_any test xs ≡ true

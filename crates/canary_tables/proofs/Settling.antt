@@ -1,5 +1,5 @@
 -- A request that is settled in a desk's database leaves a desk's database, with the contents after it.
-use Rattle.std.proofs.Common.{◌≡◌, ◌≤◌, ℕ, List, Bool, true, Result, Ok, Err, refl, sym, ap, subst, ◌∙◌}
+use Rattle.std.proofs.Common.{◌≡◌, ◌≤◌, ℕ, List, Bool, true, Result, Ok, Err, sym, ap, subst, ◌∙◌}
 use Rattle.std.specs.Prelude.{IfOk, OnOk}
 use Rattle.sqlite.specs.State.{State}
 use Rattle.sqlite.specs.Effect.{Database}

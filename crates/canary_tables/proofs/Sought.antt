@@ -1,7 +1,7 @@
 -- What is read of rows is what is sought.
 use Rattle.std.proofs.Common.{◌≡◌, ◌<◌, ℕ, zero, suc, List, [], ◌∷◌, length, map, get_or, Option, Some, None, option_map, refl, sym, ap, ◌∙◌, arith}
 use Rattle.std.specs.Prelude.{option_and_then}
-use Rattle.std.specs.List.{filter_map, cons_option}
+use Rattle.std.specs.List.{filter_map}
 use Rattle.canary_stored.specs.Finding.{IsFound, AreRead}
 
 joined : {A : Type 0} (o : Option A) → option_and_then (λ (x : Option A). x) (option_map Some o) ≡ o

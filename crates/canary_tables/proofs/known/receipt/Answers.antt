@@ -1,8 +1,7 @@
-use Rattle.std.proofs.Common.{Some, sym, ap, subst, ◌∙◌}
+use Rattle.std.proofs.Common.{◌≡◌, Some, sym, ap, subst, ◌∙◌}
 use Rattle.std.specs.Prelude.{option_copied, IfSome}
 use Rattle.sqlite.specs.Held.{state}
 use Rattle.canary_once.specs.Contents.{receipt_at}
-use Rattle.canary_tables.specs.Kept.{AreReceipts}
 use Rattle.canary_tables.specs.Desk.{contents_in}
 use Rattle.canary_tables.proofs.KeptLemmas.{receipt_kept}
 use Rattle.canary_tables.proofs.Standing.{contents_stay, kept_stays}
@@ -16,7 +15,7 @@ returns-clause-kept g c = λ usable.
     (kept_stays old new c.args.kept.now c.requires.kept c.receipt.ensures.same usable)
     (c.in_ok-found.ensures.found usable ∙ ap (λ k. receipt_at k c.args.caller.now c.args.number) (sym (contents_stay old new c.receipt.ensures.same usable)))
     c.keep_receipt.ensures.counts c.keep_receipt.ensures.services c.keep_receipt.ensures.templates
-    (λ k are is. c.keep_receipt.ensures.receipts k are (sym c.as_ref.ensures.value ∙ is))
+    (λ k are is. c.keep_receipt.ensures.receipts k are (c.as_ref.ensures.value ∙ is))
 
 pub returns-in-Some-clause-found : goal.returns-in-Some-clause-found
 returns-in-Some-clause-found g c = λ usable.

@@ -1,4 +1,4 @@
-use Rattle.std.proofs.Common.{rules, ◌≡◌, ◌∙◌, ap, get_or, map, None}
+use Rattle.std.proofs.Common.{rules, ◌≡◌, ◌∙◌, ap, get_or, None}
 use Rattle.canary_reads.specs.Places.{row_of}
 use Rattle.canary_stored.specs.Values.{measurement_of_row}
 use Rattle.canary_tables.proofs.Sought.{one_missing, mapped}

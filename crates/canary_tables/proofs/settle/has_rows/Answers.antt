@@ -1,4 +1,4 @@
-use Rattle.std.proofs.Common.{Some, sym, ap, ◌∙◌, ◌==◌, length}
+use Rattle.std.proofs.Common.{sym, ap, ◌∙◌, ◌==◌, length}
 use Rattle.std.specs.Prelude.{not, option_copied}
 use Rattle.sqlite.specs.Held.{state}
 use Rattle.canary_plan.specs.Plans.{all_revisions}

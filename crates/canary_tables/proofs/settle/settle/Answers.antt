@@ -1,4 +1,4 @@
-use Rattle.std.proofs.Common.{rules, ◌≤◌, subst, sym}
+use Rattle.std.proofs.Common.{rules, subst, sym}
 use Rattle.std.specs.Prelude.{option_copied}
 use Rattle.sqlite.specs.Held.{state}
 use Rattle.canary_tables.specs.Kept.{IsKnown}

@@ -3,8 +3,8 @@ use Rattle.sqlite.specs.Held.{state}
 use Rattle.canary_once.specs.Records.{measurements_of}
 use Rattle.canary_once.specs.Books.{Finds}
 use Rattle.canary_tables.specs.Desk.{book_state}
-use Rattle.canary_tables.proofs.Booked.{finds, noted_still, kept_still}
-use Rattle.canary_tables.proofs.Noted.{noted_place, noted_later}
+use Rattle.canary_tables.proofs.Booked.{finds}
+use Rattle.canary_tables.proofs.Noted.{noted_place}
 use Rattle.canary_tables.proofs.book.TableBookBook.measurements.Goals as goal
 
 pub measurements-requires-clause-noted : goal.measurements-requires-clause-noted

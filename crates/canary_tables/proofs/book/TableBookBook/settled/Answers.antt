@@ -1,5 +1,4 @@
 use Rattle.std.proofs.Common.{rules, subst}
-use Rattle.sqlite.specs.Held.{state}
 use Rattle.canary_once.specs.Contents.{count_of}
 use Rattle.canary_once.specs.Books.{Finds}
 use Rattle.canary_tables.specs.Desk.{book_state}

@@ -1,9 +1,9 @@
 use Rattle.std.proofs.Common.{◌≡◌, ◌≤◌, ◌+◌, sym, ap, ◌∙◌, subst, arith}
 use Rattle.std.specs.Ordering.{nat_cmp}
 use Rattle.std.specs.Cmp.Lexicographic.{slice_cmp}
-use Rattle.std.specs.BTreeMap.{is_at, insert_entry}
+use Rattle.std.specs.BTreeMap.{insert_entry}
 use Rattle.std.specs.FinMap as map
-use Rattle.canary_tables.specs.Entries.{IsWithin, weights, at_name}
+use Rattle.canary_tables.specs.Entries.{IsWithin, weights}
 use Rattle.canary_tables.proofs.EntryLemmas.{held, kept_within, put_within, put_there, weights_more}
 use Rattle.canary_tables.proofs.entries.Entries.put.Goals as goal
 
