@@ -1,4 +1,6 @@
 //! Why a benchmark was not done.
+use canary_schema::fault::StoreFault;
+use sqlite::Error;
 use std::alloc::AllocError;
 use std::{fmt, io};
 
@@ -35,5 +37,17 @@ impl From<io::Error> for Fault {
 impl From<AllocError> for Fault {
     fn from(_: AllocError) -> Fault {
         Fault::Refused
+    }
+}
+
+impl From<StoreFault> for Fault {
+    fn from(_: StoreFault) -> Fault {
+        Fault::Machine
+    }
+}
+
+impl From<Error> for Fault {
+    fn from(_: Error) -> Fault {
+        Fault::Machine
     }
 }

@@ -1,11 +1,13 @@
 //! Prints figures of this machine. `canary_bench SUBJECT ROUNDS` measures one subject, so many
 //! times over: `condition`, `metric` or `machine`. `canary_bench register MOST STREAM`
 //! measures the book in memory, up to so many settled requests of a stream, and without a stream
-//! it prints the table's head. With no words it prints nothing.
+//! it prints the table's head. `canary_bench floor ROUNDS KIND FILE` measures the statements that
+//! settle a `tick` or a `report`, in a new file. With no words it prints nothing.
 #![tactic(auto)]
 
 mod condition;
 mod fault;
+mod floor;
 mod machine;
 mod metric;
 mod plans;
@@ -35,6 +37,9 @@ fn run(rt: &HostRuntime) -> Result<(), Fault> {
     };
     let rounds = words.next().ok_or(Fault::Words)?;
     let rounds = number(rounds.as_str())?;
+    if subject.as_str() == "floor" {
+        return floor::measure(rt, rounds, words.next(), words.next());
+    }
     measure(rt, subject.as_str(), rounds, words.next())
 }
 
