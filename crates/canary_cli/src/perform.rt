@@ -191,7 +191,7 @@ fn run<R: Read, W: Write, F: Write>(
             step,
             db,
             cache,
-        } => { run_pipe(rt, at, step, db, cache, input, output, errors, shows) }
+        } => run_pipe(rt, at, step, db, cache, input, output, errors, shows),
         Program::Serve {
             listen,
             db,
@@ -204,21 +204,16 @@ fn run<R: Read, W: Write, F: Write>(
             done(serve(rt, &desk, connections, limits, output, errors, shows))
         }
         Program::Import { db, cache, csv } => {
-            let file = DeskFile {
-                name: db.as_str(),
-                cache,
-            };
+            let file = file_of(&db, cache);
             done(import(rt, file, csv.as_str(), input, output, errors, shows))
         }
         Program::Check { file, request } => check(rt, &file, &request, output, errors),
         Program::Backup { db, copy } => done(backup(rt, db.as_str(), copy.as_str())),
         Program::Migrate { db, dry_run } => {
-            let db = db.as_str();
-            done(migrate(rt, db, dry_run, output, errors, shows))
+            done(migrate(rt, db.as_str(), dry_run, output, errors, shows))
         }
         Program::History { db, service } => {
-            let (db, service) = (db.as_str(), service.as_str());
-            done(history(rt, db, service, output, errors, shows))
+            done(history(rt, db.as_str(), service.as_str(), output, errors, shows))
         }
         Program::Export {
             db,
@@ -233,19 +228,29 @@ fn run<R: Read, W: Write, F: Write>(
             done(status(rt, db.as_str(), drawing, output, errors, shows))
         }
         Program::Page { db, out, watch } => {
-            let (db, out) = (db.as_str(), out.as_str());
-            done(page(rt, db, out, watch, output, errors, shows))
+            done(page(rt, db.as_str(), out.as_str(), watch, output, errors, shows))
         }
-        Program::Ask(asked) => {
-            let is_terminal = terminals.output;
-            let outcome = run_client(rt, asked, input, output, errors, is_terminal);
-            Ok(Outcome::Asked(outcome))
-        }
+        Program::Ask(asked) => run_client(rt, asked, input, output, errors, terminals.output),
     }
 }
 
 // Asks a desk.
 fn run_client<R: Read, W: Write, F: Write>(
+    rt: &HostRuntime,
+    asked: Asked,
+    input: &mut R,
+    output: &mut W,
+    errors: &mut F,
+    is_terminal: bool,
+) -> Result<Outcome, Fault>
+    ensures { IsAsked (R.remaining input.old) (R.remaining input.new) asked }
+{
+    let outcome = client_outcome(rt, asked, input, output, errors, is_terminal);
+    Ok(Outcome::Asked(outcome))
+}
+
+// How a client of a desk ends.
+fn client_outcome<R: Read, W: Write, F: Write>(
     rt: &HostRuntime,
     asked: Asked,
     input: &mut R,
@@ -295,10 +300,7 @@ fn run_pipe<R: Read, W: Write, F: Write>(
     match db {
         None => done(pipe(rt.alloc(), at, step, input, output)),
         Some(db) => {
-            let file = DeskFile {
-                name: db.as_str(),
-                cache,
-            };
+            let file = file_of(&db, cache);
             done(pipe::pipe(rt, at, step, file, input, output, errors, shows))
         }
     }
@@ -329,6 +331,14 @@ fn limits_of(asked: AskedLimits) -> Limits
     }
 }
 
+// The file of a desk, and the room for what is kept of it in memory.
+fn file_of<'a>(db: &'a Text, cache: Option<u64>) -> DeskFile<'a> {
+    DeskFile {
+        name: db.as_str(),
+        cache,
+    }
+}
+
 // Where a desk listens, and the file that it works on, with the room for what it keeps of that.
 #[derive(Drop)]
 struct ListeningDesk {
@@ -349,10 +359,7 @@ fn serve<W: Write, F: Write>(
 ) -> Result<(), Fault> {
     let listen = desk.listen.as_str();
     let file = match &desk.db {
-        Some(db) => Some(DeskFile {
-            name: db.as_str(),
-            cache: desk.cache,
-        }),
+        Some(db) => Some(file_of(db, desk.cache)),
         None => None,
     };
     serve::serve(rt, listen, file, connections, limits, output, errors, shows)
