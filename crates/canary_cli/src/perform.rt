@@ -200,7 +200,6 @@ fn run<R: Read, W: Write, F: Write>(
             limits,
         } => {
             let desk = ListeningDesk { listen, db, cache };
-            let limits = limits_of(limits);
             done(serve(rt, &desk, connections, limits, output, errors, shows))
         }
         Program::Import { db, cache, csv } => {
@@ -213,7 +212,8 @@ fn run<R: Read, W: Write, F: Write>(
             done(migrate(rt, db.as_str(), dry_run, output, errors, shows))
         }
         Program::History { db, service } => {
-            done(history(rt, db.as_str(), service.as_str(), output, errors, shows))
+            let (db, service) = (db.as_str(), service.as_str());
+            done(history(rt, db, service, output, errors, shows))
         }
         Program::Export {
             db,
@@ -352,11 +352,12 @@ fn serve<W: Write, F: Write>(
     rt: &HostRuntime,
     desk: &ListeningDesk,
     connections: Option<u64>,
-    limits: Limits,
+    limits: AskedLimits,
     output: &mut W,
     errors: &mut F,
     shows: bool,
 ) -> Result<(), Fault> {
+    let limits = limits_of(limits);
     let listen = desk.listen.as_str();
     let file = match &desk.db {
         Some(db) => Some(file_of(db, desk.cache)),
