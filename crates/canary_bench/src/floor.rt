@@ -8,6 +8,7 @@ use canary_base::lists::Text;
 use canary_base::moments::Moment;
 use canary_base::names::{Label, Name};
 use canary_condition::outcome::Phase;
+use canary_connection::connect::connect;
 use canary_rows::rows::{MeasurementRow, Standing};
 use canary_schema::create::create;
 use canary_statements::inserts::{
@@ -141,7 +142,7 @@ pub fn measure(
     let path = path.ok_or(Fault::Words)?;
     let kind = Kind::named(kind.as_str()).ok_or(Fault::Words)?;
     let cast = Cast::new(kind).ok_or(Fault::Refused)?;
-    let mut conn = Connection::open(rt, path.as_str())?;
+    let mut conn = connect(rt, path.as_str())?;
     make_desk(&mut conn, &cast)?;
     print_time(rt, &mut conn, &cast, rounds)
 }

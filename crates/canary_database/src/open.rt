@@ -5,12 +5,13 @@ ghost use Rattle.canary_programs.specs.declared.fault.Fault.TheVariants as fault
 
 use crate::progress::Shown;
 use canary_base::names::Name;
+use canary_connection::connect::connect;
 use canary_programs::fault::Fault;
 use canary_schema::first::is_first;
 use canary_schema::known::is_desk;
 use canary_tables::book::{DEFAULT_ROOM, TableBook};
 use canary_tables::fault::TableFault;
-use sqlite::{Alter, Connection, Error, ErrorCode, File, FileStore};
+use sqlite::{Alter, Error, ErrorCode, File, FileStore};
 use std::fs::{self, Files};
 use std::io::{self, ErrorKind, Read, Write};
 
@@ -198,7 +199,7 @@ pub(crate) enum Found {
 /// `OtherSchema` if the file is not a database of SQLite; `Memory` if an allocation was refused;
 /// `Storage` if it cannot be opened otherwise.
 pub(crate) fn found_in(rt: &HostRuntime, file: &str) -> Result<Found, Fault> {
-    match Connection::open(rt, file) {
+    match connect(rt, file) {
         Ok(conn) if is_desk(conn.schema()) => Ok(Found::Desk),
         Ok(conn) if is_first(conn.schema()) => Ok(Found::First),
         Ok(_) => Ok(Found::Other),

@@ -1,5 +1,5 @@
 //! Answering one row.
-ghost use Rattle.std.specs.Prelude.{◌≡◌, ◌++◌, ℕ, List, codes, Ok};
+ghost use Rattle.std.specs.Prelude.{◌≡◌, ◌≤◌, ◌++◌, ℕ, List, codes, length, Ok};
 ghost use Rattle.csv.specs.Records.{fields_of};
 ghost use Rattle.canary_files.specs.Lines.{refusal_code, told_status, told_body, line_front};
 ghost use Rattle.canary_files.specs.Lines.{line_of};
@@ -24,6 +24,11 @@ use std::io::Write;
 
 // Room for a row's number, a status and a space behind each.
 const ROOM: usize = 32;
+
+// The longest body of a line that is written at once, and the room for such a line.
+const BODY_ROOM: usize = 479;
+
+const LINE_ROOM: usize = ROOM + BODY_ROOM + 1;
 
 // What the line of a row tells.
 #[derive(Drop)]
@@ -115,9 +120,33 @@ fn post_row<B: Book>(alloc: Global, row: Row, moment: Moment, book: &mut B) -> T
     Told::Answered(post(alloc, book, moment, caller, number, &command))
 }
 
-// Writes the line of a row. It takes no memory. What went out before a fault are the first bytes of
-// the line.
+// Writes the line of a row, at once if its body is short. It takes no memory. What went out before
+// a fault are the first bytes of the line.
 fn write_line<W: Write>(writer: &mut W, number: u64, told: &Told) -> Result<(), WriteFault>
+    ensures { Writes (W.contents writer.old) (W.contents writer.new)
+        (line_of number (told_status told.now) (told_body told.now)) result }
+{
+    if told.body().len() <= BODY_ROOM {
+        let line = whole_line(number, told.status(), told.body());
+        return write_all(writer, line.as_str().as_bytes());
+    }
+    write_parts(writer, number, told)
+}
+
+// The line of a row whose body is short.
+fn whole_line(number: u64, status: u16, body: &str) -> ArrayString<LINE_ROOM>
+    requires { length body.now ≤ 479 }
+    ensures { result.bytes ≡ line_of number status body.now }
+{
+    let mut line = ArrayString::new();
+    line.push_str(line_front(number, status).as_str());
+    line.push_str(body);
+    line.push_str("\n");
+    line
+}
+
+// Writes the line of a row, part after part.
+fn write_parts<W: Write>(writer: &mut W, number: u64, told: &Told) -> Result<(), WriteFault>
     ensures { Writes (W.contents writer.old) (W.contents writer.new)
         (line_of number (told_status told.now) (told_body told.now)) result }
 {

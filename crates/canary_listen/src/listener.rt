@@ -27,6 +27,11 @@ const MOST_EVENTS: usize = 256;
 // How many seconds are waited at most before it is asked who takes too long.
 const WAIT_SECONDS: u64 = 1;
 
+// How often it is asked, without waiting, whether something more comes, behind a round in which
+// something came: some tens of microseconds. Whoever is answered often asks anew that soon, and to
+// be woken takes the system about as long.
+const MOST_ASKED: u32 = 60;
+
 /// Why no clients are served.
 #[derive(Clone, Copy, Debug, PartialEq, Eq, Error)]
 pub enum ListenFault {
@@ -184,8 +189,26 @@ impl Listener {
     fn wait(&mut self, wait: Duration) -> io::Result<()>
         ensures { attendance_of self.new ≡ attendance_of self.old }
     {
-        let wait = time_to_wait(self.attendant.may_accept(), wait);
+        let may_accept = self.attendant.may_accept();
+        if !may_accept && !self.events.is_empty() && self.comes_soon()? {
+            return Ok(());
+        }
+        let wait = time_to_wait(may_accept, wait);
         self.attendant.poll.poll(&mut self.events, Some(wait))
+    }
+
+    // Whether something comes soon: it is asked again and again, without waiting.
+    fn comes_soon(&mut self) -> io::Result<bool>
+        ensures { attendance_of self.new ≡ attendance_of self.old }
+    {
+        'asked: for _ in 0..MOST_ASKED {
+            let poll = &mut self.attendant.poll;
+            poll.poll(&mut self.events, Some(Duration::ZERO))?;
+            if !self.events.is_empty() {
+                return Ok(true);
+            }
+        }
+        Ok(false)
     }
 
     // Notes the present second, counted from the first round. It stays where the clock cannot be

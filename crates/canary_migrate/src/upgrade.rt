@@ -1,6 +1,7 @@
 //! A desk's file becomes one of the present schema.
 use crate::migrate::migrate;
 use canary_adopting::progress::Progress;
+use canary_connection::connect::connect;
 use canary_reads::meta::{MetaRow, desk_row};
 use canary_schema::fault::fault_of;
 use canary_schema::known::is_desk;
@@ -22,7 +23,7 @@ pub fn upgrade<G: Progress>(
     path: &str,
     progress: &mut G,
 ) -> Result<bool, TableFault> {
-    let mut conn = Connection::open(rt, path).map_err(open_fault)?;
+    let mut conn = connect(rt, path).map_err(open_fault)?;
     if is_current(&mut conn)? {
         return Ok(false);
     }

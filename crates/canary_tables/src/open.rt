@@ -2,14 +2,15 @@
 use crate::book::TableBook;
 use crate::fault::TableFault;
 use canary_adopting::progress::Progress;
+use canary_connection::connect::connect;
 use canary_schema::fault::fault_of;
 use canary_schema::known::is_empty;
-use sqlite::{Connection, Error, ErrorCode, File, FileStore};
+use sqlite::{Error, ErrorCode, File, FileStore};
 
 impl TableBook<FileStore<File>> {
-    /// Opens the file of SQLite at a path as a book, or makes it. An empty database, as that of a
-    /// new file, becomes a desk's (`create`); any other is read through and adopted (`adopt`), of
-    /// which `progress` is told, and no row of it is changed. A log stands beside the file, which
+    /// Opens the file of SQLite at a path as a book, or makes it (`connect` of canary_connection).
+    /// An empty database, as that of a new file, becomes a desk's (`create`); any other is read
+    /// through and adopted (`adopt`), of which `progress` is told, and no row of it is changed. A log stands beside the file, which
     /// belongs to it. As long as the book is there, nobody else can open the file as a database;
     /// who copies both files is not kept from that.
     ///
@@ -25,7 +26,7 @@ impl TableBook<FileStore<File>> {
         path: &str,
         progress: &mut G,
     ) -> Result<TableBook<FileStore<File>>, TableFault> {
-        let conn = Connection::open(rt, path).map_err(open_fault)?;
+        let conn = connect(rt, path).map_err(open_fault)?;
         if is_empty(conn.schema()) {
             return TableBook::create(rt.alloc(), conn).map_err(|(fault, _conn)| fault);
         }

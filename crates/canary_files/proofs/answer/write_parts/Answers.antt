@@ -5,7 +5,7 @@ use Rattle.canary_files.specs.declared.writing.WriteFault.{WriteFault}
 use Rattle.canary_files.specs.Writes.{Writes}
 use Rattle.canary_files.specs.Lines.{told_status, told_body, line_front}
 use Rattle.canary_files.proofs.WriteLemmas.{writes_then, writes_front, writes_all}
-use Rattle.canary_files.proofs.answer.write_line.Goals as goal
+use Rattle.canary_files.proofs.answer.write_parts.Goals as goal
 
 pub returns-in-Err : goal.returns-in-Err
 returns-in-Err g c =
