@@ -202,13 +202,21 @@ impl Listener {
         ensures { attendance_of self.new ≡ attendance_of self.old }
     {
         'asked: for _ in 0..MOST_ASKED {
-            let poll = &mut self.attendant.poll;
-            poll.poll(&mut self.events, Some(Duration::ZERO))?;
-            if !self.events.is_empty() {
+            if self.has_come()? {
                 return Ok(true);
             }
         }
         Ok(false)
+    }
+
+    // Whether something has come.
+    fn has_come(&mut self) -> io::Result<bool>
+        ensures { attendance_of self.new ≡ attendance_of self.old }
+    {
+        self.attendant
+            .poll
+            .poll(&mut self.events, Some(Duration::ZERO))?;
+        Ok(!self.events.is_empty())
     }
 
     // Notes the present second, counted from the first round. It stays where the clock cannot be
