@@ -8,8 +8,8 @@ import sqlite3
 import sys
 
 from disk_story import (
-    REFUSED, Desk, Well, copy, fail, history, remove, size, tell_after, tell_failing, tell_whole,
-    told_by, went_on,
+    REFUSED, Desk, Well, begin_large, copy, fail, history, remove, size, tell_after, tell_failing,
+    tell_whole, told_by, went_on,
 )
 from failing import CALLS, calls_in, failing_alone, under_strace
 from openings import try_openings
@@ -19,13 +19,24 @@ NOBODY = 65534
 
 
 def try_full_disk(program, folder):
-    """A disk that takes so many bytes of a file, in steps up to what the story needs."""
+    """A disk that takes so many bytes of a file, in steps up to what the story needs: of a new
+    file, and of one with large pages, in which the story outgrows the log's zeros."""
     file = os.path.join(folder, "full")
-    well = Well(program, file)
+    made = fill_disk(program, file, remove, "a new file")
+    tried = fill_disk(program, file, begin_large, "large pages")
+    if tried == 0:
+        fail("no message met a full disk")
+    print(f"disk: full at {made + tried} places, and in each the desk went on once there was room",
+          file=sys.stderr)
+
+
+def fill_disk(program, file, begin, name):
+    """At how many limits, in steps, a message met a full disk."""
+    well = Well(program, file, begin)
     tried = 0
     for limit in range(0, well.most + 4096, 4096):
-        row = f"a disk of {limit} bytes"
-        remove(file)
+        row = f"a disk of {limit} bytes, {name}"
+        begin(file)
         desk = Desk(program, file, row, most=limit)
         counts = tell_failing(desk, well, is_full=True)
         if REFUSED in desk.replies:
@@ -34,10 +45,7 @@ def try_full_disk(program, folder):
                 fail(f"{row}: once there is room, the reply to message {min(counts) + 1} is 503")
         desk.want_end()
         tell_after(program, file, row, well, counts)
-    if tried == 0:
-        fail("no message met a full disk")
-    print(f"disk: full at {tried} places, and in each the desk went on once there was room",
-          file=sys.stderr)
+    return tried
 
 
 def calls_of_story(program, folder):
@@ -94,7 +102,7 @@ def try_cut_files(program, folder):
     tried = 0
     for suffix in ("", "-wal"):
         whole = size(file + suffix)
-        for k in [*range(0, whole, 1531), *range(max(whole - 3, 0), whole)]:
+        for k in [*range(0, whole, 311), *range(max(whole - 3, 0), whole)]:
             row = f"cut{suffix} at {k}"
             copy(file, cut)
             os.truncate(cut + suffix, k)

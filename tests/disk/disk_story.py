@@ -7,7 +7,7 @@ import signal
 import sqlite3
 import subprocess
 import sys
-from contextlib import contextmanager
+from contextlib import closing, contextmanager
 
 from conversation import limits_writes, reply_of
 from story_tables import expect_tables
@@ -98,6 +98,14 @@ def remove(file):
             os.remove(name)
 
 
+def begin_large(file):
+    """Makes the file anew, an empty database with pages of 4,096 bytes, which a desk keeps."""
+    remove(file)
+    with closing(sqlite3.connect(file)) as made:
+        made.executescript("PRAGMA page_size = 4096; PRAGMA journal_mode = WAL;"
+                           "CREATE TABLE t (a); DROP TABLE t;")
+
+
 def copy(file, to):
     remove(to)
     for suffix in ("", "-wal"):
@@ -137,8 +145,8 @@ class Well:
     """What the story comes to on a disk that is well: how the desk stands when so many messages
     are settled, how long its files become, and the history."""
 
-    def __init__(self, program, file):
-        remove(file)
+    def __init__(self, program, file, begin=remove):
+        begin(file)
         desk = Desk(program, file, "a well disk")
         self.standings = [standing(desk)]
         for at in range(len(MESSAGES)):
