@@ -9,10 +9,10 @@ use sqlite::{Error, ErrorCode, File, FileStore};
 
 impl TableBook<FileStore<File>> {
     /// Opens the file of SQLite at a path as a book, or makes it (`connect` of canary_connection).
-    /// An empty database, as that of a new file, becomes a desk's (`create`); any other is read
-    /// through and adopted (`adopt`), of which `progress` is told, and no row of it is changed. A log stands beside the file, which
-    /// belongs to it. As long as the book is there, nobody else can open the file as a database;
-    /// who copies both files is not kept from that.
+    /// An empty database, as that of a new file, becomes a desk's (`create`). Any other is adopted
+    /// (`adopt`): it is read through, which is reported to `progress`, and no row of it is changed.
+    /// A log stands beside the file, which belongs to it. As long as the book is there, nobody else
+    /// can open the file as a database; who copies both files is not kept from that.
     ///
     /// # Errors
     ///
