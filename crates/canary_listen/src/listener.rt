@@ -28,7 +28,7 @@ const MOST_EVENTS: usize = 256;
 const WAIT_SECONDS: u64 = 1;
 
 // How often it is asked, without waiting, whether something more comes, behind a round in which
-// something came: some tens of microseconds. Whoever is answered often asks anew that soon, and to
+// something came: some 15 microseconds. Whoever is answered often asks anew that soon, and to
 // be woken takes the system about as long.
 const MOST_ASKED: u32 = 60;
 
