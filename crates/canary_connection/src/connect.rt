@@ -40,8 +40,8 @@ const NO_MEMORY: Error = Error::SqliteFailure(ErrorCode::OutOfMemory);
 ///
 /// `DatabaseBusy` if another program has the file open; `OutOfMemory` if an allocation was refused;
 /// `NotADatabase` if it is no database; `CannotOpen` if the system does not open it, if a rollback
-/// journal stands beside it, or if the path is `:memory:` or begins as a URI; `DiskFull` if there is
-/// no room, and `SystemIoFailure` or `DatabaseCorrupt` if the disk failed otherwise.
+/// journal stands beside it, or if the path is `:memory:` or begins as a URI; `DiskFull` if there
+/// is no room; `SystemIoFailure` or `DatabaseCorrupt` if the disk failed otherwise.
 pub fn connect(rt: &HostRuntime, path: &str) -> Result<Connection<FileStore<File>>, Error>
     ensures memory { path.now ≡ codes ":memory:"
         → result ≡ Err (Error.SqliteFailure ErrorCode.CannotOpen) }
