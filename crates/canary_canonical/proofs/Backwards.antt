@@ -1,12 +1,12 @@
 -- What a command that keeps its limits is in JSON is decoded as the command, and so its text is.
-use Rattle.std.proofs.Common.{◌≡◌, ℕ, ℤ, pos, negsuc, List, [], ◌∷◌, map, Bool, true, false, Option, Some, None, IsTrue, refl, sym, ap, ◌∙◌, ◌≤◌, subst}
+use Rattle.std.proofs.Common.{◌≡◌, ℕ, ℤ, pos, negsuc, List, [], ◌∷◌, map, Bool, true, false, Option, Some, None, IsTrue, refl, sym, ap, ◌∙◌}
 use Rattle.std.specs.Prelude.{codes, nat_le, if◌then◌else◌, option_map, option_and_then, unwrap_or}
 use Rattle.std.specs.Option.{option_flatten, option_or}
 use Rattle.std.specs.List.{list_all}
 use Rattle.std.proofs.lemmas.Slice.Eq.{bytes_eq-Decides}
-use Rattle.serde_json.specs.Data.{Data, string, depth}
+use Rattle.serde_json.specs.Data.{Data, string}
 use Rattle.serde_json.specs.Find.{as_str}
-use Rattle.serde_json.specs.Read.{read, max_depth}
+use Rattle.serde_json.specs.Read.{read}
 use Rattle.serde_json.specs.View.{items_of}
 use Rattle.serde_json.specs.Written.{has_float, compact_text}
 use Rattle.canary_base.specs.Names.{is_name, is_label}
@@ -247,13 +247,10 @@ unfolding canonical_in
 canonical_read text c h e same =
     ap (λ o. option_and_then (if_text_of text) (option_and_then command_in o)) e ∙ ap (option_and_then (if_text_of text)) (command_back c h) ∙ passed c ((bytes_eq-Decides (command_text c) text).1 (sym same))
 
--- what is written for such data is the command's text, and is read as the command
+-- what is written for such data is the command's text
 pub written_text : (text : List ℕ) (d : Data) (c : Command) → d ≡ command_data c → (has_float d ≡ false → text ≡ compact_text d) → text ≡ command_text c
 unfolding command_text
 written_text text d c e h = h (ap has_float e ∙ (plain_command c).floatless) ∙ ap compact_text e
-
-pub written_read : (text : List ℕ) (d : Data) (c : Command) → d ≡ command_data c → (depth d ≤ max_depth → read text ≡ Some d) → read text ≡ Some (command_data c)
-written_read text d c e h = h (subst (λ x. depth x ≤ max_depth) (sym e) (plain_command c).shallow) ∙ ap Some e
 
 text_read : (c : Command) → KeepsLimits c → read (command_text c) ≡ Some (command_data c)
 unfolding command_text

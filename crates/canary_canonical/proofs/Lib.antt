@@ -6,4 +6,5 @@ pub mod Limits
 pub mod PlainData
 pub mod Backwards
 pub mod Canonicals
+mod Pieces
 pub mod Rows

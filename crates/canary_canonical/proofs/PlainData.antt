@@ -162,7 +162,7 @@ plain_entry_with : (metric : List ℕ) (ordinal taken : ℕ) (o : Outcome) → I
 plain_entry_with metric ordinal taken (Brought value) = plain_object 1 _ refl (plain_text 1 _, (plain_whole 1 _, (plain_result value, (plain_whole 1 _, tt))))
 plain_entry_with metric ordinal taken (Failure text) = plain_object 1 _ refl (plain_text 1 _, (plain_text 1 _, (plain_whole 1 _, (plain_whole 1 _, tt))))
 
-plain_entry : (e : Entry) → IsPlain 2 (entry_data e)
+pub plain_entry : (e : Entry) → IsPlain 2 (entry_data e)
 unfolding entry_data
 plain_entry e = plain_entry_with e.metric e.ordinal e.taken e.outcome
 

@@ -14,6 +14,7 @@
 #![tactic(auto)]
 
 pub mod command;
+mod direct;
 pub mod form;
 pub mod laws;
 mod parts;

@@ -1,41 +1,20 @@
-//! Reports in JSON.
+//! Entries of reports in JSON.
 ghost use Rattle.std.specs.Prelude.{◌≡◌, IsTrue, IfOk, nat_le};
 ghost use Rattle.std.specs.List.{list_all};
 ghost use Rattle.canary_base.specs.Names.{is_label};
 ghost use Rattle.serde_json.specs.View.{view};
 ghost use Rattle.canary_canonical.specs.Texts.{signed_data, list_data, result_data};
-ghost use Rattle.canary_canonical.specs.Texts.{measured, failed, entry_data, report_data};
+ghost use Rattle.canary_canonical.specs.Texts.{measured, failed, entry_data};
 ghost use Rattle.canary_canonical.specs.Laws.{is_signed_word, keeps_outcome, keeps_entry};
-ghost use Rattle.canary_canonical.specs.Laws.{keeps_report};
 
 use canary_condition::outcome::{FailureText, Outcome, Value as Measured};
-use canary_plan::report::{Entry, Report};
+use canary_plan::report::Entry;
 use serde_json::{Value, json};
 use std::alloc::{AllocError, Global};
 
-/// The report in JSON.
-#[tactic(auto, unfolding(crate::specs::Texts::report_data, crate::specs::Laws::keeps_report))]
-pub fn report_value(alloc: Global, report: &Report) -> Result<Value, AllocError>
-    ensures value { IfOk result (λ value. view value ≡ report_data report.now) }
-    ensures kept { IfOk result (λ _. IsTrue (keeps_report report.now)) }
-{
-    let entries = entry_values(alloc, report.entries.as_slice())?;
-    json!(in alloc; {"entries": entries, "run": report.run, "service": report.service.as_str()})
-}
-
-fn entry_values(alloc: Global, entries: &[Entry]) -> Result<Value, AllocError>
-    ensures value { IfOk result (λ value. view value ≡ list_data entry_data entries.now) }
-    ensures kept { IfOk result (λ _. IsTrue (list_all keeps_entry entries.now)) }
-{
-    let mut values = Vec::new(alloc);
-    for entry in entries {
-        values.push(entry_value(alloc, entry)?)?;
-    }
-    Ok(Value::Array(values))
-}
-
+/// The entry in JSON.
 #[tactic(auto, unfolding(crate::specs::Texts::entry_data, crate::specs::Laws::keeps_entry))]
-fn entry_value(alloc: Global, entry: &Entry) -> Result<Value, AllocError>
+pub(crate) fn entry_value(alloc: Global, entry: &Entry) -> Result<Value, AllocError>
     ensures value { IfOk result (λ value. view value ≡ entry_data entry.now) }
     ensures kept { IfOk result (λ _. IsTrue (keeps_entry entry.now)) }
 {

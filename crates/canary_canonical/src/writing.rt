@@ -1,21 +1,22 @@
 //! The canonical text of a command.
 ghost use Rattle.std.specs.Prelude.{◌≡◌, IsTrue, Some, IfOk, string_bytes};
 ghost use Rattle.canary_base.specs.Names.{is_name, is_label};
-ghost use Rattle.serde_json.specs.Read.{read};
 ghost use Rattle.serde_json.specs.View.{view};
-ghost use Rattle.canary_canonical.specs.Texts.{start_data, service_alone};
-ghost use Rattle.canary_canonical.specs.Texts.{command_data, command_text};
+ghost use Rattle.canary_plan.specs.declared.command.Command.TheVariants as command_of;
+ghost use Rattle.canary_canonical.specs.Texts.{start_data, command_text};
 ghost use Rattle.canary_canonical.specs.Readings.{canonical_in};
-ghost use Rattle.canary_canonical.specs.Laws.{KeepsLimits};
+ghost use Rattle.canary_canonical.specs.Laws.{KeepsLimits, keeps_template, keeps_service};
 
+use crate::direct::{named_text, report_text};
 use crate::parts::only;
-use crate::report::report_value;
 use crate::service::service_value;
 use crate::template::template_value;
 use canary_base::error::Memory;
 use canary_base::lists::Text;
 use canary_base::names::{Label, Name};
 use canary_plan::command::Command;
+use canary_plan::service::ServiceSpec;
+use canary_plan::template_spec::TemplateSpec;
 use serde_json::{Value, json};
 use std::alloc::{AllocError, Global};
 
@@ -30,37 +31,56 @@ pub fn text(alloc: Global, command: &Command) -> Result<Text, Memory>
     Ok(Text::of(written(alloc, command)?))
 }
 
+#[tactic(auto, unfolding(crate::specs::Laws::keeps_limits), using(crate::proofs::Pieces::written))]
 fn written(alloc: Global, command: &Command) -> Result<String, AllocError>
     ensures value { IfOk result (λ text. string_bytes text ≡ command_text command.now) }
-    ensures read { IfOk result (λ text. read (string_bytes text)
-        ≡ Some (command_data command.now)) }
-    ensures kept { IfOk result (λ _. KeepsLimits command.now) }
-{
-    let value = command_value(alloc, command)?;
-    value.to_string(alloc)
-}
-
-// The command in JSON.
-#[tactic(auto, unfolding(crate::specs::Texts::command_data, crate::specs::Laws::keeps_limits))]
-fn command_value(alloc: Global, command: &Command) -> Result<Value, AllocError>
-    ensures value { IfOk result (λ value. view value ≡ command_data command.now) }
     ensures kept { IfOk result (λ _. KeepsLimits command.now) }
 {
     match command {
-        Command::Template(spec) => only(alloc, "template", template_value(alloc, spec)?),
-        Command::Service(spec) => only(alloc, "service", service_value(alloc, spec)?),
-        Command::Start { service, version } => {
-            only(alloc, "start", start_value(alloc, service, version)?)
+        Command::Template(spec) => template_text(alloc, spec),
+        Command::Service(spec) => service_text(alloc, spec),
+        Command::Start { service, version } => start_text(alloc, service, version),
+        Command::Promote { service } => {
+            named_text(alloc, "{\"promote\":{\"service\":\"", service)
         }
-        Command::Promote { service } => only(alloc, "promote", service_alone(alloc, service)?),
         Command::PromoteFull { service } => {
-            only(alloc, "promoteFull", service_alone(alloc, service)?)
+            named_text(alloc, "{\"promoteFull\":{\"service\":\"", service)
         }
-        Command::Abort { service } => only(alloc, "abort", service_alone(alloc, service)?),
-        Command::Retry { service } => only(alloc, "retry", service_alone(alloc, service)?),
-        Command::Tick { service } => only(alloc, "tick", service_alone(alloc, service)?),
-        Command::Report(report) => only(alloc, "report", report_value(alloc, report)?),
+        Command::Abort { service } => { named_text(alloc, "{\"abort\":{\"service\":\"", service) }
+        Command::Retry { service } => { named_text(alloc, "{\"retry\":{\"service\":\"", service) }
+        Command::Tick { service } => named_text(alloc, "{\"tick\":{\"service\":\"", service),
+        Command::Report(report) => report_text(alloc, report),
     }
+}
+
+// A template's command in JSON, by its value.
+fn template_text(alloc: Global, spec: &TemplateSpec) -> Result<String, AllocError>
+    ensures value { IfOk result (λ text. string_bytes text
+        ≡ command_text (command_of.Template spec.now)) }
+    ensures kept { IfOk result (λ _. IsTrue (keeps_template spec.now)) }
+{
+    let value = only(alloc, "template", template_value(alloc, spec)?)?;
+    value.to_string(alloc)
+}
+
+// A service's command in JSON, by its value.
+fn service_text(alloc: Global, spec: &ServiceSpec) -> Result<String, AllocError>
+    ensures value { IfOk result (λ text. string_bytes text
+        ≡ command_text (command_of.Service spec.now)) }
+    ensures kept { IfOk result (λ _. IsTrue (keeps_service spec.now)) }
+{
+    let value = only(alloc, "service", service_value(alloc, spec)?)?;
+    value.to_string(alloc)
+}
+
+// A start in JSON, by its value.
+fn start_text(alloc: Global, service: &Name, version: &Label) -> Result<String, AllocError>
+    ensures value { IfOk result (λ text. string_bytes text
+        ≡ command_text (command_of.Start service.now version.now)) }
+    ensures kept { IfOk result (λ _. IsTrue (is_name service.now) × IsTrue (is_label version.now)) }
+{
+    let value = only(alloc, "start", start_value(alloc, service, version)?)?;
+    value.to_string(alloc)
 }
 
 #[tactic(auto, unfolding(crate::specs::Texts::start_data))]
@@ -69,15 +89,4 @@ fn start_value(alloc: Global, service: &Name, version: &Label) -> Result<Value, 
     ensures kept { IfOk result (λ _. IsTrue (is_name service.now) × IsTrue (is_label version.now)) }
 {
     json!(in alloc; {"service": service.as_str(), "version": version.as_str()})
-}
-
-fn service_alone(alloc: Global, service: &Name) -> Result<Value, AllocError>
-    ensures value { IfOk result (λ value. view value ≡ service_alone service.now) }
-    ensures kept { IfOk result (λ _. IsTrue (is_name service.now)) }
-{
-    only(
-        alloc,
-        "service",
-        Value::try_from_str(alloc, service.as_str())?,
-    )
 }

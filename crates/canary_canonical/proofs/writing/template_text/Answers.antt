@@ -1,0 +1,12 @@
+use Rattle.std.proofs.Common.{◌∙◌, string_bytes, ap, codes}
+use Rattle.serde_json.specs.View.{view}
+use Rattle.std.proofs.lemmas.Result.{IfOk-weaker}
+use Rattle.canary_plan.specs.declared.command.Command.TheVariants as command
+use Rattle.canary_canonical.specs.Texts.{command_data, only}
+use Rattle.canary_canonical.proofs.Backwards.{written_text}
+use Rattle.canary_canonical.proofs.writing.template_text.Goals as goal
+
+pub returns-clause-value : goal.returns-clause-value
+unfolding command_data
+returns-clause-value c =
+    IfOk-weaker c.to_string.result _ _ (λ text h. written_text (string_bytes text) (view c.in_ok-value.value) (command.Template c.args.spec.now) (c.in_ok-value.ensures ∙ ap (only (codes "template")) c.in_ok-template_value.ensures.value) h) c.to_string.ensures.text
