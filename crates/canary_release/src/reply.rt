@@ -6,13 +6,16 @@ ghost use Rattle.canary_release.specs.Replies.{code_alone, code_at, code_at_with
 ghost use Rattle.canary_release.specs.Services.{status, weight};
 
 use crate::stand::Stand;
-use crate::words::{ROOM, with, with_number, with_two};
+use crate::words::{with, with_number, with_two};
 use canary_base::error::Memory;
 use canary_base::lists::{Listed, Text};
 use canary_base::names::Name;
 use canary_condition::outcome::Phase;
 use canary_plan::refusal::Refusal;
 use std::alloc::Global;
+
+// The bytes that the text of a service has room for at first: a longer one asks for more.
+const ROOM: usize = 128;
 
 /// What a reply says of its request or query.
 #[derive(Clone, Copy, Debug, PartialEq, Eq)]

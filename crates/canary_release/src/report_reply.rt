@@ -5,11 +5,14 @@ ghost use Rattle.canary_release.specs.Reporting.{phase_words};
 
 use crate::reply::{Reply, ReplyStatus, Reported, with_place, with_weight};
 use crate::stand::Stand;
-use crate::words::{ROOM, with, with_number, with_two};
+use crate::words::{with, with_number, with_two};
 use canary_base::error::Memory;
 use canary_base::lists::Text;
 use canary_condition::outcome::Phase;
 use std::alloc::Global;
+
+// The bytes that the text of a report has room for at first: a longer one asks for more.
+const ROOM: usize = 192;
 
 impl Reply {
     /// The reply that shows the phases of a report's entries, its run's verdict, and how its

@@ -4,9 +4,6 @@ ghost use Rattle.std.specs.Prelude.{◌≡◌, ◌++◌, IfOk, decimal, string_b
 use canary_base::error::Memory;
 use itoa::Buffer;
 
-// The bytes that a text has room for at first: a longer one asks for more.
-pub(crate) const ROOM: usize = 256;
-
 // The text with a piece after it.
 pub(crate) fn with(text: String, piece: &str) -> Result<String, Memory>
     ensures { IfOk result (λ all. string_bytes all ≡ string_bytes text ++ piece.now) }
