@@ -29,6 +29,8 @@ joined_more ps i d h =
     ap (λ qs. join_with_byte 44 (map quoted_phase qs)) (take_more ps i d h) ∙ ap (join_with_byte 44) (map-append quoted_phase (take i ps) (get_or ps i d ∷ []))
     ∙ join-push (map quoted_phase (take i ps)) (quoted_phase (get_or ps i d)) ∙ ap (λ (r : List ℕ). join_with_byte 44 (map quoted_phase (take i ps)) ++ r) (separator_is ps i (get_or ps i d) h)
 
--- the text of a list with one more phase
-pub words_more : (ps : List Phase) (i : ℕ) (d : Phase) (old new : List ℕ) → i < length ps → old ≡ 91 ∷ join_with_byte 44 (map quoted_phase (take i ps)) → new ≡ old ++ phase_words (nat_lt 0 i) (get_or ps i d) → new ≡ 91 ∷ join_with_byte 44 (map quoted_phase (take (i + 1) ps))
-words_more ps i d old new h old_is new_is = new_is ∙ ap (λ (r : List ℕ). r ++ phase_words (nat_lt 0 i) (get_or ps i d)) old_is ∙ ap (λ (r : List ℕ). 91 ∷ r) (sym (joined_more ps i d h))
+-- a text with a list after it, and with one more phase
+pub words_more : (front : List ℕ) (ps : List Phase) (i : ℕ) (d : Phase) (old new : List ℕ) → i < length ps → old ≡ front ++ 91 ∷ join_with_byte 44 (map quoted_phase (take i ps)) → new ≡ old ++ phase_words (nat_lt 0 i) (get_or ps i d) → new ≡ front ++ 91 ∷ join_with_byte 44 (map quoted_phase (take (i + 1) ps))
+words_more front ps i d old new h old_is new_is =
+    new_is ∙ ap (λ (r : List ℕ). r ++ phase_words (nat_lt 0 i) (get_or ps i d)) old_is ∙ append_assoc front (91 ∷ join_with_byte 44 (map quoted_phase (take i ps))) (phase_words (nat_lt 0 i) (get_or ps i d))
+    ∙ ap (λ (r : List ℕ). front ++ 91 ∷ r) (sym (joined_more ps i d h))

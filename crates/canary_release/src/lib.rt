@@ -29,3 +29,4 @@ mod report_reply;
 pub mod runs;
 pub mod service;
 pub mod stand;
+mod words;

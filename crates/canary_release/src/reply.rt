@@ -1,16 +1,21 @@
 //! Replies to settled requests.
-ghost use Rattle.std.specs.Prelude.{◌≡◌, IfOk, string_bytes};
+ghost use Rattle.std.specs.Prelude.{◌≡◌, ◌++◌, IfOk, codes, decimal, string_bytes};
 ghost use Rattle.canary_release.specs.Replies.{status_code, service_text, template_text};
-ghost use Rattle.canary_release.specs.Replies.{accepted, refused, refusal_text};
+ghost use Rattle.canary_release.specs.Replies.{accepted, refused, refusal_text, status_text};
 ghost use Rattle.canary_release.specs.Replies.{code_alone, code_at, code_at_with};
+ghost use Rattle.canary_release.specs.Services.{status, weight};
 
 use crate::stand::Stand;
+use crate::words::{with, with_number, with_two};
 use canary_base::error::Memory;
 use canary_base::lists::{Listed, Text};
 use canary_base::names::Name;
 use canary_condition::outcome::Phase;
 use canary_plan::refusal::Refusal;
 use std::alloc::Global;
+
+// The bytes that the text of a service has room for at first: a longer one asks for more.
+const ROOM: usize = 128;
 
 /// What a reply says of its request or query.
 #[derive(Clone, Copy, Debug, PartialEq, Eq)]
@@ -109,14 +114,31 @@ impl Reply {
 fn service_body(alloc: Global, stand: &Stand) -> Result<String, Memory>
     ensures { IfOk result (λ body. string_bytes body ≡ service_text stand.now) }
 {
+    let text = String::with_capacity(alloc, ROOM)?;
+    let text = with_place(text, "{\"code\":\"ok\",\"service\":\"", stand)?;
+    with_weight(text, ",\"weight\":", stand)
+}
+
+// The text with a piece, a service's name, its status and its step after it.
+pub(crate) fn with_place(text: String, piece: &str, stand: &Stand) -> Result<String, Memory>
+    ensures { IfOk result (λ all. string_bytes all
+        ≡ string_bytes text ++ (piece.now ++ (stand.now.name
+        ++ (codes "\",\"status\":\"" ++ (status_text (status stand.now)
+        ++ (codes "\",\"step\":" ++ decimal stand.now.step)))))) }
+{
     let name = stand.name;
-    let status = stand.status().text();
-    let step = stand.step;
-    let weight = stand.weight();
-    Ok(format!(in alloc;
-        "{{\"code\":\"ok\",\"service\":\"{name}\",\"status\":\"{status}\",\
-         \"step\":{step},\"weight\":{weight}}}"
-    )?)
+    let text = with_two(text, piece, name.as_str())?;
+    let text = with_two(text, "\",\"status\":\"", stand.status().text())?;
+    with_number(text, "\",\"step\":", stand.step)
+}
+
+// The text with a piece, a service's weight and the end of a reply after it.
+pub(crate) fn with_weight(text: String, piece: &str, stand: &Stand) -> Result<String, Memory>
+    ensures { IfOk result (λ all. string_bytes all
+        ≡ string_bytes text ++ (piece.now ++ (decimal (weight stand.now) ++ codes "}"))) }
+{
+    let text = with_number(text, piece, stand.weight())?;
+    with(text, "}")
 }
 
 fn template_body(alloc: Global, name: Name, revision: u32) -> Result<String, Memory>

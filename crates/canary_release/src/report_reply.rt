@@ -1,17 +1,18 @@
 //! The reply to a report.
 ghost use Rattle.std.specs.Prelude.{◌≡◌, ◌++◌, IfOk, codes, decimal, map, string_bytes};
-ghost use Rattle.canary_condition.specs.PhaseTexts.{phase_text};
-ghost use Rattle.canary_release.specs.Replies.{bracketed, status_text};
-ghost use Rattle.canary_release.specs.Replies.{quoted_phase, report_text, accepted};
+ghost use Rattle.canary_release.specs.Replies.{bracketed, quoted_phase, report_text, accepted};
 ghost use Rattle.canary_release.specs.Reporting.{phase_words};
-ghost use Rattle.canary_release.specs.Services.{status, weight};
 
-use crate::reply::{Reply, ReplyStatus, Reported};
+use crate::reply::{Reply, ReplyStatus, Reported, with_place, with_weight};
 use crate::stand::Stand;
+use crate::words::{with, with_number, with_two};
 use canary_base::error::Memory;
 use canary_base::lists::Text;
 use canary_condition::outcome::Phase;
 use std::alloc::Global;
+
+// The bytes that the text of a report has room for at first: a longer one asks for more.
+const ROOM: usize = 192;
 
 impl Reply {
     /// The reply that shows the phases of a report's entries, its run's verdict, and how its
@@ -34,80 +35,42 @@ impl Reply {
 fn report_text(alloc: Global, stand: &Stand, reported: &Reported) -> Result<String, Memory>
     ensures { IfOk result (λ text. string_bytes text ≡ report_text reported.now stand.now) }
 {
-    let front = front_text(alloc, reported)?;
-    let middle = middle_text(alloc, stand)?;
-    let back = back_text(alloc, stand, reported)?;
-    joined(front, middle, back)
+    let text = String::with_capacity(alloc, ROOM)?;
+    let text = with_run(text, reported)?;
+    let text = with_place(text, ",\"service\":\"", stand)?;
+    let text = with_two(text, ",\"verdict\":\"", reported.verdict.text())?;
+    with_weight(text, "\",\"weight\":", stand)
 }
 
-// Three texts in one.
-fn joined(front: String, middle: String, back: String) -> Result<String, Memory>
-    ensures { IfOk result (λ text. string_bytes text
-        ≡ (string_bytes front ++ string_bytes middle) ++ string_bytes back) }
+// The text with the phases and the run after it.
+fn with_run(text: String, reported: &Reported) -> Result<String, Memory>
+    ensures { IfOk result (λ all. string_bytes all
+        ≡ string_bytes text ++ (codes "{\"code\":\"ok\",\"phases\":"
+        ++ (bracketed (map quoted_phase reported.now.phases)
+        ++ (codes ",\"run\":" ++ decimal reported.now.run)))) }
 {
-    let mut text = front;
-    text.push_str(middle.as_str())?;
-    text.push_str(back.as_str())?;
-    Ok(text)
+    let text = with(text, "{\"code\":\"ok\",\"phases\":")?;
+    let text = with_phases(text, reported.phases.as_slice())?;
+    with_number(text, ",\"run\":", reported.run)
 }
 
-// The phases and the run.
-fn front_text(alloc: Global, reported: &Reported) -> Result<String, Memory>
-    ensures { IfOk result (λ text. string_bytes text
-        ≡ codes "{\"code\":\"ok\",\"phases\":" ++ (bracketed (map quoted_phase reported.now.phases)
-        ++ (codes ",\"run\":" ++ (decimal reported.now.run ++ codes ",")))) }
+// The text with the phases in square brackets after it.
+fn with_phases(front: String, phases: &[Phase]) -> Result<String, Memory>
+    ensures { IfOk result (λ all. string_bytes all
+        ≡ string_bytes front ++ bracketed (map quoted_phase phases.now)) }
 {
-    let phases = phases_text(alloc, reported.phases.as_slice())?;
-    let run = reported.run;
-    Ok(format!(in alloc; "{{\"code\":\"ok\",\"phases\":{phases},\"run\":{run},")?)
-}
-
-// The service, its status and its step.
-fn middle_text(alloc: Global, stand: &Stand) -> Result<String, Memory>
-    ensures { IfOk result (λ text. string_bytes text
-        ≡ codes "\"service\":\"" ++ (stand.now.name ++ (codes "\",\"status\":\""
-        ++ (status_text (status stand.now) ++ (codes "\",\"step\":"
-        ++ (decimal stand.now.step ++ codes ",")))))) }
-{
-    let name = stand.name;
-    let status = stand.status().text();
-    let step = stand.step;
-    Ok(format!(in alloc; "\"service\":\"{name}\",\"status\":\"{status}\",\"step\":{step},")?)
-}
-
-// The run's verdict and the service's weight.
-fn back_text(alloc: Global, stand: &Stand, reported: &Reported) -> Result<String, Memory>
-    ensures { IfOk result (λ text. string_bytes text
-        ≡ codes "\"verdict\":\"" ++ (phase_text reported.now.verdict
-        ++ (codes "\",\"weight\":" ++ (decimal (weight stand.now) ++ codes "}")))) }
-{
-    let verdict = reported.verdict.text();
-    let weight = stand.weight();
-    Ok(format!(in alloc; "\"verdict\":\"{verdict}\",\"weight\":{weight}}}")?)
-}
-
-// The phases in square brackets.
-fn phases_text(alloc: Global, phases: &[Phase]) -> Result<String, Memory>
-    ensures { IfOk result (λ text. string_bytes text ≡ bracketed (map quoted_phase phases.now)) }
-{
-    let mut text = String::from_str(alloc, "[")?;
+    let mut text = with(front, "[")?;
     for (i, phase) in phases.iter().enumerate() {
         text = with_phase(text, i > 0, *phase)?;
     }
-    text.push_str("]")?;
-    Ok(text)
+    with(text, "]")
 }
 
-// With one more phase, after a comma where it is not the first.
+// The text with one more phase, after a comma where it is not the first.
 fn with_phase(text: String, later: bool, phase: Phase) -> Result<String, Memory>
     ensures { IfOk result (λ all. string_bytes all ≡ string_bytes text ++ phase_words later phase) }
 {
-    let mut text = text;
-    if later {
-        text.push_str(",")?;
-    }
-    text.push_str("\"")?;
-    text.push_str(phase.text())?;
-    text.push_str("\"")?;
-    Ok(text)
+    let quote = if later { ",\"" } else { "\"" };
+    let text = with_two(text, quote, phase.text())?;
+    with(text, "\"")
 }
