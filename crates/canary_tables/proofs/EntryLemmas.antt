@@ -1,15 +1,17 @@
 -- Two tree maps under names, of which the first goes before the second, as one finite map.
-use Rattle.std.proofs.Common.{◌≡◌, ◌≤◌, ℕ, ◌+◌, ◌-◌, List, [], ◌∷◌, ◌++◌, map, length, Bool, true, false, Some, None, refl, sym, ap, ◌∙◌, arith, Ordering, Less, Equal, Greater}
-use Rattle.std.specs.Prelude.{Option, cond}
+use Rattle.std.proofs.Common.{◌≡◌, ◌≤◌, ℕ, ◌+◌, List, [], ◌∷◌, ◌++◌, map, length, Bool, true, false, Some, None, refl, sym, ap, ◌∙◌, subst, arith, Ordering, Less, Equal, Greater}
+use Rattle.std.specs.Prelude.{Option, cond, IsSome}
 use Rattle.std.specs.Option.{option_or}
 use Rattle.std.specs.Ordering.{nat_cmp, is_eq, match_ordering}
 use Rattle.std.specs.Cmp.Lexicographic.{slice_cmp, nat_list_cmp_total}
 use Rattle.std.specs.Cmp.{eq_by_cmp_equiv}
-use Rattle.std.specs.FinMap.{get, insert, remove, empty, from_entries, find, get-from_entries, get-insert, get-remove, same_map, slice_cmp-IsAntisymmetric, nat_cmp-IsAntisymmetric}
-use Rattle.std.specs.BTreeMap.{is_at, insert_entry}
-use Rattle.std.specs.Map.{lookup, remove_entry}
+use Rattle.std.specs.FinMap.{get, insert, remove, from_entries, find, get-from_entries, get-insert, get-remove, same_map, slice_cmp-IsAntisymmetric, nat_cmp-IsAntisymmetric}
+use Rattle.std.specs.BTreeMap.{BTreeMap, is_at, insert_entry, WritesThrough}
+use Rattle.std.specs.Map.{lookup, remove_entry, set_value}
+use Rattle.std.proofs.lemmas.Map.Text.{is_eq-slice_cmp}
+use Rattle.std.proofs.lemmas.Slice.Eq.{bytes_eq-Decides}
 use Rattle.canary_tables.specs.declared.entries.Weighed.{Weighed}
-use Rattle.canary_tables.specs.Entries.{Named, IsWithin, unweighed, weights, weight_if, value_if, at_name, first_of}
+use Rattle.canary_tables.specs.Entries.{Named, IsWithin, unweighed, weights, weight_if, value_if, at_name, first_of, IsPut}
 
 abbrev Items : Type 0 → Type 0
 Items A = List (List ℕ × Weighed A)
@@ -112,6 +114,76 @@ put_within {A} o es fs ds k w within more q v is =
 
 pub put_there : {A : Type 0} (fs ds : Items A) (k : List ℕ) (w : Weighed A) → at_name ds k ≡ Some w → get (held ds fs) k ≡ Some w.value
 put_there {A} fs ds k w is = get_held ds fs k ∙ ap (λ (a : Found A). value_if (option_or a (at_name fs k))) is
+
+-- One is put in place of another.
+
+pub same_name : (k : List ℕ) → is_it k k ≡ true
+same_name k = is_eq-slice_cmp k k ∙ (bytes_eq-Decides k k).1 refl
+
+-- of what was taken out nothing is there
+pub none_there : {A : Type 0} (m : Named A) (k : List ℕ) → get (remove m k) k ≡ None
+none_there {A} m k = get-remove nat_list_cmp_total m k k ∙ ap (λ (b : Bool). cond b None (get m k)) (same_name k)
+
+put_twice : {A : Type 0} (b : Bool) (v : A) (x : Option A) → cond b (Some v) (cond b None x) ≡ cond b (Some v) x
+put_twice true v x = refl
+put_twice false v x = refl
+
+-- taken out and put again
+pub put_anew : {A : Type 0} (m : Named A) (k : List ℕ) (v : A) → insert (remove m k) k v ≡ insert m k v
+put_anew {A} m k v =
+    alike (insert (remove m k) k v) (insert m k v) (λ q.
+    get-insert nat_list_cmp_total (remove m k) k v q
+    ∙ ap (cond (is_it q k) (Some v)) (get-remove nat_list_cmp_total m k q)
+    ∙ put_twice (is_it q k) v (get m q)
+    ∙ sym (get-insert nat_list_cmp_total m k v q))
+
+value_put : {A : Type 0} (b : Bool) (w : Weighed A) (a : Found A) → value_if (cond b (Some w) a) ≡ cond b (Some w.value) (value_if a)
+value_put true w a = refl
+value_put false w a = refl
+
+-- what is written where a name was found
+pub written_put : {A : Type 0} (m n : BTreeMap (List ℕ) (Weighed A)) (k : List ℕ) (old new : Weighed A) → Some old ≡ at_name m.entries k → WritesThrough (slice_cmp nat_cmp) (slice_cmp nat_cmp k) m new n → IsPut m.entries n.entries k new.value
+written_put {A} m n k old new there written = λ q. ap value_if ((written.3 (subst IsSome there refl)).0 q) ∙ value_put (is_it k q) new (at_name m.entries q)
+
+or_put : {A : Type 0} (b : Bool) (v : A) (d a f : Found A) → value_if d ≡ cond b (Some v) (value_if a) → value_if (option_or d f) ≡ cond b (Some v) (value_if (option_or a f))
+or_put true v None a f is = let never : None ≡ Some v = is in cc
+or_put true v (Some d) a f is = is
+or_put false v None None f is = refl
+or_put false v None (Some a) f is = let never : None ≡ Some a.value = is in cc
+or_put false v (Some d) None f is = let never : Some d.value ≡ None = is in cc
+or_put false v (Some d) (Some a) f is = is
+
+put_is : {A : Type 0} (o : Named A) (es fs ds : Items A) (k : List ℕ) (v : A) → held es fs ≡ o → IsPut es ds k v → held ds fs ≡ insert o k v
+put_is {A} o es fs ds k v view put =
+    alike (held ds fs) (insert o k v) (λ q.
+    get_held ds fs q
+    ∙ or_put (is_it k q) v (at_name ds q) (at_name es q) (at_name fs q) (put q)
+    ∙ ap (λ (b : Bool). cond b (Some v) (value_if (first_of es fs q))) (the_same k q)
+    ∙ ap (cond (is_it q k) (Some v)) (sym (get_held es fs q) ∙ ap (λ (m : Named A). get m q) view)
+    ∙ sym (get-insert nat_list_cmp_total o k v q))
+
+pub replaced_within : {A : Type 0} (o : Named A) (es fs ds : Items A) (k : List ℕ) (v : A) → held es fs ≡ o → IsPut es ds k v → IsWithin (held ds fs) (insert o k v)
+replaced_within {A} o es fs ds k v view put = λ q w is. ap (λ (m : Named A). get m q) (sym (put_is o es fs ds k v view put)) ∙ is
+
+pub replaced_there : {A : Type 0} (o : Named A) (es fs ds : Items A) (k : List ℕ) (v : A) → held es fs ≡ o → IsPut es ds k v → get (held ds fs) k ≡ Some v
+replaced_there {A} o es fs ds k v view put =
+    ap (λ (m : Named A). get m k) (put_is o es fs ds k v view put) ∙ get-insert nat_list_cmp_total o k v k ∙ ap (λ (b : Bool). cond b (Some v) (get o k)) (same_name k)
+
+-- what is written weighs what was there
+pub weights_stay : {A : Type 0} (es : Items A) (test : List ℕ → Bool) (w : Weighed A) → w.weight ≡ weight_if (lookup test es) → weights (set_value test es w) ≡ weights es
+weights_stay [] test w is = refl
+weights_stay {A} (e ∷ es) test w is = one (test e.0) (weights_stay es test w) is where
+  one : (b : Bool) → (w.weight ≡ weight_if (lookup test es) → weights (set_value test es w) ≡ weights es) → w.weight ≡ weight_if (cond b (Some e.1) (lookup test es)) → weights (cond b ((e.0, w) ∷ es) (e ∷ set_value test es w)) ≡ e.1.weight + weights es
+  one true rest same = ap (λ (n : ℕ). n + weights es) same
+  one false rest same = ap (λ (n : ℕ). e.1.weight + n) (rest same)
+
+-- nothing is written
+pub nothing_written : {A : Type 0} (es : Items A) (test : List ℕ → Bool) (w : Weighed A) → Some w ≡ lookup test es → set_value test es w ≡ es
+nothing_written [] test w is = refl
+nothing_written {A} (e ∷ es) test w is = one (test e.0) (nothing_written es test w) is where
+  one : (b : Bool) → (Some w ≡ lookup test es → set_value test es w ≡ es) → Some w ≡ cond b (Some e.1) (lookup test es) → cond b ((e.0, w) ∷ es) (e ∷ set_value test es w) ≡ e ∷ es
+  one true rest same = let there : w ≡ e.1 = cc in ap (λ (x : Weighed A). (e.0, x) ∷ es) there
+  one false rest same = ap (λ (l : Items A). e ∷ l) (rest same)
 
 -- Weights.
 

@@ -5,8 +5,6 @@ use Rattle.std.specs.List.{last_or}
 use Rattle.std.specs.Ordering.{nat_cmp}
 use Rattle.std.specs.Cmp.Lexicographic.{slice_cmp, nat_list_cmp_total}
 use Rattle.std.specs.FinMap.{get, insert, remove, empty, get-insert, get-remove, get-empty}
-use Rattle.std.proofs.lemmas.Map.Text.{is_eq-slice_cmp}
-use Rattle.std.proofs.lemmas.Slice.Eq.{bytes_eq-Decides}
 use Rattle.canary_plan.specs.declared.command.Command.{Command}
 use Rattle.canary_plan.specs.declared.command.Command.TheVariants.{Template as AddTemplate, Service as AddService, Start, Promote, PromoteFull, Abort, Retry, Tick, Report}
 use Rattle.canary_plan.specs.declared.template.Template.{Template}
@@ -34,8 +32,8 @@ use Rattle.canary_tables.specs.Desk.{IsDesk, contents_in}
 use Rattle.canary_tables.specs.declared.kept.Kept.{Kept}
 use Rattle.canary_tables.specs.declared.kept.NumberedReceipt.{NumberedReceipt}
 use Rattle.canary_tables.specs.Entries.{Named, IsWithin}
-use Rattle.canary_tables.specs.Kept.{AreCounts, AreServices, AreTemplates, AreReceipts, AreKept, without_changed, without_revised, with_changed, kept_of, IsKnown}
-use Rattle.canary_tables.proofs.EntryLemmas.{is_it, equal_names, kept_within}
+use Rattle.canary_tables.specs.Kept.{AreCounts, AreServices, AreTemplates, AreReceipts, AreKept, without_revised, with_changed, kept_of, IsKnown}
+use Rattle.canary_tables.proofs.EntryLemmas.{is_it, equal_names, kept_within, same_name}
 
 pub there_is : (o : Option ModelService) (k : ServiceParts) → option_map shape o ≡ Some k → (m : ModelService) × ((o ≡ Some m) × (shape m ≡ k))
 there_is None k e = let never : ⊥ = cc in absurd never
@@ -49,17 +47,14 @@ known_so c services (Updates s effects) known are is = λ k e. are s.stand.name 
 
 -- Some leaves, and one is added.
 
-pub fewer_counts : (c : Contents) (m n : Named ℕ) → AreCounts m c → IsWithin n m → AreCounts n c
-fewer_counts c m n are within = λ name count is. are name count (within name count is)
-
-pub fewer_services : (c : Contents) (m n : Named ServiceParts) → AreServices m c → IsWithin n m → AreServices n c
+fewer_services : (c : Contents) (m n : Named ServiceParts) → AreServices m c → IsWithin n m → AreServices n c
 fewer_services c m n are within = λ name s is. are name s (within name s is)
 
 not_none : {A : Type 0} (b : Bool) (x : Option A) (v : A) → cond b None x ≡ Some v → x ≡ Some v
 not_none true x v e = let never : ⊥ = cc in absurd never
 not_none false x v e = e
 
-pub without_is_within : {A : Type 0} (m : Named A) (k : List ℕ) → IsWithin (remove m k) m
+without_is_within : {A : Type 0} (m : Named A) (k : List ℕ) → IsWithin (remove m k) m
 without_is_within {A} m k q v is = not_none (is_it q k) (get m q) v (sym (get-remove nat_list_cmp_total m k q) ∙ is)
 
 pub one_count_more : (c : Contents) (m n : Named ℕ) (caller : List ℕ) (count : ℕ) → AreCounts m c → count ≡ count_of c caller → IsWithin n (insert m caller count) → AreCounts n c
@@ -85,10 +80,10 @@ one_template_more c m n name (Some t) are is within = λ q v there.
       one q v true same e = ap (newest c.desk.templates) (same refl) ∙ sym is ∙ e
       one q v false same e = are q v e
 
-pub one_receipt_more : (c : Contents) (m n : Named NumberedReceipt) (place : List ℕ) (r : NumberedReceipt) → AreReceipts m c → receipt_at c r.caller r.number ≡ Some r.receipt → IsWithin n (insert (remove m place) place r) → AreReceipts n c
+pub one_receipt_more : (c : Contents) (m n : Named NumberedReceipt) (place : List ℕ) (r : NumberedReceipt) → AreReceipts m c → receipt_at c r.caller r.number ≡ Some r.receipt → IsWithin n (insert m place r) → AreReceipts n c
 one_receipt_more c m n place r are is within = λ q v there.
-    one q v (is_it q place) (sym (get-insert nat_list_cmp_total (remove m place) place r q ∙ ap (cond (is_it q place) (Some r)) (get-remove nat_list_cmp_total m place q)) ∙ within q v there) where
-      one : (q : List ℕ) (v : NumberedReceipt) (b : Bool) → cond b (Some r) (cond b None (get m q)) ≡ Some v → receipt_at c v.caller v.number ≡ Some v.receipt
+    one q v (is_it q place) (sym (get-insert nat_list_cmp_total m place r q) ∙ within q v there) where
+      one : (q : List ℕ) (v : NumberedReceipt) (b : Bool) → cond b (Some r) (get m q) ≡ Some v → receipt_at c v.caller v.number ≡ Some v.receipt
       one q v true e = let same : r ≡ v = cc in subst (λ (x : NumberedReceipt). receipt_at c x.caller x.number ≡ Some x.receipt) same is
       one q v false e = are q v e
 
@@ -101,9 +96,6 @@ of_its_own c r caller number same is = ap (λ n. receipt_at c n number) (sym sam
 last_there : (receipts : List Receipt) (r : Receipt) → slice_get (receipts ++ r ∷ []) (length receipts) ≡ Some r
 last_there [] r = refl
 last_there (x ∷ receipts) r = last_there receipts r
-
-same_name : (k : List ℕ) → is_it k k ≡ true
-same_name k = is_eq-slice_cmp k k ∙ (bytes_eq-Decides k k).1 refl
 
 next_place : (number count : ℕ) → number ≡ count + 1 → number - 1 ≡ count
 next_place number count next = omega arith
@@ -118,22 +110,22 @@ receipt_settled c s next =
 receipts_stay : (c : Contents) (s : Settlement) (m : Named NumberedReceipt) → AreReceipts m c → AreReceipts m (with_settlement c s)
 receipts_stay c s m are = λ place r there. keep_keeps c (with_settlement c s).desk s.caller s.receipt r.caller r.number r.receipt (are place r there)
 
-count_after : (c : Contents) (s : Settlement) (m n : Named ℕ) → s.number ≡ count_of c s.caller + 1 → AreCounts m c → IsWithin n (insert (remove m s.caller) s.caller s.number) → AreCounts n (with_settlement c s)
+count_after : (c : Contents) (s : Settlement) (m n : Named ℕ) → s.number ≡ count_of c s.caller + 1 → AreCounts m c → IsWithin n (insert m s.caller s.number) → AreCounts n (with_settlement c s)
 count_after c s m n next are within q k there =
     subst (λ (o : Option (List Receipt)). k ≡ length (unwrap_or o [])) (sym (get-insert nat_list_cmp_total c.callers s.caller (receipts_of c s.caller ++ s.receipt ∷ []) q))
-    (one (is_it q s.caller) (sym (get-insert nat_list_cmp_total (remove m s.caller) s.caller s.number q ∙ ap (cond (is_it q s.caller) (Some s.number)) (get-remove nat_list_cmp_total m s.caller q)) ∙ within q k there)) where
-      one : (b : Bool) → cond b (Some s.number) (cond b None (get m q)) ≡ Some k → k ≡ length (unwrap_or (cond b (Some (receipts_of c s.caller ++ s.receipt ∷ [])) (get c.callers q)) [])
+    (one (is_it q s.caller) (sym (get-insert nat_list_cmp_total m s.caller s.number q) ∙ within q k there)) where
+      one : (b : Bool) → cond b (Some s.number) (get m q) ≡ Some k → k ≡ length (unwrap_or (cond b (Some (receipts_of c s.caller ++ s.receipt ∷ [])) (get c.callers q)) [])
       one true e = let same : s.number ≡ k = cc in sym same ∙ next ∙ sym (length-append (receipts_of c s.caller) (s.receipt ∷ []))
       one false e = are q k e
 
 services_after : KeepsWhatIsSeen → (desk : Desk) (now : ℕ) (command : Command) (change : DeskChange) → change ≡ said (ruling_on desk now command).change → changed desk command change ≡ (apply desk now command).desk → AreInOrder (changed desk command change)
-    → (m n : Named ServiceParts) → ((name : List ℕ) (s : ServiceParts) → get m name ≡ Some s → seen desk name ≡ Some s) → IsWithin n (with_changed (without_changed m change) change)
+    → (m n : Named ServiceParts) → ((name : List ℕ) (s : ServiceParts) → get m name ≡ Some s → seen desk name ≡ Some s) → IsWithin n (with_changed m change)
     → (name : List ℕ) (s : ServiceParts) → get n name ≡ Some s → seen (changed desk command change) name ≡ Some s
 services_after law desk now command Nothing is next_desk order m n are within = λ name s there. are name s (within name s there)
 services_after law desk now command (AddsTemplate template) is next_desk order m n are within = λ name s there. are name s (within name s there)
 services_after law desk now command (Updates s effects) is next_desk order m n are within = λ q v there.
     one q v (is_it q s.stand.name) (equal_names q s.stand.name) refl
-    (sym (get-insert nat_list_cmp_total (remove m s.stand.name) s.stand.name s q ∙ ap (cond (is_it q s.stand.name) (Some s)) (get-remove nat_list_cmp_total m s.stand.name q)) ∙ within q v there) where
+    (sym (get-insert nat_list_cmp_total m s.stand.name s q) ∙ within q v there) where
       next : Desk
       next = changed desk command (Updates s effects)
 
@@ -146,7 +138,7 @@ services_after law desk now command (Updates s effects) is next_desk order m n a
       becomes : ModelService
       becomes = after (get desk.services (subject_of command)) s.stand effects
 
-      one : (q : List ℕ) (v : ServiceParts) (b : Bool) → (b ≡ true → q ≡ s.stand.name) → is_it q s.stand.name ≡ b → cond b (Some s) (cond b None (get m q)) ≡ Some v → seen next q ≡ Some v
+      one : (q : List ℕ) (v : ServiceParts) (b : Bool) → (b ≡ true → q ≡ s.stand.name) → is_it q s.stand.name ≡ b → cond b (Some s) (get m q) ≡ Some v → seen next q ≡ Some v
       one q v true same is_b e = ap (seen next) (same refl ∙ named) ∙ brought ∙ e
       one q v false same is_b e =
           ap (option_map shape) (get-insert nat_list_cmp_total desk.services (subject_of command) becomes q ∙ ap (λ (b : Bool). cond b (Some becomes) (get desk.services q)) (ap (is_it q) (sym named) ∙ is_b)) ∙ are q v e
@@ -196,7 +188,7 @@ templates_after desk now command (AddsTemplate u) is m n are same name t there =
     (ap (λ (k : List ℕ). get (remove m k) name) (sym (revised desk now command u is)) ∙ ap (λ (x : Named Template). get x name) (sym same) ∙ there)
 
 pub kept_after : KeepsWhatIsSeen → (c : Contents) (s : Settlement) (old new : Kept) → IsSettling c s → AreInOrder (with_settlement c s).desk → AreKept old c
-    → IsWithin new.counts (insert (remove old.counts s.caller) s.caller s.number) → IsWithin new.services (with_changed (without_changed old.services s.change) s.change) → new.templates ≡ without_revised old.templates s.change
+    → IsWithin new.counts (insert old.counts s.caller s.number) → IsWithin new.services (with_changed old.services s.change) → new.templates ≡ without_revised old.templates s.change
     → ((k : Contents) → AreReceipts old.receipts k → receipt_at k s.caller s.number ≡ Some s.receipt → AreReceipts new.receipts k)
     → AreKept new (with_settlement c s)
 kept_after law c s old new settling order are counts services templates receipts =
@@ -208,34 +200,19 @@ kept_after law c s old new settling order are counts services templates receipts
     }
 
 -- what a failed commit leaves
-without_changed_is_within : (m : Named ServiceParts) (change : DeskChange) → IsWithin (without_changed m change) m
-without_changed_is_within m Nothing = λ name s is. is
-without_changed_is_within m (AddsTemplate template) = λ name s is. is
-without_changed_is_within m (Updates s effects) = without_is_within m s.stand.name
-
 without_revised_is_within : (m : Named Template) (change : DeskChange) → IsWithin (without_revised m change) m
 without_revised_is_within m Nothing = λ name t is. is
 without_revised_is_within m (Updates s effects) = λ name t is. is
 without_revised_is_within m (AddsTemplate template) = without_is_within m template.spec.name
 
-pub forgotten : (c : Contents) (s : Settlement) (old new : Kept) → AreKept old c → new.counts ≡ remove old.counts s.caller → new.services ≡ without_changed old.services s.change → new.templates ≡ without_revised old.templates s.change → new.receipts ≡ old.receipts → AreKept new c
-forgotten c s old new are counts services templates receipts =
+pub forgotten : (c : Contents) (change : DeskChange) (old new : Kept) → AreKept old c → new.counts ≡ old.counts → new.services ≡ old.services → new.templates ≡ without_revised old.templates change → new.receipts ≡ old.receipts → AreKept new c
+forgotten c change old new are counts services templates receipts =
     record {
-      counts = subst (λ (m : Named ℕ). AreCounts m c) (sym counts) (fewer_counts c old.counts (remove old.counts s.caller) are.counts (without_is_within old.counts s.caller));
-      services = subst (λ (m : Named ServiceParts). AreServices m c) (sym services) (fewer_services c old.services (without_changed old.services s.change) are.services (without_changed_is_within old.services s.change));
-      templates = subst (λ (m : Named Template). AreTemplates m c) (sym templates) (λ name t is. are.templates name t (without_revised_is_within old.templates s.change name t is));
+      counts = subst (λ (m : Named ℕ). AreCounts m c) (sym counts) are.counts;
+      services = subst (λ (m : Named ServiceParts). AreServices m c) (sym services) are.services;
+      templates = subst (λ (m : Named Template). AreTemplates m c) (sym templates) (λ name t is. are.templates name t (without_revised_is_within old.templates change name t is));
       receipts = subst (λ (m : Named NumberedReceipt). AreReceipts m c) (sym receipts) are.receipts;
     }
-
--- of what was taken out nothing is kept
-
-pub none_there : {A : Type 0} (m : Named A) (k : List ℕ) → get (remove m k) k ≡ None
-none_there {A} m k = get-remove nat_list_cmp_total m k k ∙ ap (λ (b : Bool). cond b None (get m k)) (same_name k)
-
-pub none_of_change : (m : Named ServiceParts) (change : DeskChange) → kept_of (without_changed m change) change ≡ None
-none_of_change m Nothing = refl
-none_of_change m (AddsTemplate template) = refl
-none_of_change m (Updates s effects) = none_there m s.stand.name
 
 -- One is read.
 
@@ -280,9 +257,9 @@ receipt_kept c old new caller number found are is counts services templates rece
 pub kept_of_same : (old new : State) (kept : Kept) → AreKept kept (contents_in old) → new.now ≡ old.now → AreKept kept (contents_in new)
 kept_of_same old new kept are same = subst (λ (db : Database). AreKept kept (contents_of (tables_in db))) (sym same) are
 
--- what is kept anew once a request is settled
+-- what is kept once a request is settled
 pub settled_kept : KeepsWhatIsSeen → (old new : State) (s : Settlement) (before forgot after : Kept) → IsSettling (contents_in old) s → IsDesk new → contents_in new ≡ with_settlement (contents_in old) s → AreKept before (contents_in old)
-    → forgot.counts ≡ remove before.counts s.caller → forgot.services ≡ without_changed before.services s.change → forgot.templates ≡ without_revised before.templates s.change → IsWithin after.counts (insert forgot.counts s.caller s.number) → IsWithin after.services (with_changed forgot.services s.change) → after.templates ≡ forgot.templates
+    → forgot.counts ≡ before.counts → forgot.services ≡ before.services → forgot.templates ≡ without_revised before.templates s.change → IsWithin after.counts (insert forgot.counts s.caller s.number) → IsWithin after.services (with_changed forgot.services s.change) → after.templates ≡ forgot.templates
     → forgot.receipts ≡ before.receipts → ((k : Contents) → AreReceipts forgot.receipts k → receipt_at k s.caller s.number ≡ Some s.receipt → AreReceipts after.receipts k)
     → AreKept after (contents_in new)
 settled_kept law old new s before forgot after settling desk settled are counts services templates more_counts more_services same_templates same_receipts more_receipts =

@@ -1,5 +1,5 @@
 -- Values under names, each with what it weighs.
-use Rattle.std.specs.Prelude.{◌≡◌, ℕ, ◌+◌, List, [], ◌∷◌, Option, Some, None, option_map}
+use Rattle.std.specs.Prelude.{◌≡◌, ℕ, ◌+◌, List, [], ◌∷◌, Option, Some, None, option_map, if◌then◌else◌}
 use Rattle.std.specs.Option.{option_or}
 use Rattle.std.specs.FinMap.{FinMap, get}
 use Rattle.std.specs.Map.{lookup}
@@ -39,3 +39,9 @@ at_name es name = lookup (is_at (slice_cmp nat_cmp name)) es
 -- the one that stands in the first entries, or else in the second
 abbrev pub first_of : {X : Type 0} → List (List ℕ × X) → List (List ℕ × X) → List ℕ → Option X
 first_of es fs name = option_or (at_name es name) (at_name fs name)
+
+-- a value was put under a name: the others have what they had
+abbrev pub IsPut : {A : Type 0} → List (List ℕ × Weighed A) → List (List ℕ × Weighed A) → List ℕ → A → Type 0
+IsPut old new name value =
+    (other : List ℕ) → value_if (at_name new other)
+    ≡ (if is_at (slice_cmp nat_cmp name) other then Some value else value_if (at_name old other))

@@ -41,12 +41,6 @@ pub record AreKept (kept : Kept) (c : Contents) : Type 0 where
   pub templates : AreTemplates kept.templates c
   pub receipts : AreReceipts kept.receipts c
 
--- without the service that a change names
-abbrev pub without_changed : Named ServiceParts → DeskChange → Named ServiceParts
-without_changed services (Updates s effects) = remove services s.stand.name
-without_changed services Nothing = services
-without_changed services (AddsTemplate template) = services
-
 -- without the template of which a change adds a revision
 abbrev pub without_revised : Named Template → DeskChange → Named Template
 without_revised templates (AddsTemplate template) = remove templates template.spec.name

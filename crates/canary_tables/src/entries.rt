@@ -1,8 +1,10 @@
 //! Values under names, as far as there is room for them.
 ghost use Rattle.std.specs.Prelude.{◌≡◌, ◌+◌, true, None, Some, ℕ, List, option_copied};
+ghost use Rattle.std.specs.Prelude.{IfSome, IfNone};
 ghost use Rattle.std.specs.Option.{option_or};
 ghost use Rattle.std.specs.FinMap as map;
 ghost use Rattle.canary_tables.specs.Entries.{IsWithin, weights, weight_if, value_if, first_of};
+ghost use Rattle.canary_tables.specs.Entries.{IsPut};
 
 use canary_base::names::Name;
 use std::alloc::Global;
@@ -81,10 +83,24 @@ impl<V: Drop> Entries<V> {
         value_in(recent, earlier)
     }
 
-    /// Puts a value of this weight under a name that has none, for which others may leave. It says
-    /// whether it is kept: it is not if it weighs more than there is room for at all, or if memory
-    /// is refused.
+    /// Puts a value of this weight under a name, in place of one that is there. Others may leave
+    /// for it. It says whether it is kept: it is not if it weighs more than there is room for at
+    /// all, or if memory is refused. Then one that was there is gone, too.
     pub(crate) fn put(&mut self, name: Name, value: V, weight: u64) -> bool
+        ensures within { IsWithin self.new (map.insert self.old name value) }
+        ensures kept { result ≡ true → map.get self.new name ≡ Some value }
+    {
+        match replace(&mut self.recent, name, value, weight) {
+            Some(value) => {
+                let _ = self.take(name);
+                self.put_new(name, value, weight)
+            }
+            None => true,
+        }
+    }
+
+    // Puts a value of this weight under a name that has none, for which others may leave.
+    fn put_new(&mut self, name: Name, value: V, weight: u64) -> bool
         requires { map.get self.old name ≡ None }
         ensures within { IsWithin self.new (map.insert self.old name value) }
         ensures kept { result ≡ true → map.get self.new name ≡ Some value }
@@ -123,6 +139,29 @@ impl<V: Drop> Entries<V> {
         if let Some((_, gone)) = self.earlier.pop_first() {
             self.weight -= gone.weight;
         }
+    }
+}
+
+// Puts a value in place of the one under that name, if one is there that weighs no less. A value
+// that is not put comes back.
+fn replace<V: Drop>(
+    entries: &mut BTreeMap<Name, Weighed<V>>,
+    name: Name,
+    value: V,
+    weight: u64,
+) -> Option<V>
+    ensures weights { weights entries.new.entries ≡ weights entries.old.entries }
+    ensures back { IfSome result (λ back. (back ≡ value)
+        × (entries.new.entries ≡ entries.old.entries)) }
+    ensures put { IfNone result (IsPut entries.old.entries entries.new.entries name value) }
+{
+    match entries.get_mut(&name) {
+        Some(there) if weight <= there.weight => {
+            // The old weight stays: the value weighs no more, and the sum stays as it is.
+            there.value = value;
+            None
+        }
+        _ => Some(value),
     }
 }
 

@@ -4,8 +4,8 @@ ghost use Rattle.std.specs.Prelude.{◌≡◌, true, None, Some, IfSome, option_
 ghost use Rattle.std.specs.FinMap as map;
 ghost use Rattle.canary_once.specs.Contents.{Contents, put_some, receipt_at};
 ghost use Rattle.canary_tables.specs.Entries.{IsWithin};
-ghost use Rattle.canary_tables.specs.Kept.{AreKept, without_changed, with_changed, kept_of};
-ghost use Rattle.canary_tables.specs.Kept.{without_revised, AreReceipts};
+ghost use Rattle.canary_tables.specs.Kept.{AreKept, with_changed, kept_of, without_revised};
+ghost use Rattle.canary_tables.specs.Kept.{AreReceipts};
 
 use crate::entries::Entries;
 use crate::weights::{BYTES_OF_COUNT, bytes_of_receipt, bytes_of_service, bytes_of_template};
@@ -106,9 +106,8 @@ impl Kept {
         }
     }
 
-    /// Keeps how many requests of a caller are settled, of which nothing is kept.
+    /// Keeps how many requests of a caller are settled, in place of the count that is kept.
     pub(crate) fn keep_count(&mut self, caller: Name, count: u32)
-        requires { map.get self.old.counts caller ≡ None }
         ensures counts { IsWithin self.new.counts (map.insert self.old.counts caller count) }
         ensures services { self.new.services ≡ self.old.services }
         ensures templates { self.new.templates ≡ self.old.templates }
@@ -155,26 +154,18 @@ impl Kept {
         }
     }
 
-    /// Forgets what is kept of the caller of a request, of the service that it changes, which is
-    /// handed back, and of the template of which it adds a revision.
-    pub(crate) fn forget(&mut self, settlement: &Settlement) -> Option<Service>
-        ensures counts { self.new.counts ≡ map.remove self.old.counts settlement.now.caller }
-        ensures services { self.new.services
-            ≡ without_changed self.old.services settlement.now.change }
-        ensures templates { self.new.templates
-            ≡ without_revised self.old.templates settlement.now.change }
-        ensures receipts { self.new.receipts ≡ self.old.receipts }
-        ensures known { result ≡ kept_of self.old.services settlement.now.change }
+    /// What is kept of the service that a change names.
+    pub(crate) fn known(&self, change: &DeskChange) -> Option<&Service>
+        ensures { option_copied result ≡ kept_of self.now.services change.now }
     {
-        let _ = self.counts.take(settlement.caller);
-        self.forget_revised(&settlement.change);
-        match &settlement.change {
-            DeskChange::Service { service, .. } => self.services.take(service.name()),
+        match change {
+            DeskChange::Service { service, .. } => self.services.get(service.name()),
             _ => None,
         }
     }
 
-    fn forget_revised(&mut self, change: &DeskChange)
+    /// Forgets what is kept of the template of which a change adds a revision.
+    pub(crate) fn forget_revised(&mut self, change: &DeskChange)
         ensures counts { self.new.counts ≡ self.old.counts }
         ensures services { self.new.services ≡ self.old.services }
         ensures templates { self.new.templates ≡ without_revised self.old.templates change.now }
@@ -234,15 +225,12 @@ impl Kept {
     {
         let place = place_of(&receipt.caller, receipt.number);
         let weight = bytes_of_receipt(&receipt.receipt);
-        let _ = self.receipts.take(place);
         self.receipts.put(place, receipt, weight);
     }
 
     /// Keeps what a settled request left: how many requests of its caller are settled now, the
-    /// service that it changed, and its receipt. Nothing is kept of caller and service.
+    /// service that it changed, and its receipt. Each takes the place of what is kept there.
     pub(crate) fn keep(&mut self, settlement: Settlement)
-        requires caller { map.get self.old.counts settlement.caller ≡ None }
-        requires service { kept_of self.old.services settlement.change ≡ None }
         ensures counts { IsWithin self.new.counts
             (map.insert self.old.counts settlement.caller settlement.number) }
         ensures services { IsWithin self.new.services
@@ -262,7 +250,6 @@ impl Kept {
     }
 
     fn keep_changed(&mut self, change: DeskChange)
-        requires { kept_of self.old.services change ≡ None }
         ensures counts { self.new.counts ≡ self.old.counts }
         ensures services { IsWithin self.new.services (with_changed self.old.services change) }
         ensures templates { self.new.templates ≡ self.old.templates }

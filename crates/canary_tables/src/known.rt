@@ -173,8 +173,9 @@ pub(crate) fn templates<S: Alter>(
     Ok(found)
 }
 
-/// Settles a request, with all that it changes, or does nothing. What is kept of its caller and of
-/// the service that it changes is forgotten first, and kept anew once it is settled.
+/// Settles a request, with all that it changes, or does nothing. Once it is settled, what is kept
+/// of its caller and of the service that it changes is replaced. A template of which it adds a
+/// revision is forgotten first.
 ///
 /// # Errors
 /// `Memory` if an allocation was refused, `Storage` if the store failed; nothing changed.
@@ -203,8 +204,8 @@ pub(crate) fn commit<S: Alter>(
         → OnErr result ((state S.Store conn.new).now ≡ (state S.Store conn.old).now) }
 {
     desk_laws::changes();
-    let known = kept.forget(&settlement);
-    settle(conn, alloc, &settlement, known.as_ref())?;
+    kept.forget_revised(&settlement.change);
+    settle(conn, alloc, &settlement, kept.known(&settlement.change))?;
     kept.keep(settlement);
     Ok(())
 }

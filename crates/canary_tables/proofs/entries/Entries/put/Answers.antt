@@ -1,32 +1,24 @@
-use Rattle.std.proofs.Common.{◌≡◌, ◌≤◌, ◌+◌, sym, ap, ◌∙◌, subst, arith}
-use Rattle.std.specs.Ordering.{nat_cmp}
-use Rattle.std.specs.Cmp.Lexicographic.{slice_cmp}
-use Rattle.std.specs.BTreeMap.{insert_entry}
+use Rattle.std.proofs.Common.{ap, subst, ◌∙◌}
 use Rattle.std.specs.FinMap as map
-use Rattle.canary_tables.specs.Entries.{IsWithin, weights}
-use Rattle.canary_tables.proofs.EntryLemmas.{held, kept_within, put_within, put_there, weights_more}
+use Rattle.canary_tables.specs.Entries.{IsWithin}
+use Rattle.canary_tables.proofs.EntryLemmas.{held, none_there, put_anew, replaced_within, replaced_there}
 use Rattle.canary_tables.proofs.entries.Entries.put.Goals as goal
 
-pub returns-then-weight-self-clause-within : goal.returns-then-weight-self-clause-within
-returns-then-weight-self-clause-within g c = kept_within c.make_room.new.self c.args.self.now c.args.name c.args.value c.make_room.ensures c.requires
+pub put_new-requires : goal.put_new-requires
+put_new-requires g c = ap (λ m. map.get m c.args.name) c.take.ensures.rest ∙ none_there (held c.replace.new.entries.entries c.self.inside.earlier.entries) c.args.name
 
-pub invariant_of-self : goal.invariant_of-self
-invariant_of-self g c =
-    let more : weights (insert_entry (slice_cmp nat_cmp) c.self.inside.recent.entries c.args.name (record { value = c.args.value; weight = c.args.weight })) ≤ c.args.weight + weights c.self.inside.recent.entries = weights_more c.self.inside.recent.entries c.args.name (record { value = c.args.value; weight = c.args.weight }) in
-    let is : weights c.insert.new.self.entries ≡ weights (insert_entry (slice_cmp nat_cmp) c.self.inside.recent.entries c.args.name (record { value = c.args.value; weight = c.args.weight })) = ap weights c.in-Ok.ensures.entries in
-    let i : weights c.self.inside.recent.entries + weights c.self.inside.earlier.entries ≤ c.self.inside.weight = c.self.invariant.0 in
-    let j : c.self.inside.weight ≤ c.self.inside.room = c.self.invariant.1 in
-    (omega arith, omega arith)
+pub returns-in-Some-clause-within : goal.returns-in-Some-clause-within
+returns-in-Some-clause-within g c =
+    subst (IsWithin c.put_new.new.self)
+    (ap (λ m. map.insert m c.args.name c.in-Some.value) (c.take.ensures.rest ∙ ap (λ es. map.remove (held es c.self.inside.earlier.entries) c.args.name) c.in-Some.ensures.back.1 ∙ ap (λ m. map.remove m c.args.name) c.self.view_is)
+    ∙ put_anew c.args.self.now c.args.name c.in-Some.value
+    ∙ ap (map.insert c.args.self.now c.args.name) c.in-Some.ensures.back.0)
+    c.put_new.ensures.within
 
-pub returns-in-Ok-clause-within : goal.returns-in-Ok-clause-within
-returns-in-Ok-clause-within g c =
-    put_within c.args.self.now c.self.inside.recent.entries c.self.inside.earlier.entries c.insert.new.self.entries c.args.name (record { value = c.args.value; weight = c.args.weight })
-    (subst (λ m. IsWithin m c.args.self.now) (sym c.self.view_is) c.make_room.ensures) c.in-Ok.ensures.updates.0
+pub returns-in-None-clause-within : goal.returns-in-None-clause-within
+returns-in-None-clause-within g c =
+    replaced_within c.args.self.now c.self.inside.recent.entries c.self.inside.earlier.entries c.replace.new.entries.entries c.args.name c.args.value c.self.view_is c.in-None.ensures.put
 
-pub returns-in-Ok-clause-kept : goal.returns-in-Ok-clause-kept
-returns-in-Ok-clause-kept g c = λ _. put_there c.self.inside.earlier.entries c.insert.new.self.entries c.args.name (record { value = c.args.value; weight = c.args.weight }) c.in-Ok.ensures.updates.1
-
-pub returns-clause-within : goal.returns-clause-within
-returns-clause-within g c =
-    kept_within (held c.insert.new.self.entries c.self.inside.earlier.entries) c.args.self.now c.args.name c.args.value
-    (subst (λ m. IsWithin m c.args.self.now) (sym (ap (λ es. held es c.self.inside.earlier.entries) c.in-Err.ensures.err ∙ c.self.view_is)) c.make_room.ensures) c.requires
+pub returns-in-None-clause-kept : goal.returns-in-None-clause-kept
+returns-in-None-clause-kept g c = λ _.
+    replaced_there c.args.self.now c.self.inside.recent.entries c.self.inside.earlier.entries c.replace.new.entries.entries c.args.name c.args.value c.self.view_is c.in-None.ensures.put
