@@ -10,7 +10,8 @@ ghost use Rattle.canary_base.specs.Names.{is_name, is_label};
 ghost use Rattle.canary_condition.specs.declared.outcome.Value.TheVariants.{Whole};
 ghost use Rattle.canary_plan.specs.declared.command.Command.TheVariants as command_of;
 ghost use Rattle.canary_canonical.specs.Texts.{measured, entry_data, command_text};
-ghost use Rattle.canary_canonical.specs.Laws.{is_signed_word, keeps_entry, keeps_report};
+ghost use Rattle.canary_canonical.specs.Laws.{is_signed_word, keeps_entry, keeps_outcome};
+ghost use Rattle.canary_canonical.specs.Laws.{keeps_report};
 
 use crate::report::entry_value;
 use canary_base::moments::Moment;
@@ -101,7 +102,7 @@ fn with_entries(text: String, alloc: Global, entries: &[Entry]) -> Result<String
 }
 
 // With one more entry, after a comma where it is not the first.
-#[tactic(auto, unfolding(crate::specs::Texts::entry_data, crate::specs::Laws::keeps_entry, crate::specs::Laws::keeps_outcome))]
+#[tactic(auto, unfolding(crate::specs::Texts::entry_data, crate::specs::Laws::keeps_entry))]
 fn with_entry(text: String, alloc: Global, later: bool, entry: &Entry) -> Result<String, AllocError>
     ensures value { IfOk result (λ all. string_bytes all
         ≡ string_bytes text ++ (comma_if later ++ compact_text (entry_data entry.now))) }
@@ -145,13 +146,14 @@ fn entry_words(alloc: Global, entry: &Entry) -> Result<String, AllocError>
 }
 
 // With an entry, with this whole number as its result.
+#[tactic(auto, unfolding(crate::specs::Laws::keeps_outcome))]
 fn with_whole(text: String, entry: &Entry, number: i64) -> Result<String, AllocError>
     ensures value { IfOk result (λ all. string_bytes all ≡ string_bytes text
         ++ compact_text (measured entry.now.metric entry.now.ordinal entry.now.taken
         (Whole number))) }
     ensures metric { IfOk result (λ _. IsTrue (is_label entry.now.metric)) }
     ensures taken { IfOk result (λ _. IsTrue (nat_le entry.now.taken 253370764799)) }
-    ensures kept { IfOk result (λ _. IsTrue (is_signed_word number)) }
+    ensures kept { IfOk result (λ _. IsTrue (keeps_outcome (Outcome.Result (Whole number)))) }
 {
     let text = with_metric(text, &entry.metric, entry.ordinal)?;
     with_result(text, number, entry.taken)
