@@ -4,7 +4,7 @@ ghost use Rattle.canary_wire.specs.Exchanges.{point};
 ghost use Rattle.canary_listen.specs.Attending.{Attends, KeepsServed};
 ghost use Rattle.canary_listen.specs.Crowd.{clients_attendance, IsReported, AreAllServed};
 
-use crate::client::{Client, Fate};
+use crate::client::{Client, Fate, Ready};
 use crate::clients::Clients;
 use crate::limits::Limits;
 use crate::reports::Reports;
@@ -90,15 +90,23 @@ impl Attendant {
         going_on::<C, B>();
         let share = share_of(events.iter().count());
         'events: for event in events.iter() {
-            self.attend(rt, event.token(), share, clock, book);
+            self.attend(
+                rt,
+                event.token(),
+                event.is_read_closed(),
+                share,
+                clock,
+                book,
+            );
         }
     }
 
-    // Does what is to be done where this token was reported.
+    // Does what is to be done where this token was reported, and maybe an end of what it sends.
     fn attend<R: time::Clock + AllocGlobal, C: Clock, B: Book>(
         &mut self,
         rt: &R,
         token: Token,
+        is_ended: bool,
         share: Duration,
         clock: &mut C,
         book: &mut B,
@@ -110,7 +118,9 @@ impl Attendant {
         if token == SOCKET {
             self.has_waiting = true;
         }
-        let (number, now) = (token.0, self.now);
+        let number = token.0;
+        let now = self.now;
+        let ready = Ready { now, is_ended };
         let mut pace = Slice::begun(rt, share, self.answers_queries());
         if let Some(fate) = self.clients.turn(
             number,
@@ -119,7 +129,7 @@ impl Attendant {
             clock,
             book,
             &mut pace,
-            now,
+            ready,
         ) {
             self.settle(number, fate);
         }

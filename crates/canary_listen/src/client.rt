@@ -47,6 +47,35 @@ pub(crate) enum Fate {
     Goes(Cause),
 }
 
+// What the system reported of a client whose turn it is.
+#[derive(Clone, Copy)]
+pub(crate) struct Ready {
+    // The present second.
+    pub(crate) now: u64,
+    // Whether the client ended its sending side. The system does not report that once more.
+    pub(crate) is_ended: bool,
+}
+
+// What a client sends.
+#[derive(Drop)]
+struct Input<'a> {
+    stream: &'a TcpStream,
+    // Whether there may be bytes that came before the last read and were not read.
+    may_hold_more: bool,
+}
+
+impl Read for Input<'_> {
+    fn read(&mut self, buf: &mut [u8]) -> io::Result<usize> {
+        let mut stream = self.stream;
+        let read = stream.read(buf);
+        self.may_hold_more = match &read {
+            Ok(count) => *count == buf.len(),
+            Err(error) => error.kind() != ErrorKind::WouldBlock,
+        };
+        read
+    }
+}
+
 // A client.
 #[derive(Drop)]
 pub(crate) struct Client {
@@ -59,8 +88,10 @@ pub(crate) struct Client {
     answered: u64,
     // How many bytes were read after its last reply.
     drained: usize,
-    // Whether the system reports its connection once that is ready.
+    // Whether the system reports its connection once that is ready for what was asked last.
     is_reported: bool,
+    // What it was asked for last.
+    interest: Interest,
     // Where it comes from.
     address: IpAddr,
 }
@@ -83,6 +114,7 @@ impl Client {
             answered: 0,
             drained: 0,
             is_reported: false,
+            interest: Interest::READABLE,
             address,
         }
     }
@@ -124,17 +156,23 @@ impl Client {
         ensures { client_talk self.new ≡ client_talk self.old }
     {
         self.stream.set_nodelay(true)?;
-        registry.register(&mut self.stream, token, Interest::READABLE)
+        registry.register(&mut self.stream, token, self.interest)?;
+        self.is_reported = true;
+        Ok(())
     }
 
-    // Has it reported once more, also where it is ready already. Says whether it could be done.
+    // Has it reported once more, also if it is ready already, unless the system does so anyway.
+    // Says whether it could be done.
     pub(crate) fn report(&mut self, registry: &Registry, token: Token, interest: Interest) -> bool
         ensures same { client_talk self.new ≡ client_talk self.old }
         ensures reported { self.new.is_reported ≡ result }
     {
-        self.is_reported = registry
-            .reregister(&mut self.stream, token, interest)
-            .is_ok();
+        if !self.is_reported || self.interest != interest {
+            self.interest = interest;
+            self.is_reported = registry
+                .reregister(&mut self.stream, token, interest)
+                .is_ok();
+        }
         self.is_reported
     }
 
@@ -146,7 +184,7 @@ impl Client {
         clock: &mut C,
         book: &mut B,
         pace: &mut P,
-        now: u64,
+        ready: Ready,
     ) -> Fate
         ensures { TakesTurn None None None None
             (point (C.tells clock.old) (B.state book.old))
@@ -154,16 +192,22 @@ impl Client {
             (client_talk self.old) (client_talk self.new) }
     {
         let stream = &self.stream;
+        let mut input = Input {
+            stream,
+            may_hold_more: true,
+        };
         let wants = self.conversation.turn(
             alloc,
             routes,
-            &mut &*stream,
+            &mut input,
             &mut &*stream,
             clock,
             book,
             pace,
         );
-        self.settle(wants, pace.answers_queries(), now)
+        let is_drained = wants == Wants::Read && !input.may_hold_more && !ready.is_ended;
+        self.is_reported = self.is_reported && is_drained;
+        self.settle(wants, pace.answers_queries(), ready.now)
     }
 
     // What becomes of it where its conversation waits for this.

@@ -7,7 +7,7 @@ ghost use Rattle.canary_wire.specs.Exchanges.{point};
 ghost use Rattle.canary_wire.specs.Talks.{talk_of};
 ghost use Rattle.canary_listen.specs.Attending.{Attends, KeepsServed, nobody};
 
-use crate::client::{Client, Fate};
+use crate::client::{Client, Fate, Ready};
 use crate::limits::Limits;
 use canary_base::error::Memory;
 use canary_once::book::Book;
@@ -123,7 +123,7 @@ impl Clients {
         clock: &mut C,
         book: &mut B,
         pace: &mut P,
-        now: u64,
+        ready: Ready,
     ) -> Option<Fate>
         ensures { Attends (point (C.tells clock.old) (B.state book.old))
             (point (C.tells clock.new) (B.state book.new))
@@ -135,7 +135,7 @@ impl Clients {
             return None;
         };
         let before = client.unsent();
-        let fate = client.turn(alloc, routes, clock, book, pace, now);
+        let fate = client.turn(alloc, routes, clock, book, pace, ready);
         self.unsent = in_place_of(self.unsent, before, client.unsent());
         Some(fate)
     }

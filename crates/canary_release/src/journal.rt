@@ -107,7 +107,7 @@ impl Watched {
             ≡ record self { effects = self.effects ++ effect.Measured recorded ∷ [] }) }
     {
         let Watched { journal, runs } = self;
-        let runs = runs.measured(alloc, &recorded)?;
+        let runs = runs.measured(alloc, &recorded);
         let journal = journal.with(Effect::Measured(recorded))?;
         Ok(Watched { journal, runs })
     }

@@ -437,6 +437,9 @@ impl Draft {
         ensures strategy { IfOk result (λ draft. draft.stand.strategy ≡ self.stand.strategy) }
         ensures made { IfOk result (λ draft. runs_made draft ≤ runs_made self + 2) }
     {
+        if !is_completed(self.verdict_of(number)) {
+            return Ok(self);
+        }
         match self.copy_open_run(alloc, number)? {
             Some(run) => self.assess_run(alloc, &run, at),
             None => Ok(self),

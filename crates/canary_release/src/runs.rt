@@ -21,6 +21,7 @@ use canary_metric::tally::Tally;
 use canary_metric::verdict::verdict;
 use canary_plan::bound_analysis::BoundAnalysis;
 use std::alloc::Global;
+use std::mem;
 
 /// The most runs that a service may have.
 pub(crate) const MOST_RUNS: u32 = 1_000_000;
@@ -66,44 +67,15 @@ impl OpenRun {
         })
     }
 
-    // A copy of it, with a measurement counted where it is of this run.
-    fn counted_in(&self, alloc: Global, recorded: &Recorded) -> Result<OpenRun, Memory>
-        requires room { takes recorded.now self.now ≡ true }
+    // Counts a measurement where it is of this run.
+    fn count(&mut self, alloc: Global, recorded: &Recorded)
+        requires room { takes recorded.now self.old ≡ true }
         requires measured { is_measured recorded.now.phase ≡ true }
-        ensures { IfOk result (λ run. run ≡ counted_in recorded.now self.now) }
+        ensures { self.new ≡ counted_in recorded.now self.old }
     {
-        let copy = self.copy(alloc)?;
         if self.number == recorded.run {
-            Ok(copy.counted(recorded))
-        } else {
-            Ok(copy)
-        }
-    }
-
-    // With a measurement counted.
-    fn counted(self, recorded: &Recorded) -> OpenRun
-        requires room { is_not_full (slice_get self.tallies recorded.now.metric) ≡ true }
-        requires measured { is_measured recorded.now.phase ≡ true }
-        ensures { result
-            ≡ record self {
-              tallies = change_at recorded.now.metric
-                  (counted recorded.now) self.tallies;
-            } }
-    {
-        let OpenRun {
-            number,
-            step,
-            analysis,
-            started,
-            tallies,
-        } = self;
-        let tallies = with_counted(tallies, recorded);
-        OpenRun {
-            number,
-            step,
-            analysis,
-            started,
-            tallies,
+            let tallies = mem::replace(&mut self.tallies, Listed::of(Vec::new(alloc)));
+            self.tallies = with_counted(tallies, recorded);
         }
     }
 
@@ -204,14 +176,13 @@ impl Runs {
     }
 
     /// A measurement is counted in its run.
-    pub(crate) fn measured(self, alloc: Global, recorded: &Recorded) -> Result<Runs, Memory>
+    pub(crate) fn measured(self, alloc: Global, recorded: &Recorded) -> Runs
         requires { has_room self recorded.now ≡ true }
-        ensures { IfOk result (λ runs. runs ≡ happens self (effect.Measured recorded.now)) }
+        ensures { result ≡ happens self (effect.Measured recorded.now) }
     {
-        Ok(Runs {
-            count: self.count,
-            open_runs: count_runs(alloc, self.open_runs.as_slice(), recorded)?,
-        })
+        let Runs { count, open_runs } = self;
+        let open_runs = count_runs(alloc, open_runs, recorded);
+        Runs { count, open_runs }
     }
 
     /// One run is no longer open.
@@ -233,20 +204,16 @@ fn without(runs: Listed<OpenRun>, number: u32) -> Listed<OpenRun>
     Listed::of(runs)
 }
 
-fn count_runs(
-    alloc: Global,
-    runs: &[OpenRun],
-    recorded: &Recorded,
-) -> Result<Listed<OpenRun>, Memory>
-    requires room { list_all (takes recorded.now) runs.now ≡ true }
+fn count_runs(alloc: Global, runs: Listed<OpenRun>, recorded: &Recorded) -> Listed<OpenRun>
+    requires room { list_all (takes recorded.now) runs ≡ true }
     requires measured { is_measured recorded.now.phase ≡ true }
-    ensures { IfOk result (λ counted. counted ≡ map (counted_in recorded.now) runs.now) }
+    ensures { result ≡ map (counted_in recorded.now) runs }
 {
-    let mut counted = Listed::of(Vec::new(alloc));
-    for run in runs {
-        counted.push(run.counted_in(alloc, recorded)?)?;
+    let mut counted = runs.into_vec();
+    for run in counted.iter_mut() {
+        run.count(alloc, recorded);
     }
-    Ok(counted)
+    Listed::of(counted)
 }
 
 fn copy_runs(alloc: Global, runs: &[OpenRun]) -> Result<Listed<OpenRun>, Memory>

@@ -25,8 +25,9 @@ const PARTS_OF_TEMPLATES: u64 = 8;
 
 const PARTS_OF_RECEIPTS: u64 = 8;
 
-// The receipts of a caller have as many places as there are two letters.
-const LETTERS: u32 = 26;
+// The receipts of a caller have as many places as there are two letters of so many: 256. A repeat
+// comes soon, and what is kept stays small.
+const LETTERS: u32 = 16;
 
 // The most bytes of a name.
 const MOST_BYTES: usize = 63;

@@ -1,4 +1,4 @@
-use Rattle.std.proofs.Common.{◌≡◌, ◌++◌, drop, map}
+use Rattle.std.proofs.Common.{◌≡◌, ◌++◌, drop, map, take}
 use Rattle.std.specs.Prelude.{true}
 use Rattle.std.specs.List.{list_all}
 use Rattle.canary_release.specs.Recording.{takes}
@@ -8,4 +8,4 @@ use Rattle.canary_release.proofs.runs.count_runs.Given as goal
 -- those so far are counted, and the rest have room
 abbrev pub invariant-loop-run : goal.invariant-loop-run
 invariant-loop-run l =
-    (l.counted ++ map (counted_in l.recorded) (drop l.run-index l.runs) ≡ map (counted_in l.recorded) l.runs) × (list_all (takes l.recorded) (drop l.run-index l.runs) ≡ true)
+    (take l.run-index l.run-items ++ map (counted_in l.recorded) (drop l.run-index l.run-items) ≡ map (counted_in l.recorded) l.fn.runs) × (list_all (takes l.recorded) (drop l.run-index l.run-items) ≡ true)
