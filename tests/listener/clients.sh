@@ -200,6 +200,45 @@ half_close() {
     want_done "$status" "$2"
 }
 
+# A client that has had one reply. While the desk stands still it sends standard input, and ends its
+# sending side if its last word is `end`, so that the desk learns of all of it at once. It writes the
+# replies to standard output: up to the end of the stream, or else as many as it sent queries.
+sending_at_once='
+import os, signal, socket, sys, threading, time
+port, desk, ends = int(sys.argv[1]), int(sys.argv[2]), sys.argv[3] == "end"
+sent = sys.stdin.buffer.read()
+left = sent.count(b"\r\n\r\n")
+try:
+    client = socket.create_connection(("127.0.0.1", port), timeout=10)
+    client.sendall(b"GET /services/nobody HTTP/1.1\r\n\r\n")
+    client.recv(65536)
+    time.sleep(0.2)
+    os.kill(desk, signal.SIGSTOP)
+    writer = threading.Thread(target=client.sendall, args=(sent,))
+    writer.start()
+    time.sleep(0.2)
+    if ends:
+        writer.join()
+        client.shutdown(socket.SHUT_WR)
+    os.kill(desk, signal.SIGCONT)
+    while (ends or left > 0) and (some := client.recv(65536)):
+        left -= some.count(b"HTTP/1.1 404")
+        sys.stdout.buffer.write(some)
+except socket.timeout:
+    os._exit(124)
+'
+
+# Such a client sends $1 queries, with $2 as its last word, or the row ends by $3.
+send_at_once() {
+    local status=0 got
+    write_queries "$1" /services/nobod > "$work/stream"
+    timeout 30 python3 -c "$sending_at_once" "$port" "$desk" "$2" < "$work/stream" \
+        > "$work/replies" || status=$?
+    want_done "$status" "$3"
+    got=$(grep -o 'HTTP/1.1 404' "$work/replies" | wc -l)
+    [ "$got" -eq "$1" ] || miss "$got replies to $1 requests"
+}
+
 # A client with small buffers that sends standard input, and reads nothing until the file of its
 # last word is there.
 deaf='
