@@ -201,8 +201,8 @@ half_close() {
 }
 
 # A client that has had one reply. While the desk stands still it sends standard input, and ends its
-# sending side if its last word is `end`, so that the desk learns of all of it at once. It writes the
-# replies to standard output: up to the end of the stream, or else as many as it sent queries.
+# sending side if its last word is `end`, so that the desk learns of all of it at once. It writes
+# the replies to standard output: up to the end of the stream, or else as many as it sent queries.
 sending_at_once='
 import os, signal, socket, sys, threading, time
 port, desk, ends = int(sys.argv[1]), int(sys.argv[2]), sys.argv[3] == "end"
