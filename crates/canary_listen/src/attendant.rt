@@ -4,7 +4,7 @@ ghost use Rattle.canary_wire.specs.Exchanges.{point};
 ghost use Rattle.canary_listen.specs.Attending.{Attends, KeepsServed};
 ghost use Rattle.canary_listen.specs.Crowd.{clients_attendance, IsReported, AreAllServed};
 
-use crate::client::{Client, Fate, Ready};
+use crate::client::{Client, Fate, Part, Ready};
 use crate::clients::Clients;
 use crate::limits::Limits;
 use crate::reports::Reports;
@@ -17,6 +17,7 @@ use canary_wire::laws::going_on;
 use mio::net::{TcpListener, TcpStream};
 use mio::{Events, Interest, Poll, Token};
 use std::alloc::Global;
+use std::collections::VecDeque;
 use std::io::{ErrorKind, Write};
 use std::net::IpAddr;
 use std::time::{self, Duration};
@@ -31,6 +32,10 @@ const MOST_ACCEPTED: u32 = 64;
 // than one message each.
 const ROUND_MILLISECONDS: u64 = 20;
 
+// How many clients' replies are held back at most, and how many clients have to be left in a round
+// for that.
+const MOST_HELD: usize = 4;
+
 // The socket at which clients come, and those that came.
 #[derive(Drop)]
 pub(crate) struct Attendant {
@@ -42,6 +47,10 @@ pub(crate) struct Attendant {
     pub(crate) reports: Reports,
     // Whether some query waits until others took what they are owed.
     pub(crate) has_queries_waiting: bool,
+    // The clients whose replies are held back, in order.
+    pub(crate) held: VecDeque<usize>,
+    // How long the turn of one that is reported goes on at most.
+    pub(crate) share: Duration,
     // How many more are accepted; none for as many as come.
     pub(crate) left: Option<u64>,
     // Whether somebody may wait to be accepted.
@@ -75,7 +84,9 @@ impl Attendant {
         u64::try_from(self.clients.count()).unwrap_or(u64::MAX) < self.limits.clients
     }
 
-    // Does what is to be done for each that was reported.
+    // Does what is to be done for each that was reported. If many more are to come, a reply is held
+    // back until there are some, which are sent one after another: so the system wakes fewer clients
+    // that wait for replies, and who is woken finds several.
     pub(crate) fn attend_all<R: time::Clock + AllocGlobal, C: Clock, B: Book>(
         &mut self,
         rt: &R,
@@ -88,26 +99,84 @@ impl Attendant {
             (clients_attendance self.old.clients) (clients_attendance self.new.clients) }
     {
         going_on::<C, B>();
-        let share = share_of(events.iter().count());
-        'events: for event in events.iter() {
-            self.attend(
-                rt,
-                event.token(),
-                event.is_read_closed(),
-                share,
-                clock,
-                book,
-            );
+        let (count, now) = (events.iter().count(), self.now);
+        self.share = share_of(count);
+        'events: for (place, event) in events.iter().enumerate() {
+            let ready = Ready {
+                part: part_at(place, count),
+                now,
+                is_ended: event.is_read_closed(),
+            };
+            self.attend_next(rt, event.token(), ready, clock, book);
         }
     }
 
-    // Does what is to be done where this token was reported, and maybe an end of what it sends.
+    // Sends replies that are held back, if enough are, and then does what is to be done where this
+    // token was reported.
+    fn attend_next<R: time::Clock + AllocGlobal, C: Clock, B: Book>(
+        &mut self,
+        rt: &R,
+        token: Token,
+        ready: Ready,
+        clock: &mut C,
+        book: &mut B,
+    )
+        ensures { Attends (point (C.tells clock.old) (B.state book.old))
+            (point (C.tells clock.new) (B.state book.new))
+            (clients_attendance self.old.clients) (clients_attendance self.new.clients) }
+    {
+        going_on::<C, B>();
+        if ready.part == Part::Whole || self.held.len() >= MOST_HELD {
+            self.send_held(rt, clock, book);
+        }
+        self.attend(rt, token, ready, clock, book);
+    }
+
+    // Sends the replies that are held back.
+    fn send_held<R: time::Clock + AllocGlobal, C: Clock, B: Book>(
+        &mut self,
+        rt: &R,
+        clock: &mut C,
+        book: &mut B,
+    )
+        ensures { Attends (point (C.tells clock.old) (B.state book.old))
+            (point (C.tells clock.new) (B.state book.new))
+            (clients_attendance self.old.clients) (clients_attendance self.new.clients) }
+    {
+        going_on::<C, B>();
+        'held: for _ in 0..self.held.len() {
+            self.send_first(rt, clock, book);
+        }
+    }
+
+    // Sends the replies that are held back the longest.
+    fn send_first<R: time::Clock + AllocGlobal, C: Clock, B: Book>(
+        &mut self,
+        rt: &R,
+        clock: &mut C,
+        book: &mut B,
+    )
+        ensures { Attends (point (C.tells clock.old) (B.state book.old))
+            (point (C.tells clock.new) (B.state book.new))
+            (clients_attendance self.old.clients) (clients_attendance self.new.clients) }
+    {
+        going_on::<C, B>();
+        if let Some(number) = self.held.pop_front() {
+            let ready = Ready {
+                part: Part::Takes,
+                now: self.now,
+                is_ended: false,
+            };
+            self.attend(rt, Token(number), ready, clock, book);
+        }
+    }
+
+    // Does what is to be done where this token was reported.
     fn attend<R: time::Clock + AllocGlobal, C: Clock, B: Book>(
         &mut self,
         rt: &R,
         token: Token,
-        is_ended: bool,
-        share: Duration,
+        ready: Ready,
         clock: &mut C,
         book: &mut B,
     )
@@ -119,9 +188,7 @@ impl Attendant {
             self.has_waiting = true;
         }
         let number = token.0;
-        let now = self.now;
-        let ready = Ready { now, is_ended };
-        let mut pace = Slice::begun(rt, share, self.answers_queries());
+        let mut pace = Slice::begun(rt, self.share, self.answers_queries());
         if let Some(fate) = self.clients.turn(
             number,
             rt.alloc(),
@@ -148,7 +215,19 @@ impl Attendant {
         match fate {
             Fate::Stays(interest) => self.await_ready(number, interest),
             Fate::Waits => self.has_queries_waiting = true,
+            Fate::Owed => self.hold(number),
             Fate::Goes(cause) => self.let_go(number, cause),
+        }
+    }
+
+    // Holds the replies to a client back. If there is no memory for that, it has its next turn when
+    // it can take them.
+    fn hold(&mut self, number: usize)
+        ensures { KeepsServed (clients_attendance self.old.clients)
+            (clients_attendance self.new.clients) }
+    {
+        if self.held.push_back(number).is_err() {
+            self.await_ready(number, Interest::WRITABLE);
         }
     }
 
@@ -318,6 +397,15 @@ fn one_less(left: Option<u64>) -> Option<u64>
     match left {
         Some(count) => Some(count.saturating_sub(1)),
         None => None,
+    }
+}
+
+// What a client that is reported at this place of so many does in its turn.
+fn part_at(place: usize, count: usize) -> Part {
+    if count.saturating_sub(place) > MOST_HELD {
+        Part::Sends
+    } else {
+        Part::Whole
     }
 }
 

@@ -12,7 +12,7 @@ use canary_wire::conversation::{Cause, Conversation, Pace, Routes, Wants};
 use mio::net::TcpStream;
 use mio::{Interest, Registry, Token};
 use std::alloc::Global;
-use std::io::{self, ErrorKind, Read};
+use std::io::{self, ErrorKind, Read, Write};
 use std::net::{IpAddr, Shutdown};
 
 // The most bytes that are read of a client after its last reply: 16 MiB.
@@ -43,29 +43,47 @@ pub(crate) enum Fate {
     Stays(Interest),
     // It stays, and has its next turn when queries are answered again.
     Waits,
+    // It stays, and its replies are held back: it has to take them soon.
+    Owed,
     // It goes, and this is why.
     Goes(Cause),
 }
 
-// What the system reported of a client whose turn it is.
+// What a client does in its turn.
+#[derive(Clone, Copy, Debug, PartialEq, Eq)]
+pub(crate) enum Part {
+    // It sends messages, and takes the replies.
+    Whole,
+    // It sends messages. Their replies are held back for a little.
+    Sends,
+    // It takes the replies that were held back.
+    Takes,
+}
+
+// What the turn of a client is about.
 #[derive(Clone, Copy)]
 pub(crate) struct Ready {
+    pub(crate) part: Part,
     // The present second.
     pub(crate) now: u64,
-    // Whether the client ended its sending side. The system does not report that once more.
+    // Whether the system reported that the client ended its sending side, which it does once.
     pub(crate) is_ended: bool,
 }
 
-// What a client sends.
+// What a client sends, as far as it is its turn to.
 #[derive(Drop)]
 struct Input<'a> {
     stream: &'a TcpStream,
+    is_open: bool,
     // Whether there may be bytes that came before the last read and were not read.
     may_hold_more: bool,
 }
 
 impl Read for Input<'_> {
     fn read(&mut self, buf: &mut [u8]) -> io::Result<usize> {
+        if !self.is_open {
+            return Err(ErrorKind::WouldBlock.into());
+        }
         let mut stream = self.stream;
         let read = stream.read(buf);
         self.may_hold_more = match &read {
@@ -73,6 +91,27 @@ impl Read for Input<'_> {
             Err(error) => error.kind() != ErrorKind::WouldBlock,
         };
         read
+    }
+}
+
+// What a client takes, as far as it is its turn to.
+#[derive(Drop)]
+struct Output<'a> {
+    stream: &'a TcpStream,
+    is_open: bool,
+}
+
+impl Write for Output<'_> {
+    fn write(&mut self, buf: &[u8]) -> io::Result<usize> {
+        if !self.is_open {
+            return Err(ErrorKind::WouldBlock.into());
+        }
+        let mut stream = self.stream;
+        stream.write(buf)
+    }
+
+    fn flush(&mut self) -> io::Result<()> {
+        Ok(())
     }
 }
 
@@ -191,29 +230,45 @@ impl Client {
             (point (C.tells clock.new) (B.state book.new))
             (client_talk self.old) (client_talk self.new) }
     {
+        let part = self.part(ready);
         let stream = &self.stream;
         let mut input = Input {
             stream,
+            is_open: part != Part::Takes,
             may_hold_more: true,
         };
-        let wants = self.conversation.turn(
-            alloc,
-            routes,
-            &mut input,
-            &mut &*stream,
-            clock,
-            book,
-            pace,
-        );
-        let is_drained = wants == Wants::Read && !input.may_hold_more && !ready.is_ended;
-        self.is_reported = self.is_reported && is_drained;
+        let mut output = Output {
+            stream,
+            is_open: part != Part::Sends,
+        };
+        let wants = self
+            .conversation
+            .turn(alloc, routes, &mut input, &mut output, clock, book, pace);
+        if input.is_open && (input.may_hold_more || ready.is_ended) {
+            self.is_reported = false;
+        }
+        if wants == Wants::Write && !output.is_open {
+            return Fate::Owed;
+        }
         self.settle(wants, pace.answers_queries(), ready.now)
+    }
+
+    // What it does in its turn: one that has bytes to take already takes them first.
+    fn part(&self, ready: Ready) -> Part {
+        if ready.part == Part::Sends && self.unsent() > 0 {
+            Part::Whole
+        } else {
+            ready.part
+        }
     }
 
     // What becomes of it where its conversation waits for this.
     fn settle(&mut self, wants: Wants, answers_queries: bool, now: u64) -> Fate
         ensures { client_talk self.new ≡ client_talk self.old }
     {
+        if wants != Wants::Read {
+            self.is_reported = false;
+        }
         match wants {
             Wants::Read => {
                 let awaited = self.next_awaited();

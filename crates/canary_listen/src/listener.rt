@@ -16,6 +16,7 @@ use canary_wire::laws::going_on;
 use mio::net::TcpListener;
 use mio::{Events, Interest, Poll};
 use std::alloc::Global;
+use std::collections::VecDeque;
 use std::io::{self, Write};
 use std::net::{Net, SocketAddr};
 use std::time::{self, Duration, Instant};
@@ -87,6 +88,8 @@ impl Listener {
             clients: Clients::new(rt.alloc()),
             reports: Reports::new(rt.alloc()),
             has_queries_waiting: false,
+            held: VecDeque::new(rt.alloc()),
+            share: Duration::ZERO,
             left: None,
             has_waiting: false,
             retry_at: 0,

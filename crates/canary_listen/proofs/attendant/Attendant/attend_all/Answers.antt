@@ -12,7 +12,7 @@ pub events-preserved : goal.events-preserved
 events-preserved g c =
     attends_then (point (g.C.Clock.tells c.args.clock.now) (g.B.Book.state c.args.book.now))
     (point (g.C.Clock.tells c.events.clock) (g.B.Book.state c.events.book))
-    (point (g.C.Clock.tells c.attend.new.clock) (g.B.Book.state c.attend.new.book))
-    (clients_attendance c.args.self.now.clients) (clients_attendance c.events.self.clients) (clients_attendance c.attend.new.self.clients)
-    (c.going_on.ensures.then c.args.clock.now c.events.clock c.attend.new.clock c.args.book.now c.events.book c.attend.new.book)
-    c.events.invariant c.attend.ensures
+    (point (g.C.Clock.tells c.attend_next.new.clock) (g.B.Book.state c.attend_next.new.book))
+    (clients_attendance c.args.self.now.clients) (clients_attendance c.events.self.clients) (clients_attendance c.attend_next.new.self.clients)
+    (c.going_on.ensures.then c.args.clock.now c.events.clock c.attend_next.new.clock c.args.book.now c.events.book c.attend_next.new.book)
+    c.events.invariant c.attend_next.ensures
