@@ -99,11 +99,12 @@ impl Attendant {
             (clients_attendance self.old.clients) (clients_attendance self.new.clients) }
     {
         going_on::<C, B>();
-        let (count, now) = (events.iter().count(), self.now);
-        self.share = share_of(count);
-        'events: for (place, event) in events.iter().enumerate() {
+        let (mut left, now) = (events.iter().count(), self.now);
+        self.share = share_of(left);
+        'events: for event in events.iter() {
+            left = left.saturating_sub(1);
             let ready = Ready {
-                part: part_at(place, count),
+                part: part_before(left),
                 now,
                 is_ended: event.is_read_closed(),
             };
@@ -126,10 +127,26 @@ impl Attendant {
             (clients_attendance self.old.clients) (clients_attendance self.new.clients) }
     {
         going_on::<C, B>();
-        if ready.part == Part::Whole || self.held.len() >= MOST_HELD {
+        self.send_due(rt, ready.part, clock, book);
+        self.attend(rt, token, ready, clock, book);
+    }
+
+    // Sends the replies that are held back, if enough are, or if none is before a turn of this part.
+    fn send_due<R: time::Clock + AllocGlobal, C: Clock, B: Book>(
+        &mut self,
+        rt: &R,
+        part: Part,
+        clock: &mut C,
+        book: &mut B,
+    )
+        ensures { Attends (point (C.tells clock.old) (B.state book.old))
+            (point (C.tells clock.new) (B.state book.new))
+            (clients_attendance self.old.clients) (clients_attendance self.new.clients) }
+    {
+        going_on::<C, B>();
+        if part == Part::Whole || self.held.len() >= MOST_HELD {
             self.send_held(rt, clock, book);
         }
-        self.attend(rt, token, ready, clock, book);
     }
 
     // Sends the replies that are held back.
@@ -400,9 +417,9 @@ fn one_less(left: Option<u64>) -> Option<u64>
     }
 }
 
-// What a client that is reported at this place of so many does in its turn.
-fn part_at(place: usize, count: usize) -> Part {
-    if count.saturating_sub(place) > MOST_HELD {
+// What a client does in its turn, if so many others come after it.
+fn part_before(left: usize) -> Part {
+    if left >= MOST_HELD {
         Part::Sends
     } else {
         Part::Whole
