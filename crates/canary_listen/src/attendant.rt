@@ -85,8 +85,8 @@ impl Attendant {
     }
 
     // Does what is to be done for each that was reported. If many more are to come, a reply is held
-    // back until there are some, which are sent one after another: so the system wakes fewer clients
-    // that wait for replies, and who is woken finds several.
+    // back until there are some, which are sent one after another: so the system wakes clients that
+    // wait for replies less often, and who is woken finds several.
     pub(crate) fn attend_all<R: time::Clock + AllocGlobal, C: Clock, B: Book>(
         &mut self,
         rt: &R,
@@ -131,7 +131,7 @@ impl Attendant {
         self.attend(rt, token, ready, clock, book);
     }
 
-    // Sends the replies that are held back, if enough are, or if none is before a turn of this part.
+    // Sends the replies that are held back, if enough are, or if the turn to come holds none back.
     fn send_due<R: time::Clock + AllocGlobal, C: Clock, B: Book>(
         &mut self,
         rt: &R,
