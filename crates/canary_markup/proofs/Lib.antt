@@ -1,2 +1,4 @@
 pub mod PieceLemmas
 pub mod EscapeLemmas
+pub mod LinkLemmas
+pub mod ShownLemmas

@@ -17,6 +17,7 @@ abbrev pub element_name : Element → List ℕ
 element_name element.Title = codes "title"
 element_name element.Body = codes "body"
 element_name element.Main = codes "main"
+element_name element.Navigation = codes "nav"
 element_name element.Header = codes "header"
 element_name element.Heading1 = codes "h1"
 element_name element.Heading2 = codes "h2"
@@ -47,6 +48,7 @@ element_name element.Heading = codes "th"
 element_name element.Cell = codes "td"
 element_name element.Time = codes "time"
 element_name element.Code = codes "code"
+element_name element.Anchor = codes "a"
 
 -- the name of an attribute in a tag
 abbrev pub attribute_name : Attribute → List ℕ
@@ -57,6 +59,7 @@ attribute_name attribute.Role = codes "role"
 attribute_name attribute.Spoken = codes "aria-label"
 attribute_name attribute.Present = codes "aria-current"
 attribute_name attribute.Scope = codes "scope"
+attribute_name attribute.Columns = codes "colspan"
 attribute_name attribute.Moment = codes "datetime"
 attribute_name attribute.View = codes "viewBox"
 attribute_name attribute.Width = codes "width"
@@ -81,6 +84,7 @@ bytes_of piece.Foot = codes "</html>\n"
 bytes_of (piece.Start e) = codes "<" ++ element_name e
 bytes_of (piece.Value a) = codes " " ++ attribute_name a ++ codes "=\""
 bytes_of piece.ValueEnd = codes "\""
+bytes_of (piece.Link id) = codes " href=\"#" ++ escaped id.now ++ codes "\""
 bytes_of piece.StartEnd = codes ">"
 bytes_of (piece.End e) = codes "</" ++ element_name e ++ codes ">"
 bytes_of (piece.Text text) = escaped text.now
@@ -123,6 +127,7 @@ place_after here piece.Foot = between here place.Between
 place_after here (piece.Start e) = between here place.Tag
 place_after here (piece.Value a) = in_tag here place.Value
 place_after here piece.ValueEnd = in_value here place.Tag
+place_after here (piece.Link id) = in_tag here place.Tag
 place_after here piece.StartEnd = in_tag here place.Between
 place_after here (piece.End e) = between here place.Between
 place_after here (piece.Text text) = in_text here

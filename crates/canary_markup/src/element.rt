@@ -8,6 +8,7 @@ pub enum Element {
     Title,
     Body,
     Main,
+    Navigation,
     Header,
     Heading1,
     Heading2,
@@ -38,6 +39,8 @@ pub enum Element {
     Cell,
     Time,
     Code,
+    /// With a place of the page (`Piece::Link`), a link to it.
+    Anchor,
 }
 
 impl Element {
@@ -49,6 +52,7 @@ impl Element {
             Element::Title => "title",
             Element::Body => "body",
             Element::Main => "main",
+            Element::Navigation => "nav",
             Element::Header => "header",
             Element::Heading1 => "h1",
             Element::Heading2 => "h2",
@@ -79,6 +83,7 @@ impl Element {
             Element::Cell => "td",
             Element::Time => "time",
             Element::Code => "code",
+            Element::Anchor => "a",
         }
     }
 }
@@ -93,6 +98,7 @@ pub enum Attribute {
     Spoken,
     Present,
     Scope,
+    Columns,
     Moment,
     View,
     Width,
@@ -122,6 +128,7 @@ impl Attribute {
             Attribute::Spoken => "aria-label",
             Attribute::Present => "aria-current",
             Attribute::Scope => "scope",
+            Attribute::Columns => "colspan",
             Attribute::Moment => "datetime",
             Attribute::View => "viewBox",
             Attribute::Width => "width",

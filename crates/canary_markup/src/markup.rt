@@ -1,10 +1,11 @@
 //! The bytes of a page, piece after piece.
-ghost use Rattle.std.specs.Prelude.{◌≡◌, [], ◌∷◌, ◌++◌, true, false, IfOk, OnOk};
+ghost use Rattle.std.specs.Prelude.{◌≡◌, [], ◌∷◌, ◌++◌, codes, true, false, IfOk, OnOk};
 ghost use Rattle.canary_markup.specs.Escaping.{escaped, escaped_byte, is_control};
 ghost use Rattle.canary_markup.specs.Pages.{bytes_of, IsOfPieces};
 
 use crate::element::{Attribute, Element};
 use crate::piece::{Piece, Place, place_after};
+use crate::shown::{Form, shown};
 use crate::style::STYLE;
 use canary_base::error::Memory;
 use canary_base::moments::Moment;
@@ -172,11 +173,29 @@ impl Markup {
         self.end(element);
     }
 
+    /// A link with this text to the element of this page that has this `id`, in a class.
+    pub fn link(&mut self, class: &str, id: &str, text: &str) {
+        self.start(Element::Anchor);
+        self.attribute(Attribute::Class, class);
+        self.add(Piece::Link(id));
+        self.start_end();
+        self.text(text);
+        self.end(Element::Anchor);
+    }
+
     /// A moment as RFC 3339 has it, in UTC.
     pub fn moment(&mut self, moment: Moment) {
         let mut text = String::new(self.alloc);
         match moment.text(&mut text) {
             Ok(()) => self.text(text.as_str()),
+            Err(_) => self.fail(),
+        }
+    }
+
+    /// A text of somebody else, of which each mark is shown as `\u` and four hexadecimal digits.
+    pub fn foreign(&mut self, text: &str) {
+        match shown(self.alloc, text, Form::Line) {
+            Ok(text) => self.text(text.as_str()),
             Err(_) => self.fail(),
         }
     }
@@ -213,6 +232,7 @@ fn put(bytes: &mut Vec<u8>, piece: Piece<'_>) -> Result<(), Memory>
         Piece::Start(element) => put_two(bytes, "<", element.name()),
         Piece::Value(attribute) => put_three(bytes, " ", attribute.name(), "=\""),
         Piece::ValueEnd => put_own(bytes, "\""),
+        Piece::Link(id) => put_link(bytes, id),
         Piece::StartEnd => put_own(bytes, ">"),
         Piece::End(element) => put_three(bytes, "</", element.name(), ">"),
         Piece::Text(text) => put_escaped(bytes, text.as_bytes()),
@@ -224,6 +244,15 @@ fn put_refresh(bytes: &mut Vec<u8>, seconds: u64) -> Result<(), Memory>
     ensures { OnOk result (bytes.new.items ≡ bytes.old.items ++ bytes_of (Piece.Refresh seconds)) }
 {
     put_three(bytes, REFRESH, Buffer::new().format(seconds), "\">")
+}
+
+fn put_link(bytes: &mut Vec<u8>, id: &str) -> Result<(), Memory>
+    ensures { OnOk result
+        (bytes.new.items ≡ bytes.old.items ++ codes " href=\"#" ++ escaped id.now ++ codes "\"") }
+{
+    put_own(bytes, " href=\"#")?;
+    put_escaped(bytes, id.as_bytes())?;
+    put_own(bytes, "\"")
 }
 
 // Appends a text of the page's own.

@@ -21,6 +21,8 @@ pub enum Piece<'a> {
     Value(Attribute),
     /// `"`: it ends.
     ValueEnd,
+    /// ` href="#ID"`: where a link goes, which is a place of the page itself.
+    Link(&'a str),
     /// `>`: the start tag ends.
     StartEnd,
     /// `</NAME>`: the end tag of an element.
@@ -51,6 +53,7 @@ pub fn place_after(place: Place, piece: Piece<'_>) -> Option<Place>
         Piece::Start(_) => between(place, Place::Tag),
         Piece::Value(_) => in_tag(place, Place::Value),
         Piece::ValueEnd => in_value(place, Place::Tag),
+        Piece::Link(_) => in_tag(place, Place::Tag),
         Piece::StartEnd => in_tag(place, Place::Between),
         Piece::Text(_) | Piece::Number(_) => in_text(place),
         Piece::Head | Piece::Refresh(_) | Piece::Style | Piece::Foot | Piece::End(_) => {

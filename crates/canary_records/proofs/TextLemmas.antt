@@ -1,12 +1,12 @@
 -- The texts of a file: how they are read line by line; that texts with open gates are read back, and
 -- refused if they are cut short; and what a file that is read has.
 use Rattle.std.proofs.Common.{◌≡◌, ◌≢◌, ℕ, zero, suc, ◌+◌, ◌<◌, ◌≤◌, List, [], ◌∷◌, ◌++◌, length, take, drop, Bool, true, false, Option, Some, None, refl, sym, ap, ◌∙◌, subst, arith, append-nil, append_assoc, length-append, length-drop}
-use Rattle.std.specs.Prelude.{◌==◌, cond, not, if◌then◌else◌, option_map, unwrap_or}
+use Rattle.std.specs.Prelude.{◌==◌, ◌||◌, nat_le, cond, not, if◌then◌else◌, option_map, unwrap_or}
 use Rattle.std.specs.List.{AllByRecursion, position_or_len}
 use Rattle.std.specs.Str.{is_utf8}
 use Rattle.std.proofs.lemmas.Bool.Decides.{nat_tests}
-use Rattle.canary_records.specs.Texts.{if_utf8, from_gate, from_text, texts_of, is_lf, up_to_lf, line_before, first_line, first_record, is_closed, records, IsLine}
-use Rattle.canary_records.specs.Laws.{ReadsBack, RefusesCut}
+use Rattle.canary_records.specs.Texts.{if_utf8, if_closed, from_gate, from_text, begins, texts_of, is_lf, up_to_lf, line_before, first_line, first_record, is_closed, records, IsLine}
+use Rattle.canary_records.specs.Laws.{ReadsBack, RefusesCut, RefusesGate}
 
 -- Line by line.
 
@@ -81,11 +81,27 @@ first_length bytes text after e =
 
 -- Texts with open gates.
 
+abbrev pub with_front : List (List ℕ) → Option (List (List ℕ)) → Option (List (List ℕ))
+with_front front more = option_map (λ texts. front ++ texts) more
+
+pub front_start : (more : Option (List (List ℕ))) → with_front [] more ≡ more
+front_start None = refl
+front_start (Some texts) = refl
+
 not_lf : (b : ℕ) → b ≢ 10 → (b == 10) ≡ false
 not_lf b other = grind (arith, nat_tests)
 
 not_open : (gate : ℕ) → gate ≢ 43 → (gate == 43) ≡ false
 not_open gate other = grind (arith, nat_tests)
+
+not_closed : (gate : ℕ) → gate ≢ 45 → (gate == 45) ≡ false
+not_closed gate other = grind (arith, nat_tests)
+
+pub within_most : (n : ℕ) → n ≤ 110 → nat_le n 110 ≡ true
+within_most n le = grind (arith, nat_tests)
+
+pub most_within : (n : ℕ) → nat_le n 110 ≡ true → n ≤ 110
+most_within n e = grind (arith, nat_tests)
 
 within : (done text rest : List ℕ) → AllByRecursion (λ byte. byte ≢ 10) text → from_text done (text ++ 10 ∷ rest) ≡ if_utf8 (done ++ text) (from_gate rest)
 within done [] rest h = ap (λ line. if_utf8 line (from_gate rest)) (sym (append-nil done))
@@ -100,26 +116,59 @@ utf8_then text more e = ap (λ t. if t then option_map (λ texts. text ∷ texts
 record_read : (text rest : List ℕ) → IsLine text → from_gate (43 ∷ (text ++ 10 ∷ rest)) ≡ option_map (λ texts. text ∷ texts) (from_gate rest)
 record_read text rest h = within [] text rest h.one ∙ utf8_then text (from_gate rest) h.utf8
 
-gates_read : (texts : List (List ℕ)) (gate : ℕ) (after : List ℕ) → AllByRecursion IsLine texts → gate ≢ 43 → from_gate (records texts ++ gate ∷ after) ≡ Some texts
-gates_read [] gate after h shut = ap (λ t. if t then from_text [] after else Some []) (not_open gate shut)
+-- a gate that is not open ends the texts
+gates_read : (texts : List (List ℕ)) (gate : ℕ) (after : List ℕ) → AllByRecursion IsLine texts → gate ≢ 43 → from_gate (records texts ++ gate ∷ after) ≡ with_front texts (if_closed gate)
+gates_read [] gate after h shut = ap (λ t. if t then from_text [] after else if_closed gate) (not_open gate shut) ∙ sym (front_start (if_closed gate))
 gates_read (text ∷ texts) gate after h shut =
     ap (λ rest. from_gate (43 ∷ rest)) (append_assoc text (10 ∷ records texts) (gate ∷ after))
     ∙ record_read text (records texts ++ gate ∷ after) h.0
     ∙ ap (option_map (λ more. text ∷ more)) (gates_read texts gate after h.1 shut)
+    ∙ both (if_closed gate)
+  where
+    both : (more : Option (List (List ℕ))) → option_map (λ ts. text ∷ ts) (option_map (λ ts. texts ++ ts) more) ≡ option_map (λ ts. (text ∷ texts) ++ ts) more
+    both None = refl
+    both (Some ts) = refl
 
--- a file of more than one byte is read from its first gate
-pub many_bytes : (bytes : List ℕ) → 1 < length bytes → texts_of bytes ≡ from_gate bytes
-many_bytes [] many = absurd (omega (arith, many))
-many_bytes (a ∷ []) many = absurd (omega (arith, many))
-many_bytes (a ∷ b ∷ bytes) many = refl
+closed_read : (texts : List (List ℕ)) (after : List ℕ) → AllByRecursion IsLine texts → from_gate (records texts ++ 45 ∷ after) ≡ Some texts
+closed_read texts after h = gates_read texts 45 after h (omega arith) ∙ ap Some (append-nil texts)
+
+-- a file of more than one byte is read from its first gate, if it begins so
+many_bytes' : (bytes : List ℕ) → 1 < length bytes → texts_of bytes ≡ (if begins bytes then from_gate bytes else None)
+many_bytes' [] many = absurd (omega (arith, many))
+many_bytes' (a ∷ []) many = absurd (omega (arith, many))
+many_bytes' (a ∷ b ∷ bytes) many = refl
+
+pub many_bytes : (bytes : List ℕ) → 1 < length bytes → begins bytes ≡ true → texts_of bytes ≡ from_gate bytes
+many_bytes bytes many so = many_bytes' bytes many ∙ ap (λ t. if t then from_gate bytes else None) so
+
+if_none : (t : Bool) (more : Option (List (List ℕ))) → more ≡ None → (if t then more else None) ≡ None
+if_none true more none = none
+if_none false more none = refl
+
+begun_by : (bytes : List ℕ) (texts : List (List ℕ)) (t : Bool) → (if t then from_gate bytes else None) ≡ Some texts → (t ≡ true) × (from_gate bytes ≡ Some texts)
+begun_by bytes texts true e = (refl, e)
+begun_by bytes texts false e = let none : ⊥ = cc e in absurd none
+
+-- so it begins if it has texts, and these are read from there
+pub many_read : (bytes : List ℕ) (texts : List (List ℕ)) → 1 < length bytes → texts_of bytes ≡ Some texts → (begins bytes ≡ true) × (from_gate bytes ≡ Some texts)
+many_read bytes texts many e = begun_by bytes texts (begins bytes) (sym (many_bytes' bytes many) ∙ e)
 
 pub reads_back : ReadsBack
-reads_back [] gate [] h shut = refl
-reads_back [] gate (b ∷ after) h shut = gates_read [] gate (b ∷ after) h shut
-reads_back (text ∷ texts) gate after h shut =
-    let long = length-append (records (text ∷ texts)) (gate ∷ after) in
+reads_back [] [] h short = refl
+reads_back [] (b ∷ after) h short =
+    let few : nat_le (length (45 ∷ b ∷ after)) 110 ≡ true = within_most (length (45 ∷ b ∷ after)) (let s = short refl in omega (arith, s)) in
+    many_bytes (45 ∷ b ∷ after) (omega arith) few ∙ closed_read [] (b ∷ after) h
+reads_back (text ∷ texts) after h short =
+    let long = length-append (records (text ∷ texts)) (45 ∷ after) in
     let parts = length-append text (10 ∷ records texts) in
-    many_bytes (records (text ∷ texts) ++ gate ∷ after) (omega (arith, long, parts)) ∙ gates_read (text ∷ texts) gate after h shut
+    many_bytes (records (text ∷ texts) ++ 45 ∷ after) (omega (arith, long, parts)) refl ∙ closed_read (text ∷ texts) after h
+
+-- a byte that is no gate in the place of one
+pub refuses_gate : RefusesGate
+refuses_gate texts gate after h other neither many =
+    many_bytes' (records texts ++ gate ∷ after) many
+    ∙ if_none (begins (records texts ++ gate ∷ after)) (from_gate (records texts ++ gate ∷ after))
+    (gates_read texts gate after h other ∙ ap (with_front texts) (ap (λ t. if t then Some [] else None) (not_closed gate neither)))
 
 -- Texts that are cut short.
 
@@ -156,17 +205,15 @@ length_take (suc n) (b ∷ bytes) le = ap suc (length_take n bytes (omega (arith
 
 pub refuses_cut : RefusesCut
 refuses_cut texts kept h many short =
-    many_bytes (take kept (records texts)) (omega (arith, many, length_take kept (records texts) short))
-    ∙ cut_gates texts kept h short
+    many_bytes' (take kept (records texts)) (omega (arith, many, length_take kept (records texts) short))
+    ∙ if_none (begins (take kept (records texts))) (from_gate (take kept (records texts))) (cut_gates texts kept h short)
 
 -- What a file that is read has.
 
 -- its texts with open gates, a closed gate, and whatever stands after that
 pub record Parts (bytes : List ℕ) (texts : List (List ℕ)) : Type 0 where
-  pub gate : ℕ
   pub after : List ℕ
-  pub closed : gate ≢ 43
-  pub is : bytes ≡ records texts ++ gate ∷ after
+  pub is : bytes ≡ records texts ++ 45 ∷ after
   pub lines : AllByRecursion IsLine texts
 
 -- the same within a text of which this was read
@@ -188,8 +235,11 @@ is_lf_false b e = grind (arith, nat_tests)
 is_open_true : (b : ℕ) → (b == 43) ≡ true → b ≡ 43
 is_open_true b e = grind (arith, nat_tests)
 
-is_open_false : (b : ℕ) → (b == 43) ≡ false → b ≢ 43
-is_open_false b e = grind (arith, nat_tests)
+is_closed_true : (b : ℕ) → (b == 45) ≡ true → b ≡ 45
+is_closed_true b e = grind (arith, nat_tests)
+
+open_not_closed : (b : ℕ) → (b == 43) ≡ true → (b == 45) ≡ false
+open_not_closed b e = grind (arith, nat_tests)
 
 no_lf_more : (done : List ℕ) (b : ℕ) → AllByRecursion (λ byte. byte ≢ 10) done → b ≢ 10 → AllByRecursion (λ byte. byte ≢ 10) (done ++ b ∷ [])
 no_lf_more [] b h other = (other, tt)
@@ -205,29 +255,29 @@ some_line done rest more texts false u e = let none : ⊥ = cc e in absurd none
 subst_lines : {xs ys : List (List ℕ)} → xs ≡ ys → AllByRecursion IsLine ys → AllByRecursion IsLine xs
 subst_lines e h = subst (AllByRecursion IsLine) (sym e) h
 
+shut_by : (gate : ℕ) (rest : List ℕ) (texts : List (List ℕ)) (t : Bool) → (gate == 45) ≡ t → (if t then Some [] else None) ≡ Some texts → Parts (gate ∷ rest) texts
+shut_by gate rest texts true is e =
+    let same : [] ≡ texts = cc e in
+    record {
+      after = rest;
+      is = ap (λ g. g ∷ rest) (is_closed_true gate is) ∙ ap (λ ts. records ts ++ 45 ∷ rest) same;
+      lines = subst_lines (sym same) tt;
+    }
+shut_by gate rest texts false is e = let none : ⊥ = cc e in absurd none
+
 by_gate : (gate : ℕ) (rest : List ℕ) (texts : List (List ℕ)) → ((ts : List (List ℕ)) → from_text [] rest ≡ Some ts → TextParts [] rest ts) → (t : Bool) → (gate == 43) ≡ t
-    → (if t then from_text [] rest else Some []) ≡ Some texts → Parts (gate ∷ rest) texts
+    → (if t then from_text [] rest else if_closed gate) ≡ Some texts → Parts (gate ∷ rest) texts
 by_gate gate rest texts within true is e =
     let p = within texts e in
     let open_gate = is_open_true gate is in
     record {
-      gate = p.parts.gate;
       after = p.parts.after;
-      closed = p.parts.closed;
       is = (λ i. open_gate i ∷ (p.bytes_are ∙ ap (λ r. p.line ++ 10 ∷ r) p.parts.is) i)
-          ∙ ap (λ r. 43 ∷ r) (sym (append_assoc p.line (10 ∷ records p.more) (p.parts.gate ∷ p.parts.after)))
-          ∙ ap (λ ts. records ts ++ p.parts.gate ∷ p.parts.after) (sym p.texts_are);
+          ∙ ap (λ r. 43 ∷ r) (sym (append_assoc p.line (10 ∷ records p.more) (45 ∷ p.parts.after)))
+          ∙ ap (λ ts. records ts ++ 45 ∷ p.parts.after) (sym p.texts_are);
       lines = subst_lines p.texts_are (p.is_line, p.parts.lines);
     }
-by_gate gate rest texts within false is e =
-    let same : [] ≡ texts = cc e in
-    record {
-      gate = gate;
-      after = rest;
-      closed = is_open_false gate is;
-      is = ap (λ ts. records ts ++ gate ∷ rest) same;
-      lines = subst_lines (sym same) tt;
-    }
+by_gate gate rest texts within false is e = shut_by gate rest texts (gate == 45) refl e
 
 by_byte : (done : List ℕ) (b : ℕ) (bytes : List ℕ) (texts : List (List ℕ)) → AllByRecursion (λ byte. byte ≢ 10) done → ((ts : List (List ℕ)) → from_gate bytes ≡ Some ts → Parts bytes ts)
     → (b ≢ 10 → from_text (done ++ b ∷ []) bytes ≡ Some texts → TextParts (done ++ b ∷ []) bytes texts) → (t : Bool) → (b == 10) ≡ t
@@ -267,35 +317,32 @@ mutual
 
 -- A loop over the lines of a file.
 
-abbrev pub with_front : List (List ℕ) → Option (List (List ℕ)) → Option (List (List ℕ))
-with_front front more = option_map (λ texts. front ++ texts) more
-
-pub front_start : (more : Option (List (List ℕ))) → with_front [] more ≡ more
-front_start None = refl
-front_start (Some texts) = refl
-
 front_more : (front : List (List ℕ)) (text : List ℕ) (more : Option (List (List ℕ))) → with_front front (option_map (λ texts. text ∷ texts) more) ≡ with_front (front ++ text ∷ []) more
 front_more front text None = refl
 front_more front text (Some texts) = ap Some (sym (append_assoc front (text ∷ []) texts))
 
-next_by : (front : List (List ℕ)) (bytes line after : List ℕ) (t : Bool) → Some (line, after) ≡ (if t then first_line bytes else None)
-    → with_front front (if t then from_text [] bytes else Some []) ≡ with_front (front ++ line ∷ []) (from_gate after)
-next_by front bytes line after true e = ap (with_front front) (text_is bytes ∙ ap line_then (sym e)) ∙ front_more front line (from_gate after)
-next_by front bytes line after false e = let none : ⊥ = cc e in absurd none
+next_by : (front : List (List ℕ)) (gate : ℕ) (bytes line after : List ℕ) (t : Bool) → Some (line, after) ≡ (if t then first_line bytes else None)
+    → with_front front (if t then from_text [] bytes else if_closed gate) ≡ with_front (front ++ line ∷ []) (from_gate after)
+next_by front gate bytes line after true e = ap (with_front front) (text_is bytes ∙ ap line_then (sym e)) ∙ front_more front line (from_gate after)
+next_by front gate bytes line after false e = let none : ⊥ = cc e in absurd none
 
 -- one record more was read
 pub front_next : (front : List (List ℕ)) (bytes line after : List ℕ) → Some (line, after) ≡ first_record bytes → with_front front (from_gate bytes) ≡ with_front (front ++ line ∷ []) (from_gate after)
 front_next front [] line after e = let none : ⊥ = cc e in absurd none
-front_next front (gate ∷ bytes) line after e = next_by front bytes line after (gate == 43) e
+front_next front (gate ∷ bytes) line after e = next_by front gate bytes line after (gate == 43) e
 
-end_by : (front : List (List ℕ)) (bytes : List ℕ) (t : Bool) → None ≡ (if t then first_line bytes else None)
-    → with_front front (if t then from_text [] bytes else Some []) ≡ (if not t then Some front else None)
-end_by front bytes true e = ap (with_front front) (text_is bytes ∙ ap line_then (sym e))
-end_by front bytes false e = ap Some (append-nil front)
+shut_front : (front : List (List ℕ)) (t : Bool) → with_front front (if t then Some [] else None) ≡ (if t then Some front else None)
+shut_front front true = ap Some (append-nil front)
+shut_front front false = refl
+
+end_by : (front : List (List ℕ)) (gate : ℕ) (bytes : List ℕ) (t : Bool) → (gate == 43) ≡ t → None ≡ (if t then first_line bytes else None)
+    → with_front front (if t then from_text [] bytes else if_closed gate) ≡ (if gate == 45 then Some front else None)
+end_by front gate bytes true is e = ap (with_front front) (text_is bytes ∙ ap line_then (sym e)) ∙ ap (λ t. if t then Some front else None) (sym (open_not_closed gate is))
+end_by front gate bytes false is e = shut_front front (gate == 45)
 
 front_end : (front : List (List ℕ)) (bytes : List ℕ) → None ≡ first_record bytes → with_front front (from_gate bytes) ≡ (if is_closed bytes then Some front else None)
 front_end front [] e = refl
-front_end front (gate ∷ bytes) e = end_by front bytes (gate == 43) e
+front_end front (gate ∷ bytes) e = end_by front gate bytes (gate == 43) refl e
 
 -- no record more, and a closed gate
 pub front_closed : (front : List (List ℕ)) (bytes : List ℕ) → None ≡ first_record bytes → is_closed bytes ≡ true → with_front front (from_gate bytes) ≡ Some front

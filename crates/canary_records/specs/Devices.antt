@@ -1,5 +1,5 @@
 -- What the calls of a device do to its file, and what a crash may leave between two syncs.
-use Rattle.std.specs.Prelude.{◌≡◌, ◌⊎◌, ℕ, ◌+◌, ◌≤◌, max, List, ◌++◌, length, take, drop, Result, IsErrOf}
+use Rattle.std.specs.Prelude.{◌≡◌, ◌⊎◌, ℕ, ◌+◌, ◌<◌, ◌≤◌, max, List, ◌++◌, length, take, drop, Result, IsErrOf}
 use Rattle.canary_records.specs.declared.device.DeviceFault.{DeviceFault}
 use Rattle.canary_records.specs.declared.device.DeviceFault.TheVariants.{Failed, Full}
 
@@ -7,13 +7,14 @@ use Rattle.canary_records.specs.declared.device.DeviceFault.TheVariants.{Failed,
 abbrev pub Holds : List ℕ → ℕ → List ℕ → List ℕ → Type 0
 Holds old at bytes new = new ≡ take at old ++ bytes ++ drop (at + length bytes) old
 
--- after a write of n bytes that a crash cuts short: any bytes in the range and past the old end,
--- the same elsewhere
-pub record Torn (at n : ℕ) (old new : List ℕ) : Type 0 where
+-- after a write of bytes that a crash cuts short: any bytes in the range and past the old end, the
+-- same elsewhere; but one byte that is written over another one is there, or that one still is
+pub record Torn (at : ℕ) (bytes old new : List ℕ) : Type 0 where
   pub before : take at new ≡ take at old
-  pub after : drop (at + n) new ≡ drop (at + n) old
+  pub after : drop (at + length bytes) new ≡ drop (at + length bytes) old
   pub no_shorter : length old ≤ length new
-  pub no_longer : length new ≤ max (length old) (at + n)
+  pub no_longer : length new ≤ max (length old) (at + length bytes)
+  pub one : length bytes ≡ 1 → at < length old → (new ≡ old) ⊎ Holds old at bytes new
 
 -- after a cut: some length between
 pub record Cut (n : ℕ) (old new : List ℕ) : Type 0 where

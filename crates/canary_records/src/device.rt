@@ -13,7 +13,8 @@ pub enum DeviceFault {
     Memory,
     /// The file could not be read, written or synced.
     Failed,
-    /// The file has no room for a text more: it is longer than 2^60 bytes. No device tells it.
+    /// The file has no room for the text: it is longer than 2^60 bytes, or a first text longer than
+    /// 107. No device tells it.
     Full,
 }
 
@@ -42,7 +43,8 @@ impl From<error::Memory> for DeviceFault {
 }
 
 /// A file of bytes. Between two syncs a crash may leave any bytes where it was written, and any
-/// length between two that it had.
+/// length between two that it had. Only of one byte that was written over another one it leaves
+/// the one or the other.
 pub trait Device {
     /// The bytes that a read returns.
     ghost seen: { Self → List ℕ };
@@ -69,12 +71,11 @@ pub trait Device {
         ensures cause { HasCause (has_failed self.new) result };
 
     /// Writes over what is there, and past the end, or `Failed` or `Memory`. Until a sync, a crash
-    /// may leave any bytes in the range.
+    /// may leave any bytes in the range; of one byte over another one, one of the two.
     fn write_at(&mut self, at: usize, bytes: &[u8]) -> Result<(), DeviceFault>
         requires { at ≤ length (seen self.old) }
         ensures written { OnOk result (Holds (seen self.old) at bytes.now (seen self.new)) }
-        ensures crash { Follows (Torn at (length bytes.now))
-            (may_leave self.old) (may_leave self.new) }
+        ensures crash { Follows (Torn at bytes.now) (may_leave self.old) (may_leave self.new) }
         ensures time { Elapses (moment self.old) (moment self.new)
             (left_since self.old) (left_since self.new) (may_leave self.new) }
         ensures cause { HasCause (has_failed self.new) result };

@@ -3,8 +3,9 @@ ghost use Rattle.std.specs.Prelude.{◌≡◌, IsTrue, IsErrOf};
 
 use crate::device::{Device, DeviceFault, overlaid};
 use std::alloc::Global;
-use std::fs::{File, OpenOptions, TryLockError};
-use std::io::Read;
+use std::fs::{self, File, OpenOptions, TryLockError};
+use std::io::{self, ErrorKind, Read};
+use std::os::fd::AsRawFd;
 use std::os::unix::fs::FileExt;
 
 /// Why a file cannot be opened.
@@ -12,6 +13,8 @@ use std::os::unix::fs::FileExt;
 pub enum OpenFault {
     /// Another process has it locked.
     InUse,
+    /// It is no regular file, but a folder, a FIFO, a device or a socket.
+    NoFile,
     /// It cannot be opened, locked or read.
     Failed,
 }
@@ -25,28 +28,42 @@ pub struct FileDevice {
     file: File,
     bytes: Vec<u8>,
     has_failed: bool,
+    was_there: bool,
 }
 
 impl FileDevice {
-    /// The file of this name, which is made if there is none.
+    /// The file of this name, which is made if there is none. Links are followed. A path to what is
+    /// no regular file is not opened, so it is not waited for.
     ///
     /// # Errors
-    /// `InUse` if another process has it locked; `Failed` if it cannot be opened, locked or read,
-    /// also if memory was refused.
+    /// `NoFile` if it is no regular file; `InUse` if another process has it locked; `Failed` if it
+    /// cannot be opened, locked or read, also if memory was refused.
     pub fn open(rt: &HostRuntime, path: &str) -> Result<FileDevice, OpenFault> {
-        let opened = OpenOptions::new()
-            .read(true)
-            .write(true)
-            .create(true)
-            .open(rt, path);
-        let Ok(file) = opened else {
-            return Err(OpenFault::Failed);
-        };
+        match fs::metadata(rt, path) {
+            Ok(found) if !found.is_file() => return Err(OpenFault::NoFile),
+            Ok(_) => {}
+            Err(error) if error.kind() == ErrorKind::NotFound => {}
+            Err(_) => return Err(OpenFault::Failed),
+        }
+        let (file, was_there) = opened(rt, path)?;
+        is_regular(&file)?;
         match file.try_lock() {
-            Ok(()) => read_whole(rt.alloc(), file),
+            Ok(()) => read_whole(rt.alloc(), file, was_there),
             Err(TryLockError::WouldBlock) => Err(OpenFault::InUse),
             Err(TryLockError::Error(_)) => Err(OpenFault::Failed),
         }
+    }
+
+    /// Whether the file may have been one of texts that was cut to nothing: it was there before it
+    /// was opened, and has no byte, or one alone that is no closed gate. A crash while it was made
+    /// leaves such a file, too.
+    pub fn is_in_doubt(&self) -> bool {
+        self.was_there
+            && match self.bytes.as_slice() {
+                [] => true,
+                [gate] => *gate != b'-',
+                _ => false,
+            }
     }
 
     // What a call of the file comes to.
@@ -64,7 +81,42 @@ impl FileDevice {
     }
 }
 
-fn read_whole(alloc: Global, mut file: File) -> Result<FileDevice, OpenFault> {
+// The file, open to be read and written, with a descriptor that is no standard stream's, and
+// whether it was there.
+fn opened(rt: &HostRuntime, path: &str) -> Result<(File, bool), OpenFault> {
+    match open_or_make(rt, path) {
+        Ok((file, was_there)) if file.as_raw_fd() > 2 => Ok((file, was_there)),
+        Ok((file, was_there)) => match file.try_clone() {
+            Ok(file) => Ok((file, was_there)),
+            Err(_) => Err(OpenFault::Failed),
+        },
+        Err(_) => Err(OpenFault::Failed),
+    }
+}
+
+// A name that is there and leads to no file is a link to one that is still to be made.
+fn open_or_make(rt: &HostRuntime, path: &str) -> io::Result<(File, bool)> {
+    let mut options = OpenOptions::new();
+    options.read(true).write(true);
+    match options.open(rt, path) {
+        Ok(file) => return Ok((file, true)),
+        Err(error) if error.kind() == ErrorKind::NotFound => {}
+        Err(error) => return Err(error),
+    }
+    let file = options.create(true).open(rt, path)?;
+    Ok((file, false))
+}
+
+// Another file may have taken the path meanwhile.
+fn is_regular(file: &File) -> Result<(), OpenFault> {
+    match file.metadata() {
+        Ok(found) if found.is_file() => Ok(()),
+        Ok(_) => Err(OpenFault::NoFile),
+        Err(_) => Err(OpenFault::Failed),
+    }
+}
+
+fn read_whole(alloc: Global, mut file: File, was_there: bool) -> Result<FileDevice, OpenFault> {
     let mut bytes = Vec::new(alloc);
     match file.read_to_end(&mut bytes) {
         Ok(_) => Ok(FileDevice {
@@ -72,6 +124,7 @@ fn read_whole(alloc: Global, mut file: File) -> Result<FileDevice, OpenFault> {
             file,
             bytes,
             has_failed: false,
+            was_there,
         }),
         Err(_) => Err(OpenFault::Failed),
     }

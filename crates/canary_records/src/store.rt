@@ -1,12 +1,12 @@
 //! A store of texts over a device.
-ghost use Rattle.std.specs.Prelude.{◌≡◌, ◌⊎◌, ◌+◌, ◌^◌, ◌≤◌, ◌++◌, [], ◌∷◌, length};
-ghost use Rattle.std.specs.Prelude.{take, option_map, Some, IfOk, IfSome, OnOk, IsErrOf};
+ghost use Rattle.std.specs.Prelude.{◌≡◌, ◌⊎◌, ◌^◌, ◌<◌, ◌≤◌, ◌++◌, [], ◌∷◌, length};
+ghost use Rattle.std.specs.Prelude.{take, option_map, Some, IfOk, IfSome, OnOk, OnErr, IsErrOf};
 ghost use Rattle.canary_records.specs.Devices.{Only, Holds, Torn, Cut, LeavesOnly};
 ghost use Rattle.canary_records.specs.Texts.{texts_of, records, HasNoLf};
-ghost use Rattle.canary_records.specs.Stores.{held, IsSettled, IsBeforeOrAfter, LeftBy};
+ghost use Rattle.canary_records.specs.Stores.{held, IsSettled, IsBeforeOrAfter, LeftBy, HasNoRoom};
 
 use crate::device::{Device, DeviceFault};
-use crate::texts::{self, Found};
+use crate::texts::{self, Found, MOST_FIRST};
 use canary_base::error::Memory;
 use canary_base::lists::Text;
 use std::alloc::Global;
@@ -28,8 +28,9 @@ impl<D: Device> Store<D> {
     /// before the first one is opened. From then on each crash leaves a file that has it.
     ///
     /// # Errors
-    /// `Full` if the file would be too long; `Failed` if the device failed; `Memory`. The file may
-    /// then have the text or not: recover it before it is used again.
+    /// `Full` if the file would be too long, or if a first text has more than 107 bytes, and then
+    /// nothing is changed; `Failed` if the device failed; `Memory`. The file may then have the text
+    /// or not: recover it before it is used again.
     pub fn append(&mut self, alloc: Global, text: &Text) -> Result<(), DeviceFault>
         requires rest { IsSettled D.seen D.may_leave self.old.device self.old.gate }
         requires line { HasNoLf text.now }
@@ -39,18 +40,33 @@ impl<D: Device> Store<D> {
         ensures any_moment { LeavesOnly D.moment D.left_since self.old.device self.new.device
             (IsBeforeOrAfter (held (D.seen self.old.device)) text.now) }
         ensures failed { IsErrOf result DeviceFault.Failed → D.has_failed self.new.device }
-        ensures full { IsErrOf result DeviceFault.Full → 2 ^ 60 ≤ self.old.gate + length text.now }
+        ensures full { IsErrOf result DeviceFault.Full
+            → HasNoRoom self.old.gate (length text.now) × (self.new ≡ self.old) }
     {
         let length = text.as_str().len();
-        if self.gate >= MOST || length >= MOST {
-            return Err(DeviceFault::Full);
-        }
+        room(self.gate, length)?;
         let behind = behind_gate(alloc, text)?;
         write_through(&mut self.device, self.gate + 1, behind.as_slice())?;
         write_through(&mut self.device, self.gate, b"+")?;
         self.gate += length + 2;
         Ok(())
     }
+}
+
+// `Full` if there is no room after so many bytes for a text of so many.
+fn room(gate: usize, length: usize) -> Result<(), DeviceFault>
+    ensures first { OnOk result (gate ≡ 0 → length ≤ 107) }
+    ensures small { OnOk result ((gate < 2 ^ 60) × (length < 2 ^ 60)) }
+    ensures full { OnErr result (HasNoRoom gate length) }
+    ensures not_failed { IsErrOf result DeviceFault.Failed → ⊥ }
+{
+    if gate == 0 && length > MOST_FIRST {
+        return Err(DeviceFault::Full);
+    }
+    if gate >= MOST || length >= MOST {
+        return Err(DeviceFault::Full);
+    }
+    Ok(())
 }
 
 // What stands after the gate of a text: the text, an LF, and a closed gate.
@@ -68,7 +84,7 @@ fn write_through<D: Device>(device: &mut D, at: usize, bytes: &[u8]) -> Result<(
     ensures written { OnOk result (Holds (D.seen device.old) at bytes.now (D.seen device.new)) }
     ensures durable { OnOk result (Only (D.seen device.new) (D.may_leave device.new)) }
     ensures any_moment { LeavesOnly D.moment D.left_since device.old device.new
-        (LeftBy (Torn at (length bytes.now)) (D.may_leave device.old)) }
+        (LeftBy (Torn at bytes.now) (D.may_leave device.old)) }
     ensures failed { IsErrOf result DeviceFault.Failed → D.has_failed device.new }
     ensures not_full { IsErrOf result DeviceFault.Full → ⊥ }
 {
@@ -104,9 +120,31 @@ fn read_through<D: Device>(alloc: Global, device: &mut D) -> Result<Vec<u8>, Dev
     device.read(alloc)
 }
 
-/// Reads the texts of a file that a crash may have left, and repairs its end; none if the file is
-/// cut short. What another program wrote there may not be on the disk yet, so the file is synced
-/// before it is believed.
+/// Reads the texts of a file that a crash may have left, and changes nothing; none if it is no file
+/// of texts, or is cut short. What another program wrote there may not be on the disk yet, so the
+/// file is synced before it is believed.
+///
+/// # Errors
+/// `Failed` if the device failed; `Memory`.
+pub fn look<D: Device>(alloc: Global, device: &mut D) -> Result<Option<Found>, DeviceFault>
+    ensures texts { IfOk result (λ found.
+        option_map (λ f. f.texts) found ≡ texts_of (D.seen device.old)) }
+    ensures gate { IfOk result (λ found. IfSome found (λ f. f.gate ≡ length (records f.texts))) }
+    ensures size { IfOk result (λ found. IfSome found (λ f.
+        f.size ≡ length (D.seen device.old))) }
+    ensures same { OnOk result (D.seen device.new ≡ D.seen device.old) }
+    ensures durable { OnOk result (Only (D.seen device.new) (D.may_leave device.new)) }
+    ensures any_moment { LeavesOnly D.moment D.left_since device.old device.new
+        (D.may_leave device.old) }
+    ensures failed { IsErrOf result DeviceFault.Failed → D.has_failed device.new }
+    ensures not_full { IsErrOf result DeviceFault.Full → ⊥ }
+{
+    let bytes = read_through(alloc, device)?;
+    Ok(texts::texts_of(alloc, bytes.as_slice())?)
+}
+
+/// Reads the texts of a file that a crash may have left, and repairs its end; none if it is no file
+/// of texts, or is cut short, and then it is as before.
 ///
 /// # Errors
 /// `Failed` if the device failed; `Memory`. The texts are then as before.
@@ -121,16 +159,34 @@ pub fn recover<D: Device>(alloc: Global, device: &mut D) -> Result<Option<Found>
     ensures failed { IsErrOf result DeviceFault.Failed → D.has_failed device.new }
     ensures not_full { IsErrOf result DeviceFault.Full → ⊥ }
 {
-    let bytes = read_through(alloc, device)?;
-    let Some(found) = texts::texts_of(alloc, bytes.as_slice())? else {
+    let Some(found) = look(alloc, device)? else {
         return Ok(None);
     };
-    repair(device, bytes.len(), &found)?;
+    repair(device, &found)?;
     Ok(Some(found))
 }
 
-// Cuts off what stands after the closed gate, or closes the first gate of a file that has none.
-fn repair<D: Device>(device: &mut D, size: usize, found: &Found) -> Result<(), DeviceFault>
+/// Cuts off what stands after the closed gate of a file, or closes the first gate of one that has
+/// none. The file is as `look` found it.
+///
+/// # Errors
+/// `Failed` if the device failed; `Memory`. The texts are then as before.
+pub fn repair<D: Device>(device: &mut D, found: &Found) -> Result<(), DeviceFault>
+    requires size { found.now.size ≡ length (D.seen device.old) }
+    requires texts { texts_of (D.seen device.old) ≡ Some found.now.texts }
+    requires gate { found.now.gate ≡ length (records found.now.texts) }
+    requires durable { Only (D.seen device.old) (D.may_leave device.old) }
+    ensures rest { OnOk result (IsSettled D.seen D.may_leave device.new found.now.gate
+        × (held (D.seen device.new) ≡ found.now.texts)) }
+    ensures any_moment { LeavesOnly D.moment D.left_since device.old device.new
+        (λ c. texts_of c ≡ texts_of (D.seen device.old)) }
+    ensures failed { IsErrOf result DeviceFault.Failed → D.has_failed device.new }
+    ensures not_full { IsErrOf result DeviceFault.Full → ⊥ }
+{
+    repair_sized(device, found.size, found)
+}
+
+fn repair_sized<D: Device>(device: &mut D, size: usize, found: &Found) -> Result<(), DeviceFault>
     requires size { size ≡ length (D.seen device.old) }
     requires texts { texts_of (D.seen device.old) ≡ Some found.now.texts }
     requires gate { found.now.gate ≡ length (records found.now.texts) }

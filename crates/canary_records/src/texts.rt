@@ -2,12 +2,19 @@
 ghost use Rattle.std.specs.Prelude.{◌≡◌, ◌+◌, length, option_map, position, IfSome, IfOk};
 ghost use Rattle.canary_records.specs.Texts.{is_lf, up_to_lf, first_line, from_gate, texts_of};
 ghost use Rattle.canary_records.specs.Texts.{records, line_before, text_of};
-ghost use Rattle.canary_records.specs.Texts.{first_record, is_closed};
+ghost use Rattle.canary_records.specs.Texts.{first_record, is_closed, begins};
 
 use canary_base::error::Memory;
 use canary_base::lists::{Listed, Text};
 use std::alloc::Global;
 use std::str;
+
+// The most bytes that adding a first text leaves before its gate is open: the gate, a text of
+// `MOST_FIRST` bytes, an LF and a gate.
+const MOST_NEW: usize = 110;
+
+/// The most bytes of a first text.
+pub const MOST_FIRST: usize = 107;
 
 /// The texts of a file.
 #[derive(Drop)]
@@ -16,19 +23,36 @@ pub struct Found {
     pub texts: Listed<Text>,
     /// How many bytes stand before the closed gate.
     pub gate: usize,
+    /// How many bytes the file has.
+    pub size: usize,
 }
 
-/// The texts of a file, or `Memory`; none if it is cut short, or if a text is not UTF-8.
+/// The texts of a file, or `Memory`; none if it is no file of texts, is cut short, or has a text
+/// that is not UTF-8. A file of more than one byte has a gate first, and if that is closed, it is
+/// no longer than a crash may leave it while a first text is added.
 pub fn texts_of(alloc: Global, bytes: &[u8]) -> Result<Option<Found>, Memory>
     ensures texts { IfOk result (λ found. option_map (λ f. f.texts) found ≡ texts_of bytes.now) }
     ensures gate { IfOk result (λ found. IfSome found (λ f. f.gate ≡ length (records f.texts))) }
+    ensures size { IfOk result (λ found. IfSome found (λ f. f.size ≡ length bytes.now)) }
 {
     match bytes {
         [] | [_] => Ok(Some(Found {
             texts: Listed::of(Vec::new(alloc)),
             gate: 0,
+            size: bytes.len(),
         })),
-        bytes => from_gate(alloc, bytes),
+        bytes if begins(bytes) => from_gate(alloc, bytes),
+        _ => Ok(None),
+    }
+}
+
+// Whether a file begins as one of texts: its first gate is open, or no text counts yet.
+fn begins(bytes: &[u8]) -> bool
+    ensures { result ≡ begins bytes.now }
+{
+    match bytes {
+        [] | [b'+', ..] => true,
+        bytes => bytes.len() <= MOST_NEW,
     }
 }
 
@@ -36,6 +60,7 @@ pub fn texts_of(alloc: Global, bytes: &[u8]) -> Result<Option<Found>, Memory>
 fn from_gate(alloc: Global, bytes: &[u8]) -> Result<Option<Found>, Memory>
     ensures texts { IfOk result (λ found. option_map (λ f. f.texts) found ≡ from_gate bytes.now) }
     ensures gate { IfOk result (λ found. IfSome found (λ f. f.gate ≡ length (records f.texts))) }
+    ensures size { IfOk result (λ found. IfSome found (λ f. f.size ≡ length bytes.now)) }
 {
     let mut texts = Vec::new(alloc);
     let mut rest = bytes;
@@ -49,6 +74,7 @@ fn from_gate(alloc: Global, bytes: &[u8]) -> Result<Option<Found>, Memory>
     Ok(Some(Found {
         texts: Listed::of(texts),
         gate: bytes.len() - rest.len(),
+        size: bytes.len(),
     }))
 }
 
@@ -67,7 +93,7 @@ fn is_closed(bytes: &[u8]) -> bool
     ensures { result ≡ is_closed bytes.now }
 {
     match bytes {
-        [gate, ..] => *gate != b'+',
+        [gate, ..] => *gate == b'-',
         [] => false,
     }
 }

@@ -1,14 +1,14 @@
 -- How the numbers, texts and flags that were given are got: what the getters of the matches answer.
 use Rattle.std.proofs.Common.{inl, inr, ◌≡◌, ◌≤◌, ℕ, Result, Ok, Err, ◌∙◌, ap, sym, Bool, true, false, List, Option, Some, None, codes, refl}
-use Rattle.std.specs.Prelude.{IfSome, option_map}
+use Rattle.std.specs.Prelude.{IfSome, find, map, option_and_then, option_map, slice_get}
 use Rattle.std.specs.Option.{SomeIff, option_map_or}
 use Rattle.std.specs.Str.{bytes_eq}
 use Rattle.std.specs.Str.Parse.{ParsesUnsigned, digits_value, without_leading_plus}
 use Rattle.std.specs.Borrow.{Bor}
-use Rattle.clap.specs.Words.{IsUnsignedIn, ReadsOne, Text, first_value, one_of, one_text, rows_of}
+use Rattle.clap.specs.Words.{IsUnsignedIn, ReadsOne, Row, Text, first_value, matched_of, one_of, one_text, raw_values, rows_of}
 use Rattle.clap.specs.declared.parser.matches.Found.{Found}
-use Rattle.clap.proofs.WalkLemmas.{first_value-rows, one_text-rows}
-use Rattle.canary_words.specs.CommandLine.{flag_given, number_given, text_given, HasMoment, HasText, IsTrueOrFalse, MayHaveFlag, MayHaveNumber}
+use Rattle.clap.proofs.WalkLemmas.{first_value-rows, one_text-rows, raw_values-rows}
+use Rattle.canary_words.specs.CommandLine.{flag_given, number_given, text_given, texts_given, HasMoment, HasText, IsTrueOrFalse, MayHaveFlag, MayHaveNumber}
 
 -- the number that is read of a text that passed the parser of a number
 number_read : (E : Type 0) (G : List ℕ → Result ℕ E → Type 0) (least most : ℕ) (text : Text) (r : Option ℕ) → ReadsOne G text r
@@ -41,11 +41,25 @@ optional_read E G f name r may none reads only = go (one_of name (rows_of f)) re
         let number = number_read E G 1 may.0 text r (reads text (one_text-rows f name ∙ is)) only fits in
         number.1 ∙ (ap (λ n. Some n) number.2 ∙ sym (ap (option_map (λ text. digits_value 10 (without_leading_plus text))) is))
 
+-- what has a first text has texts
+none_given : (name : Text) (rows : List Row) (text : Text) → texts_given name rows ≡ None → text_given name rows ≡ Some text → ⊥
+none_given name rows text none given = go (find (λ r. bytes_eq r.id name) rows) none given
+  where
+    go : (o : Option Row) → option_map (λ r. r.values) o ≡ None → option_and_then (λ r. slice_get r.values 0) o ≡ Some text → ⊥
+    go None none given = cc
+    go (Some r) none given = cc
+
 -- the text that was given, as it is got
 pub text_met : (f : Found) (name : Text) (r : Option (Bor Text)) → HasText name (rows_of f) → option_map (λ s. s.now) r ≡ first_value f name
     → (s : Bor Text) × (r ≡ Some s) × (text_given name (rows_of f) ≡ Some s.now)
 text_met f name None has got = let none : None ≡ Some has.0 = got ∙ (first_value-rows f name ∙ has.1) in cc
 text_met f name (Some s) has got = (s, refl, sym (first_value-rows f name) ∙ sym got)
+
+-- the texts that were given, as they are got
+pub texts_met : (f : Found) (name : Text) (r : Option (Bor (List (Bor Text)))) → HasText name (rows_of f) → option_map (λ s. map (λ v. v.now) s.now) r ≡ option_map raw_values (matched_of f name)
+    → (s : Bor (List (Bor Text))) × (r ≡ Some s) × (texts_given name (rows_of f) ≡ Some (map (λ v. v.now) s.now))
+texts_met f name None has got = absurd (none_given name (rows_of f) has.0 (sym (got ∙ raw_values-rows f name)) has.1)
+texts_met f name (Some s) has got = (s, refl, sym (got ∙ raw_values-rows f name))
 
 -- and that of an option that may be left out
 pub text_or_none : (f : Found) (name : Text) (r : Option (Bor Text)) → option_map (λ s. s.now) r ≡ first_value f name → option_map (λ s. s.now) r ≡ text_given name (rows_of f)

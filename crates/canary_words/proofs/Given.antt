@@ -11,7 +11,7 @@ use Rattle.clap.specs.Kinds.{check_kinds}
 use Rattle.clap.specs.Faults.{check_fault, level_fault}
 use Rattle.clap.specs.declared.builder.value_parser.ValueParser.TheVariants.{Bool as bool_parser, Unsigned}
 use Rattle.clap.proofs.ValueTestLemmas.{accepts-Accepts}
-use Rattle.canary_words.specs.CommandLine.{desk_command, number_option, pipe_command, HasAsked, HasDesk, HasDo, HasDue, HasExport, HasImport, HasListener, HasMigrate, HasPage, HasPipe, HasStatus, HasTexts, IsTrueOrFalse}
+use Rattle.canary_words.specs.CommandLine.{desk_command, number_option, pipe_command, HasAsked, HasCheck, HasDesk, HasDo, HasDue, HasExport, HasImport, HasListener, HasMigrate, HasPage, HasPipe, HasStatus, HasTexts, HasWatch, IsTrueOrFalse}
 use Rattle.canary_words.proofs.Walks.{AreOptions, AreRead, given_text, optional_text, read-level}
 
 -- the desk and its commands, as they are built
@@ -95,6 +95,9 @@ backup_options = (record { own = refl; default = tt; takes = inl (refl, refl) },
 migrate_options : AreOptions migrate.rules migrate.rules
 migrate_options = (record { own = refl; default = tt; takes = inl (refl, refl) }, (record { own = refl; default = refl; takes = inr (inl (refl, tt)) }, (record { own = refl; default = tt; takes = inr (inr refl) }, tt)))
 
+check_options : AreOptions check.rules check.rules
+check_options = (record { own = refl; default = tt; takes = inl (refl, refl) }, (record { own = refl; default = refl; takes = inr (inl (refl, tt)) }, (record { own = refl; default = tt; takes = inl (refl, refl) }, (record { own = refl; default = tt; takes = inr (inr refl) }, tt))))
+
 asking_options : AreOptions asking.rules asking.rules
 asking_options = (record { own = refl; default = tt; takes = inl (refl, refl) }, (record { own = refl; default = tt; takes = inl (refl, refl) }, (record { own = refl; default = tt; takes = inl (refl, refl) }, (record { own = refl; default = tt; takes = inl (refl, refl) }, (record { own = refl; default = tt; takes = inl (refl, refl) }, (record { own = refl; default = tt; takes = inl (refl, refl) }, (record { own = refl; default = refl; takes = inr (inl (refl, tt)) }, (record { own = refl; default = tt; takes = inl (refl, refl) }, (record { own = refl; default = tt; takes = inl (refl, refl) }, (record { own = refl; default = tt; takes = inl (refl, refl) }, (record { own = refl; default = tt; takes = inl (refl, refl) }, (record { own = refl; default = tt; takes = inl (refl, refl) }, (record { own = refl; default = tt; takes = inl (refl, refl) }, (record { own = refl; default = tt; takes = inr (inr refl) }, tt))))))))))))))
 
@@ -102,13 +105,13 @@ get_options : AreOptions get.rules get.rules
 get_options = (record { own = refl; default = tt; takes = inl (refl, refl) }, (record { own = refl; default = tt; takes = inl (refl, refl) }, (record { own = refl; default = tt; takes = inl (refl, refl) }, (record { own = refl; default = tt; takes = inl (refl, refl) }, (record { own = refl; default = tt; takes = inl (refl, refl) }, (record { own = refl; default = tt; takes = inr (inr refl) }, tt))))))
 
 watch_options : AreOptions watch.rules watch.rules
-watch_options = (record { own = refl; default = tt; takes = inl (refl, refl) }, (record { own = refl; default = tt; takes = inl (refl, refl) }, (record { own = refl; default = tt; takes = inl (refl, refl) }, (record { own = refl; default = tt; takes = inl (refl, refl) }, (record { own = refl; default = tt; takes = inl (refl, refl) }, (record { own = refl; default = tt; takes = inr (inr refl) }, tt))))))
+watch_options = (record { own = refl; default = tt; takes = inl (refl, refl) }, (record { own = refl; default = tt; takes = inl (refl, refl) }, (record { own = refl; default = tt; takes = inl (refl, refl) }, (record { own = refl; default = tt; takes = inl (refl, refl) }, (record { own = refl; default = refl; takes = inr (inl (refl, tt)) }, (record { own = refl; default = refl; takes = inr (inl (refl, tt)) }, (record { own = refl; default = tt; takes = inl (refl, refl) }, (record { own = refl; default = tt; takes = inr (inr refl) }, tt))))))))
 
 send_options : AreOptions send.rules send.rules
 send_options = (record { own = refl; default = tt; takes = inl (refl, refl) }, (record { own = refl; default = tt; takes = inl (refl, refl) }, (record { own = refl; default = tt; takes = inl (refl, refl) }, (record { own = refl; default = tt; takes = inl (refl, refl) }, (record { own = refl; default = tt; takes = inr (inr refl) }, tt)))))
 
 due_options : AreOptions due.rules due.rules
-due_options = (record { own = refl; default = tt; takes = inl (refl, refl) }, (record { own = refl; default = tt; takes = inl (refl, refl) }, (record { own = refl; default = tt; takes = inl (refl, refl) }, (record { own = refl; default = refl; takes = inr (inl (refl, tt)) }, (record { own = refl; default = tt; takes = inl (refl, refl) }, (record { own = refl; default = tt; takes = inr (inr refl) }, tt))))))
+due_options = (record { own = refl; default = tt; takes = inl (refl, refl) }, (record { own = refl; default = tt; takes = inl (refl, refl) }, (record { own = refl; default = tt; takes = inl (refl, refl) }, (record { own = refl; default = refl; takes = inr (inl (refl, tt)) }, (record { own = refl; default = tt; takes = inl (refl, refl) }, (record { own = refl; default = tt; takes = inl (refl, refl) }, (record { own = refl; default = tt; takes = inr (inr refl) }, tt)))))))
 
 -- what is required is given
 both_given : (at step : Bool) → check_kinds false false (not at || (not step || false)) ≡ [] → (at ≡ true) × (step ≡ true)
@@ -243,6 +246,13 @@ migrate_rows words none =
     let db = given_text migrate.rules (codes "db") _ rows refl level.0 (one_given (is_given (codes "db") rows) level.1) in
     ((db.0, db.2), flag_passed (one_of (codes "dry-run") rows) (optional_text migrate.rules (codes "dry-run") _ rows refl level.0))
 
+-- the rows of `check`
+pub check_rows : (words : List Text) → level_fault check [] nothing_held words false [] ≡ [] → HasCheck (rows_after check.rules [] words)
+check_rows words none =
+    let level = read-level check [] words false [] check_options none in
+    let rows : List Row = rows_after check.rules [] words in
+    flag_passed (one_of (codes "strict") rows) (optional_text check.rules (codes "strict") _ rows refl level.0)
+
 -- ---- what the commands that ask a desk have to be given
 
 abbrev tries_rule : Rule
@@ -284,9 +294,14 @@ get_rows words none =
     asked_rows get (codes "service") _ words get_options refl refl refl (one_given (is_given (codes "service") (rows_after get.rules [] words))) none
 
 -- the rows of `watch`
-pub watch_rows : (words : List Text) → level_fault watch [] nothing_held words false [] ≡ [] → HasAsked (codes "service") (rows_after watch.rules [] words)
+pub watch_rows : (words : List Text) → level_fault watch [] nothing_held words false [] ≡ [] → HasWatch (rows_after watch.rules [] words)
 watch_rows words none =
-    asked_rows watch (codes "service") _ words watch_options refl refl refl (one_given (is_given (codes "service") (rows_after watch.rules [] words))) none
+    let level = read-level watch [] words false [] watch_options none in
+    let rows : List Row = rows_after watch.rules [] words in (
+      asked_rows watch (codes "service") _ words watch_options refl refl refl (one_given (is_given (codes "service") rows)) none,
+      flag_passed (one_of (codes "json") rows) (optional_text watch.rules (codes "json") _ rows refl level.0),
+      flag_passed (one_of (codes "forever") rows) (optional_text watch.rules (codes "forever") _ rows refl level.0),
+    )
 
 -- the rows of `send`
 pub send_rows : (words : List Text) → level_fault send [] nothing_held words false [] ≡ [] → HasAsked (codes "csv") (rows_after send.rules [] words)
@@ -300,4 +315,5 @@ due_rows words none =
     let rows : List Row = rows_after due.rules [] words in (
       asked_rows due (codes "service") _ words due_options refl refl refl (one_given (is_given (codes "service") rows)) none,
       flag_passed (one_of (codes "wait") rows) (optional_text due.rules (codes "wait") _ rows refl level.0),
+      number_passed 31536000 (one_of (codes "late") rows) (optional_text due.rules (codes "late") _ rows refl level.0),
     )

@@ -1,6 +1,6 @@
 -- What the words spell where clap finds no fault in them: one of the commands, with all that it has to be given.
 use Rattle.std.proofs.Common.{inl, inr, ◌≡◌, ◌↔◌, IfOk, ℕ, Result, ◌∙◌, ap, subst, sym, ◌||◌, Bool, true, false, cond, List, [], ◌∷◌, Option, Some, None, is_some, codes, refl}
-use Rattle.std.specs.Prelude.{find, IfSome, IsSome, unwrap_or, option_and_then, option_map}
+use Rattle.std.specs.Prelude.{find, slice_get, IfSome, IsSome, unwrap_or, option_and_then, option_map}
 use Rattle.std.specs.Option.{option_map_or}
 use Rattle.std.specs.Str.{bytes_eq}
 use Rattle.std.specs.Str.Parse.{digits_value, without_leading_plus}
@@ -15,13 +15,13 @@ use Rattle.clap.specs.declared.error.kind.ErrorKind.{ErrorKind}
 use Rattle.clap.specs.declared.error.kind.ErrorKind.TheVariants.{MissingSubcommand}
 use Rattle.clap.specs.declared.parser.matches.ArgMatches.{ArgMatches}
 use Rattle.clap.specs.declared.parser.matches.ArgMatches.TheViews.{out-ArgMatches, out-SubCommand}
-use Rattle.canary_words.specs.CommandLine.{desk_command, faults_of, exported, export_of, flag_given, limits_of, number_given, of_two, pipe_of, piped, program_in, program_of, text_given, with_db, HasAsked, HasClientProgram, HasDo, HasDue, HasExport, HasImport, HasListener, HasMigrate, HasMoment, HasNothing, HasPipe, HasPage, HasProgram, HasRecordsProgram, HasStatus, HasText, HasTexts}
+use Rattle.canary_words.specs.CommandLine.{desk_command, faults_of, exported, export_of, flag_given, limits_of, number_given, of_two, pipe_of, piped, program_in, program_of, text_given, texts_given, with_db, HasAsked, HasCheck, HasClientProgram, HasDo, HasDue, HasExport, HasImport, HasListener, HasMigrate, HasMoment, HasPipe, HasPage, HasProgram, HasRecordsProgram, HasStatus, HasText, HasTexts, HasWatch}
 use Rattle.canary_words.specs.CommandLine.{command_of, desk_of, do_of}
 use Rattle.canary_words.specs.declared.words.Program.{Program}
 use Rattle.canary_words.specs.declared.words.Asked.TheVariants.{Get, Watch, Send, Due}
 use Rattle.canary_words.specs.declared.words.Program.TheVariants.{Serve, Import, History, Status, Page, Backup, Migrate, Ask}
 use Rattle.canary_words.proofs.Chains.{ok_then}
-use Rattle.canary_words.proofs.Given.{backup, backup_rows, check, desk, do_rows, due, due_rows, export, export_rows, get, get_rows, history, history_rows, import, import_rows, migrate, migrate_rows, page, page_rows, pipe, pipe_rows, send, send_rows, serve, serve_rows, status, status_rows, asking, watch, watch_rows}
+use Rattle.canary_words.proofs.Given.{backup, backup_rows, check, check_rows, desk, do_rows, due, due_rows, export, export_rows, get, get_rows, history, history_rows, import, import_rows, migrate, migrate_rows, page, page_rows, pipe, pipe_rows, send, send_rows, serve, serve_rows, status, status_rows, asking, watch, watch_rows}
 use Rattle.canary_words.proofs.Walks.{IsNoHelp, below_none, stop-no_help}
 
 pub desk_is_simple : is_simple_and_free desk_command ≡ true
@@ -108,7 +108,7 @@ migrate_met : (words : List Text) → IsGiven migrate words
 migrate_met words none = of_records (Some (rows_at migrate words)) (inr (inr (inr (inr (inr (inr (rows_after migrate.rules [] words, refl, migrate_rows words none)))))))
 
 check_met : (words : List Text) → IsGiven check words
-check_met words none = inr (inr (inr (inl (rows_after check.rules [] words, refl, tt))))
+check_met words none = inr (inr (inr (inl (rows_after check.rules [] words, refl, check_rows words none))))
 
 asking_met : (words : List Text) → IsGiven asking words
 asking_met words none = of_client (Some (rows_at asking words)) (inl (rows_after asking.rules [] words, refl, do_rows words none))
@@ -189,6 +189,14 @@ export_spelled rows h =
 do_spelled : (rows : List Row) → HasDo rows → IsSome (do_of rows)
 do_spelled rows h = made_of _ (command_of rows) (made _ (codes "command") rows h.0.1)
 
+-- what has a first text has texts
+texts_there : (name : Text) (rows : List Row) → HasText name rows → IsSome (texts_given name rows)
+texts_there name rows has = go (find (λ r. bytes_eq r.id name) rows) has.1
+  where
+    go : (o : Option Row) → option_and_then (λ r. slice_get r.values 0) o ≡ Some has.0 → IsSome (option_map (λ r. r.values) o)
+    go None is = cc
+    go (Some r) is = refl
+
 -- what was met with these rows spells a program
 met_so : (o : Option (Text × List Row)) (name : Text) (rows : List Row) → o ≡ Some (name, rows) → IsSome (program_in (name, rows)) → IsSome (option_and_then program_in o)
 met_so o name rows is some = subst (λ (o : Option (Text × List Row)). IsSome (option_and_then program_in o)) (sym is) some
@@ -197,9 +205,9 @@ met_so o name rows is some = subst (λ (o : Option (Text × List Row)). IsSome (
 client_met : (met : Option (Text × List Row)) → HasClientProgram met → IsSome (option_and_then program_in met)
 client_met met (inl h) = met_so met _ h.0 h.1 (do_spelled h.0 h.2)
 client_met met (inr (inl h)) = met_so met _ h.0 h.1 (made (λ service. Ask (Get (desk_of h.0) service (text_given (codes "part") h.0))) (codes "service") h.0 h.2.1)
-client_met met (inr (inr (inl h))) = met_so met _ h.0 h.1 (made (λ service. Ask (Watch (desk_of h.0) (text_given (codes "until") h.0) service)) (codes "service") h.0 h.2.1)
+client_met met (inr (inr (inl h))) = met_so met _ h.0 h.1 (made (λ service. Ask (Watch (desk_of h.0) (text_given (codes "until") h.0) (flag_given (codes "json") h.0) (flag_given (codes "forever") h.0) service)) (codes "service") h.0 h.2.0.1)
 client_met met (inr (inr (inr (inl h)))) = met_so met _ h.0 h.1 (made (λ csv. Ask (Send (desk_of h.0) csv)) (codes "csv") h.0 h.2.1)
-client_met met (inr (inr (inr (inr h)))) = met_so met _ h.0 h.1 (made (λ service. Ask (Due (desk_of h.0) (flag_given (codes "wait") h.0) service)) (codes "service") h.0 h.2.0.1)
+client_met met (inr (inr (inr (inr h)))) = met_so met _ h.0 h.1 (made_of _ (texts_given (codes "service") h.0) (texts_there (codes "service") h.0 h.2.0.1))
 
 -- what was met spells a program
 program_met : (met : Option (Text × List Row)) → HasProgram met → IsSome (option_and_then program_in met)
@@ -233,7 +241,7 @@ choose false a b = b
 abbrev pub IsAskedFor : Text → List Row → Type 0
 IsAskedFor name rows = choose (bytes_eq name (codes "do")) (HasDo rows)
     (choose (bytes_eq name (codes "get")) (HasAsked (codes "service") rows)
-    (choose (bytes_eq name (codes "watch")) (HasAsked (codes "service") rows)
+    (choose (bytes_eq name (codes "watch")) (HasWatch rows)
     (choose (bytes_eq name (codes "send")) (HasAsked (codes "csv") rows)
     (choose (bytes_eq name (codes "due")) (HasDue rows) ⊥))))
 
@@ -248,7 +256,7 @@ IsGivenFor name rows = choose (bytes_eq name (codes "pipe")) (HasPipe rows)
     (choose (bytes_eq name (codes "page")) (HasPage rows)
     (choose (bytes_eq name (codes "backup")) (HasTexts (codes "copy") rows)
     (choose (bytes_eq name (codes "migrate")) (HasMigrate rows)
-    (choose (bytes_eq name (codes "check")) (HasNothing rows) (IsAskedFor name rows))))))))))
+    (choose (bytes_eq name (codes "check")) (HasCheck rows) (IsAskedFor name rows))))))))))
 
 -- what was met is met under one name
 given_as : (o : Option (Text × List Row)) (n name : Text) (r rows : List Row) → o ≡ Some (n, r) → o ≡ Some (name, rows) → IsGivenFor n r → IsGivenFor name rows

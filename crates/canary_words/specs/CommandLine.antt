@@ -5,9 +5,11 @@ use Rattle.std.specs.Option.{option_map_or}
 use Rattle.std.specs.Str.{bytes_eq}
 use Rattle.std.specs.Str.Parse.{digits_value, without_leading_plus}
 use Rattle.clap.specs.Words.{App, Kinds, IsAmong, IsUnsignedIn, Row, Rule, Text, fault_of, new_app}
-use Rattle.clap.specs.Words.{first_of, new_rule, one_of, subcommand_of, with_rule}
+use Rattle.clap.specs.Words.{all_of, first_of, new_rule, one_of, subcommand_of, with_rule}
 use Rattle.clap.specs.Words.{with_subcommand}
 use Rattle.clap.specs.Simple.{on_top}
+use Rattle.clap.specs.Lexer.{usize_max}
+use Rattle.clap.specs.declared.builder.range.ValueRange.{ValueRange}
 use Rattle.clap.specs.declared.builder.action.ArgAction.TheVariants.{Set, SetTrue}
 use Rattle.clap.specs.declared.builder.value_parser.ValueParser.TheVariants.{Unsigned}
 use Rattle.clap.specs.declared.error.kind.ErrorKind.{ErrorKind}
@@ -25,6 +27,10 @@ use Rattle.canary_words.specs.declared.words.WordsFault.TheVariants.{Help, Usage
 
 -- ---- what the desk takes
 
+-- one value or more
+abbrev pub one_or_more : ValueRange
+one_or_more = record { start_inclusive = 1; end_inclusive = usize_max }
+
 -- what has a value, any text, which has to be given if `is_required`
 abbrev pub with_value : Text → Bool → Rule
 with_value name is_required = record (new_rule name) {
@@ -36,6 +42,10 @@ with_value name is_required = record (new_rule name) {
 -- the word `VALUE`, which has to be given
 abbrev pub text_word : Text → Rule
 text_word name = with_value name true
+
+-- the words `VALUE..`, of which at least one has to be given
+abbrev pub text_words : Text → Rule
+text_words name = record (text_word name) { range = Some one_or_more }
 
 -- the word `VALUE`, which may be given
 abbrev pub optional_word : Text → Rule
@@ -137,10 +147,10 @@ abbrev pub migrate_command : App
 migrate_command =
     with_rule (with_rule (new_app (codes "migrate")) db_option) (flag (codes "dry-run"))
 
--- `check FILE`, or `check --request FILE`
+-- `check FILE --strict`, or `check --request FILE --strict`
 abbrev pub check_command : App
-check_command = with_rule (with_rule (new_app (codes "check"))
-    (text_option (codes "request") false)) (optional_word (codes "file"))
+check_command = with_rule (with_rule (with_rule (new_app (codes "check"))
+    (text_option (codes "request") false)) (flag (codes "strict"))) (optional_word (codes "file"))
 
 -- `--desk IP:PORT --tries N --timeout SECONDS`
 abbrev pub with_desk_options : App → App
@@ -170,19 +180,20 @@ abbrev pub get_command : App
 get_command = with_rule (with_rule (with_desk_options (new_app (codes "get")))
     (text_word (codes "service"))) (optional_word (codes "part"))
 
--- `watch --until STATUS,.. SERVICE`
+-- `watch --until STATUS,.. --json --forever SERVICE`
 abbrev pub watch_command : App
-watch_command = with_rule (with_rule (with_desk_options (new_app (codes "watch")))
-    (text_option (codes "until") false)) (text_word (codes "service"))
+watch_command = with_rule (with_rule (with_rule (with_rule (with_desk_options
+    (new_app (codes "watch"))) (text_option (codes "until") false)) (flag (codes "json")))
+    (flag (codes "forever"))) (text_word (codes "service"))
 
 -- `send CSV`
 abbrev pub send_command : App
 send_command = with_rule (with_desk_options (new_app (codes "send"))) (text_word (codes "csv"))
 
--- `due --wait SERVICE`
+-- `due --wait --late SECONDS SERVICE..`
 abbrev pub due_command : App
-due_command = with_rule (with_rule (with_desk_options (new_app (codes "due")))
-    (flag (codes "wait"))) (text_word (codes "service"))
+due_command = with_rule (with_rule (with_rule (with_desk_options (new_app (codes "due")))
+    (flag (codes "wait"))) (number_option (codes "late") 31536000)) (text_words (codes "service"))
 
 -- with the commands that ask a desk
 abbrev pub with_client_commands : App → App
@@ -229,6 +240,10 @@ flag_given name rows = option_map_or (bytes_eq (codes "true")) (one_of name rows
 -- the text that was given
 abbrev pub text_given : Text → List Row → Option Text
 text_given = first_of
+
+-- the texts that were given
+abbrev pub texts_given : Text → List Row → Option (List Text)
+texts_given = all_of
 
 abbrev pub piped : Option ℕ → Option ℕ → Option Text → Option ℕ → Option Program
 piped (Some at) (Some step) db cache = Some (Pipe at step db cache)
@@ -293,7 +308,8 @@ migrate_of rows = option_map (λ db. Migrate db (flag_given (codes "dry-run") ro
     (text_given (codes "db") rows)
 
 abbrev pub check_of : List Row → Option Program
-check_of rows = Some (Check (text_given (codes "file") rows) (text_given (codes "request") rows))
+check_of rows = Some (Check (text_given (codes "file") rows) (text_given (codes "request") rows)
+    (flag_given (codes "strict") rows))
 
 -- where the desk is, and how patiently it is asked, as far as it was given
 abbrev pub desk_of : List Row → AskedDesk
@@ -330,17 +346,17 @@ get_of rows =
     (text_given (codes "service") rows)
 
 abbrev pub watch_of : List Row → Option Program
-watch_of rows =
-    option_map (λ service. Ask (Watch (desk_of rows) (text_given (codes "until") rows) service))
-    (text_given (codes "service") rows)
+watch_of rows = option_map (λ service. Ask (Watch (desk_of rows)
+    (text_given (codes "until") rows) (flag_given (codes "json") rows)
+    (flag_given (codes "forever") rows) service)) (text_given (codes "service") rows)
 
 abbrev pub send_of : List Row → Option Program
 send_of rows = option_map (λ csv. Ask (Send (desk_of rows) csv)) (text_given (codes "csv") rows)
 
 abbrev pub due_of : List Row → Option Program
-due_of rows =
-    option_map (λ service. Ask (Due (desk_of rows) (flag_given (codes "wait") rows) service))
-    (text_given (codes "service") rows)
+due_of rows = option_map (λ services. Ask (Due (desk_of rows)
+    (flag_given (codes "wait") rows) (number_given (codes "late") rows) services))
+    (texts_given (codes "service") rows)
 
 -- the program of the command that asks a desk
 abbrev pub client_program_in : Text × List Row → Option Program
@@ -448,6 +464,9 @@ HasPage rows = HasTexts (codes "out") rows × MayHaveNumber (codes "watch") 8640
 abbrev pub HasMigrate : List Row → Type 0
 HasMigrate rows = HasText (codes "db") rows × MayHaveFlag (codes "dry-run") rows
 
+abbrev pub HasCheck : List Row → Type 0
+HasCheck rows = MayHaveFlag (codes "strict") rows
+
 abbrev pub HasDesk : List Row → Type 0
 HasDesk rows = MayHaveNumber (codes "tries") 1000 rows × MayHaveNumber (codes "timeout") 86400 rows
 
@@ -458,12 +477,13 @@ HasAsked name rows = HasDesk rows × HasText name rows
 abbrev pub HasDo : List Row → Type 0
 HasDo rows = HasAsked (codes "command") rows × MayHaveFlag (codes "instead") rows
 
+abbrev pub HasWatch : List Row → Type 0
+HasWatch rows = HasAsked (codes "service") rows × MayHaveFlag (codes "json") rows
+    × MayHaveFlag (codes "forever") rows
+
 abbrev pub HasDue : List Row → Type 0
 HasDue rows = HasAsked (codes "service") rows × MayHaveFlag (codes "wait") rows
-
--- nothing has to be given
-abbrev pub HasNothing : List Row → Type 0
-HasNothing rows = Unit {0}
+    × MayHaveNumber (codes "late") 31536000 rows
 
 -- the command of this name was met, with rows of which this holds
 abbrev pub Meets : Text → (List Row → Type 0) → Option (Text × List Row) → Type 0
@@ -481,11 +501,11 @@ HasRecordsProgram met = Meets (codes "import") HasImport met
 abbrev pub HasClientProgram : Option (Text × List Row) → Type 0
 HasClientProgram met = Meets (codes "do") HasDo met
     ⊎ (Meets (codes "get") (HasAsked (codes "service")) met
-    ⊎ (Meets (codes "watch") (HasAsked (codes "service")) met
+    ⊎ (Meets (codes "watch") HasWatch met
     ⊎ (Meets (codes "send") (HasAsked (codes "csv")) met ⊎ Meets (codes "due") HasDue met)))
 
 -- one of the commands was met, with all that it has to be given
 abbrev pub HasProgram : Option (Text × List Row) → Type 0
 HasProgram met = Meets (codes "pipe") HasPipe met
     ⊎ (Meets (codes "serve") HasListener met ⊎ (HasRecordsProgram met
-    ⊎ (Meets (codes "check") HasNothing met ⊎ HasClientProgram met)))
+    ⊎ (Meets (codes "check") HasCheck met ⊎ HasClientProgram met)))

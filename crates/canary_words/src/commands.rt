@@ -7,8 +7,8 @@ ghost use Rattle.canary_words.specs.CommandLine.{history_command, export_command
 ghost use Rattle.canary_words.specs.CommandLine.{page_command, backup_command, migrate_command};
 ghost use Rattle.canary_words.specs.CommandLine.{check_command, flag, watch_option};
 ghost use Rattle.canary_words.specs.CommandLine.{moment_option, number_option, text_option};
-ghost use Rattle.canary_words.specs.CommandLine.{text_word, with_limits, with_numbers};
-ghost use Rattle.canary_words.specs.CommandLine.{optional_word, with_unsent, with_value};
+ghost use Rattle.canary_words.specs.CommandLine.{text_word, text_words, with_limits};
+ghost use Rattle.canary_words.specs.CommandLine.{optional_word, with_numbers, with_unsent, with_value};
 ghost use Rattle.canary_words.specs.CommandLine.{with_client_commands, do_command, get_command};
 ghost use Rattle.canary_words.specs.CommandLine.{watch_command, send_command, due_command};
 ghost use Rattle.canary_words.specs.CommandLine.{with_desk_options, with_do_options};
@@ -40,6 +40,9 @@ pub const MOST_CACHE: u64 = 68_719_476_736;
 
 /// The most seconds between two looks at a desk: a day.
 pub const MOST_WATCH: u64 = 86_400;
+
+/// The most seconds for which a measurement can be asked to be late: a year.
+pub const MOST_LATE: u64 = 31_536_000;
 
 /// The most times that a message can be asked to be sent.
 pub const MOST_TRIES: u64 = 1_000;
@@ -284,7 +287,7 @@ fn migrate_command<'a>(alloc: Global) -> Result<Command<'a>, AllocError>
     with_flag(alloc, migrate, "dry-run", help::DRY_RUN_HELP)
 }
 
-// `check FILE`, or `check --request FILE`.
+// `check FILE`, or `check --request FILE`, and its flag.
 fn check_command<'a>(alloc: Global) -> Result<Command<'a>, AllocError>
     ensures { IfOk result (λ c. app_of c ≡ check_command) }
 {
@@ -292,6 +295,7 @@ fn check_command<'a>(alloc: Global) -> Result<Command<'a>, AllocError>
         .about(help::CHECK_ABOUT)
         .after_help(help::CHECK_HELP);
     let check = with_text(alloc, check, "request", "FILE", false, help::REQUEST_HELP)?;
+    let check = with_flag(alloc, check, "strict", help::STRICT_HELP)?;
     with_optional_word(alloc, check, "file", "FILE", help::FILE_HELP)
 }
 
@@ -351,6 +355,8 @@ fn watch_command<'a>(alloc: Global) -> Result<Command<'a>, AllocError>
         .after_help(help::WATCH_HELP);
     let watch = with_desk_options(alloc, watch, help::WATCH_TIMEOUT_HELP)?;
     let watch = with_text(alloc, watch, "until", "STATUS,..", false, help::UNTIL_HELP)?;
+    let watch = with_flag(alloc, watch, "json", help::WATCH_JSON_HELP)?;
+    let watch = with_flag(alloc, watch, "forever", help::FOREVER_HELP)?;
     with_word(alloc, watch, "service", "SERVICE", help::SERVICE_HELP)
 }
 
@@ -374,7 +380,8 @@ fn due_command<'a>(alloc: Global) -> Result<Command<'a>, AllocError>
         .after_help(help::DUE_HELP);
     let due = with_desk_options(alloc, due, help::DUE_TIMEOUT_HELP)?;
     let due = with_flag(alloc, due, "wait", help::WAIT_HELP)?;
-    with_word(alloc, due, "service", "SERVICE", help::SERVICE_HELP)
+    let due = with_number(alloc, due, "late", "SECONDS", MOST_LATE, help::LATE_HELP)?;
+    with_words(alloc, due, "service", "SERVICE", help::SERVICES_HELP)
 }
 
 // A command with the options of each client, where this is the help of `--timeout`.
@@ -482,6 +489,20 @@ fn with_word<'a>(
     command.arg(text_word(alloc, name, value, help))
 }
 
+// A command with the words `VALUE..`, any texts, of which there is at least one.
+fn with_words<'a>(
+    alloc: Global,
+    command: Command<'a>,
+    name: &'a str,
+    value: &'a str,
+    help: &'a str,
+) -> Result<Command<'a>, AllocError>
+    ensures { IfOk result (λ c. app_of c
+        ≡ with_rule (app_of command.entry) (text_words name.entry.now)) }
+{
+    command.arg(text_words(alloc, name, value, help))
+}
+
 // A command with the word `VALUE`, any text, which may be given.
 fn with_optional_word<'a>(
     alloc: Global,
@@ -561,6 +582,14 @@ fn text_word<'a>(alloc: Global, name: &'a str, value: &'a str, help: &'a str) ->
     ensures local { result.global ≡ false }
 {
     with_value(alloc, name, value, true, help)
+}
+
+// The words `VALUE..` with any texts, of which at least one has to be given.
+fn text_words<'a>(alloc: Global, name: &'a str, value: &'a str, help: &'a str) -> Arg<'a>
+    ensures rule { rule_of result ≡ text_words name.entry.now }
+    ensures local { result.global ≡ false }
+{
+    text_word(alloc, name, value, help).num_args(1usize..)
 }
 
 // The word `VALUE` with any text, which may be given.

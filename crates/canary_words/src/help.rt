@@ -304,13 +304,19 @@ pub(crate) const FILE_HELP: &str =
 
 pub(crate) const REQUEST_HELP: &str = "A request's body, as a desk gets it, in place of FILE";
 
+pub(crate) const STRICT_HELP: &str = "Count what check warns of as findings";
+
 pub(crate) const CHECK_HELP: &str = concat!(
     "check prints 'ok', or what a desk would refuse or could not read: one line for each\n",
     "finding, with its place and what a desk expects there. A line that begins with four spaces\n",
     "belongs to the finding before it, and says what to write instead. After 100 findings check\n",
-    "says how many more there are. What a desk takes, though it may not be what you mean, is a\n",
-    "line 'canary: warning: ..' on standard error. check needs no desk: it does not look for the\n",
+    "says how many more there are. A manifest without a kind is what its spec has: metrics are a\n",
+    "template's, a strategy is a Rollout's. check needs no desk: it does not look for the\n",
     "templates that a Rollout names, or for what else a desk has.\n\n",
+    "What a desk takes, though it may not be what you mean, is a line 'canary: warning: ..' on\n",
+    "standard error, with what to write instead: steps that bring a version to 100 % though\n",
+    "nobody measures, two weights in a row, a metric without a condition, and members that mean\n",
+    "something in Argo and nothing here. With --strict these are findings.\n\n",
     "Exit status: 0 if check printed 'ok', 2 for an invalid command line, and 1 if check printed\n",
     "anything else or for a fault, which a line on standard error names:\n",
     "  canary: file    FILE cannot be read, or is longer than 16 MiB\n",
@@ -318,6 +324,7 @@ pub(crate) const CHECK_HELP: &str = concat!(
     "  canary: memory  out of memory\n\n",
     "Examples:\n",
     "  canary check errors.json\n",
+    "  canary check --strict web.json\n",
     "  canary check --request body.json\n",
     "  kubectl get analysistemplate errors -o json | canary check /dev/stdin"
 );
@@ -411,22 +418,36 @@ pub(crate) const GET_HELP: &str = concat!(
 
 pub(crate) const WATCH_ABOUT: &str = "Shows a line each time that a service stands otherwise";
 
-pub(crate) const UNTIL_HELP: &str = "The statuses at which watch ends [default: Healthy,Degraded]";
+pub(crate) const UNTIL_HELP: &str =
+    "How the service stands as watch ends: words of the list below [default: Healthy,Degraded]";
+
+pub(crate) const WATCH_JSON_HELP: &str = "Print each line as a JSON value";
+
+pub(crate) const FOREVER_HELP: &str =
+    "Never end: follow the service through releases, and while no desk answers";
 
 pub(crate) const WATCH_TIMEOUT_HELP: &str =
-    "Most seconds to wait for such a status, 1 to 86400 [default: no end]";
+    "Most seconds to wait for that, 1 to 86400 [default: no end]";
 
 pub(crate) const WATCH_HELP: &str = concat!(
-    "A line on standard error says what went wrong.\n\n",
+    "A line ends with why the service stands so. Words of --until, separated by commas:\n",
+    "  Healthy, Degraded, Paused, Progressing   the service has this status\n",
+    "  Held      an analysis is Inconclusive: somebody has to decide\n",
+    "  Waiting   at a pause without an end: it waits for a promotion\n",
+    "A pause of some seconds is neither Held nor Waiting. A ",
+    "line on standard error says what went\n",
+    "wrong.\n\n",
     "Exit status:\n",
-    "  0  such a status came, and it is not Degraded\n",
-    "  1  Degraded came, or there is no such service\n",
+    "  0  the service stands so, and it is neither Degraded nor Held\n",
+    "  1  it is Degraded, or there is no such service\n",
     "  2  an invalid command line\n",
-    "  3  no such status came in time, or no desk answers\n",
-    "  5  memory or the output failed here\n\n",
+    "  3  it did not come to that in time, or no desk answers\n",
+    "  5  memory or the output failed here\n",
+    "  7  it is Held\n\n",
     "Examples:\n",
     "  canary watch web\n",
-    "  canary watch --until Paused,Degraded --timeout 600 web"
+    "  canary watch --until Waiting,Held,Healthy,Degraded --timeout 600 web\n",
+    "  canary watch --forever --json web"
 );
 
 // ---- send
@@ -442,20 +463,28 @@ pub(crate) const SEND_HELP: &str = concat!(
     "it: the number of the row, counted from 1, the HTTP status of the reply, and its body.\n",
     "Sending CSV again records no measurement twice. A line on standard error says what went\n",
     "wrong.\n\n",
+    "The last line on standard error counts the rows that are recorded, that repeat a recorded\n",
+    "measurement, and that are refused.\n\n",
     "Exit status:\n",
-    "  0  each row has its line\n",
+    "  0  each row has its line, and none is refused\n",
     "  2  an invalid command line\n",
     "  3  pending: no answer came. The row may be recorded or not; the same call finds out\n",
     "  4  contradiction: the desk and CSV contradict each other. A person has to look\n",
-    "  5  CSV, memory or the output failed here\n\n",
+    "  5  CSV, memory or the output failed here\n",
+    "  8  each row has its line, and one is refused\n\n",
     "Example: canary send measurements.csv"
 );
 
 // ---- due
 
-pub(crate) const DUE_ABOUT: &str = "Shows which measurements of a service are due";
+pub(crate) const DUE_ABOUT: &str = "Shows which measurements of services are due, or late";
 
 pub(crate) const WAIT_HELP: &str = "Wait until a measurement is due";
+
+pub(crate) const LATE_HELP: &str =
+    "Show the measurements that have been due for more than so many seconds, 1 to 31536000";
+
+pub(crate) const SERVICES_HELP: &str = "The names of the services";
 
 pub(crate) const DUE_TIMEOUT_HELP: &str = concat!(
     "Most seconds for each reply, with --wait for the whole call, 1 to 86400 ",
@@ -463,15 +492,20 @@ pub(crate) const DUE_TIMEOUT_HELP: &str = concat!(
 );
 
 pub(crate) const DUE_HELP: &str = concat!(
-    "due prints a line 'RUN METRIC ORDINAL' for each measurement that is due. A line on standard\n",
-    "error says what went wrong.\n\n",
+    "due prints a line 'RUN METRIC ORDINAL' for each ",
+    "measurement that is due, in the order of the\n",
+    "SERVICEs. With more than one SERVICE, or with --late, the ",
+    "line begins with the service; with\n",
+    "--late it ends with the moment since which the measurement is due. A line on standard error\n",
+    "says what went wrong.\n\n",
     "Exit status:\n",
-    "  0  a measurement is due\n",
-    "  1  none is due, or there is no such service\n",
+    "  0  a measurement is due; with --late, one is late\n",
+    "  1  none is, or there is no such service\n",
     "  2  an invalid command line\n",
     "  3  none was due in time, or no desk answers\n",
     "  5  memory or the output failed here\n\n",
     "Examples:\n",
     "  canary due web\n",
-    "  canary due --wait --timeout 600 web"
+    "  canary due --wait --timeout 600 web\n",
+    "  canary due --late 60 web shop"
 );

@@ -4,19 +4,19 @@ ghost use Rattle.std.specs.Prelude.{option_and_then, codes};
 ghost use Rattle.clap.specs.Words.{found_of, kind_of, rows_of, subcommand_rows_of};
 ghost use Rattle.clap.specs.Words.{HasKind, Kinds};
 ghost use Rattle.canary_words.specs.CommandLine.{faults_of, program_of, program_in, number_given};
-ghost use Rattle.canary_words.specs.CommandLine.{text_given, limits_of, pipe_of, serve_of};
-ghost use Rattle.canary_words.specs.CommandLine.{import_of, history_of, export_of, status_of};
-ghost use Rattle.canary_words.specs.CommandLine.{page_of, backup_of, migrate_of, check_of};
+ghost use Rattle.canary_words.specs.CommandLine.{text_given, texts_given, limits_of, pipe_of};
+ghost use Rattle.canary_words.specs.CommandLine.{serve_of, import_of, history_of, export_of};
+ghost use Rattle.canary_words.specs.CommandLine.{status_of, page_of, backup_of, migrate_of, check_of};
 ghost use Rattle.canary_words.specs.CommandLine.{flag_given, MayHaveFlag, HasPage, HasMigrate};
 ghost use Rattle.canary_words.specs.CommandLine.{IsFor, HasProgram, HasMoment, HasText};
 ghost use Rattle.canary_words.specs.CommandLine.{MayHaveNumber, HasPipe, HasListener, HasLimits};
 ghost use Rattle.canary_words.specs.CommandLine.{HasTexts, HasExport, HasStatus, do_of, get_of};
 ghost use Rattle.canary_words.specs.CommandLine.{watch_of, send_of, due_of, desk_of, command_of};
 ghost use Rattle.canary_words.specs.CommandLine.{HasClientProgram, HasDesk, HasAsked, HasDo};
-ghost use Rattle.canary_words.specs.CommandLine.{HasDue, HasImport};
+ghost use Rattle.canary_words.specs.CommandLine.{HasDue, HasImport, HasWatch, HasCheck};
 
 use crate::commands::desk_command;
-use canary_base::lists::Text;
+use canary_base::lists::{Listed, Text};
 use canary_base::moments::Moment;
 use clap::error::ErrorKind;
 use clap::{ArgMatches, Error};
@@ -94,11 +94,13 @@ pub enum Asked {
         service: Text,
         part: Option<Text>,
     },
-    /// How that service stands, each time that it stands otherwise, until it has one of the
-    /// statuses that `until` lists.
+    /// How that service stands, each time that it stands otherwise, until it stands as `until`
+    /// lists, or with `forever` without end; with `json` each line is a JSON value.
     Watch {
         desk: AskedDesk,
         until: Option<Text>,
+        json: bool,
+        forever: bool,
         service: Text,
     },
     /// The rows of the CSV file of this name, or of standard input if it is `-`, each sent to the
@@ -107,11 +109,13 @@ pub enum Asked {
         desk: AskedDesk,
         csv: Text,
     },
-    /// The measurements of that service that are due; with `wait` as soon as there is one.
+    /// The measurements of these services that are due; with `late` those that have been due for
+    /// longer than so many seconds; with `wait` as soon as there is one.
     Due {
         desk: AskedDesk,
         wait: bool,
-        service: Text,
+        late: Option<u64>,
+        services: Listed<Text>,
     },
 }
 
@@ -181,10 +185,12 @@ pub enum Program {
         dry_run: bool,
     },
     /// What the desk would refuse of the manifest in the file of the name `file`, or of the
-    /// request's body in that of the name `request`: one of them, or the words are no check's.
+    /// request's body in that of the name `request`: one of them, or the words are no check's. With
+    /// `strict` also what it may mean otherwise than it is written.
     Check {
         file: Option<Text>,
         request: Option<Text>,
+        strict: bool,
     },
     /// What a client asks of a desk.
     Ask(Asked),
@@ -395,11 +401,13 @@ fn migrate_of(alloc: Global, migrate: &ArgMatches<'_>) -> Result<Program, AllocE
 
 // The program of `check` with these matches.
 fn check_of(alloc: Global, check: &ArgMatches<'_>) -> Result<Program, AllocError>
+    requires { HasCheck (rows_of (found_of check.now)) }
     ensures { IfOk result (λ p. check_of (rows_of (found_of check.now)) ≡ Some p) }
 {
     Ok(Program::Check {
         file: optional_text(alloc, check, "file")?,
         request: optional_text(alloc, check, "request")?,
+        strict: flag_given(check, "strict"),
     })
 }
 
@@ -432,12 +440,14 @@ fn get_of(alloc: Global, get: &ArgMatches<'_>) -> Result<Program, AllocError>
 
 // The program of `watch` with these matches.
 fn watch_of(alloc: Global, watch: &ArgMatches<'_>) -> Result<Program, AllocError>
-    requires { HasAsked (codes "service") (rows_of (found_of watch.now)) }
+    requires { HasWatch (rows_of (found_of watch.now)) }
     ensures { IfOk result (λ p. watch_of (rows_of (found_of watch.now)) ≡ Some p) }
 {
     Ok(Program::Ask(Asked::Watch {
         desk: desk_of(alloc, watch)?,
         until: optional_text(alloc, watch, "until")?,
+        json: flag_given(watch, "json"),
+        forever: flag_given(watch, "forever"),
         service: text_given(alloc, watch, "service")?,
     }))
 }
@@ -461,7 +471,8 @@ fn due_of(alloc: Global, due: &ArgMatches<'_>) -> Result<Program, AllocError>
     Ok(Program::Ask(Asked::Due {
         desk: desk_of(alloc, due)?,
         wait: flag_given(due, "wait"),
-        service: text_given(alloc, due, "service")?,
+        late: number_given(due, "late"),
+        services: texts_given(alloc, due, "service")?,
     }))
 }
 
@@ -529,6 +540,29 @@ fn text_given(alloc: Global, matches: &ArgMatches<'_>, name: &str) -> Result<Tex
 {
     let text = matches.get_str(name).unwrap();
     Ok(Text::of(String::from_str(alloc, text)?))
+}
+
+// The texts that were given under this name.
+fn texts_given(
+    alloc: Global,
+    matches: &ArgMatches<'_>,
+    name: &str,
+) -> Result<Listed<Text>, AllocError>
+    requires { HasText name.now (rows_of (found_of matches.now)) }
+    ensures { IfOk result (λ ts. texts_given name.now (rows_of (found_of matches.now)) ≡ Some ts) }
+{
+    copies(alloc, matches.get_strs(name).unwrap())
+}
+
+// Copies of texts.
+fn copies(alloc: Global, given: &[&str]) -> Result<Listed<Text>, AllocError>
+    ensures { IfOk result (λ ts. ts ≡ map (λ t. t.now) given.now) }
+{
+    let mut texts = Vec::new(alloc);
+    for text in given {
+        texts.push(Text::of(String::from_str(alloc, text)?))?;
+    }
+    Ok(Listed::of(texts))
 }
 
 // The text that was given to the option of this name, if one was.

@@ -93,6 +93,11 @@ returns-in-Some-subcommand_matches-8 c =
     let met = met_by c.args.matches.now (codes "migrate") c.subcommand_matches-9.result c.in-Some-subcommand_matches-8.migrate c.subcommand_matches-9.ensures.found c.subcommand_matches-9.ensures.rows c.in-Some-subcommand_matches-8.is in
     program_so (subcommand_rows_of c.args.matches.now) (codes "migrate") (rows_of (found_of c.in-Some-subcommand_matches-8.migrate.now)) c.migrate_of.result met c.migrate_of.ensures
 
+pub check_of-requires : goal.check_of-requires
+check_of-requires c =
+    let met = met_by c.args.matches.now (codes "check") c.subcommand_matches-10.result c.in-Some-subcommand_matches-9.check c.subcommand_matches-10.ensures.found c.subcommand_matches-10.ensures.rows c.in-Some-subcommand_matches-9.is in
+    given_for (subcommand_rows_of c.args.matches.now) (codes "check") (rows_of (found_of c.in-Some-subcommand_matches-9.check.now)) c.requires met
+
 pub returns-in-Some-subcommand_matches-9 : goal.returns-in-Some-subcommand_matches-9
 returns-in-Some-subcommand_matches-9 c =
     let met = met_by c.args.matches.now (codes "check") c.subcommand_matches-10.result c.in-Some-subcommand_matches-9.check c.subcommand_matches-10.ensures.found c.subcommand_matches-10.ensures.rows c.in-Some-subcommand_matches-9.is in

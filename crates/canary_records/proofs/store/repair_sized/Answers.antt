@@ -1,7 +1,7 @@
 use Rattle.std.proofs.Common.{◌<◌, ◌≤◌, length, arith}
 use Rattle.canary_records.proofs.Moments.{weaker}
 use Rattle.canary_records.proofs.Crash.{repaired_few, repaired_many, settled_few, settled_many, kept_within}
-use Rattle.canary_records.proofs.store.repair.Goals as goal
+use Rattle.canary_records.proofs.store.repair_sized.Goals as goal
 
 pub returns-then-size-le1-clause-rest : goal.returns-then-size-le1-clause-rest
 returns-then-size-le1-clause-rest g c =
