@@ -3,3 +3,4 @@ mod JournalLemmas
 mod Growing
 mod Keys
 mod OneLine
+mod Pairs

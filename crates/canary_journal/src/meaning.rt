@@ -1,9 +1,9 @@
 //! What a reply means for the request that it answers.
-ghost use Rattle.std.specs.Prelude.{◌≡◌, IfOk};
+ghost use Rattle.std.specs.Prelude.{◌≡◌, ◌==◌, ◌&&◌, [], ◌∷◌, IfOk, codes};
 ghost use Rattle.serde_json.specs.View.{view};
 ghost use Rattle.std.specs.Prelude.{Some};
-ghost use Rattle.canary_journal.specs.Meanings.{meaning_of, meaning_in, meaning_with, conflict};
-ghost use Rattle.canary_journal.specs.Meanings.{is_unread, ahead};
+ghost use Rattle.canary_journal.specs.Meanings.{meaning_of, meaning_in, meaning_with, ahead};
+ghost use Rattle.canary_journal.specs.Meanings.{is_among, refusal_codes, message_codes};
 
 use canary_base::error::Memory;
 use canary_canonical::form::number_at;
@@ -27,7 +27,9 @@ pub enum Meaning {
     Foreign,
 }
 
-/// What a reply with this status and this body means, or `Memory`.
+/// What a reply with this status and this body means, or `Memory`. It is a desk's if its status and
+/// its code are a pair with which a desk answers a request (docs/API.md, "Codes"), and else
+/// `Foreign`, as is what a proxy answers in a desk's place.
 pub fn meaning_of(alloc: Global, status: u16, body: &str) -> Result<Meaning, Memory>
     ensures { IfOk result (λ meaning. meaning ≡ meaning_of status body.now) }
 {
@@ -50,31 +52,52 @@ fn meaning_in(status: u16, value: &Value) -> Meaning
 fn meaning_with(status: u16, code: &str, expected: Option<u32>) -> Meaning
     ensures { result ≡ meaning_with status code.now expected }
 {
-    if status == 422 {
+    if is_pair(status, 200, is_code(code, "ok")) {
         Meaning::Settled
-    } else if status == 409 {
-        conflict(code, expected)
-    } else if is_unread(status) {
+    } else if is_pair(status, 422, is_refusal(code)) {
+        Meaning::Settled
+    } else if is_pair(status, 409, is_code(code, "reused")) {
+        Meaning::Reused
+    } else if is_pair(status, 409, is_code(code, "ahead")) {
+        ahead(expected)
+    } else if is_pair(status, 400, is_of_message(code)) {
         Meaning::Unread
-    } else if status == 200 && code == "ok" {
-        Meaning::Settled
-    } else if status == 503 && (code == "no-memory" || code == "storage") {
+    } else if is_pair(status, 404, is_code(code, "no-route")) {
+        Meaning::Unread
+    } else if is_pair(status, 405, is_code(code, "method")) {
+        Meaning::Unread
+    } else if is_pair(status, 411, is_code(code, "length")) {
+        Meaning::Unread
+    } else if is_pair(status, 413, is_code(code, "too-long")) {
+        Meaning::Unread
+    } else if is_pair(status, 503, is_of_fault(code)) {
         Meaning::Unavailable
     } else {
         Meaning::Foreign
     }
 }
 
-fn conflict(code: &str, expected: Option<u32>) -> Meaning
-    ensures { result ≡ conflict code.now expected }
+// Whether a reply has this status, and a code that goes with it.
+fn is_pair(status: u16, own: u16, has_code: bool) -> bool
+    ensures { result ≡ (status == own && has_code) }
 {
-    if code == "reused" {
-        Meaning::Reused
-    } else if code == "ahead" {
-        ahead(expected)
-    } else {
-        Meaning::Foreign
+    status == own && has_code
+}
+
+fn is_code(code: &str, own: &str) -> bool
+    ensures { result ≡ is_among (own.now ∷ []) code.now }
+{
+    if code == own {
+        return true;
     }
+    false
+}
+
+// Whether a desk that could not do it now answers with this code.
+fn is_of_fault(code: &str) -> bool
+    ensures { result ≡ is_among (codes "no-memory" ∷ codes "storage" ∷ []) code.now }
+{
+    matches!(code, "no-memory" | "storage")
 }
 
 fn ahead(expected: Option<u32>) -> Meaning
@@ -86,8 +109,47 @@ fn ahead(expected: Option<u32>) -> Meaning
     }
 }
 
-fn is_unread(status: u16) -> bool
-    ensures { result ≡ is_unread status }
+// Whether a desk refuses a command by its rules with this code.
+fn is_refusal(code: &str) -> bool
+    ensures { result ≡ is_among refusal_codes code.now }
 {
-    status == 400 || status == 404 || status == 405 || status == 411 || status == 413
+    matches!(
+        code,
+        "unknown-service"
+            | "service-exists"
+            | "bad-condition"
+            | "interval-needed"
+            | "duplicate-metric"
+            | "bad-dry-run"
+            | "unknown-template"
+            | "endless-metric"
+            | "bad-strategy"
+            | "in-progress"
+            | "already-stable"
+            | "not-in-progress"
+            | "not-paused"
+            | "not-aborted"
+            | "runs-spent"
+            | "unknown-run"
+            | "run-closed"
+            | "unknown-metric"
+            | "repeated-metric"
+            | "metric-closed"
+            | "recorded"
+            | "out-of-turn"
+            | "spent"
+            | "future"
+            | "too-early"
+            | "revisions-spent"
+    )
+}
+
+/// Whether a desk refuses a message that it cannot read with this code and the status 400.
+pub fn is_of_message(code: &str) -> bool
+    ensures { result ≡ is_among message_codes code.now }
+{
+    matches!(
+        code,
+        "malformed" | "bad-name" | "bad-number" | "unsupported" | "unreadable"
+    )
 }

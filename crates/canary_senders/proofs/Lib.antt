@@ -11,3 +11,4 @@ pub mod Settled
 pub mod Rows
 pub mod DeliveryRows
 pub mod LatePauses
+pub mod Understood

@@ -96,9 +96,13 @@ in_conflict None e = cc e
 in_conflict (Some d) e =
     by_conflict (at (codes "code") as_str d) (at (codes "expected") word_in d) e
 
+not_found_settles_not : (no_route : Bool) → (if no_route then means.Unread else means.Foreign) ≡ means.Settled → ⊥
+not_found_settles_not true e = cc e
+not_found_settles_not false e = cc e
+
 by_not_found : (code : Option (List ℕ)) (next : Option ℕ) → meaning_by 404 code next ≡ means.Settled → ⊥
 by_not_found None next e = cc e
-by_not_found (Some code) next e = cc e
+by_not_found (Some code) next e = not_found_settles_not _ e
 
 in_not_found : (d : Option Data) → meaning_in 404 d ≡ means.Settled → ⊥
 in_not_found None e = cc e

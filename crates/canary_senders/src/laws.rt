@@ -5,6 +5,9 @@ ghost use Rattle.canary_senders.specs.Journaling.{Begins, Asks, AsksInstead, Hea
 ghost use Rattle.canary_senders.specs.Senders.{NobodyHasSettled, SettleFirstParts};
 ghost use Rattle.canary_senders.specs.Senders.{NoneIsReused, LastSettlesAll, OrderDoesNotMatter};
 ghost use Rattle.canary_senders.specs.Settling.{Sends, Settles};
+ghost use Rattle.canary_senders.specs.Understood.{RefusalsSettle, TemplatesSettle};
+ghost use Rattle.canary_senders.specs.Understood.{ServicesSettle, ReportsSettle};
+ghost use Rattle.canary_senders.specs.Understood.{ReusedIsReused, AheadIsAhead};
 
 use canary_once::laws;
 use canary_plan::laws as plans;
@@ -65,4 +68,17 @@ pub fn journals()
 pub fn sending()
     ensures sends { Sends }
     ensures settles { Settles }
+{}
+
+/// What a desk replies is understood by canary_journal: each text that a reply to a request has
+/// means what the desk answered, so none is foreign. A refusal, and a text that shows a template, a
+/// service or a report, settles its number, if the service has a name and the numbers fit 64 bits;
+/// `reused` is that, and `ahead` has its next number.
+pub fn understood()
+    ensures refused { RefusalsSettle }
+    ensures template { TemplatesSettle }
+    ensures service { ServicesSettle }
+    ensures report { ReportsSettle }
+    ensures reused { ReusedIsReused }
+    ensures ahead { AheadIsAhead }
 {}

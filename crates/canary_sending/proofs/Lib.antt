@@ -1,2 +1,3 @@
+mod KeptLemmas
 mod NetworkLemmas
 mod SettleLemmas

@@ -1,6 +1,6 @@
 -- What came of sending what is pending.
 use Rattle.std.proofs.Common.{◌≡◌, ◌⊎◌, inl, inr, ℕ, List, Bool, true, false, Option, Some, None, refl, sym, ap, ◌∙◌, subst}
-use Rattle.std.specs.Prelude.{option_map, unwrap_or}
+use Rattle.std.specs.Prelude.{option_map, unwrap_or, is_some}
 use Rattle.canary_journal.specs.declared.entry.Asked.{Asked}
 use Rattle.canary_journal.specs.declared.meaning.Meaning.TheVariants as means
 use Rattle.canary_journal.specs.Journals.{JournalValue, number_of}
@@ -12,7 +12,12 @@ use Rattle.canary_sending.specs.declared.settle.Tried.TheVariants as tried
 use Rattle.canary_sending.specs.declared.settle.Unsettled.{Unsettled}
 use Rattle.canary_sending.specs.declared.settle.Unsettled.TheVariants as unsettled
 use Rattle.canary_sending.specs.Messages.{request_text}
-use Rattle.canary_sending.specs.Sending.{body_of, message_of, IsTold, IsTooLate, IsAskedBy, IsSettledBy, IsWhy, IsReused, IsOnce, IsFrom, IsOf, IsWrong}
+use Rattle.canary_sending.specs.Sending.{body_of, message_of, IsTold, IsTooLate, IsAskedBy, IsSettledBy, IsWhy, IsReused, AreReused, IsOnce, IsFrom, IsOf, IsWrong, is_replaced}
+
+-- where nothing else was asked, the wish is what was asked
+only_wish : (instead : Option (List ℕ)) (wish : List ℕ) → is_some instead ≡ false → unwrap_or instead wish ≡ wish
+only_wish None wish none = refl
+only_wish (Some body) wish none = let never : ⊥ = cc none in absurd never
 
 -- One message.
 
@@ -82,3 +87,21 @@ module _ (told : List ℕ → Heard → Type 0) (unanswered : List ℕ → Why �
       let e = same_asked first.0 once.0 first.1 once.1 in
       (once.0, once.1, both once.0 (subst (λ a. IsTold told (message_of j a false) means.Reused) e first.2) once.2)
   both_reused first (tried.Again why) once = once
+
+  replaced : (a : Asked) → j.pending ≡ Some a → is_replaced j ≡ is_some a.instead
+  replaced a pending = ap (λ (asked : Option Asked). unwrap_or (option_map (λ (a : Asked). is_some a.instead) asked) false) pending
+
+  -- something else was asked in the place of the wish: it came too late
+  pub too_late : (held : Bool) → held ≡ is_replaced j → held ≡ true → IsReused told j false → (a : Asked) → j.pending ≡ Some a → IsTooLate told j a
+  too_late held is holds first a pending =
+      let e = same_asked first.0 a first.1 pending in
+      (sym (replaced a pending) ∙ (sym is ∙ holds), subst (λ a. IsTold told (message_of j a false) means.Reused) e first.2)
+
+  each_body : (a : Asked) → is_some a.instead ≡ false → IsTold told (message_of j a false) means.Reused → (is_late : Bool) → IsTold told (message_of j a is_late) means.Reused
+  each_body a none first true = subst (λ (body : List ℕ). IsTold told (request_text j.caller (number_of j) body) means.Reused) (only_wish a.instead a.wish.body none) first
+  each_body a none first false = first
+
+  -- nothing else was asked: the one body is reused
+  pub wish_reused : (held : Bool) → held ≡ is_replaced j → held ≡ false → IsReused told j false → AreReused told j
+  wish_reused held is fails first =
+      (first.0, first.1, each_body first.0 (sym (replaced first.0 first.1) ∙ (sym is ∙ fails)) first.2)

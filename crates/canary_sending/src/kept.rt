@@ -1,9 +1,9 @@
 //! A journal on a device: each entry stands there before it is in the journal.
 ghost use Rattle.std.specs.Prelude.{◌≡◌, ◌≢◌, ◌⊎◌, ◌<◌, ◌≤◌, ◌+◌, ◌^◌, ◌++◌, [], ◌∷◌, length};
 ghost use Rattle.std.specs.Prelude.{List, ℕ, Some, None, IfOk, IfErr, OnOk, OnErr};
-ghost use Rattle.canary_records.specs.Devices.{LeavesOnly};
-ghost use Rattle.canary_records.specs.Texts.{texts_of};
-ghost use Rattle.canary_records.specs.Stores.{held, IsSettled};
+ghost use Rattle.canary_records.specs.Devices.{LeavesOnly, Only};
+ghost use Rattle.canary_records.specs.Texts.{texts_of, records};
+ghost use Rattle.canary_records.specs.Stores.{held, IsSettled, HasNoRoom};
 ghost use Rattle.canary_journal.specs.Journals.{begun, refusal_of, with_entry};
 ghost use Rattle.canary_journal.specs.Lines.{line_of, entry_in};
 ghost use Rattle.canary_journal.specs.Readings.{journal_in};
@@ -18,7 +18,8 @@ use canary_journal::entry::{Entry, Refusal};
 use canary_journal::journal::Journal;
 use canary_journal::{laws, lines, reading};
 use canary_records::device::{Device, DeviceFault};
-use canary_records::store::{Store, recover};
+use canary_records::store::{Store, look, repair};
+use canary_records::texts::Found;
 use std::alloc::Global;
 
 /// Why a journal was not opened, or an entry not kept.
@@ -74,10 +75,11 @@ pub enum Opened<D: Device> {
     Begun(KeptJournal<D>),
 }
 
-/// Opens a device: reads its journal, and repairs what a crash left.
+/// Opens a device: reads its journal, and then repairs what a crash left.
 ///
 /// # Errors
-/// `Broken` if it has texts that are no journal, or is cut short; `Failed`; `Memory`.
+/// `Broken` if it has texts that are no journal, is no file of texts, or is cut short, and then it
+/// is not written; `Failed`; `Memory`.
 pub fn open<D: Device + Drop>(alloc: Global, device: D) -> Result<Opened<D>, KeepFault>
     ensures opened { IfOk result (IsOpened D.seen D.may_leave (D.seen device)) }
     ensures fault { IfErr result (IsFault (Unit {0}) ⊥
@@ -87,21 +89,42 @@ pub fn open<D: Device + Drop>(alloc: Global, device: D) -> Result<Opened<D>, Kee
         (λ c. D.may_leave device c ⊎ (texts_of c ≡ texts_of (D.seen device)))) }
 {
     let mut device = device;
-    let Some(found) = recover(alloc, &mut device)? else {
+    let Some(found) = look(alloc, &mut device)? else {
         return Err(KeepFault::Broken);
     };
-    let store = Store {
-        device,
-        gate: found.gate,
-    };
     if found.texts.as_slice().is_empty() {
+        let store = repaired(device, &found)?;
         return Ok(Opened::New(store));
     }
     match reading::journal_of(alloc, found.texts.as_slice()) {
-        Ok(journal) => Ok(Opened::Begun(KeptJournal { store, journal })),
+        Ok(journal) => {
+            let store = repaired(device, &found)?;
+            Ok(Opened::Begun(KeptJournal { store, journal }))
+        }
         Err(FormFault::Unreadable) => Err(KeepFault::Broken),
         Err(FormFault::Memory) => Err(KeepFault::Memory),
     }
+}
+
+// The file of texts that was found on a device, at rest.
+fn repaired<D: Device + Drop>(device: D, found: &Found) -> Result<Store<D>, KeepFault>
+    requires size { found.now.size ≡ length (D.seen device) }
+    requires texts { texts_of (D.seen device) ≡ Some found.now.texts }
+    requires gate { found.now.gate ≡ length (records found.now.texts) }
+    requires durable { Only (D.seen device) (D.may_leave device) }
+    ensures rest { IfOk result (λ store. IsSettled D.seen D.may_leave store.device store.gate
+        × (held (D.seen store.device) ≡ found.now.texts)) }
+    ensures fault { IfErr result (IsFault (Unit {0}) ⊥ ⊥ (λ _. ⊥)) }
+    ensures any_moment { IfOk result (λ store.
+        LeavesOnly D.moment D.left_since device store.device
+        (λ c. texts_of c ≡ texts_of (D.seen device))) }
+{
+    let mut device = device;
+    repair(&mut device, found)?;
+    Ok(Store {
+        device,
+        gate: found.gate,
+    })
 }
 
 /// Begins the journal of a caller of whom the desk had settled so many requests.
@@ -120,7 +143,7 @@ pub fn begin<D: Device + Drop>(
     ensures kept { IfOk result (IsKept D.seen D.may_leave) }
     ensures begun { IfOk result (λ kept. kept.journal ≡ begun caller settled) }
     ensures fault { IfErr result (IsFault (Unit {0})
-        (2 ^ 60 ≤ store.gate + length (line_of (Entry.Begun caller settled)))
+        (HasNoRoom store.gate (length (line_of (Entry.Begun caller settled))))
         (1000000000 < settled) (λ _. ⊥)) }
     ensures any_moment { IfOk result (λ kept.
         LeavesOnly D.moment D.left_since store.device kept.store.device
@@ -142,7 +165,7 @@ fn add_line<D: Device>(alloc: Global, store: &mut Store<D>, entry: &Entry) -> Re
         × (held (D.seen store.new.device)
         ≡ held (D.seen store.old.device) ++ line_of entry.now ∷ [])) }
     ensures fault { IfErr result (IsFault (D.has_failed store.new.device)
-        (2 ^ 60 ≤ store.old.gate + length (line_of entry.now)) ⊥ (λ _. ⊥)) }
+        (HasNoRoom store.old.gate (length (line_of entry.now))) ⊥ (λ _. ⊥)) }
     ensures any_moment { LeavesOnly D.moment D.left_since store.old.device store.new.device
         (IsWithLine (held (D.seen store.old.device)) entry.now) }
 {
