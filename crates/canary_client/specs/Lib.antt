@@ -1,3 +1,5 @@
 pub mod Outcomes
 pub mod Asking
 pub mod Beginning
+pub mod Queries
+pub mod Standings

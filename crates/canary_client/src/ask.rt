@@ -4,12 +4,12 @@ ghost use Rattle.canary_sending.specs.Keeping.{IsKept};
 ghost use Rattle.canary_client.specs.Asking.{acted, by_reply, outcome_by};
 
 use crate::journals::{asked, asked_instead, journal_on, settled};
-use crate::outcome::{Outcome, Stop, say, show, tell};
+use crate::outcome::{Outcome, Stop, say, say_of, show};
 use crate::place::{caller_of, journal_of, place_of};
-use crate::plain::line_of;
+use crate::plain::{json_of, line_of};
 use crate::report::{next_ordinal, report_body};
 use crate::tcp::Tcp;
-use crate::wish::{Asking, read_asking};
+use crate::wish::{Asking, has_intent, read_asking};
 use canary_base::lists::Text;
 use canary_journal::entry::{Kept, Place, Reply, Wish};
 use canary_journal::journal::Journal;
@@ -41,10 +41,22 @@ pub fn ask<W: Write, F: Write>(
     errors: &mut F,
     is_terminal: bool,
 ) -> Outcome {
+    let journal = journal_of(rt, &call.journal).ok();
     match try_ask(rt, call, output, errors, is_terminal) {
         Ok(outcome) => outcome,
-        Err(stop) => tell(stop, errors),
+        Err(stop) => tell_of(rt.alloc(), stop, &journal, errors),
     }
+}
+
+// Says why a call stopped, with the name of the journal if that is why.
+fn tell_of<F: Write>(alloc: Global, stop: Stop, journal: &Option<Text>, errors: &mut F) -> Outcome {
+    match journal {
+        Some(path) if stop.is_of_journal() => {
+            say_of(alloc, errors, stop.sentence(), path.as_str())
+        },
+        _ => say(errors, stop.sentence()),
+    }
+    stop.outcome()
 }
 
 fn try_ask<W: Write, F: Write>(
@@ -62,7 +74,8 @@ fn try_ask<W: Write, F: Write>(
     let asking = read_asking(rt, &call.command)?;
     let device = device_of(rt, &call.journal)?;
     let mut network = Tcp::new(rt, &place);
-    let mut kept = journal_on(rt.alloc(), &mut network, device, caller, place.tries)?;
+    let (is_in_doubt, tries) = (device.is_in_doubt(), place.tries);
+    let mut kept = journal_on(rt.alloc(), &mut network, device, is_in_doubt, caller, tries)?;
     let is_instead = call.is_instead;
     let settled = settle_asked(
         rt,
@@ -84,6 +97,7 @@ fn device_of(rt: &HostRuntime, journal: &Option<Text>) -> Result<FileDevice, Sto
         Ok(device) if sync_folder(rt, path.as_str()) => Ok(device),
         Ok(_) => Err(Stop::Journal),
         Err(OpenFault::InUse) => Err(Stop::InUse),
+        Err(OpenFault::NoFile) => Err(Stop::JournalNoFile),
         Err(OpenFault::Failed) => Err(Stop::Journal),
     }
 }
@@ -110,7 +124,7 @@ fn settle_asked<N: Network, D: Device, F: Write>(
     requires { IsKept D.seen D.may_leave kept.old }
     ensures { OnOk result (IsKept D.seen D.may_leave kept.new) }
 {
-    if key.is_none() && is_asked_instead(&kept.journal, &asking) {
+    if key.is_none() && is_asked_instead(rt.alloc(), &kept.journal, &asking)? {
         return resumed(rt.alloc(), network, kept, false, tries);
     }
     match kept.journal.place_of(asking.intent(), &key) {
@@ -130,14 +144,15 @@ fn settle_asked<N: Network, D: Device, F: Write>(
     }
 }
 
-// Whether a command was asked already in the place of the wish that is pending.
-fn is_asked_instead(journal: &Journal, asking: &Asking) -> bool {
+// Whether a command that means the same was asked already in the place of the wish that is pending.
+fn is_asked_instead(alloc: Global, journal: &Journal, asking: &Asking) -> Result<bool, Stop> {
     match (journal.pending(), asking) {
-        (Some(asked), Asking::Command { body, .. }) => match &asked.instead {
-            Some(instead) => instead.as_str() == body.as_str(),
-            None => false,
+        (Some(asked), Asking::Command { intent, body }) => match &asked.instead {
+            Some(instead) if instead.as_str() == body.as_str() => Ok(true),
+            Some(instead) => has_intent(alloc, instead.as_str(), intent.as_str()),
+            None => Ok(false),
         },
-        _ => false,
+        _ => Ok(false),
     }
 }
 
@@ -299,5 +314,5 @@ pub fn show_body<W: Write>(
             return show(output, line.as_str());
         }
     }
-    show(output, body)
+    show(output, json_of(alloc, body)?.as_str())
 }

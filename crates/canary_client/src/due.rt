@@ -1,55 +1,105 @@
-//! `due`: the measurements that a service waits for.
-use crate::clock::Waiting;
-use crate::outcome::{Outcome, Stop, show, tell};
+//! `due`: the measurements that services wait for.
+use crate::clock::Span;
+use crate::outcome::{Outcome, Stop, say, show, tell};
 use crate::place::{place_of, service_of, waiting};
 use crate::query::value_at;
 use crate::tcp::Tcp;
-use canary_base::lists::Text;
+use canary_base::lists::{Listed, Text};
+use canary_base::moments::Moment;
 use canary_base::names::Name;
+use canary_markup::shown::{Form, shown};
 use canary_sending::network::Network;
 use canary_words::words::AskedDesk;
 use serde_json::Value;
-use std::alloc::Global;
+use std::alloc::{AllocError, Global};
 use std::io::Write;
 
-/// Shows a line `RUN METRIC ORDINAL` for each measurement of a service that is due. If none is, a
-/// call that waits goes on until one is or no run is open, and else it ends with `Refused`.
+/// Which measurements are shown.
+#[derive(Clone, Copy, Debug, PartialEq, Eq)]
+pub struct Sought {
+    /// Whether the call waits until there is one.
+    pub waits: bool,
+    /// If it is given: those that have been due for more than so many seconds.
+    pub late: Option<u64>,
+}
+
+/// Shows a line `RUN METRIC ORDINAL` for each measurement of the services that is due. With more
+/// than one service the line begins with the service; of late ones it does too, and ends with the
+/// moment since which the measurement is due. If there is none, a call that waits goes on until
+/// there is one or no run is open, and else it ends with `Refused`. If the desk has no such
+/// service, `errors` names it, and the call goes on with the next one.
 pub fn due<W: Write, F: Write>(
     rt: &HostRuntime,
     desk: &AskedDesk,
-    service: &Text,
-    waits: bool,
+    services: &Listed<Text>,
+    sought: Sought,
     output: &mut W,
     errors: &mut F,
 ) -> Outcome {
-    match try_due(rt, desk, service, waits, output) {
+    match try_due(rt, desk, services, sought, output, errors) {
         Ok(outcome) => outcome,
         Err(stop) => tell(stop, errors),
     }
 }
 
-fn try_due<W: Write>(
+fn try_due<W: Write, F: Write>(
     rt: &HostRuntime,
     desk: &AskedDesk,
-    service: &Text,
-    waits: bool,
+    services: &Listed<Text>,
+    sought: Sought,
     output: &mut W,
+    errors: &mut F,
 ) -> Result<Outcome, Stop> {
-    let place = waiting(place_of(rt, desk)?);
-    let service = service_of(service)?;
-    let mut network = Tcp::new(rt, &place);
-    let waiting = Waiting::begun(rt, place.wait_seconds)?;
+    are_services(services.as_slice())?;
+    let place = place_of(rt, desk)?;
+    let look = Look {
+        alloc: rt.alloc(),
+        tries: place.tries,
+        late: sought.late,
+        is_named: sought.late.is_some() || services.as_slice().len() > 1,
+    };
+    if !sought.waits {
+        let mut network = Tcp::new(rt, &place);
+        let found = look.at_services(&mut network, services.as_slice(), output, errors)?;
+        return Ok(outcome_of(found));
+    }
+    let place = waiting(place);
+    let call = Span::of_call(rt, place.wait_seconds)?;
+    let network = Tcp::within(rt, &place, call);
+    match look_until(rt, network, look, services.as_slice(), call, output, errors) {
+        Ok(outcome) => Ok(outcome),
+        Err(stop) => Err(call.stop(rt, stop)),
+    }
+}
+
+// Looks at services once a second, until something is due, no run is open or the call is over.
+fn look_until<W: Write, F: Write>(
+    rt: &HostRuntime,
+    network: Tcp<'_>,
+    look: Look,
+    words: &[Text],
+    call: Span,
+    output: &mut W,
+    errors: &mut F,
+) -> Result<Outcome, Stop> {
+    let mut network = network;
     for _ in 0..u64::MAX {
-        match look(rt.alloc(), &mut network, service, place.tries, output)? {
-            Found::Due => return Ok(Outcome::Done),
-            Found::NothingDue if waits => waiting.go_on(rt)?,
-            _ => return Ok(Outcome::Refused),
+        match look.at_services(&mut network, words, output, errors)? {
+            Found::NothingDue => call.go_on(rt)?,
+            found => return Ok(outcome_of(found)),
         }
     }
     Err(Stop::TimeOut)
 }
 
-// What a look at a service found.
+fn are_services(words: &[Text]) -> Result<(), Stop> {
+    for word in words {
+        service_of(word)?;
+    }
+    Ok(())
+}
+
+// What a look at services found.
 #[derive(Clone, Copy, Debug, PartialEq, Eq)]
 enum Found {
     // No run is open.
@@ -60,75 +110,160 @@ enum Found {
     Due,
 }
 
-fn look<N: Network, W: Write>(
-    alloc: Global,
-    network: &mut N,
-    service: Name,
-    tries: u32,
-    output: &mut W,
-) -> Result<Found, Stop> {
-    let name = service.as_str();
-    let path = format!(in alloc; "/services/{name}")?;
-    let value = value_at(alloc, network, path.as_str(), tries)?;
-    let moment = value.get("moment").and_then(Value::as_u64);
-    let open = value.get("open").and_then(Value::as_array);
-    let (Some(moment), Some(open)) = (moment, open) else {
-        return Err(Stop::Query);
-    };
-    let mut found = Found::NoRun;
-    for run in open.iter() {
-        let Some(run) = run.as_u64() else {
-            return Err(Stop::Query);
-        };
-        let is_due = look_at_run(alloc, network, service, run, moment, tries, output)?;
-        found = joined(found, is_due);
-    }
-    Ok(found)
-}
-
-// With one open run more, of which something is due or not.
-fn joined(found: Found, is_due: bool) -> Found {
-    match found {
-        Found::Due => Found::Due,
-        _ if is_due => Found::Due,
-        _ => Found::NothingDue,
-    }
-}
-
-// Shows a line for each measurement of a run that is due, and answers whether there is one.
-fn look_at_run<N: Network, W: Write>(
-    alloc: Global,
-    network: &mut N,
-    service: Name,
-    run: u64,
-    moment: u64,
-    tries: u32,
-    output: &mut W,
-) -> Result<bool, Stop> {
-    let name = service.as_str();
-    let path = format!(in alloc; "/services/{name}/runs/{run}")?;
-    let value = value_at(alloc, network, path.as_str(), tries)?;
-    let Some(metrics) = value.get("metrics").and_then(Value::as_array) else {
-        return Err(Stop::Query);
-    };
-    let mut is_due = false;
-    for metric in metrics.iter() {
-        if let Some((name, ordinal)) = due_of(metric, moment) {
-            let line = format!(in alloc; "{run} {name} {ordinal}")?;
-            show(output, line.as_str())?;
-            is_due = true;
+impl Found {
+    // With what was found besides.
+    fn with(self, other: Found) -> Found {
+        match (self, other) {
+            (Found::Due, _) | (_, Found::Due) => Found::Due,
+            (Found::NoRun, Found::NoRun) => Found::NoRun,
+            _ => Found::NothingDue,
         }
     }
-    Ok(is_due)
 }
 
-// The name of a metric and the ordinal of its next measurement, if that is due at this moment.
-fn due_of(metric: &Value, moment: u64) -> Option<(&str, u64)> {
-    let due = metric.get("due").and_then(Value::as_u64)?;
-    if due > moment {
+// How a call ends that found this.
+fn outcome_of(found: Found) -> Outcome {
+    match found {
+        Found::Due => Outcome::Done,
+        _ => Outcome::Refused,
+    }
+}
+
+// How a desk is looked at.
+#[derive(Clone, Copy)]
+struct Look {
+    alloc: Global,
+    tries: u32,
+    late: Option<u64>,
+    is_named: bool,
+}
+
+impl Look {
+    fn at_services<N: Network, W: Write, F: Write>(
+        &self,
+        network: &mut N,
+        words: &[Text],
+        output: &mut W,
+        errors: &mut F,
+    ) -> Result<Found, Stop> {
+        let mut found = Found::NoRun;
+        for word in words {
+            match self.at_service(network, service_of(word)?, output) {
+                Ok(more) => found = found.with(more),
+                Err(Stop::NoService) if words.len() > 1 => missing(self.alloc, word, errors)?,
+                Err(stop) => return Err(stop),
+            }
+        }
+        Ok(found)
+    }
+
+    fn at_service<N: Network, W: Write>(
+        &self,
+        network: &mut N,
+        service: Name,
+        output: &mut W,
+    ) -> Result<Found, Stop> {
+        let name = service.as_str();
+        let path = format!(in self.alloc; "/services/{name}")?;
+        let value = value_at(self.alloc, network, path.as_str(), self.tries)?;
+        let moment = value.get("moment").and_then(Value::as_u64);
+        let open = value.get("open").and_then(Value::as_array);
+        let (Some(moment), Some(open)) = (moment, open) else {
+            return Err(Stop::Query);
+        };
+        let mut found = Found::NoRun;
+        for run in open.iter() {
+            let Some(run) = run.as_u64() else {
+                return Err(Stop::Query);
+            };
+            found = found.with(self.at_run(network, service, run, moment, output)?);
+        }
+        Ok(found)
+    }
+
+    // Shows a line for each measurement of a run that is sought.
+    fn at_run<N: Network, W: Write>(
+        &self,
+        network: &mut N,
+        service: Name,
+        run: u64,
+        moment: u64,
+        output: &mut W,
+    ) -> Result<Found, Stop> {
+        let name = service.as_str();
+        let path = format!(in self.alloc; "/services/{name}/runs/{run}")?;
+        let value = value_at(self.alloc, network, path.as_str(), self.tries)?;
+        let Some(metrics) = value.get("metrics").and_then(Value::as_array) else {
+            return Err(Stop::Query);
+        };
+        let mut found = Found::NothingDue;
+        for metric in metrics.iter() {
+            if let Some(measurement) = due_of(metric, moment, self.late) {
+                show(output, self.line(service, run, &measurement)?.as_str())?;
+                found = Found::Due;
+            }
+        }
+        Ok(found)
+    }
+
+    fn line(&self, service: Name, run: u64, due: &NextMeasurement<'_>) -> Result<String, Stop> {
+        let metric = shown(self.alloc, due.metric, Form::Line)?;
+        let (metric, ordinal) = (metric.as_str(), due.ordinal);
+        let line = format!(in self.alloc; "{run} {metric} {ordinal}")?;
+        if !self.is_named {
+            return Ok(line);
+        }
+        let (name, line) = (service.as_str(), line.as_str());
+        if self.late.is_none() {
+            return Ok(format!(in self.alloc; "{name} {line}")?);
+        }
+        let since = since(self.alloc, due.since)?;
+        let since = since.as_str();
+        Ok(format!(in self.alloc; "{name} {line} {since}")?)
+    }
+}
+
+fn missing<F: Write>(alloc: Global, word: &Text, errors: &mut F) -> Result<(), Stop> {
+    let word = word.as_str();
+    let sentence = format!(in alloc; "there is no such service: {word}")?;
+    say(errors, sentence.as_str());
+    Ok(())
+}
+
+// A measurement that is due.
+#[derive(Clone, Copy)]
+struct NextMeasurement<'a> {
+    metric: &'a str,
+    ordinal: u64,
+    since: u64,
+}
+
+// The next measurement of a metric, if it is due at this moment; or, if `late` is given, if it has
+// been due for more than so many seconds.
+fn due_of(metric: &Value, moment: u64, late: Option<u64>) -> Option<NextMeasurement<'_>> {
+    let since = metric.get("due").and_then(Value::as_u64)?;
+    let is_sought = match late {
+        Some(late) => moment.saturating_sub(since) > late,
+        None => moment >= since,
+    };
+    if !is_sought {
         return None;
     }
     let name = metric.get("name").and_then(Value::as_str)?;
     let count = metric.get("measurements").and_then(Value::as_u64)?;
-    Some((name, count.saturating_add(1)))
+    Some(NextMeasurement {
+        metric: name,
+        ordinal: count.saturating_add(1),
+        since,
+    })
+}
+
+// A moment in UTC, as RFC 3339 writes it.
+fn since(alloc: Global, seconds: u64) -> Result<String, AllocError> {
+    let mut text = String::with_capacity(alloc, 40)?;
+    match Moment::new(seconds) {
+        Some(moment) if moment.text(&mut text).is_ok() => Ok(text),
+        Some(_) => Err(AllocError),
+        None => format!(in alloc; "{seconds}"),
+    }
 }

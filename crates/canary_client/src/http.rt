@@ -1,63 +1,88 @@
-//! Replies in HTTP/1.1 (RFC 9112).
+//! The heads of replies in HTTP/1.1 (RFC 9112).
 ghost use Rattle.std.specs.Prelude.{length, All};
 ghost use Rattle.httparse.specs.Spans.{IsHeaderWithin, IsResponseWithin};
 
-use canary_base::lists::Text;
-use canary_sending::network::{Heard, Why};
+use canary_sending::network::Why;
 use httparse::Status;
 use httparse::spans::{EMPTY_HEADER_SPAN, HeaderSpan, ResponseSpans, parse_response};
-use std::alloc::Global;
 use std::str;
 
 // The most fields of a head.
 const MOST_FIELDS: usize = 64;
 
-/// The reply that these bytes begin with; none if it is not whole yet.
+/// The most bytes of the heads of a reply: the desk's own have fewer than 200.
+pub const MOST_HEAD: usize = 16_384;
+
+/// The most bytes of a body: a history has no limit of its own.
+pub const MOST_BODY: usize = 1 << 26;
+
+/// The head of a reply.
+#[derive(Clone, Copy, Debug)]
+pub struct Head {
+    /// The status.
+    pub status: u16,
+    /// Where the body begins.
+    pub end: usize,
+    /// How long the body is.
+    pub length: usize,
+}
+
+/// What some bytes begin with.
+#[derive(Clone, Copy, Debug)]
+pub enum Front {
+    /// A head that is not whole yet.
+    Part,
+    /// The head of a reply that others follow (RFC 9110, section 15.2), up to this place.
+    Interim(usize),
+    /// The head of a reply.
+    Whole(Head),
+}
+
+/// What these bytes begin with.
 ///
 /// # Errors
-/// `Foreign` if they do not begin with a reply that has one `Content-Length`, or if its body is not
-/// UTF-8; `Memory`.
-pub fn reply_in(alloc: Global, bytes: &[u8]) -> Result<Option<Heard>, Why> {
+/// `Foreign` if no head of a reply begins so, or if it is none that a desk writes: with a
+/// `Transfer-Encoding`, whether or not a `Content-Length` stands beside it (RFC 9112, section 6.3),
+/// or without exactly one `Content-Length`, of digits alone, that is `MOST_BODY` at most.
+pub fn front_of(bytes: &[u8]) -> Result<Front, Why> {
     let mut fields = [EMPTY_HEADER_SPAN; MOST_FIELDS];
     match parse_response(bytes, &mut fields) {
-        Ok(Status::Complete(head)) => reply_with_head(alloc, bytes, &fields, head),
-        Ok(Status::Partial) => Ok(None),
+        Ok(Status::Complete(head)) => front_with(bytes, &fields, head),
+        Ok(Status::Partial) => Ok(Front::Part),
         Err(_) => Err(Why::Foreign),
     }
 }
 
-// The reply whose head this is.
-fn reply_with_head(
-    alloc: Global,
-    bytes: &[u8],
-    fields: &[HeaderSpan],
-    head: ResponseSpans,
-) -> Result<Option<Heard>, Why>
+// What a whole head is. 101 would answer an `Upgrade`, which no message asks for.
+fn front_with(bytes: &[u8], fields: &[HeaderSpan], head: ResponseSpans) -> Result<Front, Why>
     requires { IsResponseWithin bytes.now fields.now head }
 {
-    let Some(length) = length_in(bytes, &fields[..head.headers]) else {
+    if head.code == 100 || (102 <= head.code && head.code <= 199) {
+        return Ok(Front::Interim(head.len));
+    }
+    let fields = &fields[..head.headers];
+    if has_encoding(bytes, fields) {
         return Err(Why::Foreign);
-    };
-    let Some(end) = head.len.checked_add(length) else {
-        return Err(Why::Foreign);
-    };
-    match bytes.get(head.len..end) {
-        Some(body) => Ok(Some(heard(alloc, head.code, body)?)),
-        None => Ok(None),
+    }
+    match length_in(bytes, fields) {
+        Some(length) if length <= MOST_BODY => Ok(Front::Whole(Head {
+            status: head.code,
+            end: head.len,
+            length,
+        })),
+        _ => Err(Why::Foreign),
     }
 }
 
-fn heard(alloc: Global, status: u16, body: &[u8]) -> Result<Heard, Why> {
-    let Ok(body) = str::from_utf8(body) else {
-        return Err(Why::Foreign);
-    };
-    match String::from_str(alloc, body) {
-        Ok(body) => Ok(Heard {
-            status,
-            body: Text::of(body),
-        }),
-        Err(_) => Err(Why::Memory),
+fn has_encoding(bytes: &[u8], fields: &[HeaderSpan]) -> bool
+    requires { All (IsHeaderWithin (length bytes.now)) fields.now }
+{
+    for field in fields {
+        if is_named(bytes, *field, b"transfer-encoding") {
+            return true;
+        }
     }
+    false
 }
 
 // The number of the field `Content-Length`, if it stands there once.
@@ -66,7 +91,7 @@ fn length_in(bytes: &[u8], fields: &[HeaderSpan]) -> Option<usize>
 {
     let mut found = None;
     for field in fields {
-        if field.name.of(bytes).eq_ignore_ascii_case(b"content-length") {
+        if is_named(bytes, *field, b"content-length") {
             if found.is_some() {
                 return None;
             }
@@ -76,6 +101,17 @@ fn length_in(bytes: &[u8], fields: &[HeaderSpan]) -> Option<usize>
     found
 }
 
+// Whether a field has this name, in any case.
+fn is_named(bytes: &[u8], field: HeaderSpan, name: &[u8]) -> bool
+    requires { IsHeaderWithin (length bytes.now) field }
+{
+    field.name.of(bytes).eq_ignore_ascii_case(name)
+}
+
+// A number of digits alone, without a sign.
 fn number_in(bytes: &[u8]) -> Option<usize> {
+    if !bytes.iter().all(|byte| byte.is_ascii_digit()) {
+        return None;
+    }
     str::from_utf8(bytes).ok()?.parse::<usize>().ok()
 }

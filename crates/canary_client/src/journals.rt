@@ -1,5 +1,5 @@
 //! A caller's journal on a device: opened, begun, and what is asked by it.
-ghost use Rattle.std.specs.Prelude.{◌≡◌, ◌+◌, ℕ, [], IfOk, OnOk, IfSome};
+ghost use Rattle.std.specs.Prelude.{◌≡◌, ◌+◌, ◌≤◌, ℕ, [], IfOk, OnOk, IfSome, IsTrue};
 ghost use Rattle.canary_records.specs.Stores.{held, IsSettled};
 ghost use Rattle.canary_journal.specs.declared.meaning.Meaning.TheVariants.{Ahead};
 ghost use Rattle.canary_journal.specs.Journals.{asks, asks_instead, begun};
@@ -26,12 +26,40 @@ const LAST: u32 = 1_000_000_000;
 const PROBE: &str = "{\"tick\":{\"service\":\"probe\"}}";
 
 /// The journal of a caller on a device: as it stands there, or else it begins with what the desk
-/// says that it has settled of the caller.
+/// says that it has settled of the caller. If the device is in doubt, it may have lost its journal,
+/// and that begins only if the desk has settled nothing of the caller.
 ///
 /// # Errors
 /// `JournalBroken` if the device has no whole journal, `OtherCaller` if it has another caller's;
-/// `NotBegun` if no desk answered, and then nothing was begun; `Journal`, `JournalFull`, `Memory`.
+/// `JournalEmptied` if it is in doubt and the desk has settled requests of the caller, and then it
+/// is not written; `NotBegun` if no desk answered, and then nothing was begun; `Journal`,
+/// `JournalFull`, `Memory`.
 pub fn journal_on<N: Network, D: Device + Drop>(
+    alloc: Global,
+    network: &mut N,
+    device: D,
+    is_in_doubt: bool,
+    caller: Name,
+    tries: u32,
+) -> Result<KeptJournal<D>, Stop>
+    ensures kept { IfOk result (IsKept D.seen D.may_leave) }
+    ensures caller { IfOk result (λ kept. kept.journal.caller ≡ caller) }
+    ensures begun { IfOk result (λ kept.
+        IsOpenedOrBegun (N.was_told network.new) caller (D.seen device) kept.journal) }
+    ensures doubt { OnOk result
+        (IsTrue is_in_doubt → IsSaid (N.was_told network.new) caller 0) }
+{
+    if is_in_doubt {
+        return journal_in_doubt(alloc, network, device, caller, tries);
+    }
+    match open(alloc, device)? {
+        Opened::Begun(kept) => of_caller(kept, caller),
+        Opened::New(store) => begun(alloc, network, store, caller, tries),
+    }
+}
+
+// The same on a device that may have lost its journal: the desk is asked before it is opened.
+fn journal_in_doubt<N: Network, D: Device + Drop>(
     alloc: Global,
     network: &mut N,
     device: D,
@@ -42,10 +70,27 @@ pub fn journal_on<N: Network, D: Device + Drop>(
     ensures caller { IfOk result (λ kept. kept.journal.caller ≡ caller) }
     ensures begun { IfOk result (λ kept.
         IsOpenedOrBegun (N.was_told network.new) caller (D.seen device) kept.journal) }
+    ensures doubt { OnOk result (IsSaid (N.was_told network.new) caller 0) }
 {
+    is_unknown(alloc, network, caller, tries)?;
     match open(alloc, device)? {
         Opened::Begun(kept) => of_caller(kept, caller),
-        Opened::New(store) => begun(alloc, network, store, caller, tries),
+        Opened::New(store) => begun_at(alloc, store, caller, 0),
+    }
+}
+
+// `JournalEmptied` if the desk has settled requests of the caller.
+fn is_unknown<N: Network>(
+    alloc: Global,
+    network: &mut N,
+    caller: Name,
+    tries: u32,
+) -> Result<(), Stop>
+    ensures { OnOk result (IsSaid (N.was_told network.new) caller 0) }
+{
+    match settled_before(alloc, network, caller, tries)? {
+        0 => Ok(()),
+        _ => Err(Stop::JournalEmptied),
     }
 }
 
@@ -73,6 +118,20 @@ fn begun<N: Network, D: Device + Drop>(
         × IsSaid (N.was_told network.new) caller settled) }
 {
     let settled = settled_before(alloc, network, caller, tries)?;
+    begun_at(alloc, store, caller, settled)
+}
+
+fn begun_at<D: Device + Drop>(
+    alloc: Global,
+    store: Store<D>,
+    caller: Name,
+    settled: u32,
+) -> Result<KeptJournal<D>, Stop>
+    requires rest { IsSettled D.seen D.may_leave store.device store.gate }
+    requires new { held (D.seen store.device) ≡ [] }
+    ensures kept { IfOk result (IsKept D.seen D.may_leave) }
+    ensures begun { IfOk result (λ kept. kept.journal ≡ begun caller settled) }
+{
     match begin(alloc, store, caller, settled) {
         Ok(kept) => Ok(kept),
         Err(fault) => Err(fault.into()),
@@ -106,13 +165,15 @@ fn settled_before<N: Network>(
     Err(Stop::NotBegun)
 }
 
-// How many requests of the caller a desk has settled, if the reply says so.
+// How many requests of the caller a desk has settled, if the reply says so. No desk has settled
+// more than there are numbers.
 fn settled_of(alloc: Global, heard: &Heard) -> Result<Option<u32>, Stop>
-    ensures { IfOk result (λ settled. IfSome settled
+    ensures said { IfOk result (λ settled. IfSome settled
         (λ count. meaning_of heard.now.status heard.now.body ≡ Ahead (count + 1))) }
+    ensures most { IfOk result (λ settled. IfSome settled (λ count. count ≤ 1000000000)) }
 {
     match meaning_of(alloc, heard.status, heard.body.as_str())? {
-        Meaning::Ahead(expected) => Ok(expected.checked_sub(1)),
+        Meaning::Ahead(expected) if expected >= 1 && expected - 1 <= LAST => Ok(Some(expected - 1)),
         _ => Ok(None),
     }
 }

@@ -4,9 +4,10 @@ ghost use Rattle.canary_client.specs.Outcomes.{status_of};
 
 use canary_base::error::Memory;
 use canary_journal::entry::Refusal;
+use canary_markup::shown::{Form, shown};
 use canary_sending::kept::KeepFault;
 use canary_sending::settle::Unsettled;
-use std::alloc::AllocError;
+use std::alloc::{AllocError, Global};
 use std::io::Write;
 
 // What is said if no answer came.
@@ -30,6 +31,10 @@ pub enum Outcome {
     Local,
     /// Another command took its place, or came too late to.
     Late,
+    /// An analysis is Inconclusive: somebody has to decide.
+    Held,
+    /// The desk refused a row of a measurement file, or did not look at it.
+    RowsRefused,
 }
 
 impl Outcome {
@@ -45,6 +50,8 @@ impl Outcome {
             Outcome::Contradiction => 4,
             Outcome::Local => 5,
             Outcome::Late => 6,
+            Outcome::Held => 7,
+            Outcome::RowsRefused => 8,
         }
     }
 }
@@ -62,6 +69,12 @@ pub enum Stop {
     NoJournal,
     /// The words are no command.
     Command,
+    /// The version is missing.
+    NoVersion,
+    /// The version is an invalid label.
+    BadVersion,
+    /// The metric is an invalid label.
+    BadMetric,
     /// The result is neither a whole number nor a list of them.
     Result,
     /// Why a measurement failed is not a text that the desk takes.
@@ -72,8 +85,10 @@ pub enum Stop {
     BadService,
     /// What is asked for of a service is neither `history` nor the number of a run.
     Part,
-    /// A status is none that a service may have.
+    /// A word of `--until` is unknown.
     Status,
+    /// What never ends has no word at which it ends.
+    ForeverUntil,
     /// The desk would not take the manifest.
     Manifest,
     /// The first record of a measurement file is another.
@@ -104,6 +119,8 @@ pub enum Stop {
     RowReused,
     /// The desk has not settled what comes before a row.
     RowAhead,
+    /// The desk cannot read a row.
+    RowUnread,
     /// What is waited for did not come in time.
     TimeOut,
     /// The desk settled another command under the number.
@@ -128,6 +145,11 @@ pub enum Stop {
     JournalFull,
     /// The journal's file is no whole journal.
     JournalBroken,
+    /// The journal is no regular file.
+    JournalNoFile,
+    /// The journal's file was there and has no byte, and the desk has settled requests of the
+    /// caller.
+    JournalEmptied,
     /// A file cannot be read.
     File,
     /// A measurement file has too many rows or bytes.
@@ -146,7 +168,8 @@ impl Stop {
         match self {
             Stop::Address | Stop::NoCaller | Stop::BadCaller | Stop::NoJournal => Outcome::Words,
             Stop::Command | Stop::Result | Stop::Failure | Stop::Run => Outcome::Words,
-            Stop::BadService | Stop::Part => Outcome::Words,
+            Stop::NoVersion | Stop::BadVersion | Stop::BadMetric => Outcome::Words,
+            Stop::BadService | Stop::Part | Stop::ForeverUntil => Outcome::Words,
             Stop::Status | Stop::Manifest | Stop::Header => Outcome::Words,
             Stop::OtherCaller | Stop::ReportInstead | Stop::KeyInstead => Outcome::Words,
             Stop::NoService | Stop::NoRun | Stop::NoMetric | Stop::Query => Outcome::Refused,
@@ -154,10 +177,20 @@ impl Stop {
             Stop::RowUnanswered | Stop::TimeOut => Outcome::Pending,
             Stop::Reused | Stop::Ahead | Stop::Unread | Stop::KeyUsed => Outcome::Contradiction,
             Stop::Replaced | Stop::Spent | Stop::Refused => Outcome::Contradiction,
-            Stop::RowReused | Stop::RowAhead => Outcome::Contradiction,
+            Stop::RowReused | Stop::RowAhead | Stop::RowUnread => Outcome::Contradiction,
             Stop::InUse | Stop::Journal | Stop::JournalFull => Outcome::Local,
-            Stop::JournalBroken | Stop::File | Stop::RowsSpent => Outcome::Local,
+            Stop::JournalBroken | Stop::JournalNoFile | Stop::JournalEmptied => Outcome::Local,
+            Stop::File | Stop::RowsSpent => Outcome::Local,
             Stop::Output | Stop::Clock | Stop::Memory => Outcome::Local,
+        }
+    }
+
+    /// Whether it is of the journal's file.
+    pub fn is_of_journal(self) -> bool {
+        match self {
+            Stop::InUse | Stop::Journal | Stop::JournalFull | Stop::JournalBroken => true,
+            Stop::JournalNoFile | Stop::JournalEmptied => true,
+            _ => false,
         }
     }
 
@@ -176,15 +209,29 @@ impl Stop {
             Stop::Address => "the desk's address is not IP:PORT (--desk or CANARY_DESK)",
             Stop::NoCaller => "a caller has to be given: --as NAME or CANARY_AS",
             Stop::BadCaller => {
-                "the caller is an invalid name: 1 to 63 of a-z, 0-9 and '-', no '-' at an end"
+                "the caller has an invalid name: 1 to 63 of a-z, 0-9 and '-', no '-' at an end"
             }
             Stop::NoJournal => "a journal has to be given: --journal FILE or CANARY_JOURNAL",
             Stop::Result => "the result is neither a whole number nor a list of them, as [1,2]",
             Stop::Failure => "why a measurement failed is a text of 1 to 200 bytes",
             Stop::Run => "the number of a run is 1 to 1000000000",
-            Stop::BadService => "the service is an invalid name",
+            Stop::NoVersion => {
+                "the VERSION is missing: a version is 1 to 63 of A-Z, a-z, 0-9, '.', '_' and '-'"
+            }
+            Stop::BadVersion => {
+                "the VERSION is invalid: a version is 1 to 63 of A-Z, a-z, 0-9, '.', '_' and '-'"
+            }
+            Stop::BadMetric => {
+                "the METRIC has an invalid name: 1 to 63 of A-Z, a-z, 0-9, '.', '_' and '-'"
+            }
+            Stop::BadService => {
+                "the service has an invalid name: 1 to 63 of a-z, 0-9 and '-', no '-' at an end"
+            }
             Stop::Part => "of a service, 'history' or the number of a run can be asked for",
-            Stop::Status => "a status is Healthy, Degraded, Paused or Progressing",
+            Stop::Status => {
+                "--until takes Healthy, Degraded, Paused, Progressing, Held and Waiting"
+            }
+            Stop::ForeverUntil => "--forever and --until cannot both be given",
             Stop::Manifest => "the desk would not take this manifest: 'canary check' says why",
             Stop::Header => "the first record of the file is not the header of a measurement file",
             Stop::OtherCaller => "this journal is another caller's",
@@ -242,6 +289,10 @@ impl Stop {
                 "ahead: the desk has not settled what comes before this row. A row is missing, or \
                  the desk was restored from an older copy"
             }
+            Stop::RowUnread => {
+                "the desk cannot read this row, so it will never be settled; nothing was sent \
+                 after that"
+            }
             Stop::Spent => "this caller has no number left: go on under another name",
             _ => "the journal does not take this",
         }
@@ -253,8 +304,16 @@ impl Stop {
             Stop::Journal => "the journal cannot be opened, read or written",
             Stop::JournalFull => "the journal's file has no room left",
             Stop::JournalBroken => {
-                "this file is no whole journal: it was cut short or changed. Restore it, or move \
-                 it away"
+                "this file is no whole journal: it is another file, or was cut short or changed. \
+                 It is left as it is. Restore it, or move it away"
+            }
+            Stop::JournalNoFile => {
+                "the journal has to be a regular file: this is a folder, a FIFO, a device or a \
+                 socket"
+            }
+            Stop::JournalEmptied => {
+                "this journal is empty, and the desk has settled commands of this caller. It is \
+                 left as it is. Restore it, or remove it to begin a new one"
             }
             Stop::File => "the file cannot be read",
             Stop::RowsSpent => "the file has more than 1,000,000 rows, or 1,000,000,000 bytes",
@@ -276,6 +335,22 @@ pub fn say<F: Write>(errors: &mut F, sentence: &str) {
     let _ = errors.write_all(b"canary: ");
     let _ = errors.write_all(sentence.as_bytes());
     let _ = errors.write_all(b"\n");
+}
+
+/// Writes a sentence on `errors`, as `say` does, and the path of the file that it speaks of.
+/// Characters of the path that would command a terminal are escaped; if memory for that is refused,
+/// the path is left out. A fault of `errors` is ignored.
+pub fn say_of<F: Write>(alloc: Global, errors: &mut F, sentence: &str, path: &str) {
+    match shown(alloc, path, Form::Line) {
+        Ok(path) => {
+            let _ = errors.write_all(b"canary: ");
+            let _ = errors.write_all(sentence.as_bytes());
+            let _ = errors.write_all(b": ");
+            let _ = errors.write_all(path.as_bytes());
+            let _ = errors.write_all(b"\n");
+        }
+        Err(_) => say(errors, sentence),
+    }
 }
 
 /// Writes a line on `output`.

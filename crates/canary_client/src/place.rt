@@ -22,9 +22,9 @@ pub struct Place {
     pub desk: SocketAddr,
     /// How often a message is sent, at most.
     pub tries: u32,
-    /// The most seconds for a reply.
+    /// The most seconds of an exchange, from its connection to the last byte of the reply.
     pub reply_seconds: u64,
-    /// The most seconds that a call waits for something to happen; none for no end.
+    /// The most seconds of a call that waits for something to happen; none for no end.
     pub wait_seconds: Option<u64>,
 }
 
@@ -49,8 +49,8 @@ pub fn place_of(rt: &HostRuntime, asked: &AskedDesk) -> Result<Place, Stop> {
     })
 }
 
-/// The place of a call that waits: the most seconds are those of the whole call, and each reply has
-/// as many as by default.
+/// The place of a call that waits: the most seconds are those of the whole call, and each exchange
+/// has as many as by default.
 pub fn waiting(place: Place) -> Place {
     Place {
         reply_seconds: SECONDS,

@@ -1,26 +1,49 @@
-//! Replies as one plain line for people.
+//! Replies as people and scripts see them: nothing that came from a server is a command of a
+//! terminal.
+use crate::run_line::run_line;
+use canary_base::error::Memory;
+use canary_markup::shown::{Form, shown};
 use serde_json::Value;
-use std::alloc::{AllocError, Global};
+use std::alloc::Global;
 
-/// The plain line of a reply's body: how a service stands, or why a command was refused. None if
-/// there is no plainer one than the body.
+/// The plain line of a reply's body: how a service stands, why a run ended, or why a command was
+/// refused. None if there is no plainer one than the body. Marks in it are escaped.
 ///
 /// # Errors
-/// `AllocError` if an allocation was refused.
-pub fn line_of(alloc: Global, body: &str) -> Result<Option<String>, AllocError> {
+/// `Memory` if an allocation was refused.
+pub fn line_of(alloc: Global, body: &str) -> Result<Option<String>, Memory> {
     let value = match Value::from_str(alloc, body) {
         Ok(value) => value,
-        Err(fault) if fault.is_memory() => return Err(AllocError),
+        Err(fault) if fault.is_memory() => return Err(Memory),
         Err(_) => return Ok(None),
     };
-    match service_line(alloc, &value)? {
-        Some(line) => Ok(Some(line)),
-        None => code_line(alloc, &value),
+    match plainer(alloc, &value)? {
+        Some(line) => Ok(Some(shown(alloc, line.as_str(), Form::Line)?)),
+        None => Ok(None),
     }
 }
 
+// The plain line of a reply, with its marks.
+fn plainer(alloc: Global, value: &Value) -> Result<Option<String>, Memory> {
+    if let Some(line) = service_line(alloc, value)? {
+        return Ok(Some(line));
+    }
+    match run_line(alloc, value)? {
+        Some(line) => Ok(Some(line)),
+        None => code_line(alloc, value),
+    }
+}
+
+/// The body of a reply, which is JSON, with its marks escaped as JSON has it: the same value.
+///
+/// # Errors
+/// `Memory` if an allocation was refused.
+pub fn json_of(alloc: Global, body: &str) -> Result<String, Memory> {
+    shown(alloc, body, Form::Json)
+}
+
 // A service: its status, step and weight, and its version and verdict if the reply has them.
-fn service_line(alloc: Global, value: &Value) -> Result<Option<String>, AllocError> {
+fn service_line(alloc: Global, value: &Value) -> Result<Option<String>, Memory> {
     let Some((service, status)) = texts_of(value) else {
         return Ok(None);
     };
@@ -52,7 +75,7 @@ fn numbers_of(value: &Value) -> Option<(u64, u64)> {
 }
 
 // A template with its revision, or a refusal by its code.
-fn code_line(alloc: Global, value: &Value) -> Result<Option<String>, AllocError> {
+fn code_line(alloc: Global, value: &Value) -> Result<Option<String>, Memory> {
     let Some(code) = value.get("code").and_then(Value::as_str) else {
         return Ok(None);
     };

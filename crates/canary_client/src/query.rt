@@ -1,6 +1,10 @@
 //! Queries, sent until they are answered.
+ghost use Rattle.std.specs.Prelude.{◌≡◌};
+ghost use Rattle.canary_journal.specs.Meanings.{is_among};
+ghost use Rattle.canary_client.specs.Queries.{why_again, not_found_codes};
+
 use crate::outcome::Stop;
-use canary_journal::meaning::{Meaning, meaning_of};
+use canary_journal::meaning::is_of_message;
 use canary_sending::network::{Heard, Network, Why, query};
 use serde_json::Value;
 use std::alloc::Global;
@@ -33,29 +37,37 @@ pub fn answer<N: Network>(
     Err(Stop::NoDesk)
 }
 
-// Why a query has to be sent again that got this reply.
+// Why a query has to be sent again that got this reply: none if a desk answers a query so.
 fn why_again(alloc: Global, heard: &Heard) -> Result<Option<Why>, Stop> {
-    if heard.status == 200 {
-        return Ok(why_foreign(alloc, heard)?);
-    }
-    match meaning_of(alloc, heard.status, heard.body.as_str())? {
-        Meaning::Unavailable => Ok(Some(Why::Unavailable)),
-        Meaning::Foreign => Ok(Some(Why::Foreign)),
-        _ => Ok(None),
-    }
-}
-
-// A page of another program, as of a proxy, has no code `ok`.
-fn why_foreign(alloc: Global, heard: &Heard) -> Result<Option<Why>, Stop> {
     let value = match Value::from_str(alloc, heard.body.as_str()) {
         Ok(value) => value,
         Err(fault) if fault.is_memory() => return Err(Stop::Memory),
         Err(_) => return Ok(Some(Why::Foreign)),
     };
     match value.get("code").and_then(Value::as_str) {
-        Some("ok") => Ok(None),
-        _ => Ok(Some(Why::Foreign)),
+        Some(code) => Ok(why_with(heard.status, code)),
+        None => Ok(Some(Why::Foreign)),
     }
+}
+
+fn why_with(status: u16, code: &str) -> Option<Why>
+    ensures { result ≡ why_again status code.now }
+{
+    match status {
+        200 if code == "ok" => None,
+        404 if is_not_found(code) => None,
+        400 if is_of_message(code) => None,
+        405 if code == "method" => None,
+        503 if code == "no-memory" || code == "storage" => Some(Why::Unavailable),
+        _ => Some(Why::Foreign),
+    }
+}
+
+// Whether a desk answers 404 with this code.
+fn is_not_found(code: &str) -> bool
+    ensures { result ≡ is_among not_found_codes code.now }
+{
+    matches!(code, "unknown-service" | "unknown-run" | "no-route")
 }
 
 /// The value of the reply to a query of this path.

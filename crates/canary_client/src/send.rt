@@ -1,7 +1,11 @@
 //! `send`: the rows of a measurement file, each a request with its own caller and number, so that
 //! the file is the journal.
-use crate::outcome::{Outcome, Stop, show, tell};
+ghost use Rattle.std.specs.Prelude.{◌≡◌};
+ghost use Rattle.canary_client.specs.Outcomes.{rows_outcome};
+
+use crate::outcome::{Outcome, Stop, say, show, tell};
 use crate::place::{Place, place_of};
+use crate::plain::json_of;
 use crate::tcp::Tcp;
 use canary_base::lists::Text;
 use canary_canonical::writing;
@@ -13,6 +17,7 @@ use canary_plan::command::Command;
 use canary_sending::network::{Heard, Network, Why, request};
 use canary_words::words::AskedDesk;
 use csv::{ByteRecord, ErrorKind, Reader, ReaderBuilder};
+use serde_json::Value;
 use std::alloc::Global;
 use std::fs::File;
 use std::io::{Read, Write};
@@ -23,7 +28,9 @@ const INPUT: &str = "-";
 /// Sends the rows of a measurement file (RFC 4180, as `import` reads it), each until it is
 /// answered, and shows a line for each, as `import` does: the number of the row from 1 on, the
 /// status, and the body. The file `csv` is the input if that is `-`. Sent again as a whole, each
-/// row that was settled gets its kept reply, and so the call goes on where another one stopped.
+/// row that was settled gets its kept reply, and so the call goes on where another one stopped. The
+/// last line on `errors` counts the rows that have their lines. `RowsRefused` if each row has its
+/// line, and one is no request, or the desk refused it otherwise than as recorded already.
 pub fn send<R: Read, W: Write, F: Write>(
     rt: &HostRuntime,
     desk: &AskedDesk,
@@ -32,9 +39,76 @@ pub fn send<R: Read, W: Write, F: Write>(
     output: &mut W,
     errors: &mut F,
 ) -> Outcome {
-    match try_send(rt, desk, csv, input, output) {
-        Ok(()) => Outcome::Done,
-        Err(stop) => tell(stop, errors),
+    let mut counts = Counts::NONE;
+    match try_send(rt, desk, csv, input, output, &mut counts) {
+        Ok(()) => {
+            counts.tell(rt.alloc(), errors);
+            counts.outcome()
+        }
+        Err(stop) => {
+            let outcome = tell(stop, errors);
+            if counts != Counts::NONE {
+                counts.tell(rt.alloc(), errors);
+            }
+            outcome
+        }
+    }
+}
+
+// What came of a row.
+#[derive(Clone, Copy, Debug, PartialEq, Eq)]
+enum RowEnd {
+    // Its measurement is recorded, now or before under its number.
+    Recorded,
+    // Its measurement was recorded already, under another number.
+    Repeated,
+    // The desk refused it, or it is no request.
+    Refused,
+}
+
+// How many rows had which end.
+#[derive(Clone, Copy, Debug, PartialEq, Eq)]
+struct Counts {
+    recorded: u64,
+    repeated: u64,
+    refused: u64,
+}
+
+impl Counts {
+    const NONE: Counts = Counts {
+        recorded: 0,
+        repeated: 0,
+        refused: 0,
+    };
+
+    fn count(&mut self, end: RowEnd) {
+        let counted = match end {
+            RowEnd::Recorded => &mut self.recorded,
+            RowEnd::Repeated => &mut self.repeated,
+            RowEnd::Refused => &mut self.refused,
+        };
+        *counted = counted.saturating_add(1);
+    }
+
+    // How a call ends of whose rows each has its line.
+    fn outcome(&self) -> Outcome
+        ensures { result ≡ rows_outcome self.now.refused }
+    {
+        if self.refused == 0 {
+            Outcome::Done
+        } else {
+            Outcome::RowsRefused
+        }
+    }
+
+    fn tell<F: Write>(&self, alloc: Global, errors: &mut F) {
+        let (recorded, repeated, refused) = (self.recorded, self.repeated, self.refused);
+        let told = format!(in alloc;
+            "rows recorded: {recorded}, repeated: {repeated}, refused: {refused}"
+        );
+        if let Ok(told) = told {
+            say(errors, told.as_str());
+        }
     }
 }
 
@@ -44,16 +118,17 @@ fn try_send<R: Read, W: Write>(
     csv: &Text,
     input: &mut R,
     output: &mut W,
+    counts: &mut Counts,
 ) -> Result<(), Stop> {
     let place = place_of(rt, desk)?;
     let mut network = Tcp::new(rt, &place);
     if csv.as_str() == INPUT {
-        return send_file(rt.alloc(), &mut network, input, place, output);
+        return send_file(rt.alloc(), &mut network, input, place, output, counts);
     }
     let Ok(mut file) = File::open(rt, csv.as_str()) else {
         return Err(Stop::File);
     };
-    send_file(rt.alloc(), &mut network, &mut file, place, output)
+    send_file(rt.alloc(), &mut network, &mut file, place, output, counts)
 }
 
 fn send_file<N: Network, R: Read, W: Write>(
@@ -62,6 +137,7 @@ fn send_file<N: Network, R: Read, W: Write>(
     input: &mut R,
     place: Place,
     output: &mut W,
+    counts: &mut Counts,
 ) -> Result<(), Stop> {
     let bounded = Bounded {
         source: input,
@@ -82,6 +158,7 @@ fn send_file<N: Network, R: Read, W: Write>(
         &mut fields,
         place.tries,
         output,
+        counts,
     )
 }
 
@@ -115,12 +192,13 @@ fn send_rows<N: Network, S: Read + Limited, W: Write>(
     fields: &mut ByteRecord,
     tries: u32,
     output: &mut W,
+    counts: &mut Counts,
 ) -> Result<(), Stop> {
     for done in 0..MOST_ROWS {
         if !has_next(reader, fields)? {
             return Ok(());
         }
-        send_row(alloc, network, fields, done + 1, tries, output)?;
+        counts.count(send_row(alloc, network, fields, done + 1, tries, output)?);
     }
     if has_next(reader, fields)? {
         return Err(Stop::RowsSpent);
@@ -135,18 +213,36 @@ fn send_row<N: Network, W: Write>(
     number: u64,
     tries: u32,
     output: &mut W,
-) -> Result<(), Stop> {
+) -> Result<RowEnd, Stop> {
     match row_of(alloc, fields) {
         Ok(row) => {
             let message = message_of(alloc, row)?;
             let heard = answered(alloc, network, message.as_str(), tries)?;
             show_line(alloc, number, heard.status, heard.body.as_str(), output)?;
-            agreed(alloc, &heard)
+            agreed(alloc, &heard)?;
+            end_of(alloc, &heard)
         }
         Err(RowFault::Refused(refusal)) => {
-            show_line(alloc, number, 400, body_of(refusal), output)
+            show_line(alloc, number, 400, body_of(refusal), output)?;
+            Ok(RowEnd::Refused)
         }
         Err(RowFault::Memory) => Err(Stop::Memory),
+    }
+}
+
+// What came of a row that was settled with this reply.
+fn end_of(alloc: Global, heard: &Heard) -> Result<RowEnd, Stop> {
+    if heard.status == 200 {
+        return Ok(RowEnd::Recorded);
+    }
+    let value = match Value::from_str(alloc, heard.body.as_str()) {
+        Ok(value) => value,
+        Err(fault) if fault.is_memory() => return Err(Stop::Memory),
+        Err(_) => return Ok(RowEnd::Refused),
+    };
+    match value.get("code").and_then(Value::as_str) {
+        Some("recorded") => Ok(RowEnd::Repeated),
+        _ => Ok(RowEnd::Refused),
     }
 }
 
@@ -203,6 +299,7 @@ fn agreed(alloc: Global, heard: &Heard) -> Result<(), Stop> {
     match meaning_of(alloc, heard.status, heard.body.as_str())? {
         Meaning::Reused => Err(Stop::RowReused),
         Meaning::Ahead(_) => Err(Stop::RowAhead),
+        Meaning::Unread => Err(Stop::RowUnread),
         _ => Ok(()),
     }
 }
@@ -214,6 +311,8 @@ fn show_line<W: Write>(
     body: &str,
     output: &mut W,
 ) -> Result<(), Stop> {
+    let body = json_of(alloc, body)?;
+    let body = body.as_str();
     let line = format!(in alloc; "{number} {status} {body}")?;
     show(output, line.as_str())
 }

@@ -1,16 +1,18 @@
 //! The way to a desk over TCP: one connection for each message.
-use crate::http::reply_in;
+use crate::clock::Span;
+use crate::http::{Front, Head, MOST_HEAD, front_of};
 use crate::outcome::say;
 use crate::place::Place;
+use canary_base::lists::Text;
 use canary_sending::network::{Heard, Network, Why};
 use std::alloc::Global;
-use std::io::{ErrorKind, Read, Write};
+use std::io::{self, ErrorKind, Read, Write};
 use std::net::{SocketAddr, TcpStream};
 use std::thread;
-use std::time::{Duration, Instant};
+use std::time::Duration;
 
-// The most bytes of a reply: a history has no limit of its own.
-const MOST_BYTES: usize = 1 << 26;
+// How many bytes are read at a time.
+const PIECE: usize = 16_384;
 
 // The first pause before a message is sent again, and the longest, in milliseconds.
 const FIRST_PAUSE: u64 = 100;
@@ -24,66 +26,157 @@ const LONGEST_PAUSE: u64 = 5_000;
 pub struct Tcp<'a> {
     rt: &'a HostRuntime,
     desk: SocketAddr,
+    // The longest time of an exchange.
     limit: Duration,
+    // The span of the whole call, if that has one.
+    call: Option<Span>,
 }
 
 impl<'a> Tcp<'a> {
-    /// The way to the desk at this place, where each exchange may take as long as a reply there.
+    /// The way to the desk at this place, where each exchange may take as long as a reply there,
+    /// from its connection to the last byte of the reply.
     pub fn new(rt: &'a HostRuntime, place: &Place) -> Tcp<'a> {
         Tcp {
             rt,
             desk: place.desk,
             limit: Duration::from_secs(place.reply_seconds.max(1)),
+            call: None,
         }
     }
 
-    fn connect(&self) -> Option<TcpStream> {
-        let stream = TcpStream::connect_timeout(self.rt, &self.desk, self.limit).ok()?;
-        stream.set_read_timeout(Some(self.limit)).ok()?;
-        stream.set_write_timeout(Some(self.limit)).ok()?;
-        Some(stream)
+    /// The same, of a call whose exchanges and pauses all end with this span: nothing is sent once
+    /// that is over.
+    pub fn within(rt: &'a HostRuntime, place: &Place, call: Span) -> Tcp<'a> {
+        let mut tcp = Tcp::new(rt, place);
+        tcp.call = Some(call);
+        tcp
     }
 
-    // Reads until a whole reply is there.
-    fn hear(&self, alloc: Global, stream: &mut TcpStream, start: Instant) -> Result<Heard, Why> {
-        let mut held = Vec::new(alloc);
-        let mut piece = [0u8; 4096];
-        for _ in 0..MOST_BYTES {
-            if !self.is_in_time(start) {
+    // As much of this time as is left of the call.
+    fn cut(&self, time: Duration) -> Option<Duration> {
+        match self.call {
+            Some(call) => call.cut(self.rt, time),
+            None => Some(time),
+        }
+    }
+
+    // A connection for one exchange, which ends in time.
+    fn connect(&self) -> Option<Exchange<'a>> {
+        let limit = self.cut(self.limit)?;
+        let span = Span::lasting(self.rt, limit)?;
+        let stream = TcpStream::connect_timeout(self.rt, &self.desk, limit).ok()?;
+        Some(Exchange {
+            rt: self.rt,
+            span,
+            limit,
+            stream,
+        })
+    }
+}
+
+// A connection, with the span of its exchange: each call on it may take what is left of that.
+#[derive(Drop)]
+struct Exchange<'a> {
+    rt: &'a HostRuntime,
+    span: Span,
+    limit: Duration,
+    stream: TcpStream,
+}
+
+impl<'a> Exchange<'a> {
+    fn left(&self) -> Result<Duration, Why> {
+        self.span.cut(self.rt, self.limit).ok_or(Why::Lost)
+    }
+
+    fn send(&mut self, message: &[u8]) -> Result<(), Why> {
+        let mut rest = message;
+        for _ in 0..u64::MAX {
+            if rest.is_empty() {
+                return Ok(());
+            }
+            let left = self.left()?;
+            if self.stream.set_write_timeout(Some(left)).is_err() {
                 return Err(Why::Lost);
             }
-            let count = read_some(stream, &mut piece)?;
-            if held
-                .extend_from_slice(piece.get(..count).unwrap_or(&[]))
-                .is_err()
-            {
-                return Err(Why::Memory);
-            }
-            if let Some(heard) = reply_in(alloc, held.as_slice())? {
-                return Ok(heard);
-            }
-            if held.len() > MOST_BYTES {
-                return Err(Why::Foreign);
-            }
+            let count = passed(self.stream.write(rest))?;
+            rest = rest.get(count..).unwrap_or(&[]);
         }
         Err(Why::Lost)
     }
 
-    fn is_in_time(&self, start: Instant) -> bool {
-        match start.elapsed(self.rt) {
-            Ok(passed) => passed < self.limit,
-            Err(_) => false,
+    // Reads some bytes more, none if a signal came first.
+    fn read_more(&mut self, held: &mut Vec<u8>) -> Result<(), Why> {
+        let left = self.left()?;
+        if self.stream.set_read_timeout(Some(left)).is_err() {
+            return Err(Why::Lost);
         }
+        let mut piece = [0u8; PIECE];
+        let count = passed(self.stream.read(&mut piece))?;
+        match held.extend_from_slice(piece.get(..count).unwrap_or(&[])) {
+            Ok(()) => Ok(()),
+            Err(_) => Err(Why::Memory),
+        }
+    }
+
+    // Reads until a whole reply is there. Its head is read once, and then its body, of which no
+    // more is held than it is long.
+    fn hear(&mut self, alloc: Global) -> Result<Heard, Why> {
+        let mut held = Vec::new(alloc);
+        let head = self.hear_head(alloc, &mut held)?;
+        for _ in 0..u64::MAX {
+            if held.len() >= head.length {
+                held.truncate(head.length);
+                return heard(head.status, held);
+            }
+            self.read_more(&mut held)?;
+        }
+        Err(Why::Lost)
+    }
+
+    // Reads until the head of the reply is there, and leaves what came of its body. Replies that
+    // others follow are ignored (RFC 9110, section 15.2).
+    fn hear_head(&mut self, alloc: Global, held: &mut Vec<u8>) -> Result<Head, Why> {
+        for _ in 0..u64::MAX {
+            match front_of(held.as_slice())? {
+                Front::Whole(head) => {
+                    *held = behind(alloc, held.as_slice(), head.end)?;
+                    return Ok(head);
+                }
+                Front::Interim(end) => *held = behind(alloc, held.as_slice(), end)?,
+                Front::Part if held.len() > MOST_HEAD => return Err(Why::Foreign),
+                Front::Part => self.read_more(held)?,
+            }
+        }
+        Err(Why::Lost)
     }
 }
 
-// Reads some bytes, none if a signal came first.
-fn read_some(stream: &mut TcpStream, piece: &mut [u8; 4096]) -> Result<usize, Why> {
-    match stream.read(piece) {
+// How many bytes a call passed on: none if a signal came first.
+fn passed(count: io::Result<usize>) -> Result<usize, Why> {
+    match count {
         Ok(0) => Err(Why::Lost),
         Ok(count) => Ok(count),
         Err(error) if error.kind() == ErrorKind::Interrupted => Ok(0),
         Err(_) => Err(Why::Lost),
+    }
+}
+
+// The bytes from this place on.
+fn behind(alloc: Global, bytes: &[u8], place: usize) -> Result<Vec<u8>, Why> {
+    match Vec::from_slice(alloc, bytes.get(place..).unwrap_or(&[])) {
+        Ok(rest) => Ok(rest),
+        Err(_) => Err(Why::Memory),
+    }
+}
+
+// The reply with this body. A desk's is UTF-8.
+fn heard(status: u16, body: Vec<u8>) -> Result<Heard, Why> {
+    match String::from_utf8(body) {
+        Ok(body) => Ok(Heard {
+            status,
+            body: Text::of(body),
+        }),
+        Err(_) => Err(Why::Foreign),
     }
 }
 
@@ -95,22 +188,20 @@ impl<'a> Network for Tcp<'a> {
     ghost was_unanswered = { λ t m why. Unit {0} };
 
     fn exchange(&mut self, alloc: Global, message: &str) -> Result<Heard, Why> {
-        let Ok(start) = Instant::now(self.rt) else {
+        let Some(mut exchange) = self.connect() else {
             return Err(Why::Unreachable);
         };
-        let Some(mut stream) = self.connect() else {
-            return Err(Why::Unreachable);
-        };
-        if stream.write_all(message.as_bytes()).is_err() {
-            return Err(Why::Lost);
-        }
-        self.hear(alloc, &mut stream, start)
+        exchange.send(message.as_bytes())?;
+        exchange.hear(alloc)
     }
 
     fn pause(&mut self, tried: u32, why: Why) {
-        say(&mut self.rt.stderr(), text_of(why));
         let pause = FIRST_PAUSE.saturating_mul(1u64 << tried.min(10)) / 2;
-        thread::sleep(self.rt, Duration::from_millis(pause.min(LONGEST_PAUSE)));
+        let pause = Duration::from_millis(pause.min(LONGEST_PAUSE));
+        if let Some(pause) = self.cut(pause) {
+            say(&mut self.rt.stderr(), text_of(why));
+            thread::sleep(self.rt, pause);
+        }
     }
 }
 

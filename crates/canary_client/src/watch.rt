@@ -1,120 +1,304 @@
 //! `watch`: a service, a line each time that it stands otherwise.
-use crate::clock::Waiting;
-use crate::outcome::{Outcome, Stop, show, tell};
+use crate::clock::Span;
+use crate::outcome::{Outcome, Stop, say, show, tell};
 use crate::place::{place_of, service_of, waiting};
-use crate::plain::line_of;
-use crate::query::answer;
+use crate::plain::{json_of, line_of};
+use crate::query::value_at;
+use crate::standing::{Hold, Standing, WORDS, Why, is_of_step, last_line, parts_of};
 use crate::tcp::Tcp;
 use canary_base::lists::Text;
-use canary_sending::network::{Heard, Network};
+use canary_sending::network::Network;
 use canary_words::words::AskedDesk;
-use serde_json::Value;
-use std::alloc::Global;
+use serde_json::{Map, Value};
+use std::alloc::{AllocError, Global};
 use std::io::Write;
 
 // What a call waits for, if no word says so.
 const UNTIL: &str = "Healthy,Degraded";
 
-// The statuses that a service may have.
-const STATUSES: [&str; 4] = ["Healthy", "Degraded", "Paused", "Progressing"];
+/// How a service is watched.
+#[derive(Debug, Drop)]
+pub struct Manner {
+    /// The words at which the call ends, separated by commas; none for those by default.
+    pub until: Option<Text>,
+    /// Whether each line is a JSON value.
+    pub is_json: bool,
+    /// Whether the call goes on without end, also while no desk answers.
+    pub is_forever: bool,
+}
 
-/// Shows how a service stands, a line each time that it stands otherwise, until it has one of the
-/// statuses of `until`, which are separated by commas. `Done` if that is not `Degraded`, and else
-/// `Refused`.
+/// Shows how a service stands and why, a line each time that it stands otherwise, until it stands
+/// as a word of `until` says: `Done`, or `Refused` if it is Degraded, or `Held` if that is the
+/// word. A call without end goes on through ends and starts of releases, and while no desk answers
+/// or has no such service.
 pub fn watch<W: Write, F: Write>(
     rt: &HostRuntime,
     desk: &AskedDesk,
     service: &Text,
-    until: &Option<Text>,
+    manner: &Manner,
     output: &mut W,
     errors: &mut F,
 ) -> Outcome {
-    match try_watch(rt, desk, service, until, output) {
+    match try_watch(rt, desk, service, manner, output, errors) {
         Ok(outcome) => outcome,
         Err(stop) => tell(stop, errors),
     }
 }
 
-fn try_watch<W: Write>(
+fn try_watch<W: Write, F: Write>(
     rt: &HostRuntime,
     desk: &AskedDesk,
     service: &Text,
-    until: &Option<Text>,
+    manner: &Manner,
     output: &mut W,
+    errors: &mut F,
 ) -> Result<Outcome, Stop> {
+    let until = until_of(manner)?;
     let place = waiting(place_of(rt, desk)?);
-    let until = match until {
-        Some(until) => until.as_str(),
-        None => UNTIL,
-    };
-    if !until.split(',').all(is_status) {
-        return Err(Stop::Status);
-    }
     let service = service_of(service)?;
     let service = service.as_str();
     let path = format!(in rt.alloc(); "/services/{service}")?;
-    let mut network = Tcp::new(rt, &place);
-    let waiting = Waiting::begun(rt, place.wait_seconds)?;
-    let mut last = String::new(rt.alloc());
+    let call = Span::of_call(rt, place.wait_seconds)?;
+    let looking = Looking {
+        network: Tcp::within(rt, &place, call),
+        path,
+        tries: place.tries,
+        seen: Seen::nothing(rt.alloc(), manner.is_json),
+    };
+    match look_until(rt, looking, until, manner.is_forever, call, output, errors) {
+        Ok(outcome) => Ok(outcome),
+        Err(stop) => Err(call.stop(rt, stop)),
+    }
+}
+
+// Looks at a service once a second, until it stands as a word says or the call is over.
+fn look_until<W: Write, F: Write>(
+    rt: &HostRuntime,
+    looking: Looking<'_>,
+    until: &str,
+    is_forever: bool,
+    call: Span,
+    output: &mut W,
+    errors: &mut F,
+) -> Result<Outcome, Stop> {
+    let mut looking = looking;
     for _ in 0..u64::MAX {
-        let path = path.as_str();
-        let found = look(
-            rt.alloc(),
-            &mut network,
-            path,
-            place.tries,
-            &mut last,
-            output,
-        )?;
-        if let Some(outcome) = outcome_of(rt.alloc(), &found, until)? {
-            return Ok(outcome);
+        let looked = looking.look(rt.alloc(), output);
+        match went_on(looked, is_forever, errors)? {
+            Some(standing) if !is_forever => {
+                if let Some(outcome) = ended_by(&standing, until) {
+                    return Ok(outcome);
+                }
+            }
+            _ => {}
         }
-        waiting.go_on(rt)?;
+        call.go_on(rt)?;
     }
     Err(Stop::TimeOut)
 }
 
-fn is_status(word: &str) -> bool {
-    STATUSES.iter().any(|status| *status == word)
+// A service that is looked at: the way to its desk, its path there, and what was seen of it.
+#[derive(Drop)]
+struct Looking<'a> {
+    network: Tcp<'a>,
+    path: String,
+    tries: u32,
+    seen: Seen,
 }
 
-// Asks how a service stands, and shows its line if that is another than the last one.
-fn look<N: Network, W: Write>(
+impl Looking<'_> {
+    fn look<W: Write>(&mut self, alloc: Global, output: &mut W) -> Result<Option<Standing>, Stop> {
+        let path = self.path.as_str();
+        self.seen
+            .look(alloc, &mut self.network, path, self.tries, output)
+    }
+}
+
+// The words at which a call ends.
+fn until_of(manner: &Manner) -> Result<&str, Stop> {
+    match &manner.until {
+        Some(_) if manner.is_forever => Err(Stop::ForeverUntil),
+        Some(until) if until.as_str().split(',').all(is_word) => Ok(until.as_str()),
+        Some(_) => Err(Stop::Status),
+        None => Ok(UNTIL),
+    }
+}
+
+fn is_word(word: &str) -> bool {
+    WORDS.iter().any(|known| *known == word)
+}
+
+// What was found, or nothing if a call without end goes on although no desk answered, or has no
+// such service; `errors` has the sentence that says so.
+fn went_on<F: Write>(
+    looked: Result<Option<Standing>, Stop>,
+    is_forever: bool,
+    errors: &mut F,
+) -> Result<Option<Standing>, Stop> {
+    match looked {
+        Err(Stop::NoDesk | Stop::NoService | Stop::Query) if is_forever => {
+            if let Err(stop) = looked {
+                say(errors, stop.sentence());
+            }
+            Ok(None)
+        }
+        _ => looked,
+    }
+}
+
+// How the call ends if the service stands as one of these words says.
+fn ended_by(standing: &Standing, until: &str) -> Option<Outcome> {
+    let mut ended = None;
+    for word in until.split(',') {
+        if standing.meets(word) && ended != Some(Outcome::Held) {
+            ended = Some(standing.ended_at(word));
+        }
+    }
+    ended
+}
+
+// What was shown last, and how the service stood then.
+#[derive(Drop)]
+struct Seen {
+    is_json: bool,
+    key: String,
+    standing: Option<Standing>,
+}
+
+impl Seen {
+    fn nothing(alloc: Global, is_json: bool) -> Seen {
+        Seen {
+            is_json,
+            key: String::new(alloc),
+            standing: None,
+        }
+    }
+
+    // Asks how a service stands, and shows its line if that is otherwise than the last time. None
+    // if it changed between two queries.
+    fn look<N: Network, W: Write>(
+        &mut self,
+        alloc: Global,
+        network: &mut N,
+        path: &str,
+        tries: u32,
+        output: &mut W,
+    ) -> Result<Option<Standing>, Stop> {
+        let service = value_at(alloc, network, path, tries)?;
+        let key = key_of(alloc, &service)?;
+        if key.as_str() == self.key.as_str() {
+            return Ok(self.standing);
+        }
+        let Some(standing) = standing_of(alloc, network, path, tries, &service)? else {
+            return Ok(None);
+        };
+        if self.is_json {
+            show(output, value_of(alloc, service, &standing)?.as_str())?;
+        } else {
+            show(output, text_of(alloc, &service, &standing)?.as_str())?;
+        }
+        self.key = key;
+        self.standing = Some(standing);
+        Ok(self.standing)
+    }
+}
+
+// What tells how a service stands from how it stood: all but the moment.
+fn key_of(alloc: Global, service: &Value) -> Result<String, Stop> {
+    let line = plain(alloc, service)?;
+    let hold = service.get("hold").and_then(Value::as_str).unwrap_or("");
+    let stable = service.get("stable").and_then(Value::as_str).unwrap_or("");
+    let runs = service.get("runs").and_then(Value::as_u64).unwrap_or(0);
+    let line = line.as_str();
+    Ok(format!(in alloc; "{line} {hold} {stable} {runs}")?)
+}
+
+// The plain line of a service's reply.
+fn plain(alloc: Global, service: &Value) -> Result<String, Stop> {
+    let text = service.to_string(alloc)?;
+    match line_of(alloc, text.as_str())? {
+        Some(line) => Ok(line),
+        None => Err(Stop::Query),
+    }
+}
+
+// How a service stands; none if the history says that it stands at another step by now. Only what
+// is not held asks for the history.
+fn standing_of<N: Network>(
     alloc: Global,
     network: &mut N,
     path: &str,
     tries: u32,
-    last: &mut String,
-    output: &mut W,
-) -> Result<Heard, Stop> {
-    let heard = answer(alloc, network, path, tries)?;
-    if heard.status != 200 {
-        return Err(Stop::NoService);
+    service: &Value,
+) -> Result<Option<Standing>, Stop> {
+    let (status, step, hold) = parts_of(service)?;
+    let mut last = None;
+    if hold == Hold::None {
+        let path = format!(in alloc; "{path}/history")?;
+        last = last_line(&value_at(alloc, network, path.as_str(), tries)?);
     }
-    if let Some(line) = line_of(alloc, heard.body.as_str())?
-        && line.as_str() != last.as_str()
+    if let Some(line) = &last
+        && !is_of_step(line, step)
     {
-        show(output, line.as_str())?;
-        *last = line;
-    }
-    Ok(heard)
-}
-
-// How the call ends if the service has one of these statuses.
-fn outcome_of(alloc: Global, heard: &Heard, until: &str) -> Result<Option<Outcome>, Stop> {
-    let value = match Value::from_str(alloc, heard.body.as_str()) {
-        Ok(value) => value,
-        Err(fault) if fault.is_memory() => return Err(Stop::Memory),
-        Err(_) => return Err(Stop::Query),
-    };
-    let Some(status) = value.get("status").and_then(Value::as_str) else {
-        return Err(Stop::Query);
-    };
-    if !until.split(',').any(|awaited| awaited == status) {
         return Ok(None);
     }
-    if status == "Degraded" {
-        return Ok(Some(Outcome::Refused));
+    let why = Why::of(hold, last);
+    Ok(Some(Standing { status, step, why }))
+}
+
+// The line of a service for people, which ends with why it stands so.
+fn text_of(alloc: Global, service: &Value, standing: &Standing) -> Result<String, Stop> {
+    let moment = service.get("moment").and_then(Value::as_u64).unwrap_or(0);
+    let mut line = plain(alloc, service)?;
+    line.push_str(standing.words(alloc, moment)?.as_str())?;
+    Ok(line)
+}
+
+// The JSON value of a service: the desk's reply, with why it stands so, the run of its analysis or
+// of its abort, and when its pause ends, in seconds since 1970-01-01T00:00:00Z.
+fn value_of(alloc: Global, service: Value, standing: &Standing) -> Result<String, Stop> {
+    let mut service = service;
+    let (word, run, until) = members_of(standing.why);
+    let word = Value::try_from_str(alloc, word)?;
+    let Some(members) = service.as_object_mut() else {
+        return Err(Stop::Query);
+    };
+    put(alloc, members, "why", word)?;
+    put(alloc, members, "run", number_or_null(run))?;
+    put(alloc, members, "until", number_or_null(until))?;
+    let text = service.to_string(alloc)?;
+    Ok(json_of(alloc, text.as_str())?)
+}
+
+// Puts a member into an object.
+fn put(
+    alloc: Global,
+    members: &mut Map<String, Value>,
+    name: &str,
+    value: Value,
+) -> Result<(), AllocError> {
+    match members.insert(String::from_str(alloc, name)?, value) {
+        Ok(_) => Ok(()),
+        Err(refused) => Err(AllocError::from(refused)),
     }
-    Ok(Some(Outcome::Done))
+}
+
+fn number_or_null(number: Option<u64>) -> Value {
+    match number {
+        Some(number) => Value::from(number),
+        None => Value::Null,
+    }
+}
+
+// Why, as the members of a JSON value: a word, a run, and when a pause ends.
+fn members_of(why: Why) -> (&'static str, Option<u64>, Option<u64>) {
+    match why {
+        Why::Plain => ("plain", None, None),
+        Why::Held(_) => ("held", None, None),
+        Why::Waiting => ("waiting", None, None),
+        Why::Pause { seconds: _, until } => ("pause", None, Some(until)),
+        Why::Analysis { run } => ("analysis", Some(run as u64), None),
+        Why::Aborted => ("aborted", None, None),
+        Why::AbortedBy { run } => ("aborted", Some(run as u64), None),
+    }
 }

@@ -1,5 +1,6 @@
 //! The wish that the words of a command line stand for.
 use crate::outcome::Stop;
+use crate::place::service_of;
 use crate::report::{Measured, report_body};
 use canary_base::lists::Text;
 use canary_base::names::{Label, Name};
@@ -49,63 +50,79 @@ impl Asking {
 /// What these words ask for.
 ///
 /// # Errors
-/// `Command` if they are no command, `Run` if they name no run, `Result` or `Failure` for what no
-/// measurement has, `File` if the manifest's file cannot be read, `Manifest` if the desk would not
-/// take what it says; `Memory`.
+/// `Command` if they are no command, `BadService`, `BadVersion` or `BadMetric` for an invalid name,
+/// `NoVersion` if a version is missing, `Run` if they name no run, `Result` or `Failure` for what
+/// no measurement has, `File` if the manifest's file cannot be read, `Manifest` if the desk would
+/// not take what it says; `Memory`.
 pub fn read_asking<P: Files + AllocGlobal>(rt: &P, words: &AskedCommand) -> Result<Asking, Stop> {
     match words.kind.as_str() {
         "template" => template(rt, words),
         "service" => service(rt, words),
         "report" => report(rt.alloc(), words),
-        _ => match plain(words) {
-            Some(command) => of_command(rt.alloc(), &command),
-            None => Err(Stop::Command),
-        },
+        _ => of_command(rt.alloc(), &plain(words)?),
     }
 }
 
 // The command of words that name no file.
-fn plain(words: &AskedCommand) -> Option<Command> {
+fn plain(words: &AskedCommand) -> Result<Command, Stop> {
     if words.third.is_some() || words.fourth.is_some() || words.failure.is_some() {
-        return None;
+        return Err(Stop::Command);
     }
-    let service = name_of(&words.first)?;
-    match &words.second {
-        Some(version) => started(words, service, version),
-        None => of_service(words.kind.as_str(), service),
+    if words.kind.as_str() == "start" {
+        let (service, version) = (name_of(&words.first)?, version_of(&words.second)?);
+        return Ok(Command::Start { service, version });
     }
+    if words.second.is_some() {
+        return Err(Stop::Command);
+    }
+    of_service(words.kind.as_str(), &words.first)
 }
 
-fn started(words: &AskedCommand, service: Name, version: &Text) -> Option<Command> {
-    if words.kind.as_str() != "start" {
-        return None;
-    }
-    let version = Label::read(version.as_str().as_bytes())?;
-    Some(Command::Start { service, version })
-}
-
-fn of_service(kind: &str, service: Name) -> Option<Command> {
+fn of_service(kind: &str, service: &Option<Text>) -> Result<Command, Stop> {
     match kind {
-        "promote" => Some(Command::Promote { service }),
-        "promote-full" => Some(Command::PromoteFull { service }),
-        "abort" => Some(Command::Abort { service }),
-        "retry" => Some(Command::Retry { service }),
-        "tick" => Some(Command::Tick { service }),
-        _ => None,
+        "promote" => Ok(Command::Promote {
+            service: name_of(service)?,
+        }),
+        "promote-full" => Ok(Command::PromoteFull {
+            service: name_of(service)?,
+        }),
+        "abort" => Ok(Command::Abort {
+            service: name_of(service)?,
+        }),
+        "retry" => Ok(Command::Retry {
+            service: name_of(service)?,
+        }),
+        "tick" => Ok(Command::Tick {
+            service: name_of(service)?,
+        }),
+        _ => Err(Stop::Command),
     }
 }
 
-fn name_of(word: &Option<Text>) -> Option<Name> {
+fn name_of(word: &Option<Text>) -> Result<Name, Stop> {
     match word {
-        Some(word) => Name::read(word.as_str().as_bytes()),
-        None => None,
+        Some(word) => service_of(word),
+        None => Err(Stop::Command),
     }
 }
 
-fn label_of(word: &Option<Text>) -> Option<Label> {
-    match word {
-        Some(word) => Label::read(word.as_str().as_bytes()),
-        None => None,
+fn version_of(word: &Option<Text>) -> Result<Label, Stop> {
+    let Some(word) = word else {
+        return Err(Stop::NoVersion);
+    };
+    match Label::read(word.as_str().as_bytes()) {
+        Some(version) => Ok(version),
+        None => Err(Stop::BadVersion),
+    }
+}
+
+fn metric_of(word: &Option<Text>) -> Result<Label, Stop> {
+    let Some(word) = word else {
+        return Err(Stop::Command);
+    };
+    match Label::read(word.as_str().as_bytes()) {
+        Some(metric) => Ok(metric),
+        None => Err(Stop::BadMetric),
     }
 }
 
@@ -131,12 +148,13 @@ fn template<P: Files + AllocGlobal>(rt: &P, words: &AskedCommand) -> Result<Aski
 }
 
 fn service<P: Files + AllocGlobal>(rt: &P, words: &AskedCommand) -> Result<Asking, Stop> {
-    let (Some(file), Some(version)) = (&words.first, label_of(&words.second)) else {
+    let Some(file) = &words.first else {
         return Err(Stop::Command);
     };
     if words.third.is_some() || words.failure.is_some() {
         return Err(Stop::Command);
     }
+    let version = version_of(&words.second)?;
     let manifest = manifest(rt, file.as_str())?;
     let (manifest, version) = (manifest.as_str(), version.as_str());
     of_body(
@@ -166,25 +184,41 @@ fn of_body(alloc: Global, body: String) -> Result<Asking, Stop> {
     if body.len() as u64 > MOST_BYTES {
         return Err(Stop::Manifest);
     }
-    let command = match command_from_json(alloc, body.as_str().as_bytes()) {
-        Ok(command) => command,
-        Err(WireFault::Memory) => return Err(Stop::Memory),
-        Err(_) => return Err(Stop::Manifest),
-    };
-    let intent = writing::text(alloc, &command)?;
-    Ok(Asking::Command {
-        intent,
-        body: Text::of(body),
-    })
+    match intent_in(alloc, body.as_str())? {
+        Some(intent) => Ok(Asking::Command {
+            intent,
+            body: Text::of(body),
+        }),
+        None => Err(Stop::Manifest),
+    }
+}
+
+// What the body of a request means: the canonical text of its command, if it has one.
+fn intent_in(alloc: Global, body: &str) -> Result<Option<Text>, Stop> {
+    match command_from_json(alloc, body.as_bytes()) {
+        Ok(command) => Ok(Some(writing::text(alloc, &command)?)),
+        Err(WireFault::Memory) => Err(Stop::Memory),
+        Err(_) => Ok(None),
+    }
+}
+
+/// Whether the body of a request means this, the canonical text of a command.
+///
+/// # Errors
+/// `Memory`.
+pub fn has_intent(alloc: Global, body: &str, intent: &str) -> Result<bool, Stop> {
+    match intent_in(alloc, body)? {
+        Some(found) => Ok(found.as_str() == intent),
+        None => Ok(false),
+    }
 }
 
 fn report(alloc: Global, words: &AskedCommand) -> Result<Asking, Stop> {
-    let (Some(service), Some(metric)) = (name_of(&words.first), label_of(&words.third)) else {
-        return Err(Stop::Command);
-    };
+    let service = name_of(&words.first)?;
     let Some(run) = run_of(&words.second) else {
         return Err(Stop::Run);
     };
+    let metric = metric_of(&words.third)?;
     let measured = Measured {
         service,
         run,

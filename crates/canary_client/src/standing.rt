@@ -1,0 +1,328 @@
+//! Why a service stands as it does: what holds it, or what its step waits for.
+ghost use Rattle.std.specs.Prelude.{◌≡◌, ◌≤◌, IfSome, IsTrue, option_map};
+ghost use Rattle.canary_client.specs.Standings.{why_of, why_of_line, why_by, word_of, is_standing};
+ghost use Rattle.canary_client.specs.Standings.{meets, ended_at};
+
+use crate::outcome::{Outcome, Stop};
+use canary_base::moments::Moment;
+use canary_plan::line::{Line, LineEvent};
+use jiff::Timestamp;
+use serde_json::Value;
+use std::alloc::{AllocError, Global};
+
+/// The words that `--until` takes.
+pub const WORDS: [&str; 6] = [
+    "Healthy",
+    "Degraded",
+    "Paused",
+    "Progressing",
+    "Held",
+    "Waiting",
+];
+
+// The seconds of a day.
+const DAY: u64 = 86_400;
+
+/// The status of a service.
+#[derive(Clone, Copy, Debug, PartialEq, Eq)]
+pub enum Status {
+    /// The release is done.
+    Healthy,
+    /// The attempt was aborted.
+    Degraded,
+    /// It is held, or at a pause.
+    Paused,
+    /// It is at an analysis.
+    Progressing,
+}
+
+impl Status {
+    // The status of this word.
+    fn read(word: &str) -> Option<Status> {
+        match word {
+            "Healthy" => Some(Status::Healthy),
+            "Degraded" => Some(Status::Degraded),
+            "Paused" => Some(Status::Paused),
+            "Progressing" => Some(Status::Progressing),
+            _ => None,
+        }
+    }
+
+    // Its word.
+    fn word(self) -> &'static str
+        ensures { result.now ≡ word_of self }
+    {
+        match self {
+            Status::Healthy => "Healthy",
+            Status::Degraded => "Degraded",
+            Status::Paused => "Paused",
+            Status::Progressing => "Progressing",
+        }
+    }
+}
+
+/// Which analysis holds a release, since it is Inconclusive.
+#[derive(Clone, Copy, Debug, PartialEq, Eq)]
+pub enum Hold {
+    /// None does.
+    None,
+    /// That of its step.
+    Step,
+    /// The one beside its steps.
+    Background,
+    /// Both do.
+    Both,
+}
+
+impl Hold {
+    // The hold of this word.
+    fn read(word: &str) -> Option<Hold> {
+        match word {
+            "none" => Some(Hold::None),
+            "step" => Some(Hold::Step),
+            "background" => Some(Hold::Background),
+            "both" => Some(Hold::Both),
+            _ => None,
+        }
+    }
+}
+
+/// Why a service stands as it does.
+#[derive(Clone, Copy, Debug, PartialEq, Eq)]
+pub enum Why {
+    /// Its status says all.
+    Plain,
+    /// This analysis is Inconclusive: somebody has to decide.
+    Held(Hold),
+    /// It is at a pause without an end: somebody has to promote it.
+    Waiting,
+    /// It is at a pause of so many seconds, which ends so many seconds after
+    /// 1970-01-01T00:00:00Z.
+    Pause {
+        /// How long the pause is, in seconds.
+        seconds: u64,
+        /// When it ends, in seconds since 1970-01-01T00:00:00Z.
+        until: u64,
+    },
+    /// The run of its step's analysis is open.
+    Analysis {
+        /// The number of the run.
+        run: u32,
+    },
+    /// A command aborted it.
+    Aborted,
+    /// The verdict of this run aborted it.
+    AbortedBy {
+        /// The number of the run.
+        run: u32,
+    },
+}
+
+impl Why {
+    /// Why a service stands so, by its hold and by the last line of its history that says where it
+    /// stands.
+    pub fn of(hold: Hold, last: Option<Line>) -> Why
+        ensures { result ≡ why_of hold last }
+    {
+        match hold {
+            Hold::None => by_line(last),
+            Hold::Step => Why::Held(Hold::Step),
+            Hold::Background => Why::Held(Hold::Background),
+            Hold::Both => Why::Held(Hold::Both),
+        }
+    }
+}
+
+fn by_line(last: Option<Line>) -> Why
+    ensures { result ≡ why_of_line last }
+{
+    match last {
+        Some(line) => by_event(line.moment.get(), line.event),
+        None => Why::Plain,
+    }
+}
+
+fn by_event(moment: u64, event: LineEvent) -> Why
+    requires { moment ≤ 253370764799 }
+    ensures { result ≡ why_by moment event }
+{
+    match event {
+        LineEvent::PauseEntered { step: _ } => Why::Waiting,
+        LineEvent::TimedPauseEntered { step: _, seconds } => {
+            let seconds = seconds.get() as u64;
+            Why::Pause {
+                seconds,
+                until: moment + seconds,
+            }
+        }
+        LineEvent::AnalysisEntered { step: _, run } => Why::Analysis { run },
+        LineEvent::Aborted => Why::Aborted,
+        LineEvent::AbortedBy { run } => Why::AbortedBy { run },
+        _ => Why::Plain,
+    }
+}
+
+/// How a service stands: its status, its step, and why.
+#[derive(Clone, Copy, Debug, PartialEq, Eq)]
+pub struct Standing {
+    /// Its status.
+    pub status: Status,
+    /// The index of its step.
+    pub step: u64,
+    /// Why it stands so.
+    pub why: Why,
+}
+
+impl Standing {
+    /// Whether the service stands as this word of `--until` says.
+    pub fn meets(&self, word: &str) -> bool
+        ensures { result ≡ meets self.now.status self.now.why word.now }
+    {
+        word == self.status.word()
+            || word == "Held" && matches!(self.why, Why::Held(_))
+            || word == "Waiting" && matches!(self.why, Why::Waiting)
+    }
+
+    /// How `watch` ends at this word, which the service meets.
+    pub fn ended_at(&self, word: &str) -> Outcome
+        ensures { result ≡ ended_at self.now.status word.now }
+    {
+        if word == "Held" {
+            return Outcome::Held;
+        }
+        match self.status {
+            Status::Degraded => Outcome::Refused,
+            _ => Outcome::Done,
+        }
+    }
+
+    /// Why the service stands so, as the end of a line for people; nothing if its status says all.
+    /// The moment `now`, in seconds since 1970-01-01T00:00:00Z, is of the day whose date goes
+    /// without saying.
+    ///
+    /// # Errors
+    /// `AllocError` if an allocation was refused.
+    pub fn words(&self, alloc: Global, now: u64) -> Result<String, AllocError> {
+        let step = self.step;
+        match self.why {
+            Why::Plain => Ok(String::new(alloc)),
+            Why::Held(Hold::Background) => {
+                String::from_str(alloc, ", held: the background is Inconclusive")
+            }
+            Why::Held(Hold::Both) => {
+                format!(in alloc; ", held: step {step} and the background are Inconclusive")
+            }
+            Why::Held(_) => format!(in alloc; ", held: step {step} is Inconclusive"),
+            Why::Waiting => String::from_str(alloc, ", waits for a promotion"),
+            Why::Pause { seconds, until } => {
+                let text = moment_text(alloc, until, now)?;
+                let text = text.as_str();
+                format!(in alloc; ", pause of {seconds} s until {text}")
+            }
+            Why::Analysis { run } => format!(in alloc; ", analysis run {run}"),
+            Why::Aborted => String::from_str(alloc, ", aborted by a command"),
+            Why::AbortedBy { run } => format!(in alloc; ", aborted by run {run}"),
+        }
+    }
+}
+
+// A moment for people, in UTC: the time of the day, after the date if that is not the date of now.
+fn moment_text(alloc: Global, seconds: u64, now: u64) -> Result<String, AllocError> {
+    let mut text = String::with_capacity(alloc, 40)?;
+    let Some(moment) = Moment::new(seconds) else {
+        return Ok(text);
+    };
+    if moment.text(&mut text).is_err() {
+        return Err(AllocError);
+    }
+    if seconds / DAY != now / DAY {
+        return Ok(text);
+    }
+    match text.as_str().split_once('T') {
+        Some((_, time)) => String::from_str(alloc, time),
+        None => Ok(text),
+    }
+}
+
+/// What of a service's reply says how it stands: its status, step and hold.
+///
+/// # Errors
+/// `Query` if it is no such reply.
+pub fn parts_of(service: &Value) -> Result<(Status, u64, Hold), Stop> {
+    let status = service.get("status").and_then(Value::as_str);
+    let step = service.get("step").and_then(Value::as_u64);
+    let hold = service.get("hold").and_then(Value::as_str);
+    let (Some(status), Some(step), Some(hold)) = (status, step, hold) else {
+        return Err(Stop::Query);
+    };
+    match (Status::read(status), Hold::read(hold)) {
+        (Some(status), Some(hold)) => Ok((status, step, hold)),
+        _ => Err(Stop::Query),
+    }
+}
+
+/// The last line of a history's reply that says where the service stands, if there is one.
+pub fn last_line(history: &Value) -> Option<Line> {
+    let lines = history.get("lines")?.as_array()?;
+    let mut found = None;
+    for line in lines.iter() {
+        let standing = line.as_str().and_then(standing_line);
+        if standing.is_some() {
+            found = standing;
+        }
+    }
+    found
+}
+
+// The line of this text, if it says where a service stands.
+fn standing_line(text: &str) -> Option<Line> {
+    let (moment, words) = text.split_once(' ')?;
+    let line = Line::read(moment_of(moment)?, words)?;
+    if is_standing(&line.event) {
+        return Some(line);
+    }
+    None
+}
+
+fn is_standing(event: &LineEvent) -> bool
+    ensures { result ≡ is_standing event.now }
+{
+    match event {
+        LineEvent::WeightEntered { step: _, weight: _ } => true,
+        LineEvent::PauseEntered { step: _ } => true,
+        LineEvent::TimedPauseEntered {
+            step: _,
+            seconds: _,
+        } => true,
+        LineEvent::AnalysisEntered { step: _, run: _ } => true,
+        LineEvent::Aborted => true,
+        LineEvent::AbortedBy { run: _ } => true,
+        LineEvent::Finished { version: _ } => true,
+        LineEvent::Created { version: _ } => true,
+        _ => false,
+    }
+}
+
+// The moment that a text of RFC 3339 says.
+fn moment_of(text: &str) -> Option<Moment> {
+    let instant = text.parse::<Timestamp>().ok()?;
+    Moment::new(u64::try_from(instant.as_second()).ok()?)
+}
+
+/// Whether a line is of the step at which a service stands: two queries may come before and after a
+/// step was entered.
+pub fn is_of_step(line: &Line, step: u64) -> bool {
+    match line.event {
+        LineEvent::WeightEntered {
+            step: of,
+            weight: _,
+        } => of as u64 == step,
+        LineEvent::PauseEntered { step: of } => of as u64 == step,
+        LineEvent::TimedPauseEntered {
+            step: of,
+            seconds: _,
+        } => of as u64 == step,
+        LineEvent::AnalysisEntered { step: of, run: _ } => of as u64 == step,
+        _ => true,
+    }
+}
