@@ -1,3 +1,4 @@
 pub mod Labels
 pub mod StandIns
 pub mod Texts
+pub mod Waited

@@ -1,5 +1,5 @@
 -- Which manifests the desk takes, as far as the manifest alone says.
-use Rattle.std.specs.Prelude.{ℕ, refl, List, [], ◌∷◌, ◌++◌, Bool, true, false, ◌||◌, not, Option, Some, None, is_none, if◌then◌else◌, codes}
+use Rattle.std.specs.Prelude.{ℕ, refl, List, [], ◌∷◌, ◌++◌, Bool, true, false, ◌||◌, ◌&&◌, not, Option, Some, None, is_none, if◌then◌else◌, codes}
 use Rattle.std.specs.List.{list_any}
 use Rattle.std.specs.Str.{bytes_eq}
 use Rattle.std.specs.FinMap as map
@@ -18,9 +18,14 @@ use Rattle.canary_plan.specs.Plans.{template_of, strategy_of}
 use Rattle.canary_plan.specs.PlanRefusals.{template_refusal, strategy_refusal, bound_refusal}
 use Rattle.canary_plan.specs.Refusals.{or_refusal}
 use Rattle.canary_plan.specs.Commands.{names_looked_up}
-use Rattle.canary_manifest.specs.Members.{has, is_other_text}
+use Rattle.canary_manifest.specs.Members.{has, anything, is_other_text}
 use Rattle.canary_manifest.specs.Readings.{Reading, unsupported, unreadable, readable}
 use Rattle.canary_manifest.specs.Commands.{json_in, body_reading}
+
+-- what a check says: that the desk takes it, and that nothing is warned of
+pub record Found : Type 0 where
+  pub is_taken : Bool
+  pub is_quiet : Bool
 
 -- ---- templates that a Rollout names, on a desk where they fit it
 
@@ -85,16 +90,31 @@ template_body text = codes "{\"template\":" ++ text ++ codes "}"
 abbrev pub service_body : List ℕ → List ℕ
 service_body text = codes "{\"service\":{\"version\":\"v1\",\"manifest\":" ++ text ++ codes "}}"
 
--- its `kind` is that text
-abbrev pub is_of_kind : List ℕ → Data → Bool
-is_of_kind kind manifest = has (codes "kind") (λ value. not (is_other_text kind value)) manifest
+-- its spec has a member of that key
+abbrev pub has_in_spec : List ℕ → Data → Bool
+has_in_spec key = has (codes "spec") (has key anything)
+
+-- its `kind` is that text; or it has none, and of these two keys its spec has the first alone
+abbrev pub is_of_kind : List ℕ → List ℕ → List ℕ → Data → Bool
+is_of_kind kind own other manifest =
+    if has (codes "kind") anything manifest
+    then has (codes "kind") (λ value. not (is_other_text kind value)) manifest
+    else has_in_spec own manifest && not (has_in_spec other manifest)
+
+-- it is an AnalysisTemplate: it says so, or has no kind and its spec has metrics
+abbrev pub is_template : Data → Bool
+is_template = is_of_kind (codes "AnalysisTemplate") (codes "metrics") (codes "strategy")
+
+-- it is a Rollout: it says so, or has no kind and its spec has a strategy
+abbrev pub is_rollout : Data → Bool
+is_rollout = is_of_kind (codes "Rollout") (codes "strategy") (codes "metrics")
 
 -- the text of this manifest is read and taken as that of its kind
 abbrev pub is_manifest_taken : List ℕ → Data → Bool
 is_manifest_taken text manifest =
-    if is_of_kind (codes "AnalysisTemplate") manifest
+    if is_template manifest
     then is_reading_taken (body_reading (template_body text))
-    else (if is_of_kind (codes "Rollout") manifest
+    else (if is_rollout manifest
     then is_reading_taken (body_reading (service_body text))
     else false)
 

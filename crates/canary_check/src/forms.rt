@@ -43,6 +43,10 @@ pub(crate) const ALONE: &str =
 pub(crate) const NO_VALUE: &str =
     "report a failure if there is no value, and write result < 5 for default(result, 0) < 5";
 
+/// Of `len(result) == 0 || ..`, `isNaN(result) || ..`.
+pub(crate) const NO_VALUE_BESIDE: &str =
+    "leave it out: an agent that has no value reports a failure";
+
 /// Of `isNaN(result)`, `isInf(result)`.
 pub(crate) const NO_NUMBER: &str =
     "report a failure if the value is no finite number, and leave isNaN and isInf out";

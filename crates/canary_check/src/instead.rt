@@ -23,6 +23,9 @@ pub(crate) fn instead(text: &[u8], explained: Explained) -> Option<&'static str>
 // Of what begins with no token.
 fn instead_of_no_token(before: &[u8], rest: &[u8]) -> Option<&'static str> {
     let first = first_of(rest)?;
+    if asks_for_no_value(before, rest) {
+        return Some(forms::NO_VALUE_BESIDE);
+    }
     if is_word_byte(first) {
         let word = front_word(rest);
         let behind = rest.get(word.len()..)?.trim_ascii_start();
@@ -103,6 +106,47 @@ fn instead_of_function(name: &str) -> Option<&'static str> {
         "if" => None,
         _ => Some(forms::FUNCTION),
     }
+}
+
+// Whether `isNaN(..)` or `len(..) == 0` stands there, with `||` between it and another condition.
+fn asks_for_no_value(before: &[u8], rest: &[u8]) -> bool {
+    let Ok(rest) = str::from_utf8(rest) else {
+        return false;
+    };
+    match behind_test(rest) {
+        Some(behind) => {
+            let is_first = before.is_empty() || ends_with(before, b'(') || ends_in_or(before);
+            let is_last = behind.is_empty() || behind.starts_with(")");
+            is_first && begins_with_or(behind) || is_last && ends_in_or(before)
+        }
+        None => false,
+    }
+}
+
+// What stands behind `isNaN(..)` or `len(..) == 0`, if the text begins with one.
+fn behind_test(text: &str) -> Option<&str> {
+    let (call, behind) = text.split_once(')')?;
+    let (name, _) = call.split_once('(')?;
+    let behind = behind.trim_start();
+    match name.trim_end() {
+        "isNaN" => Some(behind),
+        "len" => Some(
+            behind
+                .strip_prefix("==")?
+                .trim_start()
+                .strip_prefix("0")?
+                .trim_start(),
+        ),
+        _ => None,
+    }
+}
+
+fn begins_with_or(text: &str) -> bool {
+    text.starts_with("||") || front_word(text.as_bytes()) == "or".as_bytes()
+}
+
+fn ends_in_or(text: &[u8]) -> bool {
+    text.ends_with("||".as_bytes()) || text.ends_with(" or".as_bytes())
 }
 
 // Whether it is a word of a condition, but for its capitals.

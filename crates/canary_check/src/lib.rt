@@ -4,14 +4,15 @@
 //!
 //! Callers may rest on this: `Findings` are ok, and their text is `ok`, exactly where the desk
 //! reads the manifest, as the body of a command, or the body itself, and refuses nothing that it
-//! holds itself (`Memory` aside). What else is told no contract says, and none speaks of warnings.
+//! holds itself (`Memory` aside). If nothing is warned of, no service is registered that time alone
+//! brings to 100 percent. No contract says which other warnings `Findings` have.
 //!
 //! In use (canary_cli, src/check.rt):
 //!
 //!     let Ok(findings) = canary_check::check::check(alloc, manifest) else {
 //!         return Err(Fault::Memory);
 //!     };
-//!     show(findings.text(), output)?;
+//!     show_findings(alloc, findings, strict, output, errors)
 #![tactic(auto)]
 
 mod alone;
@@ -21,6 +22,7 @@ mod condition;
 mod decimal;
 mod excerpt;
 mod forms;
+mod ignored;
 mod instead;
 mod lines;
 mod members;
@@ -33,4 +35,5 @@ mod step;
 mod template;
 mod text;
 mod trial;
+mod waiting;
 mod warning;

@@ -2,8 +2,8 @@
 //!
 //! A finding is a line, behind which more may follow that begin with four spaces: a text with a
 //! caret, and what to write instead. Each is short, and there are 100 at most: those beyond are
-//! counted in a last line.
-ghost use Rattle.std.specs.Prelude.{◌<◌, IfOk, length, string_bytes};
+//! counted in a last line. Warnings are such lines, too.
+ghost use Rattle.std.specs.Prelude.{◌≡◌, ◌<◌, IfOk, IfSome, IsTrue, is_none, length, string_bytes};
 
 use crate::excerpt::write_excerpt;
 use crate::place::Place;
@@ -12,7 +12,8 @@ use std::alloc::Global;
 
 const MOST_FINDINGS: u32 = 100;
 
-const WARNING: &str = "canary: warning: ";
+// Of warnings without a line, which are none.
+const NO_LINE: &str = "a warning\n";
 
 const EXPECTED: &str = ": expected ";
 
@@ -123,17 +124,16 @@ impl Lines {
         Ok(())
     }
 
-    /// Adds a warning of the object there, or `Memory`.
-    pub(crate) fn warn(&mut self, place: &Place, what: &str) -> Result<(), Memory> {
+    /// Adds a warning of the member under a key of the object there, or with an empty key of the
+    /// object itself; or `Memory`.
+    pub(crate) fn warn(&mut self, place: &Place, key: &str, what: &str) -> Result<(), Memory>
+        ensures { 0 < self.new.told }
+    {
         if !self.has_room() {
             return Ok(());
         }
-        self.text.push_str(WARNING)?;
-        place.write(&mut self.text, "")?;
-        self.text.push_str(": ")?;
-        self.text.push_str(what)?;
-        self.text.push_str("\n")?;
-        Ok(())
+        place.write(&mut self.text, key)?;
+        self.push_end(": ", what)
     }
 
     /// The findings, with a general one in place of none; or `Memory`. They are never as short as
@@ -142,31 +142,39 @@ impl Lines {
         requires { 3 < length general.now }
         ensures { IfOk result (λ text. 3 < length (string_bytes text)) }
     {
-        let text = self.with_more(alloc, "")?;
+        let text = self.with_more(alloc)?;
         if text.len() > 3 {
             return Ok(text);
         }
         Ok(String::from_str(alloc, general)?)
     }
 
-    /// The warnings, or `Memory`.
-    pub(crate) fn warnings(self, alloc: Global) -> Result<String, Memory> {
-        self.with_more(alloc, WARNING)
+    /// The warnings, if there are any; or `Memory`. They are never as short as `ok` is.
+    pub(crate) fn warnings(self, alloc: Global) -> Result<Option<String>, Memory>
+        ensures long { IfOk result (λ text. IfSome text (λ t. 3 < length (string_bytes t))) }
+        ensures none { IfOk result (λ text. IsTrue (is_none text) → self.told ≡ 0) }
+    {
+        if self.told == 0 {
+            return Ok(None);
+        }
+        Ok(Some(self.finish(alloc, NO_LINE)?))
     }
 
     // The lines, and a last one that counts what was left out.
-    fn with_more(self, alloc: Global, front: &str) -> Result<String, Memory> {
+    fn with_more(self, alloc: Global) -> Result<String, Memory> {
         let Lines { text, more, .. } = self;
         let mut text = text;
         if more > 0 {
-            let last = format!(in alloc; "{front}and {more} more\n")?;
+            let last = format!(in alloc; "and {more} more\n")?;
             text.push_str(last.as_str())?;
         }
         Ok(text)
     }
 
     // Whether a finding more is told; else it is counted alone.
-    fn has_room(&mut self) -> bool {
+    fn has_room(&mut self) -> bool
+        ensures { 0 < self.new.told }
+    {
         if self.told < MOST_FINDINGS {
             self.told += 1;
             return true;
@@ -175,7 +183,9 @@ impl Lines {
         false
     }
 
-    fn push_end(&mut self, front: &str, what: &str) -> Result<(), Memory> {
+    fn push_end(&mut self, front: &str, what: &str) -> Result<(), Memory>
+        ensures { self.new.told ≡ self.old.told }
+    {
         self.text.push_str(front)?;
         self.text.push_str(what)?;
         self.text.push_str("\n")?;

@@ -1,16 +1,21 @@
 //! The check of the body of a request, without a desk.
-ghost use Rattle.std.specs.Prelude.{◌≡◌, false, IfOk};
-ghost use Rattle.canary_check.specs.Taken.{is_request_taken};
+ghost use Rattle.std.specs.Prelude.{◌≡◌, false, IfOk, IsTrue};
+ghost use Rattle.canary_check.specs.Taken.{is_request_taken, is_asked_taken};
+ghost use Rattle.canary_check.specs.Waiting.{is_request_attended, is_command_attended};
 
 use crate::alone::is_asked_taken;
 use crate::body::tell_body;
 use crate::check::{Findings, found, no_json};
+use crate::ignored::warn_of_ignored;
 use crate::lines::Lines;
 use crate::place::Place;
+use crate::waiting::warn_of_command;
 use crate::warning::{warn_of_length, warn_of_template};
 use canary_base::error::Memory;
 use canary_canonical::form::only_member;
 use canary_manifest::command::{WireFault, command_from_json};
+use canary_manifest::member::member_of;
+use canary_plan::command::Command;
 use serde_json::Value;
 use std::alloc::Global;
 
@@ -24,51 +29,69 @@ const COMMAND: &str = "body: expected a command\n";
 /// report that two entries name one metric. What depends on what a desk has, or on when it is
 /// asked, is no finding, and neither is a body of more than 65,536 bytes.
 ///
+/// If nothing is warned of, it registers no service that time alone brings to 100 percent.
+///
 /// # Errors
 /// `Memory` where an allocation was refused.
 pub fn check_request(alloc: Global, body: &[u8]) -> Result<Findings, Memory>
-    ensures { IfOk result (λ findings. findings ≡ is_request_taken body.now) }
+    ensures taken { IfOk result (λ findings. findings.is_taken ≡ is_request_taken body.now) }
+    ensures attended { IfOk result (λ findings.
+        IsTrue findings.is_quiet → IsTrue (is_request_attended body.now)) }
 {
-    let warnings = request_warnings(alloc, body)?;
-    if is_request_taken(alloc, body)? {
-        return Ok(Findings::none(warnings));
-    }
-    not_taken(alloc, body, warnings)
-}
-
-// Whether the body is read, and nothing that its command holds is refused.
-fn is_request_taken(alloc: Global, body: &[u8]) -> Result<bool, Memory>
-    ensures { IfOk result (λ taken. taken ≡ is_request_taken body.now) }
-{
+    let warned = warned_of(alloc, body)?;
     match command_from_json(alloc, body) {
-        Ok(command) => is_asked_taken(alloc, &command),
-        Err(WireFault::Unreadable) => Ok(false),
-        Err(WireFault::Unsupported) => Ok(false),
+        Ok(command) => check_command(alloc, body, &command, warned),
+        Err(WireFault::Unreadable) => not_taken(alloc, body, warned),
+        Err(WireFault::Unsupported) => not_taken(alloc, body, warned),
         Err(WireFault::Memory) => Err(Memory),
     }
 }
 
+// What is found in a body that reads as this command, with what is warned of so far.
+fn check_command(
+    alloc: Global,
+    body: &[u8],
+    command: &Command,
+    mut warned: Lines,
+) -> Result<Findings, Memory>
+    ensures taken { IfOk result (λ findings. findings.is_taken ≡ is_asked_taken command.now) }
+    ensures attended { IfOk result (λ findings.
+        IsTrue findings.is_quiet → IsTrue (is_command_attended command.now)) }
+{
+    let place = Place::at(alloc, "service.manifest")?;
+    warn_of_command(alloc, &mut warned, &place, command)?;
+    if is_asked_taken(alloc, command)? {
+        return Ok(Findings::none(warned.warnings(alloc)?));
+    }
+    not_taken(alloc, body, warned)
+}
+
 // What is found in a body that is not taken.
-fn not_taken(alloc: Global, body: &[u8], warnings: String) -> Result<Findings, Memory>
-    ensures { IfOk result (λ findings. findings ≡ false) }
+fn not_taken(alloc: Global, body: &[u8], warned: Lines) -> Result<Findings, Memory>
+    ensures taken { IfOk result (λ findings. findings.is_taken ≡ false) }
+    ensures quiet { IfOk result (λ findings.
+        IsTrue findings.is_quiet → warned.told ≡ 0) }
 {
     match Value::from_slice(alloc, body) {
-        Ok(value) => body_not_taken(alloc, &value, warnings),
+        Ok(value) => body_not_taken(alloc, &value, warned),
         Err(fault) if fault.is_memory() => Err(Memory),
-        Err(fault) => no_json(alloc, body, &fault),
+        Err(fault) => no_json(alloc, body, &fault, warned),
     }
 }
 
-fn body_not_taken(alloc: Global, body: &Value, warnings: String) -> Result<Findings, Memory>
-    ensures { IfOk result (λ findings. findings ≡ false) }
+fn body_not_taken(alloc: Global, body: &Value, warned: Lines) -> Result<Findings, Memory>
+    ensures taken { IfOk result (λ findings. findings.is_taken ≡ false) }
+    ensures quiet { IfOk result (λ findings.
+        IsTrue findings.is_quiet → warned.told ≡ 0) }
 {
+    let warnings = warned.warnings(alloc)?;
     let mut lines = Lines::new(alloc);
     tell_body(alloc, &mut lines, body)?;
     found(alloc, lines, COMMAND, warnings)
 }
 
-// The warnings of a body.
-fn request_warnings(alloc: Global, body: &[u8]) -> Result<String, Memory> {
+// What is warned of a body, but for the steps of a service.
+fn warned_of(alloc: Global, body: &[u8]) -> Result<Lines, Memory> {
     let mut lines = Lines::new(alloc);
     warn_of_length(alloc, &mut lines, "body", body.len())?;
     match Value::from_slice(alloc, body) {
@@ -76,7 +99,7 @@ fn request_warnings(alloc: Global, body: &[u8]) -> Result<String, Memory> {
         Err(fault) if fault.is_memory() => return Err(Memory),
         Err(_) => (),
     }
-    lines.warnings(alloc)
+    Ok(lines)
 }
 
 fn warn_of_body(alloc: Global, lines: &mut Lines, body: &Value) -> Result<(), Memory> {
@@ -84,6 +107,17 @@ fn warn_of_body(alloc: Global, lines: &mut Lines, body: &Value) -> Result<(), Me
         Some(("template", manifest)) => {
             warn_of_template(alloc, lines, &Place::at(alloc, "template")?, manifest)
         }
+        Some(("service", service)) => match member_of(service, "manifest") {
+            Some(manifest) => {
+                warn_of_ignored(
+                    alloc,
+                    lines,
+                    &Place::at(alloc, "service.manifest")?,
+                    manifest,
+                )
+            }
+            None => Ok(()),
+        },
         _ => Ok(()),
     }
 }

@@ -2,7 +2,7 @@
 use crate::lines::Lines;
 use crate::members::{NAME, key_shown, tell_wrong};
 use crate::place::Place;
-use crate::template::tell_if_filled;
+use crate::template::{RETENTION, tell_if_filled};
 use crate::trial::{refusal_of_background, refusal_of_step};
 use canary_base::error::Memory;
 use canary_canonical::form::FormFault;
@@ -18,6 +18,8 @@ use std::alloc::Global;
 const WEIGHT: &str = "a whole number, 0 to 100";
 
 const TEMPLATES: &str = "a list of 1 to 8 objects with templateName";
+
+const DRY_RUN: &str = "write dryRun in the spec of the AnalysisTemplate";
 
 const FORM: &str = "exactly one of setWeight, pause and analysis";
 
@@ -178,8 +180,8 @@ fn tell_analysis(
     place: &Place,
     analysis: &Value,
 ) -> Result<(), Memory> {
-    tell_if_filled(lines, place, analysis, "dryRun")?;
-    tell_if_filled(lines, place, analysis, "measurementRetention")?;
+    tell_if_filled(lines, place, analysis, "dryRun", DRY_RUN)?;
+    tell_if_filled(lines, place, analysis, "measurementRetention", RETENTION)?;
     match member_of(analysis, "templates").and_then(|templates| templates.as_array()) {
         Some(list) => tell_templates(alloc, lines, place, list),
         None => lines.tell(place, "templates", TEMPLATES),

@@ -19,6 +19,11 @@ use std::alloc::Global;
 
 const METRICS: &str = "a list of 1 to 32 metrics";
 
+const TEMPLATES: &str = "name each template in the analysis of the Rollout";
+
+/// What to write in place of `measurementRetention`.
+pub(crate) const RETENTION: &str = "leave it out: the desk keeps every measurement";
+
 const DRY_RUN: &str = "the name of a metric of the template, or .* for all";
 
 /// Adds what is found in an AnalysisTemplate there, or `Memory`.
@@ -71,23 +76,26 @@ pub(crate) fn tell_metadata(
 }
 
 fn tell_spec(alloc: Global, lines: &mut Lines, place: &Place, spec: &Value) -> Result<(), Memory> {
-    tell_if_filled(lines, place, spec, "templates")?;
-    tell_if_filled(lines, place, spec, "measurementRetention")?;
+    tell_if_filled(lines, place, spec, "templates", TEMPLATES)?;
+    tell_if_filled(lines, place, spec, "measurementRetention", RETENTION)?;
     match member_of(spec, "metrics").and_then(|metrics| metrics.as_array()) {
         Some(list) => tell_metrics(alloc, lines, place, spec, list),
         None => lines.tell(place, "metrics", METRICS),
     }
 }
 
-/// Adds that a list which is to be empty or absent is neither, or `Memory`.
+/// Adds that a list which is to be empty or absent is neither, and what to write instead; or
+/// `Memory`.
 pub(crate) fn tell_if_filled(
     lines: &mut Lines,
     place: &Place,
     value: &Value,
     key: &str,
+    instead: &str,
 ) -> Result<(), Memory> {
     if member_of(value, key).is_some_and(is_no_empty_list) {
         lines.tell(place, key, "none or an empty list (others are unsupported)")?;
+        lines.instead(instead)?;
     }
     Ok(())
 }

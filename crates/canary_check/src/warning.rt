@@ -36,7 +36,7 @@ fn warn_of_metrics(
     for (index, metric) in list.iter().enumerate() {
         if has_no_condition(alloc, metric)? {
             let place = metric_place(alloc, spec, index, metric)?;
-            lines.warn(&place, UNCONDITIONAL)?;
+            lines.warn(&place, "", UNCONDITIONAL)?;
         }
     }
     Ok(())
@@ -70,5 +70,5 @@ pub(crate) fn warn_of_length(
         return Ok(());
     }
     let what = format!(in alloc; "{len} bytes, and the body of a request has at most 65,536")?;
-    lines.warn(&Place::at(alloc, whole)?, what.as_str())
+    lines.warn(&Place::at(alloc, whole)?, "", what.as_str())
 }
