@@ -19,9 +19,17 @@ of_tables tables.BrokenRow = fault.BrokenRow
 abbrev pub IsOfTables : Fault → Type 0
 IsOfTables f = (cause : TableFault) × (f ≡ of_tables cause)
 
--- a fault is one of the tables', or says that there is no such file
-abbrev pub IsOfFoundTables : Fault → Type 0
-IsOfFoundTables f = IsOfTables f ⊎ (f ≡ fault.File)
+-- a fault is one of those of looking at names before a file is opened
+abbrev pub IsOfLook : Fault → Type 0
+IsOfLook f = (f ≡ fault.Memory) ⊎ ((f ≡ fault.Storage) ⊎ (f ≡ fault.LogAlone))
+
+-- a fault is one of the tables', or says that a log has no file
+abbrev pub IsOfOpening : Fault → Type 0
+IsOfOpening f = IsOfTables f ⊎ (f ≡ fault.LogAlone)
+
+-- the same, or a fault says that there is no such file
+abbrev pub IsOfFound : Fault → Type 0
+IsOfFound f = IsOfOpening f ⊎ (f ≡ fault.File)
 
 -- whether work may settle requests
 abbrev pub settles : Work → Bool

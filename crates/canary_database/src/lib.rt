@@ -3,9 +3,9 @@
 //!
 //! Callers may rest on this: `history` and `export` look at the names that they are given before
 //! they open a file; `pipe`, `serve`, `import`, `history` and `export` make a file that is not
-//! there, and `status`, `page`, `backup` and `migrate` make none. What the file of a name holds no
-//! contract says, so what comes of it else is in the contracts of canary_tables and canary_migrate,
-//! and of canary_programs, over any book.
+//! there, unless its log is, and `status`, `page`, `backup` and `migrate` make none. What the file
+//! of a name holds no contract says, so what comes of it else is in the contracts of canary_tables
+//! and canary_migrate, and of canary_programs, over any book.
 //!
 //! In use (canary_cli, src/perform.rt):
 //!
@@ -17,14 +17,18 @@
 
 pub mod backup;
 pub mod export;
+mod held;
 pub mod history;
 pub mod import;
 mod look;
 pub mod migrate;
+mod named;
 pub mod open;
 pub mod page;
 pub mod pipe;
 pub mod progress;
+mod seat;
 pub mod serve;
 pub mod status;
+mod watched;
 mod work;

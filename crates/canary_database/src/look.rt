@@ -1,7 +1,7 @@
 //! Looking at a desk in a file, also while it serves.
 use crate::open::{FileBook, names_of, open_found};
 use crate::progress::Shown;
-use canary_backup::copying::{OwnFolder, Pair, copy_database};
+use canary_backup::folder::OwnCopy;
 use canary_base::moments::Moment;
 use canary_listen::wall_clock::WallClock;
 use canary_page::page::View;
@@ -25,11 +25,11 @@ pub(crate) enum Sight {
 /// Looks at the desk in a file, once. A page is written to the output meanwhile, part by part, and
 /// a terminal shows how far it has come. Of a status this gives the text, to be drawn once the file
 /// is closed; of a page, none. The file is opened as `open_found` does it, and no row of it is
-/// changed. If a desk has it open, a copy is read, which stands beside the file meanwhile, in a
-/// folder that its owner alone may read.
+/// changed. If a desk has it open, a copy is read, which stands meanwhile where `OwnCopy` of
+/// canary_backup says, in a folder that its owner alone may read.
 ///
 /// # Errors
-/// `File` if there is no such file, and nothing is made then, or if no copy can be made beside it.
+/// `File` if there is no such file, and nothing is made then, or if no copy can be made.
 /// What `open` answers, but `InUse` only if the file changes too fast to be copied. `Write` if the
 /// output failed.
 pub(crate) fn look<W: Write, F: Write>(
@@ -56,23 +56,20 @@ fn look_at_copy<W: Write, F: Write>(
     errors: &mut F,
     is_terminal: bool,
 ) -> Result<String, Fault> {
-    let folder = OwnFolder::beside(rt, file, "status-copy")?;
-    let looked = look_at_own_copy(rt, file, folder.copy(), sight, output, errors, is_terminal);
-    folder.remove(rt);
+    let copy = OwnCopy::of(rt, file, "status-copy")?;
+    let looked = look_at_own_copy(rt, &copy, sight, output, errors, is_terminal);
+    copy.remove(rt);
     looked
 }
 
-// The same, by a copy of these names.
 fn look_at_own_copy<W: Write, F: Write>(
     rt: &HostRuntime,
-    file: &str,
-    copy: &Pair,
+    copy: &OwnCopy,
     sight: Sight,
     output: &mut W,
     errors: &mut F,
     is_terminal: bool,
 ) -> Result<String, Fault> {
-    copy_database(rt, file, copy)?;
     let book = open_found(rt, copy.database(), errors, is_terminal)?;
     look_at_opened(rt, book, sight, output, errors, is_terminal)
 }

@@ -1,7 +1,8 @@
 //! `migrate`: a file of the first version becomes one of this version.
+use crate::held::Held;
 use crate::open::{Found, fault_of, find, found_in, has_other_bytes, is_blank};
 use crate::progress::Shown;
-use canary_backup::copying::{OwnFolder, copy_database};
+use canary_backup::folder::OwnCopy;
 use canary_migrate::upgrade::upgrade;
 use canary_programs::fault::Fault;
 use std::io::Write;
@@ -9,18 +10,20 @@ use std::io::Write;
 /// Makes a desk's file of the first version one of this version, in one transaction, and writes
 /// `migrated`; of a file of this version it writes `current`, and changes nothing. The rows of a
 /// file of the first version are judged before the transaction commits, which is shown on a
-/// terminal. A dry run does the same to a copy, which stands beside the file meanwhile, in a folder
-/// that its owner alone may read; it writes `would-migrate` in place of `migrated`, and does not
-/// change the file. No log is made beside a file that does not begin as a database, and nothing is
-/// written to an empty one.
+/// terminal. A dry run does the same to a copy, which stands meanwhile where `OwnCopy` of
+/// canary_backup says, in a folder that its owner alone may read, or beside the file if there is no
+/// room; it writes `would-migrate` in place of `migrated`, and does not change the file, which it
+/// opens as the other does, and which nobody else can open meanwhile. No log is made beside a file
+/// that does not begin as a database, and nothing is written to an empty one.
 ///
 /// # Errors
-/// `File` if there is no such file, and nothing is made then, or if no copy can be made beside it.
-/// `InUse` if another program has the file open, or, in a dry run, if it changes too fast to be
-/// copied; `OtherSchema` if it is of neither version; `BrokenRow` if its rows are not those that a
-/// desk of the first version leaves; `Memory` if an allocation was refused; `Storage` if the file
-/// cannot be opened, is not a database, or fails. The file is as it was then. `Write` if the output
-/// failed: the file is migrated then.
+/// `File` if there is no such file, and nothing is made then, or if no copy can be made. `InUse` if
+/// another program has the file open; `OtherSchema` if it is of neither version; `BrokenRow` if its
+/// rows are not those that a desk of the first version leaves; `Memory` if an allocation was
+/// refused; `Storage` if the file cannot be opened to be read and written, has another hard link or
+/// a rollback journal beside it, is not a file or a database, or fails; `LogAlone` if it has no
+/// bytes, and its log has a frame. The file is as it was then. `Write` if the output failed: the
+/// file is migrated then.
 pub fn migrate<W: Write, F: Write>(
     rt: &HostRuntime,
     file: &str,
@@ -72,19 +75,45 @@ fn upgrade_file<F: Write>(
     upgraded.map_err(fault_of)
 }
 
-// The same of a copy of the file.
+// The same of a copy of the file, which nobody else may write while it is copied.
 fn upgrade_copy<F: Write>(
     rt: &HostRuntime,
     file: &str,
     errors: &mut F,
     is_terminal: bool,
 ) -> Result<bool, Fault> {
-    let folder = OwnFolder::beside(rt, file, "migrate-copy")?;
-    let upgraded = match copy_database(rt, file, folder.copy()) {
-        Ok(()) => upgrade_file(rt, folder.copy().database(), errors, is_terminal),
-        Err(fault) => Err(fault.into()),
-    };
-    folder.remove(rt);
+    let held = Held::open(rt, file)?;
+    let upgraded = upgrade_copied(rt, file, errors, is_terminal);
+    held.close(rt);
+    upgraded
+}
+
+// To migrate a copy takes more room than to make it, which may not be there except beside the file.
+fn upgrade_copied<F: Write>(
+    rt: &HostRuntime,
+    file: &str,
+    errors: &mut F,
+    is_terminal: bool,
+) -> Result<bool, Fault> {
+    let copy = OwnCopy::of(rt, file, "migrate-copy")?;
+    match upgrade_own_copy(rt, &copy, errors, is_terminal) {
+        Err(Fault::Storage) => {
+            let copy = OwnCopy::beside(rt, file, "migrate-copy")?;
+            upgrade_own_copy(rt, &copy, errors, is_terminal)
+        }
+        upgraded => upgraded,
+    }
+}
+
+// Migrates a copy, and removes it then.
+fn upgrade_own_copy<F: Write>(
+    rt: &HostRuntime,
+    copy: &OwnCopy,
+    errors: &mut F,
+    is_terminal: bool,
+) -> Result<bool, Fault> {
+    let upgraded = upgrade_file(rt, copy.database(), errors, is_terminal);
+    copy.remove(rt);
     upgraded
 }
 

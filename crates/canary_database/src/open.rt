@@ -1,8 +1,9 @@
 //! Opening the book in a file.
 ghost use Rattle.std.specs.Prelude.{◌≡◌, IfErr};
-ghost use Rattle.canary_database.specs.Opened.{IsOfFoundTables, IsOfTables, of_tables};
+ghost use Rattle.canary_database.specs.Opened.{IsOfFound, IsOfLook, IsOfOpening, of_tables};
 ghost use Rattle.canary_programs.specs.declared.fault.Fault.TheVariants as fault;
 
+use crate::named::{log_of, look_at_names, look_for_log};
 use crate::progress::Shown;
 use canary_base::names::Name;
 use canary_connection::connect::connect;
@@ -49,17 +50,19 @@ pub type FileBook = TableBook<FileStore<File>>;
 ///
 /// # Errors
 /// `InUse` where another program has it open; `Memory` where an allocation was refused; `Storage`
-/// where it cannot be opened, is no database, or fails; `OtherSchema` where it has tables, indexes
-/// or views, and not just a desk's, or its table meta lacks a desk's row; `BrokenRow` where its
-/// rows are not those that a desk leaves.
+/// where it cannot be opened, is no file or no database, or fails; `LogAlone` where it is missing
+/// or has no bytes, and its log has a frame: nothing is made or written then; `OtherSchema` where
+/// it has tables, indexes or views, and not just a desk's, or its table meta lacks a desk's row;
+/// `BrokenRow` where its rows are not those that a desk leaves.
 pub fn open<F: Write>(
     rt: &HostRuntime,
     file: &str,
     errors: &mut F,
     is_terminal: bool,
 ) -> Result<FileBook, Fault>
-    ensures { IfErr result IsOfTables }
+    ensures { IfErr result IsOfOpening }
 {
+    look_for_log(rt, file)?;
     if has_other_bytes(rt, file)? {
         return Err(Fault::Storage);
     }
@@ -82,7 +85,7 @@ pub fn open_found<F: Write>(
     errors: &mut F,
     is_terminal: bool,
 ) -> Result<FileBook, Fault>
-    ensures { IfErr result IsOfFoundTables }
+    ensures { IfErr result IsOfFound }
 {
     find(rt, file)?;
     open(rt, file, errors, is_terminal)
@@ -111,10 +114,11 @@ pub(crate) fn is_missing<P: Files>(files: &P, file: &str) -> bool {
 /// one that begins otherwise; the log has its pages then.
 ///
 /// # Errors
-/// `Memory` if an allocation was refused.
+/// What `look_at_names` answers, and `Memory` if an allocation was refused.
 pub(crate) fn has_other_bytes<P: Files + AllocGlobal>(rt: &P, file: &str) -> Result<bool, Fault>
-    ensures { IfErr result (λ f. f ≡ fault.Memory) }
+    ensures { IfErr result IsOfLook }
 {
+    look_at_names(rt, file)?;
     if_read(is_other(rt, file))
 }
 
@@ -156,8 +160,7 @@ fn begins_otherwise<P: Files + AllocGlobal>(rt: &P, file: &str) -> io::Result<bo
 
 // Whether no log stands beside the file, where all links lead.
 fn lacks_log<P: Files + AllocGlobal>(rt: &P, file: &str) -> io::Result<bool> {
-    let real = fs::canonicalize(rt, file)?;
-    let log = format!(in rt.alloc(); "{}-wal", real.as_str())?;
+    let log = log_of(rt, file)?;
     Ok(is_missing(rt, log.as_str()))
 }
 

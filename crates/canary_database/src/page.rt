@@ -1,7 +1,8 @@
 //! `page`: the services of a desk as a page.
 use crate::look::{Sight, look};
+use canary_backup::copying::Pair;
+use canary_backup::draft::Draft;
 use canary_programs::fault::Fault;
-use std::fs::{self, File};
 use std::io::{self, Write};
 use std::thread;
 use std::time::Duration;
@@ -11,12 +12,14 @@ const STANDARD_OUTPUT: &str = "-";
 
 /// Draws a page of the services in a file, as they stand at the present moment, into the file of
 /// the name `out`, or on `output` where that is `-`: once, or again each time after so many
-/// seconds. The page is written beside the file of that name and renamed to it, so that this is
-/// always a whole page. The desk's file is read as `status` reads it.
+/// seconds. The page is written beside the file of that name, to a file that its owner alone may
+/// read, and renamed to it, so that this is always a whole page. It then has the mode that `Draft`
+/// of canary_backup says. The desk's file is read as `status` reads it.
 ///
 /// # Errors
-/// As `status` of this crate; `File` also if no file can be made beside `out`, or given its name.
-/// There is no part of a page then, but for one on `output`.
+/// As `status` of this crate; `File` also if `out` is a name that a desk uses for this file, or
+/// another name of such a file, if what stands there is not a file, or if no file can be made
+/// beside `out`, or given its name. There is no part of a page then, but for one on `output`.
 pub fn page<W: Write, F: Write>(
     rt: &HostRuntime,
     file: &str,
@@ -51,12 +54,15 @@ fn page_once<W: Write, F: Write>(
         look(rt, file, sight, output, errors, is_terminal)?;
         return flushed(output.flush());
     }
-    let part = format!(in rt.alloc(); "{out}.part")?;
-    let named = write_named(rt, file, part.as_str(), out, sight, errors, is_terminal);
-    if named.is_err() {
-        let _ = fs::remove_file(rt, part.as_str());
+    if Pair::found(rt, file)?.has_name(rt, out)? {
+        return Err(Fault::File);
     }
-    named
+    let mut draft = Draft::of(rt, out)?;
+    let drawn = write_named(rt, file, &mut draft, sight, errors, is_terminal);
+    if drawn.is_err() {
+        draft.remove(rt);
+    }
+    drawn
 }
 
 fn flushed(flushed: io::Result<()>) -> Result<(), Fault> {
@@ -66,24 +72,15 @@ fn flushed(flushed: io::Result<()>) -> Result<(), Fault> {
     }
 }
 
-// Draws the page into the file of the name `part`, and gives it the name `out` once it is whole and
-// on the disk.
+// Draws the page into a draft, and gives it its name once it is whole and on the disk.
 fn write_named<F: Write>(
     rt: &HostRuntime,
     file: &str,
-    part: &str,
-    out: &str,
+    draft: &mut Draft,
     sight: Sight,
     errors: &mut F,
     is_terminal: bool,
 ) -> Result<(), Fault> {
-    let Ok(mut whole) = File::create(rt, part) else {
-        return Err(Fault::File);
-    };
-    look(rt, file, sight, &mut whole, errors, is_terminal)?;
-    flushed(whole.sync_all())?;
-    match fs::rename(rt, part, out) {
-        Ok(()) => Ok(()),
-        Err(_) => Err(Fault::File),
-    }
+    look(rt, file, sight, draft.file(), errors, is_terminal)?;
+    Ok(draft.name(rt)?)
 }

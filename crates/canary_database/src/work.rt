@@ -5,8 +5,11 @@ ghost use Rattle.canary_programs.specs.declared.fault.Fault.TheVariants as fault
 
 use crate::open::{DeskFile, is_missing, open};
 use crate::progress::{Counted, Shown, tell_made};
+use crate::seat::{Identity, Seat};
+use crate::watched::Watched;
 use canary_base::moments::Moment;
 use canary_base::names::Name;
+use canary_listen::placed::Placed;
 use canary_listen::wall_clock::WallClock;
 use canary_once::book::Book;
 use canary_once::clock::StepClock;
@@ -54,8 +57,10 @@ impl Work {
 /// A terminal is told if the file was made, unless the work is that of `pipe` or `serve`.
 ///
 /// # Errors
-/// What `open` answers: nothing is read or written then. What canary_programs answers of the work.
-/// `Storage` where the file fails as it is closed; what was settled is settled.
+/// What `open` answers, or `Storage` where its path was given to another file meanwhile: nothing is
+/// read or written then. What canary_programs answers of the work; after `Replaced` nothing more is
+/// written to the file or its log. `Storage` where the file fails as it is closed; what was settled
+/// is settled.
 pub(crate) fn on_file<R: Read, W: Write, F: Write>(
     rt: &HostRuntime,
     file: DeskFile<'_>,
@@ -68,16 +73,19 @@ pub(crate) fn on_file<R: Read, W: Write, F: Write>(
     ensures { IsReading work → result ≢ Err fault.BadName }
 {
     let makes = work.tells_of_made() && is_missing(rt, file.name);
-    let mut book = open(rt, file.name, errors, is_terminal)?.with_room(file.room());
+    let before = Identity::of(rt, file.name);
+    let book = open(rt, file.name, errors, is_terminal)?.with_room(file.room());
+    let seat = Seat::taken(rt, file.name, before)?;
+    let mut book = Watched::new(rt, seat, book);
     if makes {
         tell_made(rt.alloc(), file.name, errors, is_terminal);
     }
     let settles = work.settles();
     let done = on_book(rt, &mut book, work, input, output, errors, is_terminal);
-    if !settles {
+    if !settles || matches!(done, Err(Fault::Replaced)) {
         return done;
     }
-    let closed = book.into_connection().close();
+    let closed = book.into_book().into_connection().close();
     done?;
     closed.or(Err(Fault::Storage))
 }
@@ -98,7 +106,7 @@ pub(crate) fn without_input<W: Write, F: Write>(
 }
 
 // Does this work on a book.
-fn on_book<B: Book, R: Read, W: Write, F: Write>(
+fn on_book<B: Placed, R: Read, W: Write, F: Write>(
     rt: &HostRuntime,
     book: &mut B,
     work: Work,

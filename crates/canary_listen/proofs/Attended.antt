@@ -8,7 +8,11 @@ use Rattle.std.proofs.lemmas.Bool.{cases_lt}
 use Rattle.std.proofs.lemmas.Bool.Decides.{eqb_tells}
 use Rattle.canary_wire.specs.Conversing.{Talk, begun, so_far, TakesTurn}
 use Rattle.canary_wire.specs.Crowds.{Turn, Crowd, all_held, IsNew, Becomes, Comes, HasTurn, Goes}
-use Rattle.canary_wire.specs.Exchanges.{Exchange, Point, Went, Holds}
+use Rattle.canary_once.specs.Books.{BookState}
+use Rattle.canary_once.specs.Contents.{Contents, KeepsReceipts}
+use Rattle.canary_once.specs.Sound.{AreSoundContents}
+use Rattle.canary_wire.specs.Exchanges.{Exchange, Point, point, Went, Holds}
+use Rattle.canary_listen.specs.Placing.{IsUnchanged}
 use Rattle.canary_listen.specs.Attending.{Attendance, attendance, nobody, IsServed, KeepsServed, Attends, ServesAll}
 
 -- ---- nothing, and one after another
@@ -19,11 +23,26 @@ keeps_same a b e turns s = subst (λ (x : Attendance). IsServed turns x) e s
 pub keeps_then : (a b c : Attendance) → KeepsServed a b → KeepsServed b c → KeepsServed a c
 keeps_then a b c x y turns s = y turns (x turns s)
 
-pub attends_kept : (p : Point) (a b : Attendance) → Went p p [] → KeepsServed a b → Attends p p a b
-attends_kept p a b none k = record {
+pub attends_none : (p q : Point) (a b : Attendance) → Went p q [] → KeepsServed a b → Attends p q a b
+attends_none p q a b none k = record {
   turns = [];
   went = none;
   keeps = λ before s. subst (λ (t : List Turn). IsServed t b) (sym (append-nil before)) (k before s);
+}
+
+pub attends_kept : (p : Point) (a b : Attendance) → Went p p [] → KeepsServed a b → Attends p p a b
+attends_kept p a b none k = attends_none p p a b none k
+
+-- nor was anything answered as it was looked where the records are
+pub went_unchanged : (clock : (ℕ → ℕ) → Type 0) (s t : BookState) → Went (point clock s) (point clock s) [] → IsUnchanged s t → Went (point clock s) (point clock t) []
+went_unchanged clock s t none u = record {
+  each = tt;
+  moments = none.moments;
+  honest = u.honest;
+  sure = (u.sure, tt);
+  sound = λ honest sound. subst AreSoundContents (sym (u.same honest)) sound;
+  handled = λ honest. u.same honest;
+  receipts = λ honest. subst (λ (c : Contents). KeepsReceipts s.contents c) (sym (u.same honest)) (none.receipts (u.honest honest));
 }
 
 pub attends_and_keeps : (p q : Point) (a b c : Attendance) → Attends p q a b → KeepsServed b c → Attends p q a c

@@ -1,3 +1,4 @@
 pub mod Attending
 pub mod Crowd
 pub mod Moments
+pub mod Placing

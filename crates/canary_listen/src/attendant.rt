@@ -106,7 +106,7 @@ impl Attendant {
             let ready = Ready {
                 part: part_before(left),
                 now,
-                is_ended: event.is_read_closed(),
+                may_hold_more: event.is_read_closed() || event.is_priority(),
             };
             self.attend_next(rt, event.token(), ready, clock, book);
         }
@@ -182,7 +182,7 @@ impl Attendant {
             let ready = Ready {
                 part: Part::Takes,
                 now: self.now,
-                is_ended: false,
+                may_hold_more: false,
             };
             self.attend(rt, Token(number), ready, clock, book);
         }
@@ -296,12 +296,17 @@ impl Attendant {
         self.reports.write_before(self.now, errors);
     }
 
+    // Whether those that take too long were let go in this second.
+    pub(crate) fn is_swept(&self) -> bool {
+        self.now == self.swept
+    }
+
     // Lets those go that take too long; each second this is asked once.
     pub(crate) fn sweep(&mut self)
         ensures { KeepsServed (clients_attendance self.old.clients)
             (clients_attendance self.new.clients) }
     {
-        if self.now == self.swept {
+        if self.is_swept() {
             return;
         }
         self.swept = self.now;

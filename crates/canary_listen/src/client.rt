@@ -21,6 +21,12 @@ const MOST_DRAINED: usize = 16_777_216;
 // How many of them at a time.
 const DRAINED_AT_ONCE: usize = 16_384;
 
+// What is asked of the connection of a client whose bytes are waited for. An urgent byte is asked
+// for too, since a read stops short before it.
+fn its_bytes() -> Interest {
+    Interest::READABLE | Interest::PRIORITY
+}
+
 // What a client is waited for.
 #[derive(Clone, Copy, Debug, PartialEq, Eq)]
 enum Awaited {
@@ -66,8 +72,9 @@ pub(crate) struct Ready {
     pub(crate) part: Part,
     // The present second.
     pub(crate) now: u64,
-    // Whether the system reported that the client ended its sending side, which it does once.
-    pub(crate) is_ended: bool,
+    // Whether bytes may be left after a short read: the system reported that the client ended its
+    // sending side, which it does once, or that it sent an urgent byte, before which a read stops.
+    pub(crate) may_hold_more: bool,
 }
 
 // What a client sends, as far as it is its turn to.
@@ -153,7 +160,7 @@ impl Client {
             answered: 0,
             drained: 0,
             is_reported: false,
-            interest: Interest::READABLE,
+            interest: its_bytes(),
             address,
         }
     }
@@ -244,7 +251,7 @@ impl Client {
         let wants = self
             .conversation
             .turn(alloc, routes, &mut input, &mut output, clock, book, pace);
-        if input.is_open && (input.may_hold_more || ready.is_ended) {
+        if input.is_open && (input.may_hold_more || ready.may_hold_more) {
             self.is_reported = false;
         }
         if wants == Wants::Write && !output.is_open {
@@ -273,7 +280,7 @@ impl Client {
             Wants::Read => {
                 let awaited = self.next_awaited();
                 self.wait_for(awaited, now);
-                Fate::Stays(Interest::READABLE)
+                Fate::Stays(its_bytes())
             }
             Wants::Write => {
                 self.wait_for(Awaited::Reading, now);
@@ -336,7 +343,7 @@ impl Client {
         if self.drained > MOST_DRAINED {
             return Fate::Goes(Cause::EndOfInput);
         }
-        Fate::Stays(Interest::READABLE)
+        Fate::Stays(its_bytes())
     }
 
     // Why it is let go at this second, if it took too long. One that waits for others is not.

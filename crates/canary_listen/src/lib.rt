@@ -17,6 +17,7 @@ mod client;
 mod clients;
 pub mod limits;
 pub mod listener;
+pub mod placed;
 mod reports;
 mod slice;
 pub mod unblocked;

@@ -4,12 +4,13 @@ ghost use Rattle.std.specs.Duration.{as_nanos};
 ghost use Rattle.canary_wire.specs.Exchanges.{point};
 ghost use Rattle.canary_listen.specs.Attending.{Attends, ServesAll, nobody};
 ghost use Rattle.canary_listen.specs.Crowd.{attendance_of, IsDone};
+ghost use Rattle.canary_listen.specs.Placing.{IsUnchanged};
 
 use crate::attendant::{Attendant, SOCKET};
 use crate::clients::Clients;
 use crate::limits::Limits;
+use crate::placed::Placed;
 use crate::reports::Reports;
-use canary_once::book::Book;
 use canary_once::clock::Clock;
 use canary_wire::conversation::Routes;
 use canary_wire::laws::going_on;
@@ -45,6 +46,9 @@ pub enum ListenFault {
     /// The system tells no more of the connections.
     #[error("no more connections can be accepted")]
     Accept,
+    /// The records of the book are not where they were found.
+    #[error("the records are not where they were found")]
+    Lost,
 }
 
 /// A socket at which clients come, and those that came: one thread, which waits for none of them.
@@ -56,6 +60,8 @@ pub struct Listener {
     attendant: Attendant,
     events: Events<Global>,
     start: Option<Instant>,
+    // Whether the records of the book were not in place when they were asked for last.
+    is_lost: bool,
 }
 
 impl Listener {
@@ -100,6 +106,7 @@ impl Listener {
             attendant,
             events,
             start: None,
+            is_lost: false,
         })
     }
 
@@ -124,9 +131,13 @@ impl Listener {
     /// is dropped, and how many were is the next line: so nobody who leaves these lines unread
     /// stops the desk, if a write on `errors` never waits. A fault of `errors` itself is ignored.
     ///
+    /// Once a second the book is asked whether its records are in place. If they are not, it
+    /// answers what comes with `Storage` for a second more, and then serving ends.
+    ///
     /// # Errors
-    /// `Accept` where the system tells no more of the connections, or after 2^64 - 1 rounds.
-    pub fn serve<R: time::Clock + AllocGlobal, C: Clock, B: Book, F: Write>(
+    /// `Accept` where the system tells no more of the connections, or after 2^64 - 1 rounds; `Lost`
+    /// where the records of the book are not where they were found.
+    pub fn serve<R: time::Clock + AllocGlobal, C: Clock, B: Placed, F: Write>(
         &mut self,
         rt: &R,
         connections: Option<u64>,
@@ -160,10 +171,12 @@ impl Listener {
     /// Waits until something comes, at most so long, and gives each client that is ready one turn:
     /// one message at least, and more for at most 20 milliseconds, of which each has the same
     /// share. Then those that take too long are let go, and some of those that wait are accepted.
+    /// Once a second the book is asked first whether its records are in place.
     ///
     /// # Errors
-    /// `Accept` where the system tells no more of the connections.
-    pub fn round<R: time::Clock + AllocGlobal, C: Clock, B: Book, F: Write>(
+    /// `Accept` where the system tells no more of the connections; `Lost` where the records were
+    /// not in place a second ago either, and nobody has a turn then.
+    pub fn round<R: time::Clock + AllocGlobal, C: Clock, B: Placed, F: Write>(
         &mut self,
         rt: &R,
         wait: Duration,
@@ -180,12 +193,30 @@ impl Listener {
             return Err(ListenFault::Accept);
         }
         self.look_at_clock(rt);
+        if self.has_lost(book) {
+            return Err(ListenFault::Lost);
+        }
+        self.attend_ready(rt, clock, book, errors);
+        Ok(())
+    }
+
+    // Gives each client that is ready a turn, and lets clients go and come.
+    fn attend_ready<R: time::Clock + AllocGlobal, C: Clock, B: Placed, F: Write>(
+        &mut self,
+        rt: &R,
+        clock: &mut C,
+        book: &mut B,
+        errors: &mut F,
+    )
+        ensures { Attends (point (C.tells clock.old) (B.state book.old))
+            (point (C.tells clock.new) (B.state book.new))
+            (attendance_of self.old) (attendance_of self.new) }
+    {
         self.attendant.attend_all(rt, &self.events, clock, book);
         self.attendant.sweep();
         self.attendant.resume_queries();
         self.attendant.report(errors);
         self.attendant.accept_some(rt.alloc());
-        Ok(())
     }
 
     // Waits until something comes, at most so long; not at all where somebody may be accepted.
@@ -220,6 +251,20 @@ impl Listener {
             .poll
             .poll(&mut self.events, Some(Duration::ZERO))?;
         Ok(!self.events.is_empty())
+    }
+
+    // Whether the records of the book were not in place a second ago, and are not now. They are
+    // asked for once a second: each time that those are let go that take too long.
+    fn has_lost<B: Placed>(&mut self, book: &mut B) -> bool
+        ensures attendance { attendance_of self.new ≡ attendance_of self.old }
+        ensures book { IsUnchanged (B.state book.old) (B.state book.new) }
+    {
+        if self.attendant.is_swept() || book.is_in_place() {
+            return false;
+        }
+        let is_over = self.is_lost;
+        self.is_lost = true;
+        is_over
     }
 
     // Notes the present second, counted from the first round. It stays where the clock cannot be

@@ -22,6 +22,8 @@ use Rattle.canary_programs.specs.declared.fault.Fault.TheVariants as fault
 abbrev pub word_of : Fault → List ℕ
 word_of fault.Memory = codes "memory"
 word_of fault.Storage = codes "storage"
+word_of fault.LogAlone = codes "storage"
+word_of fault.Replaced = codes "storage"
 word_of fault.OtherSchema = codes "other-schema"
 word_of fault.BrokenRow = codes "broken-row"
 word_of fault.InUse = codes "in-use"
@@ -72,6 +74,7 @@ abbrev pub of_listen : ListenFault → Fault
 of_listen listening.Memory = fault.Memory
 of_listen listening.Listen = fault.Listen
 of_listen listening.Accept = fault.Accept
+of_listen listening.Lost = fault.Replaced
 
 abbrev pub of_page : PageFault → Fault
 of_page page.Memory = fault.Memory

@@ -21,6 +21,10 @@ pub enum Fault {
     Memory,
     /// The database cannot be opened or made, or fails.
     Storage,
+    /// The file of the database is missing or has no bytes, and its log has records.
+    LogAlone,
+    /// The file of the database is not the one that was opened, or has another hard link.
+    Replaced,
     /// The tables of the database are not a desk's.
     OtherSchema,
     /// The database has a row that no desk writes.
@@ -58,6 +62,8 @@ impl fmt::Display for Fault {
         f.write_str(match self {
             Fault::Memory => "out of memory",
             Fault::Storage => "cannot open, make, read or write the database",
+            Fault::LogAlone => "the file is missing or empty, and its log has records",
+            Fault::Replaced => "the file is not the one that was opened, or has another hard link",
             Fault::OtherSchema => "the tables of the database are not a desk's",
             Fault::BrokenRow => "the database has a row that no desk writes",
             Fault::InUse => "another program has the database open",
@@ -87,7 +93,7 @@ impl Fault {
     {
         match self {
             Fault::Memory => "canary: memory\n",
-            Fault::Storage => "canary: storage\n",
+            Fault::Storage | Fault::LogAlone | Fault::Replaced => "canary: storage\n",
             Fault::OtherSchema => "canary: other-schema\n",
             Fault::BrokenRow => "canary: broken-row\n",
             Fault::InUse => "canary: in-use\n",
@@ -197,6 +203,7 @@ impl From<ListenFault> for Fault {
             ListenFault::Memory => Fault::Memory,
             ListenFault::Listen => Fault::Listen,
             ListenFault::Accept => Fault::Accept,
+            ListenFault::Lost => Fault::Replaced,
         }
     }
 }

@@ -8,9 +8,9 @@ use crate::fault::Fault;
 use crate::show::show;
 use canary_listen::limits::Limits;
 use canary_listen::listener::Listener;
+use canary_listen::placed::Placed;
 use canary_listen::unblocked::Unblocked;
 use canary_listen::wall_clock::WallClock;
-use canary_once::book::Book;
 use canary_once::clock::Clock;
 use canary_once::memory::MemoryBook;
 use std::io::Write;
@@ -68,8 +68,9 @@ pub fn serve_memory<W: Write, F: Write>(
 ///
 /// # Errors
 /// `Listen` where the address cannot be listened on; `Memory` where an allocation was refused;
-/// `Write` where the output failed; `Accept` where waiting for clients failed.
-pub fn serve_book<B: Book, W: Write, F: Write>(
+/// `Write` where the output failed; `Accept` where waiting for clients failed; `Replaced` where the
+/// records of the book are not where they were found.
+pub fn serve_book<B: Placed, W: Write, F: Write>(
     rt: &HostRuntime,
     listening: Listening,
     notice: &str,
@@ -97,7 +98,7 @@ fn bind<P: Net + AllocGlobal>(
 }
 
 // Serves clients over a book, by the machine's clock.
-fn attend<P: time::Clock + AllocGlobal, B: Book, F: Write>(
+fn attend<P: time::Clock + AllocGlobal, B: Placed, F: Write>(
     rt: &P,
     listener: &mut Listener,
     connections: Option<u64>,
@@ -111,8 +112,9 @@ fn attend<P: time::Clock + AllocGlobal, B: Book, F: Write>(
 /// Serves so many connections at a socket over a book, or as many as come.
 ///
 /// # Errors
-/// `Accept` where the system tells no more of the connections.
-pub fn serve_clients<P: time::Clock + AllocGlobal, C: Clock, B: Book, F: Write>(
+/// `Accept` where the system tells no more of the connections; `Replaced` where the records of the
+/// book are not where they were found.
+pub fn serve_clients<P: time::Clock + AllocGlobal, C: Clock, B: Placed, F: Write>(
     rt: &P,
     listener: &mut Listener,
     connections: Option<u64>,

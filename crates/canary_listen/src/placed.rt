@@ -1,0 +1,19 @@
+//! Books whose records may be taken away while clients are served.
+ghost use Rattle.canary_listen.specs.Placing.{IsUnchanged};
+
+use canary_once::book::Book;
+use canary_once::memory::MemoryBook;
+
+/// A book that can look whether its records are still where it found them.
+pub trait Placed: Book {
+    /// Whether the records are still where they were found. From the first time on that they are
+    /// not, each call of the book answers `Storage`, settles nothing, and this answers false.
+    fn is_in_place(&mut self) -> bool
+        ensures { IsUnchanged (Self.state self.old) (Self.state self.new) };
+}
+
+impl Placed for MemoryBook {
+    fn is_in_place(&mut self) -> bool {
+        true
+    }
+}
