@@ -15,11 +15,12 @@ ghost use Rattle.std.specs.Prelude.{◌≡◌};
 ghost use Rattle.canary_backup.specs.declared.fault.BackupFault.TheVariants as fault;
 
 use crate::fault::BackupFault;
+use crate::folder::OwnFolder;
+use crate::node::{Node, open_regular, split, sync_folder};
 use std::alloc::Global;
-use std::fs::{self, DirBuilder, File, OpenFile, OpenOptions};
+use std::fs::{self, File, OpenFile, OpenOptions};
 use std::io::{self, ErrorKind, Read};
-use std::os::unix::fs::{DirBuilderExt, MetadataExt, OpenOptionsExt};
-use std::process;
+use std::os::unix::fs::{MetadataExt, OpenOptionsExt};
 
 // The bytes of a log's header.
 const HEADER_BYTES: u64 = 32;
@@ -29,9 +30,6 @@ const MOST_TRIES: u32 = 100;
 
 // Who may read and write a file, of its mode.
 const PERMISSION_BITS: u32 = 0o777;
-
-// A folder that its owner alone may read and change.
-const OWNER_ALONE: u32 = 0o700;
 
 /// The two files of a database: the database's own, and the log beside it.
 #[derive(Drop)]
@@ -63,15 +61,21 @@ impl Pair {
         }
     }
 
-    /// The files of this process that stand beside those of this name: `name`.WORD-PROCESS, and its
-    /// log.
+    /// Whether this name is one that a desk uses for the files of the database: that of its own
+    /// file, of its log, or of a rollback journal of SQLite, before which no desk opens the file.
+    /// So is another name of one of these files, and a link that leads to one.
     ///
     /// # Errors
-    /// `Memory` where an allocation was refused.
-    pub fn beside(rt: &HostRuntime, name: &str, word: &str) -> Result<Pair, BackupFault> {
-        let process = process::id(rt.process());
-        let other = format!(in rt.alloc(); "{name}.{word}-{process}")?;
-        Pair::of(rt.alloc(), other.as_str())
+    /// `Memory` if an allocation was refused.
+    pub fn has_name(&self, rt: &HostRuntime, name: &str) -> Result<bool, BackupFault> {
+        let database = self.database.as_str();
+        let journal = format!(in rt.alloc(); "{database}-journal")?;
+        let real = real_name(rt, name)?;
+        Ok(
+            is_same(rt, database, name, real.as_str())
+                || is_same(rt, self.log.as_str(), name, real.as_str())
+                || is_same(rt, journal.as_str(), name, real.as_str()),
+        )
     }
 
     /// The name of the database's own file.
@@ -102,16 +106,6 @@ impl Pair {
         sync(rt, self.database.as_str())?;
         sync(rt, self.log.as_str())
     }
-
-    // Gives both the names of another database, that of its own file last; or neither.
-    fn rename(&self, rt: &HostRuntime, other: &Pair) -> io::Result<()> {
-        fs::rename(rt, self.log.as_str(), other.log.as_str())?;
-        let renamed = fs::rename(rt, self.database.as_str(), other.database.as_str());
-        if renamed.is_err() {
-            let _ = fs::remove_file(rt, other.log.as_str());
-        }
-        renamed
-    }
 }
 
 // Why the file of a database was not found.
@@ -128,6 +122,30 @@ fn unfound(kind: ErrorKind) -> BackupFault
     }
 }
 
+// The name as it is where no link is left in its folder; as it is given if there is no such folder.
+fn real_name(rt: &HostRuntime, name: &str) -> Result<String, BackupFault> {
+    let (folder, last) = split(name);
+    match fs::canonicalize(rt, folder) {
+        Ok(real) => {
+            let folder = real.as_str().trim_end_matches('/');
+            Ok(format!(in rt.alloc(); "{folder}/{last}")?)
+        }
+        Err(error) if error.kind() == ErrorKind::OutOfMemory => Err(BackupFault::Memory),
+        Err(_) => Ok(format!(in rt.alloc(); "{name}")?),
+    }
+}
+
+// Whether a name, which is `real` without links in its folder, is that one or leads to its file.
+fn is_same(rt: &HostRuntime, used: &str, name: &str, real: &str) -> bool {
+    if real == used {
+        return true;
+    }
+    match fs::metadata(rt, used) {
+        Ok(found) => Node::of(&found).is_led_to(rt, name),
+        Err(_) => false,
+    }
+}
+
 fn is_missing(rt: &HostRuntime, name: &str) -> bool {
     match fs::symlink_metadata(rt, name) {
         Ok(_) => false,
@@ -139,11 +157,10 @@ fn sync(rt: &HostRuntime, name: &str) -> io::Result<()> {
     OpenOptions::new().write(true).open(rt, name)?.sync_all()
 }
 
-/// A copy of a database, whole under names of its own: `copy`.part-PROCESS and
-/// `copy`.part-PROCESS-wal.
+/// A copy of a database, whole in a folder `copy`.part-PROCESS-RANDOM of its own.
 #[derive(Drop)]
 pub struct Part {
-    files: Pair,
+    folder: OwnFolder,
     to: Pair,
 }
 
@@ -152,113 +169,90 @@ impl Part {
     /// request that was settled before, and of those that are settled meanwhile the first ones.
     ///
     /// # Errors
-    /// `File` if there is no such file, if a file of the copy's names, `copy` and `copy`-wal, or of
-    /// its part's is there already, or if a file cannot be read or written; `Storage` if the file
-    /// cannot be reached; `InUse` if the log was begun anew each time while the file was copied;
-    /// `Memory` if an allocation was refused. There is no part then.
+    /// `File` if there is no such file, if a file of the copy's names, `copy` and `copy`-wal, is
+    /// there already, if `copy` is a name that a desk uses for this file, or if a file cannot be
+    /// read or written; `Storage` if the file cannot be reached; `InUse` if the log was begun anew
+    /// each time while the file was copied; `Memory` if an allocation was refused. There is no part
+    /// then.
     pub fn of(rt: &HostRuntime, file: &str, copy: &str) -> Result<Part, BackupFault> {
         let from = Pair::found(rt, file)?;
         let to = Pair::of(rt.alloc(), copy)?;
-        let files = Pair::beside(rt, copy, "part")?;
-        if to.is_free(rt) && files.is_free(rt) {
-            Part { files, to }.copied(rt, &from)
-        } else {
-            Err(BackupFault::File)
+        if !to.is_free(rt) || from.has_name(rt, copy)? {
+            return Err(BackupFault::File);
         }
-    }
-
-    // It, once the database is copied; what was begun is removed if that fails.
-    fn copied(self, rt: &HostRuntime, from: &Pair) -> Result<Part, BackupFault> {
-        match copy_pair(rt, from, &self.files) {
-            Ok(()) => Ok(self),
-            Err(fault) => {
-                self.remove(rt);
-                Err(fault)
-            }
-        }
+        let folder = OwnFolder::beside(rt, copy, "part")?.filled(rt, &from)?;
+        Ok(Part { folder, to })
     }
 
     /// The name of the database's own file, of the part.
     pub fn database(&self) -> &str {
-        self.files.database()
+        self.folder.copy().database()
     }
 
-    /// Gives the copy its names, once it is on the disk.
+    /// Gives the copy its names, once it is on the disk, and removes the part: first the log's, for
+    /// whoever has that name has the other, and no name that is taken. So of some copies that are
+    /// given one name at the same time at most one has it.
     ///
     /// # Errors
-    /// `File` if the disk fails, or the copy cannot have its names. The part is there then.
+    /// `File` if the disk fails, or the copy cannot have its names, which is so where the system
+    /// knows no hard links. There is no copy then.
     pub fn name(&self, rt: &HostRuntime) -> Result<(), BackupFault> {
-        match self
-            .files
-            .sync(rt)
-            .and_then(|()| self.files.rename(rt, &self.to))
-        {
+        match self.take_names(rt) {
             Ok(()) => Ok(()),
             Err(_) => Err(BackupFault::File),
         }
     }
 
+    fn take_names(&self, rt: &HostRuntime) -> io::Result<()> {
+        let files = self.folder.copy();
+        if !self.folder.is_there(rt) {
+            return Err(ErrorKind::NotFound.into());
+        }
+        files.sync(rt)?;
+        let log = Node::at(rt, files.log.as_str())?;
+        fs::hard_link(rt, files.log.as_str(), self.to.log.as_str())?;
+        let taken = self.take_last_name(rt, log);
+        if taken.is_err() {
+            log.remove_at(rt, self.to.log.as_str());
+        }
+        taken
+    }
+
+    // Takes the name of the database's own file, once that of the log is on the disk: a copy
+    // without its log would be an older desk.
+    fn take_last_name(&self, rt: &HostRuntime, log: Node) -> io::Result<()> {
+        let files = self.folder.copy();
+        let database = Node::at(rt, files.database.as_str())?;
+        sync_folder(rt, self.to.log.as_str())?;
+        fs::hard_link(rt, files.database.as_str(), self.to.database.as_str())?;
+        let kept = self.keep_names(rt, database, log);
+        if kept.is_err() {
+            database.remove_at(rt, self.to.database.as_str());
+        }
+        kept
+    }
+
+    // Removes the part, so that the copy has its names alone, and has these on the disk.
+    fn keep_names(&self, rt: &HostRuntime, database: Node, log: Node) -> io::Result<()> {
+        self.remove(rt);
+        let is_named = database.is_alone_at(rt, self.to.database.as_str());
+        if !is_named || !log.is_alone_at(rt, self.to.log.as_str()) {
+            return Err(ErrorKind::AlreadyExists.into());
+        }
+        sync_folder(rt, self.to.database.as_str())
+    }
+
     /// Removes the part.
     pub fn remove(&self, rt: &HostRuntime) {
-        self.files.remove(rt);
+        self.folder.remove(rt);
     }
 }
 
-/// A folder that this process made for a copy, and the copy in it: nobody else can put a file or a
-/// link in its place.
-#[derive(Drop)]
-pub struct OwnFolder {
-    folder: String,
-    copy: Pair,
-}
-
-impl OwnFolder {
-    /// Makes the folder `name`.WORD-PROCESS beside the files of this name. Its owner alone may read
-    /// it.
-    ///
-    /// # Errors
-    /// `File` if something of that name is there, if only a link, or if no folder can be made;
-    /// `Memory` if an allocation was refused.
-    pub fn beside(rt: &HostRuntime, name: &str, word: &str) -> Result<OwnFolder, BackupFault> {
-        let process = process::id(rt.process());
-        let folder = format!(in rt.alloc(); "{name}.{word}-{process}")?;
-        let database = format!(in rt.alloc(); "{name}.{word}-{process}/desk.db")?;
-        let copy = Pair::of(rt.alloc(), database.as_str())?;
-        match make_folder(rt, folder.as_str()) {
-            Ok(()) => Ok(OwnFolder { folder, copy }),
-            Err(_) => Err(BackupFault::File),
-        }
-    }
-
-    /// The copy.
-    pub fn copy(&self) -> &Pair {
-        &self.copy
-    }
-
-    /// Removes the copy and the folder.
-    pub fn remove(&self, rt: &HostRuntime) {
-        self.copy.remove(rt);
-        let _ = fs::remove_dir(rt, self.folder.as_str());
-    }
-}
-
-// Makes a folder that its owner alone may read and change.
-fn make_folder(rt: &HostRuntime, folder: &str) -> io::Result<()> {
-    DirBuilder::new().mode(OWNER_ALONE).create(rt, folder)
-}
-
-/// Copies the files of the database of this name as they were at one moment, also while a desk
-/// writes them.
+/// Copies the files of a database as they were at one moment, also while a desk writes them.
 ///
 /// # Errors
 /// As `Part::of`: files of the copy's names must not be there.
-pub fn copy_database(rt: &HostRuntime, file: &str, copy: &Pair) -> Result<(), BackupFault> {
-    let from = Pair::found(rt, file)?;
-    copy_pair(rt, &from, copy)
-}
-
-// Copies the files of a database as they were at one moment, also while a desk writes them.
-fn copy_pair(rt: &HostRuntime, from: &Pair, to: &Pair) -> Result<(), BackupFault> {
+pub(crate) fn copy_pair(rt: &HostRuntime, from: &Pair, to: &Pair) -> Result<(), BackupFault> {
     for tries in 0..MOST_TRIES {
         to.begin_anew(rt, tries);
         if is_copied_at_once(rt, from, to)? {
@@ -298,7 +292,7 @@ fn copy_file(rt: &HostRuntime, from: &str, to: &str) -> Result<(), BackupFault> 
 }
 
 fn copy_bytes(rt: &HostRuntime, from: &str, to: &str) -> io::Result<()> {
-    let mut source = File::open(rt, from)?;
+    let mut source = open_regular(rt, from)?;
     let mode = source.metadata()?.mode() & PERMISSION_BITS;
     let mut copy = new_file(rt, to, mode)?;
     io::copy(&mut source, &mut copy)?;
@@ -324,7 +318,7 @@ fn make_empty(rt: &HostRuntime, name: &str) -> Result<(), BackupFault> {
 // The first bytes of a log, as many as its header has; none where there is no log.
 fn header(rt: &HostRuntime, log: &String) -> Result<Vec<u8>, BackupFault> {
     let mut bytes = Vec::new(rt.alloc());
-    let file = match File::open(rt, log.as_str()) {
+    let file = match open_regular(rt, log.as_str()) {
         Ok(file) => file,
         Err(error) if error.kind() == ErrorKind::NotFound => return Ok(bytes),
         Err(_) => return Err(BackupFault::File),

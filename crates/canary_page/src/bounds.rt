@@ -1,44 +1,49 @@
-//! The numbers with which a condition compares `result`.
+//! What conditions name of a result, and the numbers with which they compare it.
+use crate::spot::Spot;
 use canary_base::error::Memory;
 use std::alloc::Global;
 
-// A word of a condition, as far as it matters here.
+/// A number with which a condition compares what it names.
+#[derive(Clone, Copy, Debug, PartialEq, Eq)]
+pub(crate) struct Bound {
+    pub(crate) spot: Spot,
+    pub(crate) number: i64,
+}
+
+/// What a condition names of a result, and its bounds: each as often as they stand there, in order.
+#[derive(Drop)]
+pub(crate) struct Mentions {
+    pub(crate) spots: Vec<Spot>,
+    pub(crate) bounds: Vec<Bound>,
+}
+
+// A word of a condition.
 #[derive(Clone, Copy, PartialEq, Eq)]
 enum Word {
     Result,
     Number(i64),
     Comparison,
-    Item,
+    Open,
+    Close,
     Other,
 }
 
-// The last words of a condition, the newest last.
-#[derive(Clone, Copy)]
-struct Last {
-    first: Word,
-    second: Word,
-    third: Word,
+// What a comparison is made of: one word, or `result[0]`, which are four.
+#[derive(Clone, Copy, PartialEq, Eq)]
+enum Term {
+    Named(Spot),
+    Number(i64),
+    Comparison,
+    Other,
 }
 
-impl Last {
-    fn after(self, word: Word) -> Last {
-        Last {
-            first: self.second,
-            second: self.third,
-            third: word,
-        }
-    }
-
-    // The number that is compared with `result`, if these words do so and this one comes next.
-    fn bound(self, next: Word) -> Option<i64> {
-        match (self.first, self.second, self.third) {
-            (Word::Result, Word::Comparison, Word::Number(number)) => Some(number),
-            (Word::Number(number), Word::Comparison, Word::Result) if next != Word::Item => {
-                Some(number)
-            }
-            _ => None,
-        }
-    }
+// How much of `result[0]` the last words are.
+#[derive(Clone, Copy, PartialEq, Eq)]
+enum Begun {
+    Nothing,
+    Result,
+    Bracket,
+    Index(u64),
 }
 
 // What a byte of a condition belongs to.
@@ -65,7 +70,8 @@ fn word_of(kind: Kind, text: &str) -> Word {
         Kind::Signs if text != "!" => Word::Comparison,
         Kind::Letters if text == "result" => Word::Result,
         Kind::Letters => number_of(text),
-        Kind::Alone if text == "[" => Word::Item,
+        Kind::Alone if text == "[" => Word::Open,
+        Kind::Alone if text == "]" => Word::Close,
         _ => Word::Other,
     }
 }
@@ -77,66 +83,129 @@ fn number_of(text: &str) -> Word {
     }
 }
 
-// A condition that is read from the left: where the present word begins, and what it is made of.
+fn term_of(word: Word) -> Term {
+    match word {
+        Word::Number(number) => Term::Number(number),
+        Word::Comparison => Term::Comparison,
+        _ => Term::Other,
+    }
+}
+
+// A condition that is read from the left: where the present word begins, and what it is made of;
+// what was begun of a place; and the two terms before, the newer one last.
 #[derive(Drop)]
 struct Scan<'a> {
     text: &'a str,
     begin: usize,
     kind: Kind,
-    last: Last,
+    begun: Begun,
+    first: Term,
+    second: Term,
+    found: Mentions,
 }
 
 impl Scan<'_> {
-    // Takes the word up to this place, and gives the bound that is known by it.
-    fn end_word(&mut self, place: usize) -> Option<i64> {
-        if self.kind == Kind::Blank {
-            return None;
-        }
-        let word = word_of(self.kind, self.text.get(self.begin..place).unwrap_or(""));
-        let bound = self.last.bound(word);
-        self.last = self.last.after(word);
-        bound
-    }
-
-    // Takes the byte at this place, and gives the bound that is known by it.
-    fn take(&mut self, place: usize, byte: u8) -> Option<i64> {
+    // Takes the byte at this place.
+    fn take(&mut self, place: usize, byte: u8) -> Result<(), Memory> {
         let kind = kind_of(byte);
         if kind == self.kind && kind != Kind::Alone {
-            return None;
+            return Ok(());
         }
-        let bound = self.end_word(place);
+        self.end_word(place)?;
         self.begin = place;
         self.kind = kind;
-        bound
+        Ok(())
+    }
+
+    // Takes the word up to this place.
+    fn end_word(&mut self, place: usize) -> Result<(), Memory> {
+        if self.kind == Kind::Blank {
+            return Ok(());
+        }
+        let word = word_of(self.kind, self.text.get(self.begin..place).unwrap_or(""));
+        self.take_word(word)
+    }
+
+    fn take_word(&mut self, word: Word) -> Result<(), Memory> {
+        match (self.begun, word) {
+            (Begun::Result, Word::Open) => self.begun = Begun::Bracket,
+            (Begun::Bracket, Word::Number(number)) => {
+                self.begun = Begun::Index(number.unsigned_abs());
+            }
+            (Begun::Index(place), Word::Close) => {
+                self.begun = Begun::Nothing;
+                self.take_term(Term::Named(Spot::Place(place)))?;
+            }
+            _ => {
+                self.end_result()?;
+                self.begin_term(word)?;
+            }
+        }
+        Ok(())
+    }
+
+    // The word before was `result` itself, if no bracket follows it.
+    fn end_result(&mut self) -> Result<(), Memory> {
+        let begun = self.begun;
+        self.begun = Begun::Nothing;
+        if begun == Begun::Result {
+            self.take_term(Term::Named(Spot::Whole))?;
+        }
+        Ok(())
+    }
+
+    fn begin_term(&mut self, word: Word) -> Result<(), Memory> {
+        if word == Word::Result {
+            self.begun = Begun::Result;
+            return Ok(());
+        }
+        self.take_term(term_of(word))
+    }
+
+    fn take_term(&mut self, term: Term) -> Result<(), Memory> {
+        if let Term::Named(spot) = term {
+            self.found.spots.push(spot)?;
+        }
+        if let Some(bound) = bound_of(self.first, self.second, term) {
+            self.found.bounds.push(bound)?;
+        }
+        self.first = self.second;
+        self.second = term;
+        Ok(())
     }
 }
 
-// The numbers with which the condition of this text compares `result` itself, in order; not those
-// with which it compares an item of a list.
-pub(crate) fn bounds_of(alloc: Global, condition: &str) -> Result<Vec<i64>, Memory> {
-    let nothing = Word::Other;
+// The bound that these three terms are, if they are one.
+fn bound_of(first: Term, second: Term, third: Term) -> Option<Bound> {
+    if second != Term::Comparison {
+        return None;
+    }
+    match (first, third) {
+        (Term::Named(spot), Term::Number(number)) => Some(Bound { spot, number }),
+        (Term::Number(number), Term::Named(spot)) => Some(Bound { spot, number }),
+        _ => None,
+    }
+}
+
+// What the condition of this text mentions.
+pub(crate) fn mentions_of(alloc: Global, condition: &str) -> Result<Mentions, Memory> {
     let mut scan = Scan {
         text: condition,
         begin: 0,
         kind: Kind::Blank,
-        last: Last {
-            first: nothing,
-            second: nothing,
-            third: nothing,
+        begun: Begun::Nothing,
+        first: Term::Other,
+        second: Term::Other,
+        found: Mentions {
+            spots: Vec::new(alloc),
+            bounds: Vec::new(alloc),
         },
     };
-    let mut bounds = Vec::new(alloc);
     for (place, byte) in condition.as_bytes().iter().enumerate() {
-        push_bound(&mut bounds, scan.take(place, *byte))?;
+        scan.take(place, *byte)?;
     }
-    push_bound(&mut bounds, scan.end_word(condition.len()))?;
-    push_bound(&mut bounds, scan.last.bound(nothing))?;
-    Ok(bounds)
-}
-
-fn push_bound(bounds: &mut Vec<i64>, bound: Option<i64>) -> Result<(), Memory> {
-    if let Some(bound) = bound {
-        bounds.push(bound)?;
-    }
-    Ok(())
+    scan.end_word(condition.len())?;
+    scan.end_result()?;
+    let Scan { found, .. } = scan;
+    Ok(found)
 }

@@ -1,25 +1,24 @@
 //! A service as a card.
+use crate::ended::ended;
 use crate::figure::{badge, counted};
 use crate::history::history;
-use crate::run::run;
-use crate::shown::{Shown, ShownRun};
+use crate::run::runs_of;
+use crate::shown::Shown;
 use crate::track::{bar, track};
 use crate::waits::waits;
-use canary_base::error::Memory;
-use canary_base::moments::Moment;
 use canary_markup::element::{Attribute, Element};
 use canary_markup::markup::Markup;
 use canary_release::service::Service;
 use std::alloc::Global;
 
 // The card of a service that is not done, with the runs of its attempt, the newest first.
-pub(crate) fn card(alloc: Global, shown: &Shown, now: Moment) -> Result<Markup, Memory> {
+pub(crate) fn card(alloc: Global, shown: &Shown) -> Markup {
     let mut page = Markup::new(alloc);
-    draw_card(alloc, &mut page, shown, now)?;
-    Ok(page)
+    draw_card(&mut page, shown);
+    page
 }
 
-fn draw_card(alloc: Global, page: &mut Markup, shown: &Shown, now: Moment) -> Result<(), Memory> {
+fn draw_card(page: &mut Markup, shown: &Shown) {
     let service = &shown.service;
     page.start(Element::Article);
     page.attribute(Attribute::Class, service.status().text());
@@ -27,12 +26,14 @@ fn draw_card(alloc: Global, page: &mut Markup, shown: &Shown, now: Moment) -> Re
     page.start_end();
     heading(page, service);
     track(page, service);
-    waits(page, shown, now);
-    runs(alloc, page, shown.runs.as_slice(), now)?;
+    waits(page, shown);
+    if let Some(attempt) = &shown.attempts.present {
+        runs_of(page, shown, attempt);
+    }
+    ended(page, shown);
     older(page, service, shown.runs.len());
     history(page, service.name(), shown.lines.as_slice());
     page.end(Element::Article);
-    Ok(())
 }
 
 fn heading(page: &mut Markup, service: &Service) {
@@ -50,13 +51,6 @@ fn heading(page: &mut Markup, service: &Service) {
     page.end(Element::Span);
     bar(page, service);
     page.end(Element::Header);
-}
-
-fn runs(alloc: Global, page: &mut Markup, runs: &[ShownRun], now: Moment) -> Result<(), Memory> {
-    for shown in runs.iter().rev() {
-        run(alloc, page, shown, now)?;
-    }
-    Ok(())
 }
 
 // How many runs of earlier attempts are not drawn.

@@ -1,5 +1,6 @@
 //! The measurements of a metric that a chart shows.
-use crate::numbers::{Span, whole_of};
+use crate::numbers::Span;
+use crate::spot::Spot;
 use canary_base::error::Memory;
 use canary_base::moments::Moment;
 use canary_condition::outcome::{Outcome, Phase};
@@ -33,24 +34,40 @@ pub(crate) struct Chart {
     // How many were seen, and how many of these were not Successful.
     seen: u64,
     seen_bad: u64,
-    span: Option<Span>,
+    rows: Vec<Row>,
     points: Vec<Point>,
 }
 
+/// What a chart shows of its results: the numbers at a spot, from the least to the greatest, of all
+/// measurements, if there are any.
+#[derive(Clone, Copy)]
+pub(crate) struct Row {
+    pub(crate) spot: Spot,
+    pub(crate) span: Option<Span>,
+}
+
+impl Row {
+    fn widen(&mut self, outcome: &Outcome) {
+        if let Some(number) = self.spot.number_of(outcome) {
+            self.span = Some(Span::with(self.span, number));
+        }
+    }
+}
+
 impl Chart {
-    // That of no measurement so far.
-    pub(crate) fn new(alloc: Global, tally: &Tally) -> Chart {
+    // That of no measurement so far, which shows these spots.
+    pub(crate) fn new(alloc: Global, tally: &Tally, spots: &[Spot]) -> Result<Chart, Memory> {
         let bad = u64::from(tally.failed())
             .saturating_add(u64::from(tally.inconclusive()))
             .saturating_add(u64::from(tally.errors()));
-        Chart {
+        Ok(Chart {
             whole: u64::from(tally.measurements()),
             whole_bad: bad,
             seen: 0,
             seen_bad: 0,
-            span: None,
+            rows: rows_of(alloc, spots)?,
             points: Vec::new(alloc),
-        }
+        })
     }
 
     // Takes the next measurement.
@@ -61,8 +78,8 @@ impl Chart {
         if is_bad {
             self.seen_bad = self.seen_bad.saturating_add(1);
         }
-        if let Some(number) = whole_of(&recorded.outcome) {
-            self.span = Some(Span::with(self.span, number));
+        for row in self.rows.iter_mut() {
+            row.widen(&recorded.outcome);
         }
         if shows {
             push_point(alloc, &mut self.points, recorded)?;
@@ -90,9 +107,9 @@ impl Chart {
         self.points.as_slice()
     }
 
-    // From the least result to the greatest, of those that are whole numbers, if there are any.
-    pub(crate) fn span(&self) -> Option<Span> {
-        self.span
+    // What it shows of each result, in order.
+    pub(crate) fn rows(&self) -> &[Row] {
+        self.rows.as_slice()
     }
 
     // Whether each measurement that is not Successful is shown.
@@ -104,6 +121,17 @@ impl Chart {
     pub(crate) fn whole(&self) -> u64 {
         self.whole
     }
+}
+
+fn rows_of(alloc: Global, spots: &[Spot]) -> Result<Vec<Row>, Memory> {
+    let mut rows = Vec::new(alloc);
+    for spot in spots {
+        rows.push(Row {
+            spot: *spot,
+            span: None,
+        })?;
+    }
+    Ok(rows)
 }
 
 // Whether the item at this place is shown, where of so many items as many as there is room for are

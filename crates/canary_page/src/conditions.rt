@@ -1,4 +1,6 @@
-//! The texts of a metric's conditions.
+//! A metric's conditions, and what is drawn by them.
+use crate::bounds::{Bound, Mentions, mentions_of};
+use crate::spot::Spot;
 use canary_base::error::Memory;
 use canary_base::lists::Text;
 use canary_base::names::Label;
@@ -7,13 +9,33 @@ use canary_plan::template_spec::MetricSpec;
 use canary_plan::templates::Templates;
 use std::alloc::Global;
 
-/// The texts of a metric's conditions, as its template has them. They are not known if its template
-/// was revised after the metric was bound.
+// The most charts of a metric.
+const MOST_CHARTS: usize = 8;
+
+/// The texts of a metric's conditions, as its template has them, and their bounds. They are not
+/// known if its template was revised after the metric was bound.
 #[derive(Drop)]
 pub(crate) struct Conditions {
     pub(crate) is_known: bool,
     pub(crate) success: Option<Text>,
     pub(crate) failure: Option<Text>,
+    pub(crate) success_bounds: Vec<Bound>,
+    pub(crate) failure_bounds: Vec<Bound>,
+    /// What they name of a result, in order, each once: `result` itself if that is nothing.
+    spots: Vec<Spot>,
+}
+
+impl Conditions {
+    // What is drawn of a result, a chart each: the first 8 of what they name.
+    pub(crate) fn drawn(&self) -> &[Spot] {
+        let spots = self.spots.as_slice();
+        spots.get(..MOST_CHARTS).unwrap_or(spots)
+    }
+
+    // How many places more they name.
+    pub(crate) fn left_out(&self) -> u64 {
+        self.spots.len().saturating_sub(MOST_CHARTS) as u64
+    }
 }
 
 // Those of the metric of this name, by the templates as they are now.
@@ -25,18 +47,12 @@ pub(crate) fn conditions_of(
 ) -> Result<Conditions, Memory> {
     for revision in revisions {
         if let Some(spec) = spec_of(templates, *revision, metric) {
-            return Ok(Conditions {
-                is_known: true,
-                success: copy_of(alloc, &spec.success)?,
-                failure: copy_of(alloc, &spec.failure)?,
-            });
+            let success = copy_of(alloc, &spec.success)?;
+            let failure = copy_of(alloc, &spec.failure)?;
+            return with_mentions(alloc, true, success, failure);
         }
     }
-    Ok(Conditions {
-        is_known: false,
-        success: None,
-        failure: None,
-    })
+    with_mentions(alloc, false, None, None)
 }
 
 // The metric of this name, if the template's newest revision is this one and has it.
@@ -58,4 +74,52 @@ fn copy_of(alloc: Global, text: &Option<Text>) -> Result<Option<Text>, Memory> {
         None => Ok(None),
         Some(text) => Ok(Some(text.copy(alloc)?)),
     }
+}
+
+fn with_mentions(
+    alloc: Global,
+    is_known: bool,
+    success: Option<Text>,
+    failure: Option<Text>,
+) -> Result<Conditions, Memory> {
+    let in_success = mentions_of(alloc, text_of(&success))?;
+    let in_failure = mentions_of(alloc, text_of(&failure))?;
+    let spots = spots_of(alloc, &in_success, &in_failure)?;
+    Ok(Conditions {
+        is_known,
+        success,
+        failure,
+        success_bounds: in_success.bounds,
+        failure_bounds: in_failure.bounds,
+        spots,
+    })
+}
+
+// The text of a condition; an empty one if there is none.
+pub(crate) fn text_of(condition: &Option<Text>) -> &str {
+    match condition {
+        Some(text) => text.as_str(),
+        None => "",
+    }
+}
+
+fn spots_of(alloc: Global, success: &Mentions, failure: &Mentions) -> Result<Vec<Spot>, Memory> {
+    let mut spots = Vec::new(alloc);
+    add_spots(&mut spots, success.spots.as_slice())?;
+    add_spots(&mut spots, failure.spots.as_slice())?;
+    if spots.is_empty() {
+        spots.push(Spot::Whole)?;
+    }
+    spots.sort()?;
+    Ok(spots)
+}
+
+// Adds those that are not there yet.
+fn add_spots(spots: &mut Vec<Spot>, more: &[Spot]) -> Result<(), Memory> {
+    for spot in more {
+        if !spots.as_slice().contains(spot) {
+            spots.push(*spot)?;
+        }
+    }
+    Ok(())
 }

@@ -1,11 +1,12 @@
 //! A metric of a run: its chart, its conditions, and its numbers.
-use crate::bounds::bounds_of;
-use crate::chart::Chart;
-use crate::conditions::Conditions;
+use crate::bounds::Bound;
+use crate::chart::{Chart, Row};
+use crate::conditions::{Conditions, text_of};
+use crate::late::{due_of, late_since};
 use crate::numbers::Span;
 use crate::plot::{Frame, axis, bounds, curve, outcome, points};
+use crate::spot::{Spot, spot_text};
 use crate::time::clock;
-use canary_base::error::Memory;
 use canary_base::lists::Text;
 use canary_base::moments::Moment;
 use canary_condition::outcome::Phase;
@@ -13,8 +14,6 @@ use canary_markup::element::{Attribute, Element};
 use canary_markup::markup::Markup;
 use canary_metric::metric::{Metric, effective_count};
 use canary_metric::tally::Tally;
-use canary_metric::verdict::is_completed;
-use std::alloc::Global;
 
 /// A metric of a run, with all that is shown of it.
 #[derive(Clone, Copy)]
@@ -30,61 +29,60 @@ pub(crate) struct Measured<'a> {
 }
 
 // Draws it.
-pub(crate) fn figure(alloc: Global, page: &mut Markup, shown: &Measured<'_>) -> Result<(), Memory> {
-    let success = bounds_in(alloc, &shown.conditions.success)?;
-    let failure = bounds_in(alloc, &shown.conditions.failure)?;
-    let span = span_of(shown.chart, success.as_slice(), failure.as_slice());
-    let frame = Frame {
-        from: shown.started,
-        to: last_of(shown),
-        span,
-    };
+pub(crate) fn figure(page: &mut Markup, shown: &Measured<'_>) {
     page.open(Element::Figure, "metric");
     caption(page, shown);
-    begin_drawing(page, shown);
+    last_value(page, shown);
+    page.open(Element::Block, "charts");
+    for row in shown.chart.rows() {
+        chart(page, shown, *row);
+    }
+    page.end(Element::Block);
+    notes(page, shown);
+    page.end(Element::Figure);
+}
+
+// The chart of what a row shows, under its name if that is a place of a list.
+fn chart(page: &mut Markup, shown: &Measured<'_>, row: Row) {
+    let frame = frame_of(shown, row);
+    let conditions = shown.conditions;
+    page.open(Element::Block, "chart");
+    if row.spot != Spot::Whole {
+        page.open(Element::Paragraph, "spot");
+        spot_text(page, row.spot);
+        page.end(Element::Paragraph);
+    }
+    begin_drawing(page, shown, row);
     axis(page, &frame);
-    bounds(
-        page,
-        &frame,
-        "limit good",
-        success.as_slice(),
-        text_of(&shown.conditions.success),
-    );
-    bounds(
-        page,
-        &frame,
-        "limit bad",
-        failure.as_slice(),
-        text_of(&shown.conditions.failure),
-    );
+    let (success, failure) = (&conditions.success_bounds, &conditions.failure_bounds);
+    let text = text_of(&conditions.success);
+    bounds(page, &frame, "limit good", success.as_slice(), text);
+    let text = text_of(&conditions.failure);
+    bounds(page, &frame, "limit bad", failure.as_slice(), text);
     curve(page, &frame, shown.chart);
     points(page, &frame, shown.chart);
     page.end(Element::Drawing);
-    notes(page, shown);
-    page.end(Element::Figure);
-    Ok(())
+    page.end(Element::Block);
 }
 
-fn bounds_in(alloc: Global, condition: &Option<Text>) -> Result<Vec<i64>, Memory> {
-    bounds_of(alloc, text_of(condition))
-}
-
-fn text_of(condition: &Option<Text>) -> &str {
-    match condition {
-        Some(text) => text.as_str(),
-        None => "",
+fn frame_of(shown: &Measured<'_>, row: Row) -> Frame {
+    let conditions = shown.conditions;
+    let span = with_bounds(row.span, row.spot, conditions.success_bounds.as_slice());
+    Frame {
+        spot: row.spot,
+        from: shown.started,
+        to: last_of(shown),
+        span: with_bounds(span, row.spot, conditions.failure_bounds.as_slice()),
     }
 }
 
-// The numbers that a chart has, and those of the bounds.
-fn span_of(chart: &Chart, success: &[i64], failure: &[i64]) -> Option<Span> {
-    with_numbers(with_numbers(chart.span(), success), failure)
-}
-
-fn with_numbers(span: Option<Span>, numbers: &[i64]) -> Option<Span> {
+// Wide enough for the bounds of that spot, too.
+fn with_bounds(span: Option<Span>, spot: Spot, bounds: &[Bound]) -> Option<Span> {
     let mut span = span;
-    for number in numbers {
-        span = Some(Span::with(span, *number));
+    for bound in bounds {
+        if bound.spot == spot {
+            span = Some(Span::with(span, bound.number));
+        }
     }
     span
 }
@@ -117,6 +115,26 @@ fn caption(page: &mut Markup, shown: &Measured<'_>) {
     page.end(Element::Caption);
 }
 
+// The last measurement, in words.
+fn last_value(page: &mut Markup, shown: &Measured<'_>) {
+    page.open(Element::Paragraph, "last");
+    match shown.chart.points().last() {
+        Some(point) => {
+            page.text("Last, ");
+            clock(page, point.taken);
+            page.text(", ");
+            page.text(point.phase.text());
+            page.text(": ");
+            page.begin(Element::Strong);
+            outcome(page, &point.outcome);
+            page.end(Element::Strong);
+        }
+        None if shown.is_closed => page.text("Not measured"),
+        None => page.text("Not measured yet"),
+    }
+    page.end(Element::Paragraph);
+}
+
 // A phase or a status.
 pub(crate) fn badge(page: &mut Markup, word: &str) {
     page.start(Element::Span);
@@ -130,7 +148,7 @@ pub(crate) fn badge(page: &mut Markup, word: &str) {
 }
 
 // The start of the drawing, with its numbers in words.
-fn begin_drawing(page: &mut Markup, shown: &Measured<'_>) {
+fn begin_drawing(page: &mut Markup, shown: &Measured<'_>, row: Row) {
     page.start(Element::Drawing);
     page.attribute(Attribute::Class, "plot");
     page.attribute(Attribute::View, "0 0 3000 900");
@@ -138,12 +156,12 @@ fn begin_drawing(page: &mut Markup, shown: &Measured<'_>) {
     page.attribute(Attribute::Height, "90");
     page.attribute(Attribute::Role, "img");
     page.value(Attribute::Spoken);
-    in_words(page, shown);
+    in_words(page, shown, row);
     page.value_end();
     page.start_end();
 }
 
-fn in_words(page: &mut Markup, shown: &Measured<'_>) {
+fn in_words(page: &mut Markup, shown: &Measured<'_>, row: Row) {
     page.text(shown.metric.name().as_str());
     page.text(": ");
     counted(page, shown.chart.whole(), " measurement");
@@ -153,8 +171,10 @@ fn in_words(page: &mut Markup, shown: &Measured<'_>) {
     phase_count(page, tally.failed(), Phase::Failed);
     phase_count(page, tally.inconclusive(), Phase::Inconclusive);
     phase_count(page, tally.errors(), Phase::Error);
-    if let Some(span) = shown.chart.span() {
-        page.text("; results from ");
+    if let Some(span) = row.span {
+        page.text("; ");
+        spot_text(page, row.spot);
+        page.text(" from ");
         page.whole(span.low);
         page.text(" to ");
         page.whole(span.high);
@@ -208,6 +228,12 @@ fn conditions(page: &mut Markup, conditions: &Conditions) {
     }
     condition(page, "success: ", &conditions.success);
     condition(page, "failure: ", &conditions.failure);
+    if conditions.left_out() > 0 {
+        page.begin(Element::Paragraph);
+        counted(page, conditions.left_out(), " further place");
+        page.text(" not drawn.");
+        page.end(Element::Paragraph);
+    }
     if conditions.is_known && conditions.success.is_none() && conditions.failure.is_none() {
         sentence(page, "No condition: each result is a success.");
     }
@@ -280,15 +306,16 @@ fn allowed(page: &mut Markup, count: u32, thing: &str, limit: u32) {
 
 // When the next measurement is due, if one is wanted.
 fn due(page: &mut Markup, shown: &Measured<'_>) {
-    if shown.is_closed || is_completed(phase_of(shown)) {
+    if shown.is_closed {
         return;
     }
-    let Some(due) = Moment::new(shown.tally.due(shown.metric, shown.started)) else {
+    let (metric, tally) = (shown.metric, shown.tally);
+    let Some(due) = due_of(metric, tally, shown.started) else {
         return;
     };
     page.text(", due ");
     clock(page, due);
-    if due.get() < shown.now.get() {
+    if late_since(metric, tally, shown.started, shown.now).is_some() {
         page.text(", late");
     }
 }

@@ -49,7 +49,7 @@ fn place<B: Book>(
         push_placed(
             placed,
             *name,
-            Standing::of(&passed.service),
+            Standing::of(&passed.service, now.max(passed.service.last())),
             passed.service.status(),
         )?;
     }
@@ -80,9 +80,10 @@ pub(crate) fn count_standing(placed: &[Placed], standing: Standing) -> u64 {
 
 // How many of these wait for somebody.
 pub(crate) fn count_waiting(placed: &[Placed]) -> u64 {
-    count_standing(placed, Standing::Aborted)
-        .saturating_add(count_standing(placed, Standing::Held))
-        .saturating_add(count_standing(placed, Standing::Waits))
+    placed
+        .iter()
+        .filter(|placed| placed.standing.waits())
+        .count() as u64
 }
 
 // How many of these have that status.

@@ -6,10 +6,46 @@ use canary_base::moments::Moment;
 use canary_base::names::Name;
 use std::alloc::Global;
 
+// A page of more services than these begins with an index.
+const MOST_WITHOUT_INDEX: usize = 20;
+
+// The standings of those that wait for somebody, in the order of the page.
+const WAITING: [Standing; 4] = [
+    Standing::Aborted,
+    Standing::Held,
+    Standing::Late,
+    Standing::Waits,
+];
+
+/// A group of the services of a page.
+#[derive(Clone, Copy)]
+pub(crate) enum Group {
+    Waits,
+    Goes,
+    Done,
+}
+
+impl Group {
+    /// Its heading, and its name in the index.
+    pub(crate) fn name(self) -> &'static str {
+        match self {
+            Group::Waits => "Waits for somebody",
+            Group::Goes => "Goes on by itself",
+            Group::Done => "Done",
+        }
+    }
+}
+
 /// A part of a page.
 #[derive(Clone, Copy)]
 pub(crate) enum Job {
     Head,
+    /// The index, a group of it with how many services it has, and a link to one.
+    Index,
+    Group(Group, u64),
+    Link(Placed),
+    GroupEnd,
+    IndexEnd,
     /// The heading of the services that wait for somebody, that go on, and that are done.
     Waiting,
     Going,
@@ -30,6 +66,24 @@ impl Job {
     }
 }
 
+// As what a service is drawn.
+#[derive(Clone, Copy)]
+enum Drawn {
+    Link,
+    Card,
+    Row,
+}
+
+impl Drawn {
+    fn job_of(self, placed: Placed) -> Job {
+        match self {
+            Drawn::Link => Job::Link(placed),
+            Drawn::Card => Job::Card(placed.name),
+            Drawn::Row => Job::Row(placed.name),
+        }
+    }
+}
+
 /// The services of a page, and how it is drawn.
 #[derive(Clone, Copy)]
 pub(crate) struct Plan<'a> {
@@ -44,12 +98,13 @@ pub(crate) struct Plan<'a> {
 pub(crate) fn jobs_of(alloc: Global, placed: &[Placed]) -> Result<Vec<Job>, Memory> {
     let mut jobs = Vec::new(alloc);
     jobs.push(Job::Head)?;
+    if placed.len() > MOST_WITHOUT_INDEX {
+        push_index(&mut jobs, placed)?;
+    }
     jobs.push(Job::Waiting)?;
-    push_cards(&mut jobs, placed, Standing::Aborted)?;
-    push_cards(&mut jobs, placed, Standing::Held)?;
-    push_cards(&mut jobs, placed, Standing::Waits)?;
+    push_cards(&mut jobs, placed, &WAITING)?;
     jobs.push(Job::Going)?;
-    push_cards(&mut jobs, placed, Standing::Goes)?;
+    push_cards(&mut jobs, placed, &[Standing::Goes])?;
     jobs.push(Job::Done)?;
     if count_standing(placed, Standing::Done) > 0 {
         push_table(&mut jobs, placed)?;
@@ -58,10 +113,59 @@ pub(crate) fn jobs_of(alloc: Global, placed: &[Placed]) -> Result<Vec<Job>, Memo
     Ok(jobs)
 }
 
-fn push_cards(jobs: &mut Vec<Job>, placed: &[Placed], standing: Standing) -> Result<(), Memory> {
+// The links to those that wait for somebody stand first.
+fn push_index(jobs: &mut Vec<Job>, placed: &[Placed]) -> Result<(), Memory> {
+    jobs.push(Job::Index)?;
+    push_group(jobs, Group::Waits, placed, &WAITING)?;
+    push_group(jobs, Group::Goes, placed, &[Standing::Goes])?;
+    push_group(jobs, Group::Done, placed, &[Standing::Done])?;
+    jobs.push(Job::IndexEnd)?;
+    Ok(())
+}
+
+// A group of the index, unless it has no service.
+fn push_group(
+    jobs: &mut Vec<Job>,
+    group: Group,
+    placed: &[Placed],
+    standings: &[Standing],
+) -> Result<(), Memory> {
+    let count = placed
+        .iter()
+        .filter(|placed| standings.contains(&placed.standing))
+        .count() as u64;
+    if count == 0 {
+        return Ok(());
+    }
+    jobs.push(Job::Group(group, count))?;
+    for standing in standings {
+        push_those(jobs, placed, *standing, Drawn::Link)?;
+    }
+    jobs.push(Job::GroupEnd)?;
+    Ok(())
+}
+
+fn push_cards(
+    jobs: &mut Vec<Job>,
+    placed: &[Placed],
+    standings: &[Standing],
+) -> Result<(), Memory> {
+    for standing in standings {
+        push_those(jobs, placed, *standing, Drawn::Card)?;
+    }
+    Ok(())
+}
+
+// A part for each service that stands so.
+fn push_those(
+    jobs: &mut Vec<Job>,
+    placed: &[Placed],
+    standing: Standing,
+    drawn: Drawn,
+) -> Result<(), Memory> {
     for one in placed {
         if one.standing == standing {
-            jobs.push(Job::Card(one.name))?;
+            jobs.push(drawn.job_of(*one))?;
         }
     }
     Ok(())
@@ -69,11 +173,7 @@ fn push_cards(jobs: &mut Vec<Job>, placed: &[Placed], standing: Standing) -> Res
 
 fn push_table(jobs: &mut Vec<Job>, placed: &[Placed]) -> Result<(), Memory> {
     jobs.push(Job::Table)?;
-    for one in placed {
-        if one.standing == Standing::Done {
-            jobs.push(Job::Row(one.name))?;
-        }
-    }
+    push_those(jobs, placed, Standing::Done, Drawn::Row)?;
     jobs.push(Job::TableEnd)?;
     Ok(())
 }

@@ -15,7 +15,7 @@ pub(crate) fn key(page: &mut Markup) {
     );
     note(
         page,
-        "On the axis: a failure, or a list. Times of day are UTC.",
+        "On the axis: a failure, or a result without this number. Times of day are UTC.",
     );
     page.end(Element::Paragraph);
 }

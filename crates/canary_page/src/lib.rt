@@ -13,17 +13,21 @@
 //!     }
 #![tactic(auto)]
 
+mod attempts;
 mod bounds;
 mod card;
 mod chart;
 mod conditions;
+mod ended;
 pub mod fault;
 mod figure;
 mod frame;
 mod groups;
 mod history;
+mod index;
 mod jobs;
 mod key;
+mod late;
 mod numbers;
 pub mod page;
 mod plot;
@@ -31,6 +35,7 @@ pub mod progress;
 mod reading;
 mod run;
 mod shown;
+mod spot;
 mod table;
 mod time;
 mod track;

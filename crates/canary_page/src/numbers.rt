@@ -1,14 +1,4 @@
-//! Results as numbers that a chart can show.
-use canary_condition::outcome::{Outcome, Value};
-
-// The number of a measurement, if it is a whole one.
-pub(crate) fn whole_of(outcome: &Outcome) -> Option<i64> {
-    match outcome {
-        Outcome::Result(Value::Whole(number)) => Some(*number),
-        Outcome::Result(Value::List(_)) => None,
-        Outcome::Failure(_) => None,
-    }
-}
+//! Numbers that a chart shows.
 
 /// From the least number to the greatest.
 #[derive(Clone, Copy)]

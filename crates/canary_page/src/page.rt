@@ -6,9 +6,10 @@ use crate::card::card;
 use crate::fault::PageFault;
 use crate::frame::{foot, head, part};
 use crate::groups::{count_standing, count_waiting, placed_of};
-use crate::jobs::{Job, Plan, jobs_of};
+use crate::index::{begin_group, begin_index, end_group, end_index, link};
+use crate::jobs::{Group, Job, Plan, jobs_of};
 use crate::progress::Progress;
-use crate::reading::{lines_of, passed_of, shown_of};
+use crate::reading::{passed_of, shown_of};
 use crate::shown::Standing;
 use crate::table::{begin_table, end_table, row};
 use crate::writing::write_all;
@@ -137,12 +138,21 @@ fn frame_of(alloc: Global, plan: &Plan<'_>, job: &Job) -> Markup {
     let placed = plan.placed;
     match job {
         Job::Head => head(&mut page, placed, plan.now, plan.every),
-        Job::Waiting => part(&mut page, "Waits for somebody", count_waiting(placed)),
+        Job::Index => begin_index(&mut page),
+        Job::Group(group, count) => begin_group(&mut page, group.name(), *count),
+        Job::Link(placed) => link(&mut page, placed),
+        Job::GroupEnd => end_group(&mut page),
+        Job::IndexEnd => end_index(&mut page),
+        Job::Waiting => part(&mut page, Group::Waits.name(), count_waiting(placed)),
         Job::Going => {
             let count = count_standing(placed, Standing::Goes);
-            part(&mut page, "Goes on by itself", count);
+            part(&mut page, Group::Goes.name(), count);
         }
-        Job::Done => part(&mut page, "Done", count_standing(placed, Standing::Done)),
+        Job::Done => part(
+            &mut page,
+            Group::Done.name(),
+            count_standing(placed, Standing::Done),
+        ),
         Job::Table => begin_table(&mut page),
         Job::TableEnd => end_table(&mut page),
         _ => foot(&mut page),
@@ -174,8 +184,8 @@ fn card_of_passed<B: Book>(
 ) -> Result<Markup, PageFault>
     ensures stays { Stays (B.state book.old) (B.state book.new) }
 {
-    let shown = shown_of(alloc, book, name, passed)?;
-    Ok(card(alloc, &shown, now)?)
+    let shown = shown_of(alloc, book, name, passed, now)?;
+    Ok(card(alloc, &shown))
 }
 
 // The row of a service that is done.
@@ -188,7 +198,7 @@ fn row_of<B: Book>(
     ensures stays { Stays (B.state book.old) (B.state book.new) }
 {
     match passed_of(alloc, book, name, now)? {
-        Some(passed) => row_of_passed(alloc, book, name, &passed),
+        Some(passed) => row_of_passed(alloc, book, name, passed, now),
         None => Ok(Markup::new(alloc)),
     }
 }
@@ -197,10 +207,11 @@ fn row_of_passed<B: Book>(
     alloc: Global,
     book: &mut B,
     name: &Name,
-    passed: &Passed,
+    passed: Passed,
+    now: Moment,
 ) -> Result<Markup, PageFault>
     ensures stays { Stays (B.state book.old) (B.state book.new) }
 {
-    let lines = lines_of(book, name, passed.effects.as_slice())?;
-    Ok(row(alloc, &passed.service, lines.as_slice()))
+    let shown = shown_of(alloc, book, name, passed, now)?;
+    Ok(row(alloc, &shown))
 }

@@ -1,6 +1,8 @@
 //! A chart as SVG. Its lengths are tenths of a pixel.
+use crate::bounds::Bound;
 use crate::chart::{Chart, Point};
-use crate::numbers::{Span, part, whole_of};
+use crate::numbers::{Span, part};
+use crate::spot::Spot;
 use crate::time::clock;
 use crate::words;
 use canary_base::moments::Moment;
@@ -22,9 +24,11 @@ const AXIS: u64 = 740;
 
 const TICKS: u64 = 850;
 
-/// From when to when a chart goes, and between which numbers, if there are any.
+/// From when to when a chart goes, what of a result it shows, and between which numbers, if there
+/// are any.
 #[derive(Clone, Copy)]
 pub(crate) struct Frame {
+    pub(crate) spot: Spot,
     pub(crate) from: Moment,
     pub(crate) to: Moment,
     pub(crate) span: Option<Span>,
@@ -48,7 +52,7 @@ impl Frame {
 
     // How far from the top a measurement is.
     fn top_of(&self, outcome: &Outcome) -> u64 {
-        match whole_of(outcome) {
+        match self.spot.number_of(outcome) {
             Some(number) => self.top(number),
             None => BASE,
         }
@@ -87,10 +91,12 @@ fn label(page: &mut Markup, class: &str, left: u64, top: u64) {
     page.start_end();
 }
 
-// The dashed line of each of these numbers, with which that condition compares a result.
-pub(crate) fn bounds(page: &mut Markup, frame: &Frame, class: &str, bounds: &[i64], text: &str) {
+// The dashed line of each of these bounds of that condition that is one of what the chart shows.
+pub(crate) fn bounds(page: &mut Markup, frame: &Frame, class: &str, bounds: &[Bound], text: &str) {
     for bound in bounds {
-        limit(page, frame, class, *bound, text);
+        if bound.spot == frame.spot {
+            limit(page, frame, class, bound.number, text);
+        }
     }
 }
 
@@ -116,7 +122,7 @@ pub(crate) fn curve(page: &mut Markup, frame: &Frame, chart: &Chart) {
     page.value(Attribute::Data);
     let mut step = "M";
     for point in chart.points() {
-        if let Some(number) = whole_of(&point.outcome) {
+        if let Some(number) = frame.spot.number_of(&point.outcome) {
             step_to(page, step, frame.left(point.taken), frame.top(number));
             step = "L";
         }
@@ -207,6 +213,6 @@ fn title(page: &mut Markup, point: &Point) {
 pub(crate) fn outcome(page: &mut Markup, outcome: &Outcome) {
     match outcome {
         Outcome::Result(value) => words::result(page, value),
-        Outcome::Failure(text) => page.text(text.as_str()),
+        Outcome::Failure(text) => page.foreign(text.as_str()),
     }
 }

@@ -4,7 +4,7 @@ ghost use Rattle.canary_files.specs.Exporting.{Stays};
 use crate::chart::Chart;
 use crate::conditions::{Conditions, conditions_of};
 use crate::fault::PageFault;
-use crate::shown::{Shown, ShownRun, runs_of_attempt};
+use crate::shown::{Attempts, Shown, ShownRun, drawn_attempts, run_numbers};
 use canary_base::error::Memory;
 use canary_base::moments::Moment;
 use canary_base::names::Name;
@@ -77,30 +77,35 @@ pub(crate) fn shown_of<B: Book>(
     book: &mut B,
     name: &Name,
     passed: Passed,
+    now: Moment,
 ) -> Result<Shown, PageFault>
     ensures { Stays (B.state book.old) (B.state book.new) }
 {
     let Passed { service, effects } = passed;
+    let now = now.max(service.last());
     let lines = lines_of(book, name, effects.as_slice())?;
-    let runs = runs_of(alloc, book, name, lines.as_slice(), effects.as_slice())?;
+    let attempts = drawn_attempts(alloc, service.state(), lines.as_slice(), now)?;
+    let runs = runs_of(alloc, book, name, &attempts, effects.as_slice())?;
     Ok(Shown {
         service,
+        now,
         lines,
+        attempts,
         runs,
     })
 }
 
-// The runs of the last attempt that these lines have, with their measurements.
+// The runs of these attempts, with their measurements.
 fn runs_of<B: Book>(
     alloc: Global,
     book: &mut B,
     name: &Name,
-    lines: &[Line],
+    attempts: &Attempts,
     effects: &[Effect],
 ) -> Result<Vec<ShownRun>, PageFault>
     ensures { Stays (B.state book.old) (B.state book.new) }
 {
-    let numbers = runs_of_attempt(alloc, lines)?;
+    let numbers = run_numbers(alloc, attempts)?;
     let mut runs = Vec::new(alloc);
     for number in numbers.as_slice() {
         read_run(alloc, book, name, *number, effects, &mut runs)?;
@@ -163,8 +168,8 @@ fn names_of(alloc: Global, revisions: &[Revision]) -> Result<Vec<Name>, Memory> 
 }
 
 fn shown_run(alloc: Global, record: RunRecord, templates: &Templates) -> Result<ShownRun, Memory> {
-    let charts = empty_charts(alloc, record.tallies.as_slice())?;
     let conditions = all_conditions(alloc, &record, templates)?;
+    let charts = empty_charts(alloc, record.tallies.as_slice(), conditions.as_slice())?;
     Ok(ShownRun {
         record,
         charts,
@@ -172,10 +177,14 @@ fn shown_run(alloc: Global, record: RunRecord, templates: &Templates) -> Result<
     })
 }
 
-fn empty_charts(alloc: Global, tallies: &[Tally]) -> Result<Vec<Chart>, Memory> {
+fn empty_charts(
+    alloc: Global,
+    tallies: &[Tally],
+    conditions: &[Conditions],
+) -> Result<Vec<Chart>, Memory> {
     let mut charts = Vec::new(alloc);
-    for tally in tallies {
-        charts.push(Chart::new(alloc, tally))?;
+    for (tally, conditions) in tallies.iter().zip(conditions) {
+        charts.push(Chart::new(alloc, tally, conditions.drawn())?)?;
     }
     Ok(charts)
 }

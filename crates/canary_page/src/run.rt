@@ -1,32 +1,36 @@
 //! A run of an analysis.
+use crate::attempts::Attempt;
 use crate::chart::Chart;
 use crate::conditions::Conditions;
 use crate::figure::{Measured, badge, figure};
-use crate::shown::ShownRun;
+use crate::shown::{Shown, ShownRun};
 use crate::time::clock;
-use canary_base::error::Memory;
 use canary_base::moments::Moment;
 use canary_markup::element::Element;
 use canary_markup::markup::Markup;
 use canary_metric::metric::Metric;
 use canary_metric::tally::Tally;
 use canary_plan::analysis_parts::Revision;
-use std::alloc::Global;
+
+// Draws the runs of an attempt, the newest first.
+pub(crate) fn runs_of(page: &mut Markup, shown: &Shown, attempt: &Attempt) {
+    page.open(Element::Block, "runs");
+    for run in shown.runs.iter().rev() {
+        if attempt.has_run(run.record.number) {
+            draw_run(page, run, shown.now);
+        }
+    }
+    page.end(Element::Block);
+}
 
 // Draws a run, with a figure for each of its metrics.
-pub(crate) fn run(
-    alloc: Global,
-    page: &mut Markup,
-    run: &ShownRun,
-    now: Moment,
-) -> Result<(), Memory> {
+fn draw_run(page: &mut Markup, run: &ShownRun, now: Moment) {
     page.open(Element::Section, "run");
     heading(page, run);
     page.open(Element::Block, "metrics");
-    figures(alloc, page, run, now)?;
+    figures(page, run, now);
     page.end(Element::Block);
     page.end(Element::Section);
-    Ok(())
 }
 
 fn heading(page: &mut Markup, run: &ShownRun) {
@@ -45,6 +49,10 @@ fn heading(page: &mut Markup, run: &ShownRun) {
     page.end(Element::Small);
     page.text(" ");
     badge(page, run.phase().text());
+    if run.is_unmeasured() {
+        page.text(" ");
+        page.leaf(Element::Strong, "unmeasured", "ended without a measurement");
+    }
     page.end(Element::Heading3);
 }
 
@@ -80,7 +88,7 @@ fn end(page: &mut Markup, run: &ShownRun) {
     }
 }
 
-fn figures(alloc: Global, page: &mut Markup, run: &ShownRun, now: Moment) -> Result<(), Memory> {
+fn figures(page: &mut Markup, run: &ShownRun, now: Moment) {
     let metrics = run.record.analysis.metrics();
     for (place, metric) in metrics.iter().enumerate() {
         let tally = run.record.tallies.as_slice().get(place);
@@ -88,10 +96,9 @@ fn figures(alloc: Global, page: &mut Markup, run: &ShownRun, now: Moment) -> Res
         let conditions = run.conditions.as_slice().get(place);
         if let (Some(tally), Some(chart), Some(conditions)) = (tally, chart, conditions) {
             let shown = measured(run, now, metric, tally, chart, conditions);
-            figure(alloc, page, &shown)?;
+            figure(page, &shown);
         }
     }
-    Ok(())
 }
 
 fn measured<'a>(

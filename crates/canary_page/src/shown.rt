@@ -1,11 +1,13 @@
 //! What is shown of a service.
+use crate::attempts::{Attempt, attempts_of, recent_of};
 use crate::chart::Chart;
 use crate::conditions::Conditions;
+use crate::late::is_late;
 use canary_base::error::Memory;
 use canary_base::moments::Moment;
 use canary_condition::outcome::Phase;
 use canary_once::record::RunRecord;
-use canary_plan::line::{Line, LineEvent};
+use canary_plan::line::Line;
 use canary_plan::step::Step;
 use canary_release::service::Service;
 use canary_release::stand::State;
@@ -33,6 +35,12 @@ impl ShownRun {
         self.record.closed.is_some()
     }
 
+    // Whether it is closed, and nothing was measured in it.
+    pub(crate) fn is_unmeasured(&self) -> bool {
+        let tallies = self.record.tallies.as_slice();
+        self.is_closed() && tallies.iter().all(|tally| tally.measurements() == 0)
+    }
+
     // Its end, or this moment while it is open.
     pub(crate) fn end(&self, now: Moment) -> Moment {
         match self.record.closed {
@@ -42,13 +50,75 @@ impl ShownRun {
     }
 }
 
-/// A service that was passed to a moment, with its history and the runs of its last attempt, oldest
-/// first.
+/// A service that was passed to a moment, with its history, and the attempts whose runs are drawn.
 #[derive(Drop)]
 pub(crate) struct Shown {
     pub(crate) service: Service,
+    /// The moment, or the service's last one if that is later.
+    pub(crate) now: Moment,
     pub(crate) lines: Vec<Line>,
+    pub(crate) attempts: Attempts,
+    /// The runs of these attempts, oldest first.
     pub(crate) runs: Vec<ShownRun>,
+}
+
+/// The attempts of a service whose runs are drawn.
+#[derive(Drop)]
+pub(crate) struct Attempts {
+    /// The last one, unless the service is done.
+    pub(crate) present: Option<Attempt>,
+    /// Others that ended not long ago, newest first.
+    pub(crate) recent: Vec<Attempt>,
+}
+
+impl Shown {
+    // How many runs of an attempt ended without a measurement.
+    pub(crate) fn unmeasured(&self, attempt: &Attempt) -> u64 {
+        self.runs
+            .iter()
+            .filter(|run| attempt.has_run(run.record.number) && run.is_unmeasured())
+            .count() as u64
+    }
+}
+
+// Those of a service that stands so, at this moment, with this history.
+pub(crate) fn drawn_attempts(
+    alloc: Global,
+    state: State,
+    lines: &[Line],
+    now: Moment,
+) -> Result<Attempts, Memory> {
+    let attempts = attempts_of(alloc, lines)?;
+    let all = attempts.as_slice();
+    match all.split_last() {
+        Some((last, before)) if state != State::Done => Ok(Attempts {
+            present: Some(*last),
+            recent: recent_of(alloc, before, now)?,
+        }),
+        _ => Ok(Attempts {
+            present: None,
+            recent: recent_of(alloc, all, now)?,
+        }),
+    }
+}
+
+// The numbers of the runs of these attempts, oldest first.
+pub(crate) fn run_numbers(alloc: Global, attempts: &Attempts) -> Result<Vec<u32>, Memory> {
+    let mut numbers = Vec::new(alloc);
+    for attempt in attempts.recent.iter().rev() {
+        push_numbers(&mut numbers, attempt)?;
+    }
+    if let Some(present) = &attempts.present {
+        push_numbers(&mut numbers, present)?;
+    }
+    Ok(numbers)
+}
+
+fn push_numbers(numbers: &mut Vec<u32>, attempt: &Attempt) -> Result<(), Memory> {
+    for place in 0..attempt.runs {
+        numbers.push(attempt.run_at(place))?;
+    }
+    Ok(())
 }
 
 /// How a service stands, as far as it says who has to do something.
@@ -56,6 +126,8 @@ pub(crate) struct Shown {
 pub(crate) enum Standing {
     Aborted,
     Held,
+    /// A measurement is late, and it goes on nevertheless.
+    Late,
     /// It is at a pause without an end.
     Waits,
     /// It goes on by itself.
@@ -64,21 +136,35 @@ pub(crate) enum Standing {
 }
 
 impl Standing {
-    pub(crate) fn of(service: &Service) -> Standing {
+    // How it stands at this moment.
+    pub(crate) fn of(service: &Service, now: Moment) -> Standing {
         match service.state() {
             State::Aborted => Standing::Aborted,
             State::Done => Standing::Done,
-            State::InProgress => of_progress(service),
+            State::InProgress => of_progress(service, now),
+        }
+    }
+
+    // Whether it waits for somebody.
+    pub(crate) fn waits(self) -> bool {
+        match self {
+            Standing::Aborted => true,
+            Standing::Held => true,
+            Standing::Late => true,
+            Standing::Waits => true,
+            Standing::Goes => false,
+            Standing::Done => false,
         }
     }
 }
 
-fn of_progress(service: &Service) -> Standing {
+fn of_progress(service: &Service, now: Moment) -> Standing {
     if service.step_hold() || service.background_hold() {
         return Standing::Held;
     }
     match step_of(service) {
         Some(Step::Pause(None)) => Standing::Waits,
+        _ if is_late(service, now) => Standing::Late,
         _ => Standing::Goes,
     }
 }
@@ -86,24 +172,4 @@ fn of_progress(service: &Service) -> Standing {
 // The step at which it stands; none at the end.
 pub(crate) fn step_of(service: &Service) -> Option<&Step> {
     service.strategy().steps().get(service.step() as usize)
-}
-
-// The numbers of the runs of the last attempt that a history has, oldest first.
-pub(crate) fn runs_of_attempt(alloc: Global, lines: &[Line]) -> Result<Vec<u32>, Memory> {
-    let mut runs = Vec::new(alloc);
-    for line in lines {
-        note_run(&mut runs, line.event)?;
-    }
-    Ok(runs)
-}
-
-fn note_run(runs: &mut Vec<u32>, event: LineEvent) -> Result<(), Memory> {
-    match event {
-        LineEvent::Started { .. } => runs.clear(),
-        LineEvent::Retried { .. } => runs.clear(),
-        LineEvent::BackgroundOpened { run } => runs.push(run)?,
-        LineEvent::AnalysisEntered { run, .. } => runs.push(run)?,
-        _ => {}
-    }
-    Ok(())
 }

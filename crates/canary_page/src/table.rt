@@ -1,5 +1,7 @@
 //! The services that are done.
+use crate::ended::ended;
 use crate::figure::badge;
+use crate::shown::Shown;
 use crate::time::stamp;
 use crate::track::bar;
 use crate::words;
@@ -8,6 +10,9 @@ use canary_markup::markup::Markup;
 use canary_plan::line::Line;
 use canary_release::service::Service;
 use std::alloc::Global;
+
+// How many columns the table has.
+const COLUMNS: u64 = 6;
 
 // The start of the table, with its heading.
 pub(crate) fn begin_table(page: &mut Markup) {
@@ -34,11 +39,24 @@ pub(crate) fn end_table(page: &mut Markup) {
     page.end(Element::Table);
 }
 
-// The row of a service.
-pub(crate) fn row(alloc: Global, service: &Service, lines: &[Line]) -> Markup {
+// The row of a service, and one with its attempts that ended not long ago, if there are any.
+pub(crate) fn row(alloc: Global, shown: &Shown) -> Markup {
     let mut page = Markup::new(alloc);
-    draw_row(&mut page, service, lines);
+    draw_row(&mut page, &shown.service, shown.lines.as_slice());
+    if !shown.attempts.recent.is_empty() {
+        attempts(&mut page, shown);
+    }
     page
+}
+
+fn attempts(page: &mut Markup, shown: &Shown) {
+    page.open(Element::Row, "attempts");
+    page.start(Element::Cell);
+    page.measure(Attribute::Columns, COLUMNS);
+    page.start_end();
+    ended(page, shown);
+    page.end(Element::Cell);
+    page.end(Element::Row);
 }
 
 fn draw_row(page: &mut Markup, service: &Service, lines: &[Line]) {

@@ -20,6 +20,15 @@ pub(crate) fn stamp(page: &mut Markup, moment: Moment) {
     page.end(Element::Time);
 }
 
+// The time of the day, in UTC, or the whole moment if that is more than a day ago.
+pub(crate) fn near(page: &mut Markup, moment: Moment, now: Moment) {
+    if now.get().saturating_sub(moment.get()) > DAY {
+        page.moment(moment);
+    } else {
+        clock(page, moment);
+    }
+}
+
 // The time of the day, in UTC: `HH:MM:SS`.
 pub(crate) fn clock(page: &mut Markup, moment: Moment) {
     let second = moment.get() % DAY;

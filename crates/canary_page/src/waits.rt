@@ -1,24 +1,33 @@
 //! What a release waits for, and what can be said to it.
+use crate::figure::counted;
+use crate::late::late_since;
 use crate::shown::{Shown, Standing, step_of};
-use crate::time::{clock, since, span};
+use crate::time::{clock, near, since, span};
 use canary_base::durations::Seconds;
 use canary_base::moments::Moment;
 use canary_base::names::{Label, Name};
 use canary_markup::element::Element;
 use canary_markup::markup::Markup;
+use canary_metric::metric::Metric;
+use canary_metric::tally::Tally;
 use canary_plan::line::{Line, LineEvent};
 use canary_plan::step::Step;
+use canary_release::runs::OpenRun;
 use canary_release::service::Service;
 
-// One sentence, and the commands that can be given now.
-pub(crate) fn waits(page: &mut Markup, shown: &Shown, now: Moment) {
-    let service = &shown.service;
+// The most measurements of a run that are named as late.
+const MOST_LATE: u64 = 8;
+
+// What is late, one sentence, and the commands that can be given now.
+pub(crate) fn waits(page: &mut Markup, shown: &Shown) {
+    let (service, now) = (&shown.service, shown.now);
+    late(page, shown);
     page.open(Element::Paragraph, "waits");
-    match Standing::of(service) {
+    match Standing::of(service, now) {
         Standing::Aborted => aborted(page, service, shown.lines.as_slice()),
         Standing::Held => held(page, service),
         Standing::Waits => at_pause(page, service, now),
-        Standing::Goes => goes(page, service, now),
+        Standing::Late | Standing::Goes => goes(page, service, now),
         Standing::Done => done(page, service),
     }
     page.end(Element::Paragraph);
@@ -35,7 +44,7 @@ fn aborted(page: &mut Markup, service: &Service, lines: &[Line]) {
     page.text(". ");
     page.text(service.stable().as_str());
     page.text(" has all traffic.");
-    say(page, "retry", service.name());
+    say(page, "canary do retry ", service.name());
     say_start(page, service.name(), service.stable());
 }
 
@@ -69,8 +78,8 @@ fn held(page: &mut Markup, service: &Service) {
 }
 
 fn say_in_progress(page: &mut Markup, service: &Service) {
-    say(page, "promote", service.name());
-    say(page, "abort", service.name());
+    say(page, "canary do promote ", service.name());
+    say(page, "canary do abort ", service.name());
 }
 
 fn at_pause(page: &mut Markup, service: &Service, now: Moment) {
@@ -107,7 +116,7 @@ fn analysed(page: &mut Markup, service: &Service, now: Moment) {
     page.text(" (");
     since(page, service.entered(), now);
     page.text(").");
-    say(page, "abort", service.name());
+    say(page, "canary do abort ", service.name());
 }
 
 fn done(page: &mut Markup, service: &Service) {
@@ -115,30 +124,83 @@ fn done(page: &mut Markup, service: &Service) {
     page.text(" is the stable version.");
 }
 
-// A command, as the body of a request to copy: `{"promote":{"service":"web"}}`.
-fn say(page: &mut Markup, command: &str, name: Name) {
-    begin_body(page, command, name);
-    end_body(page);
+// A command of the client that can be given now, to copy: `canary do promote web`.
+fn say(page: &mut Markup, words: &str, name: Name) {
+    begin_say(page, words, name);
+    page.end(Element::Code);
 }
 
 fn say_start(page: &mut Markup, name: Name, version: Label) {
-    begin_body(page, "start", name);
-    page.text("\",\"version\":\"");
+    begin_say(page, "canary do start ", name);
+    page.text(" ");
     page.text(version.as_str());
-    end_body(page);
+    page.end(Element::Code);
 }
 
-// The body up to the end of the service's name.
-fn begin_body(page: &mut Markup, command: &str, name: Name) {
+fn begin_say(page: &mut Markup, words: &str, name: Name) {
     page.text(" ");
     page.open(Element::Code, "say");
-    page.text("{\"");
-    page.text(command);
-    page.text("\":{\"service\":\"");
+    page.text(words);
     page.text(name.as_str());
 }
 
-fn end_body(page: &mut Markup) {
-    page.text("\"}}");
-    page.end(Element::Code);
+// A paragraph for each measurement that is late: which one, and since when it has been due.
+fn late(page: &mut Markup, shown: &Shown) {
+    for run in shown.service.open_runs() {
+        late_of(page, run, shown.now);
+    }
+}
+
+fn late_of(page: &mut Markup, run: &OpenRun, now: Moment) {
+    let metrics = run.analysis.metrics().iter();
+    let mut count: u64 = 0;
+    for (metric, tally) in metrics.zip(run.tallies.as_slice()) {
+        if let Some(due) = late_since(metric, tally, run.started, now) {
+            if count < MOST_LATE {
+                late_one(page, run, metric, tally);
+                since_due(page, due, now);
+            }
+            count = count.saturating_add(1);
+        }
+    }
+    if count > MOST_LATE {
+        further(page, count - MOST_LATE);
+    }
+}
+
+// The start of the paragraph of a metric's next measurement.
+fn late_one(page: &mut Markup, run: &OpenRun, metric: &Metric, tally: &Tally) {
+    page.open(Element::Paragraph, "late");
+    page.text("Late: measurement ");
+    page.number(u64::from(tally.measurements()).saturating_add(1));
+    page.text(" of ");
+    page.text(metric.name().as_str());
+    page.text(", ");
+    place(page, run);
+}
+
+fn further(page: &mut Markup, count: u64) {
+    page.open(Element::Paragraph, "late");
+    page.text("Late: ");
+    counted(page, count, " further measurement");
+    page.text(".");
+    page.end(Element::Paragraph);
+}
+
+// Which run that is.
+fn place(page: &mut Markup, run: &OpenRun) {
+    page.text("run ");
+    page.number(u64::from(run.number));
+    if run.step.is_none() {
+        page.text(" of the background");
+    }
+}
+
+fn since_due(page: &mut Markup, due: Moment, now: Moment) {
+    page.text(", due since ");
+    near(page, due, now);
+    page.text(" (");
+    since(page, due, now);
+    page.text(").");
+    page.end(Element::Paragraph);
 }

@@ -1,0 +1,63 @@
+//! The index of a page: a link to each service.
+use crate::groups::Placed;
+use crate::shown::Standing;
+use canary_markup::element::Element;
+use canary_markup::markup::Markup;
+
+pub(crate) fn begin_index(page: &mut Markup) {
+    page.open(Element::Navigation, "index");
+}
+
+pub(crate) fn end_index(page: &mut Markup) {
+    page.end(Element::Navigation);
+}
+
+// The start of a group, with its name and how many services it has.
+pub(crate) fn begin_group(page: &mut Markup, name: &str, count: u64) {
+    page.begin(Element::Paragraph);
+    page.text(name);
+    page.text(" (");
+    page.number(count);
+    page.text(")");
+    page.end(Element::Paragraph);
+    page.begin(Element::List);
+}
+
+pub(crate) fn end_group(page: &mut Markup) {
+    page.end(Element::List);
+}
+
+// A link to a service, with why it waits for somebody, if it does.
+pub(crate) fn link(page: &mut Markup, placed: &Placed) {
+    page.begin(Element::Item);
+    let name = placed.name;
+    page.link(class_of(placed), name.as_str(), name.as_str());
+    let why = why_of(placed.standing);
+    if !why.is_empty() {
+        page.text(" ");
+        page.begin(Element::Small);
+        page.text(why);
+        page.end(Element::Small);
+    }
+    page.end(Element::Item);
+}
+
+// A service that waits for nobody has no colour.
+fn class_of(placed: &Placed) -> &'static str {
+    if placed.standing.waits() {
+        placed.status.text()
+    } else {
+        "calm"
+    }
+}
+
+fn why_of(standing: Standing) -> &'static str {
+    match standing {
+        Standing::Aborted => "aborted",
+        Standing::Held => "held",
+        Standing::Late => "late",
+        Standing::Waits => "pause",
+        Standing::Goes => "",
+        Standing::Done => "",
+    }
+}
