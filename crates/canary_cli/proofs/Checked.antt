@@ -1,5 +1,6 @@
 -- What a check that ended with status 0 wrote.
-use Rattle.std.proofs.Common.{◌≡◌, ℕ, List, Option, Result, Ok, Err, arith, refl, sym, ◌∙◌, codes}
+use Rattle.std.proofs.Common.{◌≡◌, ℕ, List, Bool, true, false, Option, Result, Ok, Err, arith, refl, sym, ◌∙◌, codes}
+use Rattle.std.specs.Prelude.{◌&&◌, IsTrue}
 use Rattle.std.specs.Io.KnownBytes.{Appends}
 use Rattle.canary_wire.specs.Writes.{Known}
 use Rattle.canary_programs.specs.declared.fault.Fault.{Fault}
@@ -16,7 +17,17 @@ only_done (Ok Unclear) is none = let two : 0 ≡ 2 = is in absurd (omega arith)
 only_done (Ok (Asked outcome)) is none = absurd (none outcome refl)
 only_done (Err f) is none = let one : 0 ≡ 1 = is in absurd (omega arith)
 
-pub written : (r new_r w new_w : Known) (file request : Option (List ℕ)) (status : ℕ) → IsRunTo r new_r w new_w (Check file request) status → status ≡ 0 → Appends w new_w (codes "ok\n")
-written r new_r w new_w file request status ran zero =
-    let run : IsRun r new_r w new_w (Check file request) ran.0 = ran.2 in
+pub written : (r new_r w new_w : Known) (file request : Option (List ℕ)) (strict : Bool) (status : ℕ) → IsRunTo r new_r w new_w (Check file request strict) status → status ≡ 0 → Appends w new_w (codes "ok\n")
+written r new_r w new_w file request strict status ran zero =
+    let run : IsRun r new_r w new_w (Check file request strict) ran.0 = ran.2 in
     run.1 (only_done ran.0 (sym zero ∙ ran.1) run.2)
+
+-- ---- both of two tests
+
+pub first_so : (a b : Bool) → IsTrue (a && b) → IsTrue a
+first_so true b is = refl
+first_so false b is = is
+
+pub second_so : (a b : Bool) → IsTrue (a && b) → IsTrue b
+second_so true b is = is
+second_so false b is = let bad : false ≡ true = is in cc

@@ -90,16 +90,19 @@ abbrev pub IsPiped : Known → Known → Known → Known → ℕ → ℕ → Res
 IsPiped r new_r w new_w at step done = (served : Result Ended ServeFault)
     × (done ≡ done_of served) × IsServed r new_r w new_w (fresh at step) served
 
--- (here the `Bool` is whether the desk takes the manifest or the body)
--- it was judged so: `ok` was written where the desk takes it, and something longer where
--- it does not; or memory ran out, or the output failed
-abbrev pub IsCheckShown : Bool → Known → Known → Result Outcome Fault → Type 0
-IsCheckShown taken w new_w (Ok Done) = (taken ≡ true) × Appends w new_w (codes "ok\n")
-IsCheckShown taken w new_w (Ok Findings) =
-    (taken ≡ false) × (text : List ℕ) × (3 < length text) × Appends w new_w text
-IsCheckShown taken w new_w (Ok Unclear) = ⊥
-IsCheckShown taken w new_w (Ok (Asked outcome)) = ⊥
-IsCheckShown taken w new_w (Err f) = (f ≡ fault.Memory) ⊎ (f ≡ fault.Write)
+-- (here the `Bool`s are whether warnings are findings, whether the desk takes the manifest or the
+-- body, and whether it registers no service that time alone brings to 100 percent)
+-- it was judged so: `ok` was written where the desk takes it and, if warnings are findings, no such
+-- service is registered; something longer where the desk does not take it, or if warnings are
+-- findings; or memory ran out, or the output failed
+abbrev pub IsCheckShown : Bool → Bool → Bool → Known → Known → Result Outcome Fault → Type 0
+IsCheckShown strict taken attended w new_w (Ok Done) =
+    (taken ≡ true) × (strict ≡ true → attended ≡ true) × Appends w new_w (codes "ok\n")
+IsCheckShown strict taken attended w new_w (Ok Findings) = (strict ≡ false → taken ≡ false)
+    × (text : List ℕ) × (3 < length text) × Appends w new_w text
+IsCheckShown strict taken attended w new_w (Ok Unclear) = ⊥
+IsCheckShown strict taken attended w new_w (Ok (Asked outcome)) = ⊥
+IsCheckShown strict taken attended w new_w (Err f) = (f ≡ fault.Memory) ⊎ (f ≡ fault.Write)
 
 -- a check is no client of a desk
 abbrev pub IsNoClient : Result Outcome Fault → Type 0
@@ -113,9 +116,9 @@ IsChecked w new_w done = done ≡ Ok Done → Appends w new_w (codes "ok\n")
 abbrev pub IsAsked : Known → Known → AskedOf → Type 0
 IsAsked r new_r (Do call) = new_r ≡ r
 IsAsked r new_r (Get desk service part) = new_r ≡ r
-IsAsked r new_r (Watch desk until service) = new_r ≡ r
+IsAsked r new_r (Watch desk until json forever service) = new_r ≡ r
 IsAsked r new_r (Send desk csv) = Unit {0}
-IsAsked r new_r (Due desk wait service) = new_r ≡ r
+IsAsked r new_r (Due desk wait late services) = new_r ≡ r
 
 -- the program was run so; `pipe`, `import` and `send` alone read the input
 abbrev pub IsRun : Known → Known → Known → Known → Program → Result Outcome Fault → Type 0
@@ -131,7 +134,7 @@ IsRun r new_r w new_w (Status db watch json) done = new_r ≡ r
 IsRun r new_r w new_w (Page db out watch) done = new_r ≡ r
 IsRun r new_r w new_w (Backup db copy) done = new_r ≡ r
 IsRun r new_r w new_w (Migrate db dry_run) done = new_r ≡ r
-IsRun r new_r w new_w (Check file request) done =
+IsRun r new_r w new_w (Check file request strict) done =
     (new_r ≡ r) × IsChecked w new_w done × IsNoClient done
 IsRun r new_r w new_w (Ask asked) done = IsAsked r new_r asked
 
@@ -174,3 +177,15 @@ IsTold NoMemory w new_w status = (status ≡ 1) × (new_w ≡ w)
 abbrev pub IsTurnedAway : Kinds → Known → Known → ℕ → Type 0
 IsTurnedAway kinds w new_w status =
     (fault : WordsFault) × IsFor kinds fault × IsTold fault w new_w status
+
+-- ---- what comes of words if no file may be opened
+
+-- a client of a desk ends as for a file that fails, and any other program with a fault
+abbrev pub unopened_status : Program → ℕ
+unopened_status (Ask asked) = 5
+unopened_status _ = 1
+
+-- the program was given up, or memory ran out
+abbrev pub IsGivenUp : Option Program → ℕ → Type 0
+IsGivenUp None status = ⊥
+IsGivenUp (Some program) status = (status ≡ unopened_status program) ⊎ (status ≡ 1)

@@ -1,7 +1,8 @@
 //! `check`: what the desk would refuse of a manifest, or of a request's body.
-ghost use Rattle.std.specs.Prelude.{◌≡◌, Ok, codes};
+ghost use Rattle.std.specs.Prelude.{◌≡◌, true, false, Bool, Ok, IfOk, IfErr, IsTrue, codes};
 ghost use Rattle.std.specs.Io.KnownBytes.{Appends};
 ghost use Rattle.canary_check.specs.Taken.{is_request_taken, is_taken};
+ghost use Rattle.canary_check.specs.Waiting.{is_attended, is_request_attended};
 ghost use Rattle.canary_cli.specs.Performed.{IsCheckShown, IsNoClient};
 
 use crate::perform::Outcome;
@@ -13,15 +14,18 @@ use std::alloc::Global;
 use std::fs::{File, Files};
 use std::io::{self, ErrorKind, Read, Write};
 
+const WARNING: &str = "canary: warning: ";
+
 // The most bytes of a file: 16 MiB.
 const MOST_BYTES: usize = 16_777_216;
 
 // Checks the manifest in the file of the name `file`, or the request's body in that of the name
-// `request`, whichever was given.
+// `request`, whichever was given. If it is `strict`, each warning is a finding.
 pub(crate) fn check<P: Files + AllocGlobal, W: Write, F: Write>(
     rt: &P,
     file: &Option<Text>,
     request: &Option<Text>,
+    strict: bool,
     output: &mut W,
     errors: &mut F,
 ) -> Result<Outcome, Fault>
@@ -31,11 +35,11 @@ pub(crate) fn check<P: Files + AllocGlobal, W: Write, F: Write>(
 {
     match file {
         Some(file) => match request {
-            None => check_manifest(rt, file.as_str(), output, errors),
+            None => check_manifest(rt, file.as_str(), strict, output, errors),
             Some(_) => Ok(Outcome::Unclear),
         },
         None => match request {
-            Some(body) => check_request(rt, body.as_str(), output, errors),
+            Some(body) => check_request(rt, body.as_str(), strict, output, errors),
             None => Ok(Outcome::Unclear),
         },
     }
@@ -46,6 +50,7 @@ pub(crate) fn check<P: Files + AllocGlobal, W: Write, F: Write>(
 fn check_manifest<P: Files + AllocGlobal, W: Write, F: Write>(
     rt: &P,
     file: &str,
+    strict: bool,
     output: &mut W,
     errors: &mut F,
 ) -> Result<Outcome, Fault>
@@ -54,13 +59,14 @@ fn check_manifest<P: Files + AllocGlobal, W: Write, F: Write>(
     ensures client { IsNoClient result }
 {
     let manifest = read_file(rt, file)?;
-    check_bytes(rt.alloc(), manifest.as_slice(), output, errors)
+    check_bytes(rt.alloc(), manifest.as_slice(), strict, output, errors)
 }
 
 // The same of the request's body in the file of this name.
 fn check_request<P: Files + AllocGlobal, W: Write, F: Write>(
     rt: &P,
     file: &str,
+    strict: bool,
     output: &mut W,
     errors: &mut F,
 ) -> Result<Outcome, Fault>
@@ -69,46 +75,59 @@ fn check_request<P: Files + AllocGlobal, W: Write, F: Write>(
     ensures client { IsNoClient result }
 {
     let body = read_file(rt, file)?;
-    check_body(rt.alloc(), body.as_slice(), output, errors)
+    check_body(rt.alloc(), body.as_slice(), strict, output, errors)
 }
 
 // Writes `ok` if the desk takes this manifest, and otherwise what it would refuse of it.
 fn check_bytes<W: Write, F: Write>(
     alloc: Global,
     manifest: &[u8],
+    strict: bool,
     output: &mut W,
     errors: &mut F,
 ) -> Result<Outcome, Fault>
-    ensures shown { IsCheckShown (is_taken manifest.now)
+    ensures shown { IsCheckShown strict (is_taken manifest.now) (is_attended manifest.now)
         (W.contents output.old) (W.contents output.new) result }
     ensures client { IsNoClient result }
 {
     let Ok(findings) = canary_check::check::check(alloc, manifest) else {
         return Err(Fault::Memory);
     };
-    show(findings.text(), output)?;
-    warn(&findings, errors);
-    if findings.is_ok() {
-        Ok(Outcome::Done)
-    } else {
-        Ok(Outcome::Findings)
-    }
+    show_findings(alloc, findings, strict, output, errors)
 }
 
 // The same of this request's body.
 fn check_body<W: Write, F: Write>(
     alloc: Global,
     body: &[u8],
+    strict: bool,
     output: &mut W,
     errors: &mut F,
 ) -> Result<Outcome, Fault>
-    ensures shown { IsCheckShown (is_request_taken body.now)
+    ensures shown { IsCheckShown strict (is_request_taken body.now) (is_request_attended body.now)
         (W.contents output.old) (W.contents output.new) result }
     ensures client { IsNoClient result }
 {
     let Ok(findings) = canary_check::request::check_request(alloc, body) else {
         return Err(Fault::Memory);
     };
+    show_findings(alloc, findings, strict, output, errors)
+}
+
+// Writes what a check found, and on `errors` what it warns of; if it is `strict`, that is found.
+fn show_findings<W: Write, F: Write>(
+    alloc: Global,
+    findings: Findings,
+    strict: bool,
+    output: &mut W,
+    errors: &mut F,
+) -> Result<Outcome, Fault>
+    ensures shown { (attended : Bool) → (IsTrue findings.is_quiet → IsTrue attended)
+        → IsCheckShown strict findings.is_taken attended
+        (W.contents output.old) (W.contents output.new) result }
+    ensures client { IsNoClient result }
+{
+    let findings = counted(alloc, findings, strict)?;
     show(findings.text(), output)?;
     warn(&findings, errors);
     if findings.is_ok() {
@@ -118,9 +137,36 @@ fn check_body<W: Write, F: Write>(
     }
 }
 
+// What was found; if it is `strict`, with each warning as a finding.
+#[tactic(auto, using(crate::proofs::Checked::first_so, crate::proofs::Checked::second_so))]
+fn counted(alloc: Global, findings: Findings, strict: bool) -> Result<Findings, Fault>
+    ensures taken { IfOk result (λ found.
+        IsTrue found.is_taken → IsTrue findings.is_taken) }
+    ensures quiet { IfOk result (λ found.
+        IsTrue found.is_taken → strict ≡ true → IsTrue findings.is_quiet) }
+    ensures found { strict ≡ false → IfOk result (λ found. found ≡ findings) }
+    ensures memory { IfErr result (λ fault. fault ≡ Fault.Memory) }
+{
+    if !strict {
+        return Ok(findings);
+    }
+    match findings.strict(alloc) {
+        Ok(findings) => Ok(findings),
+        Err(_) => Err(Fault::Memory),
+    }
+}
+
 // Writes on `errors` what a check warns of.
 fn warn<F: Write>(findings: &Findings, errors: &mut F) {
-    let _ = errors.write_all(findings.warnings().as_bytes());
+    for line in findings.warnings().lines() {
+        let _ = warn_of(line, errors);
+    }
+}
+
+fn warn_of<F: Write>(line: &str, errors: &mut F) -> io::Result<()> {
+    errors.write_all(WARNING.as_bytes())?;
+    errors.write_all(line.as_bytes())?;
+    errors.write_all("\n".as_bytes())
 }
 
 // The bytes of the file of this name.

@@ -7,7 +7,7 @@
 //!
 //! In use (canary_desk, src/main.rt):
 //!
-//!     Ok(words) => perform(
+//!     Ok(words) if is_filled => perform(
 //!         &rt,
 //!         words.as_slice(),
 //!         &mut rt.stdin(),

@@ -1,12 +1,12 @@
 //! Running a command line.
-ghost use Rattle.std.specs.Prelude.{◌≡◌, ◌↔◌, ℕ, List, Option, Some, None, Ok, Err, [], map};
+ghost use Rattle.std.specs.Prelude.{◌≡◌, ◌↔◌, ℕ, Bool, List, Option, Some, None, Ok, Err, [], map};
 ghost use Rattle.std.specs.Prelude.{codes, string_bytes};
 ghost use Rattle.std.specs.IoError.{error_kind};
 ghost use Rattle.std.specs.Io.KnownBytes.{Appends};
 ghost use Rattle.canary_words.specs.CommandLine.{faults_of, program_of};
 ghost use Rattle.canary_cli.specs.Performed.{outcome_of, status_of};
 ghost use Rattle.canary_cli.specs.Performed.{IsPiped, IsPipedTo, IsRun, IsRunTo, IsTold};
-ghost use Rattle.canary_cli.specs.Performed.{IsTurnedAway};
+ghost use Rattle.canary_cli.specs.Performed.{IsTurnedAway, IsGivenUp, unopened_status};
 ghost use Rattle.canary_cli.specs.Performed.{MayTell, AsksForOneThatTells, IsAsked, limits_of};
 
 use crate::check::check;
@@ -14,11 +14,11 @@ use crate::place::Place;
 use canary_base::lists::Text;
 use canary_base::moments::Moment;
 use canary_client::ask::ask;
-use canary_client::due::due;
+use canary_client::due::{Sought, due};
 use canary_client::get::get;
 use canary_client::outcome as client;
 use canary_client::send::send;
-use canary_client::watch::watch;
+use canary_client::watch::{Manner, watch};
 use canary_database::backup::backup;
 use canary_database::export::export;
 use canary_database::history::history;
@@ -60,6 +60,10 @@ const UNCLEAR: &str = concat!(
     "For more information, try '--help'.\n"
 );
 
+// What a client says if a standard stream is closed, and nothing could be opened in its place.
+const UNOPENED: &str =
+    "a standard stream is closed, and the root folder cannot be opened in its place";
+
 /// What came of what was asked.
 #[derive(Clone, Copy, Debug, PartialEq, Eq)]
 pub enum Outcome {
@@ -91,7 +95,8 @@ pub struct Terminals {
 /// `output`. 1: a check found something, or a fault, which one line `canary: WORD` on `errors`
 /// names (`canary_programs::fault::Fault::line`); if `errors` is a terminal, a second line says
 /// what that is, and of which address or file. 2: the command line is none that the desk takes, and
-/// `errors` has the text that says why. `check` also writes there what it warns of. A fault of
+/// `errors` has the text that says why. `check` also writes there what it warns of, unless
+/// that is among the findings. A fault of
 /// `errors` itself is ignored.
 pub fn perform<R: Read, W: Write, F: Write>(
     rt: &HostRuntime,
@@ -105,8 +110,9 @@ pub fn perform<R: Read, W: Write, F: Write>(
         → program_of (map string_bytes words.now) ≡ Some (Program.Pipe at step None cache)
         → IsPipedTo (R.remaining input.old) (R.remaining input.new)
         (W.contents output.old) (W.contents output.new) at step result }
-    ensures checked { (file request : Option (List ℕ)) → faults_of (map string_bytes words.now) ≡ []
-        → program_of (map string_bytes words.now) ≡ Some (Program.Check file request)
+    ensures checked { (file request : Option (List ℕ)) (strict : Bool)
+        → faults_of (map string_bytes words.now) ≡ []
+        → program_of (map string_bytes words.now) ≡ Some (Program.Check file request strict)
         → result ≡ DONE
         → Appends (W.contents output.old) (W.contents output.new) (codes "ok\n") }
     ensures turned_away { (faults_of (map string_bytes words.now) ≡ [] → ⊥)
@@ -151,6 +157,43 @@ pub fn refuse<F: Write>(error: &io::Error, errors: &mut F) -> u8
         return USAGE;
     }
     fail(Fault::Memory, errors)
+}
+
+/// Ends a command line of a process that has a standard stream closed, and in whose place nothing
+/// could be opened: a file that is opened would become that stream, so none is. Help and mistakes
+/// are answered as by `perform`. Else the exit status is 5 of a client of a desk, and otherwise 1,
+/// with a line on `errors` that says so. A fault of `errors` itself is ignored.
+pub fn give_up<W: Write, F: Write>(
+    alloc: Global,
+    words: &[String],
+    output: &mut W,
+    errors: &mut F,
+) -> u8
+    ensures turned_away { (faults_of (map string_bytes words.now) ≡ [] → ⊥)
+        → IsTurnedAway (faults_of (map string_bytes words.now))
+        (W.contents output.old) (W.contents output.new) result }
+    ensures given_up { faults_of (map string_bytes words.now) ≡ []
+        → IsGivenUp (program_of (map string_bytes words.now)) result }
+    ensures unshown { faults_of (map string_bytes words.now) ≡ []
+        → W.contents output.new ≡ W.contents output.old }
+{
+    match read_words(alloc, words) {
+        Ok(program) => end_unopened(&program, errors),
+        Err(why) => turn_away(&why, output, errors),
+    }
+}
+
+// Says that nothing was opened for a program, and answers its exit status.
+fn end_unopened<F: Write>(program: &Program, errors: &mut F) -> u8
+    ensures { result ≡ unopened_status program.now }
+{
+    match program {
+        Program::Ask(_) => {
+            client::say(errors, UNOPENED);
+            client::Outcome::Local.status()
+        }
+        _ => fail(Fault::File, errors),
+    }
 }
 
 // Runs a program, and answers its exit status. If it fails on a terminal, it also reports of which
@@ -206,7 +249,11 @@ fn run<R: Read, W: Write, F: Write>(
             let file = file_of(&db, cache);
             done(import(rt, file, csv.as_str(), input, output, errors, shows))
         }
-        Program::Check { file, request } => check(rt, &file, &request, output, errors),
+        Program::Check {
+            file,
+            request,
+            strict,
+        } => check(rt, &file, &request, strict, output, errors),
         Program::Backup { db, copy } => done(backup(rt, db.as_str(), copy.as_str())),
         Program::Migrate { db, dry_run } => {
             done(migrate(rt, db.as_str(), dry_run, output, errors, shows))
@@ -270,14 +317,27 @@ fn client_outcome<R: Read, W: Write, F: Write>(
         Asked::Watch {
             desk,
             until,
+            json,
+            forever,
             service,
-        } => watch(rt, &desk, &service, &until, output, errors),
+        } => {
+            let manner = Manner {
+                until,
+                is_json: json,
+                is_forever: forever,
+            };
+            watch(rt, &desk, &service, &manner, output, errors)
+        }
         Asked::Send { desk, csv } => send(rt, &desk, &csv, input, output, errors),
         Asked::Due {
             desk,
             wait,
-            service,
-        } => due(rt, &desk, &service, wait, output, errors),
+            late,
+            services,
+        } => {
+            let sought = Sought { waits: wait, late };
+            due(rt, &desk, &services, sought, output, errors)
+        }
     }
 }
 

@@ -1,4 +1,5 @@
-//! What a program works on, which a second line names on a terminal if that fails.
+//! What a program works on, which a second line names if that fails: on a terminal, or where people
+//! have to do something before the program can go on.
 ghost use Rattle.std.specs.Prelude.{◌≡◌};
 
 use canary_base::lists::Text;
@@ -8,6 +9,24 @@ use canary_words::words::Program;
 use std::alloc::{AllocError, Global};
 use std::io::Write;
 
+// How a file of the first version becomes one of this version.
+const FIRST_VERSION: &str =
+    "is a file of the first version; 'canary migrate' makes it a file of this version";
+
+// How records go on of which the log is there alone.
+const LOG_ALONE: &str = concat!(
+    "the file is missing or empty, and its log (the same name with -wal) has records; ",
+    "put back the file that belongs to the log, or restore both from a backup; ",
+    "to begin anew, move the log away"
+);
+
+// How records go on whose file was moved, removed, replaced or linked while a desk had it open.
+const REPLACED: &str = concat!(
+    "the path no longer leads to the file that the desk had open, or that has another hard link; ",
+    "nothing more was written to it; put back the file and log that are to be served, ",
+    "with one link each, and start the desk again"
+);
+
 /// The address and the files of a program, as its words name them; nothing where it has none.
 #[derive(Drop)]
 pub(crate) struct Place {
@@ -15,40 +34,42 @@ pub(crate) struct Place {
     files: String,
     // The file of the records; nothing if there is none.
     db: String,
+    is_terminal: bool,
 }
 
 impl Place {
-    /// Of a program whose error stream is a terminal or not: where it is none, and where an
-    /// allocation was refused, nothing is named.
+    /// Of a program whose error stream is a terminal or not. Where an allocation was refused,
+    /// nothing is named.
     pub(crate) fn of(alloc: Global, program: &Program, is_terminal: bool) -> Place {
-        if !is_terminal {
-            return Place::nowhere(alloc);
-        }
-        match Place::named(alloc, program) {
+        match Place::named(alloc, program, is_terminal) {
             Ok(place) => place,
-            Err(_) => Place::nowhere(alloc),
+            Err(_) => Place::nowhere(alloc, is_terminal),
         }
     }
 
-    fn nowhere(alloc: Global) -> Place {
+    fn nowhere(alloc: Global, is_terminal: bool) -> Place {
         Place {
             address: String::new(alloc),
             files: String::new(alloc),
             db: String::new(alloc),
+            is_terminal,
         }
     }
 
-    fn named(alloc: Global, program: &Program) -> Result<Place, AllocError> {
+    fn named(alloc: Global, program: &Program, is_terminal: bool) -> Result<Place, AllocError> {
         Ok(Place {
             address: address_of(alloc, program)?,
             files: files_of(alloc, program)?,
             db: db_of(alloc, program)?,
+            is_terminal,
         })
     }
 
-    // What of it a fault is about.
+    // What of it a fault is about, as far as that is shown.
     fn about(&self, fault: Fault) -> &str {
         match fault {
+            Fault::LogAlone | Fault::Replaced => self.db.as_str(),
+            _ if !self.is_terminal => "",
             Fault::Listen => self.address.as_str(),
             Fault::File | Fault::InUse | Fault::Storage => self.files.as_str(),
             Fault::OtherSchema | Fault::BrokenRow => self.files.as_str(),
@@ -56,21 +77,35 @@ impl Place {
         }
     }
 
-    /// Says what a fault is about, and in words what it is, if that is known; and of a file of the
-    /// first version, how it becomes one of this version. A fault of `errors`, and memory that is
+    /// Says on a terminal what a fault is about, and in words what it is, if that is known; and of
+    /// a file of the first version, how it becomes one of this version. Of a file that is gone it
+    /// says everywhere what was found, and what to do. A fault of `errors`, and memory that is
     /// refused for the line, are ignored.
     pub(crate) fn tell<F: Write>(&self, rt: &HostRuntime, fault: Fault, errors: &mut F) {
         let about = self.about(fault);
         if about.is_empty() {
             return;
         }
-        let line = if self.is_of_first_version(rt, fault) {
-            advice(rt.alloc(), self.db.as_str())
-        } else {
+        let what = self.advice(rt, fault);
+        let line = if what.is_empty() {
             format!(in rt.alloc(); "{about}: {fault}\n")
+        } else {
+            let file = self.db.as_str();
+            format!(in rt.alloc(); "{file}: {what}\n")
         };
         if let Ok(line) = line {
             let _ = errors.write_all(line.as_bytes());
+        }
+    }
+
+    // What to do where a fault is of the file of the records, and there is more to say than the
+    // fault.
+    fn advice(&self, rt: &HostRuntime, fault: Fault) -> &'static str {
+        match fault {
+            Fault::LogAlone => LOG_ALONE,
+            Fault::Replaced => REPLACED,
+            _ if self.is_of_first_version(rt, fault) => FIRST_VERSION,
+            _ => "",
         }
     }
 
@@ -78,12 +113,6 @@ impl Place {
     fn is_of_first_version(&self, rt: &HostRuntime, fault: Fault) -> bool {
         fault == Fault::OtherSchema && is_of_first_version(rt, self.db.as_str())
     }
-}
-
-// How a file of the first version becomes one of this version.
-fn advice(alloc: Global, file: &str) -> Result<String, AllocError> {
-    let of = "is a file of the first version; 'canary migrate' makes it a file of this version";
-    format!(in alloc; "{file}: {of}\n")
 }
 
 fn address_of(alloc: Global, program: &Program) -> Result<String, AllocError> {
@@ -104,7 +133,7 @@ fn files_of(alloc: Global, program: &Program) -> Result<String, AllocError> {
         Program::Page { db, out, .. } => listed(alloc, Some(db), Some(out)),
         Program::Backup { db, copy } => listed(alloc, Some(db), Some(copy)),
         Program::Migrate { db, .. } => listed(alloc, Some(db), None),
-        Program::Check { file, request } => listed(alloc, file.as_ref(), request.as_ref()),
+        Program::Check { file, request, .. } => listed(alloc, file.as_ref(), request.as_ref()),
         Program::Ask(_) => listed(alloc, None, None),
     }
 }

@@ -9,6 +9,7 @@ use canary_journal::entry::Entry;
 use canary_journal::lines;
 use canary_records::memory::MemoryDevice;
 use canary_records::store::{Store, recover};
+use canary_records::texts;
 use canary_testing::asked::name;
 use std::alloc::Global;
 use std::process::Abort;
@@ -40,6 +41,33 @@ fn is_added(alloc: Global, left: &str, whole: &str) -> Option<bool> {
     let line = line(alloc)?;
     store.append(alloc, &line).ok()?;
     Some(store.device.bytes() == whole.as_bytes())
+}
+
+/// Whether a file of a first byte and so many others counts as new; none if memory was refused.
+fn is_new(alloc: Global, first: u8, rest: u8, count: usize) -> Option<bool> {
+    let mut bytes = Vec::new(alloc);
+    bytes.push(first).ok()?;
+    for _ in 0..count {
+        bytes.push(rest).ok()?;
+    }
+    match texts::texts_of(alloc, bytes.as_slice()).ok()? {
+        Some(found) => Some(found.texts.as_slice().is_empty()),
+        None => Some(false),
+    }
+}
+
+#[test]
+fn files_that_are_new(rt: HostRuntime) -> Result<(), Fail> {
+    for first in 0..256u32 {
+        let first = first as u8;
+        for (count, most) in [(0, true), (1, false), (109, false), (110, false)] {
+            let wanted = most || first == b'-' && count <= 109;
+            let found = is_new(rt.alloc(), first, b'x', count);
+            let found = found.or(is_new(rt.alloc(), first, b'x', count));
+            assert!(rt; found == Some(wanted), "{first} {count}");
+        }
+    }
+    Ok(())
 }
 
 #[test]

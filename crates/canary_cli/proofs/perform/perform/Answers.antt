@@ -13,7 +13,7 @@ returns-in-Err-clause-piped g c at step cache none is =
     (Err Memory, told.0, (Err NoMemory, refl, (refl, told.1)))
 
 pub returns-in-Ok-clause-checked : goal.returns-in-Ok-clause-checked
-returns-in-Ok-clause-checked g c file request none is done =
-    let same : c.in-Ok.program ≡ Check file request = search rules in
+returns-in-Ok-clause-checked g c file request strict none is done =
+    let same : c.in-Ok.program ≡ Check file request strict = search rules in
     let ran = subst (λ p. IsRunTo (g.R.Read.remaining c.args.input.now) (g.R.Read.remaining c.run_placed.new.input) (g.W.Write.contents c.args.output.now) (g.W.Write.contents c.run_placed.new.output) p c.run_placed.result) same c.run_placed.ensures.ran in
-    written _ _ _ _ file request c.run_placed.result ran done
+    written _ _ _ _ file request strict c.run_placed.result ran done
