@@ -3,6 +3,7 @@ no refusal: refused.py PROGRAM FOLDER LIBRARY STEP FIRST [CASE..]. LIBRARY is ma
 the allocations of a desk on a file each STEP-th is refused, from the FIRST on. The comment at the
 top of tests/allocations/run says what has to come of it; serving.py has the desk that listens."""
 import os
+import re
 import shutil
 import struct
 import subprocess
@@ -16,6 +17,9 @@ from story_words import Wrong, answer, expect, get, messages_of_story, query
 
 ROOT = os.path.join(os.path.dirname(os.path.realpath(__file__)), "../..")
 MANIFESTS = ("rollouts/step-analysis.json", "templates/success-rate.json")
+WAITS_FOR_NOBODY = (
+    b"spec.strategy.canary.steps: no step after weight 20 waits for anybody: a version reaches "
+    b"100 % even if nothing is measured: put an analysis step, or pause: {}, before setWeight 40")
 MISTAKE = b"error: unexpected argument '-5' found"
 OUT_OF_MEMORY = b"canary: memory"
 NO_MEMORY = answer("503 no-memory")
@@ -72,7 +76,7 @@ class Trial:
     def refusing(self, number):
         """The environment of a process whose allocation of that number is refused."""
         return {**os.environ, "LD_PRELOAD": self.library, "REFUSED": str(number),
-                "COUNTED": self.counted}
+                "COUNTED": self.counted, "TMPDIR": os.path.dirname(self.file)}
 
     def asked(self):
         """How many allocations the last such process asked for."""
@@ -177,6 +181,11 @@ def try_lines(trial, _):
     for name in MANIFESTS:
         manifest = os.path.join(ROOT, "examples", name)
         try_line(trial, f"check {name}", ["check", manifest], (0, b"ok\n", b""))
+    warned = os.path.join(ROOT, "examples/rollouts/guestbook.json")
+    try_line(trial, "check of what is warned of", ["check", warned],
+             (0, b"ok\n", b"canary: warning: " + WAITS_FOR_NOBODY))
+    try_line(trial, "check --strict", ["check", "--strict", warned],
+             (1, WAITS_FOR_NOBODY + b"\n", b""))
 
 
 def expect_told(row, found, wanted):
@@ -316,6 +325,32 @@ def try_shown(trial, share):
         try_line(trial, row, words, (0, shown, b""), share, on_file=True)
 
 
+def try_page(trial, share):
+    """A page is drawn, or as many of its parts as memory lasts for."""
+    make_files(trial)
+    copy(trial.begun, trial.file)
+    expect("an import", trial.run(["import", "--db", trial.file, trial.rows]), (0, lines_of(), b""))
+    words = ["page", "--db", trial.file, "-"]
+
+    def drawn(number=0):
+        status, output, told = trial.run(words, number)
+        return status, re.sub(rb"as it stood at <time .*?</time>|\(\d+ days\)", b"", output), told
+
+    whole = drawn()
+    if whole[0] != 0 or not whole[1].endswith(b"</html>\n"):
+        raise Wrong(f"a page: {whole!r}")
+
+    def refuse(number):
+        found = drawn(number)
+        asked = trial.asked()
+        is_part = whole[1].startswith(found[1]) and (found[0], found[2]) == (1, OUT_OF_MEMORY)
+        if found != whole and not is_part:
+            raise Wrong(f"a page: when allocation {number} is refused: {found!r}")
+        return asked
+
+    share.refuse_each("a page", refuse)
+
+
 def try_client(trial, share):
     """The client, with one of its own allocations refused, beside a desk that has memory."""
     ask_refused(trial, share)
@@ -347,8 +382,39 @@ def try_backup(trial, share):
     share.refuse_each("backup", refuse)
 
 
+def try_page_of_served(trial, share):
+    """`page` of a file that a desk has open makes a page, or leaves none, and leaves no copy."""
+    make_files(trial)
+    folder = os.path.dirname(trial.copy)
+    words = ["page", "--db", trial.begun, trial.copy]
+
+    def left():
+        return sorted(name for name in os.listdir(folder) if not name.endswith(".counted"))
+
+    def refuse(number):
+        remove(trial.copy)
+        before = left()
+        found = trial.run(words, number)
+        asked = trial.asked()
+        if found == (0, b"", b""):
+            expect("page: its end", read(trial.copy)[-8:], b"</html>\n")
+            os.remove(trial.copy)
+        else:
+            expect(f"page: when allocation {number} is refused", found, (1, b"", OUT_OF_MEMORY))
+        expect("page: what is left", left(), before)
+        return asked
+
+    serve = [trial.program, "serve", "--listen", "127.0.0.1:0", "--db", trial.begun]
+    with subprocess.Popen(serve, stdout=subprocess.PIPE, stderr=subprocess.DEVNULL) as desk:
+        try:
+            desk.stdout.readline()
+            share.refuse_each("page of a served file", refuse)
+        finally:
+            desk.kill()
+
+
 CASES = (try_lines, try_stream, try_file, try_opened, try_serve, try_import, try_shown, try_client,
-         try_backup)
+         try_page, try_backup, try_page_of_served)
 
 
 def main():

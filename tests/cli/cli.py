@@ -1,7 +1,7 @@
 """Runs a program on command lines: cli.py PROGRAM FOLDER [PART..], where FOLDER is for files. The
 rows of tests/cli/lines say what each line of words comes to, those of tests/cli/cases among them.
-streams.py has the streams, files.py the measurement files, calls.py the calls that fail, and
-terminals.py the terminals. The comment at the top of tests/cli/run says what is tried."""
+streams.py has the streams, closed.py those that are closed, files.py the measurement files,
+calls.py the calls that fail, and terminals.py the terminals. The comment at the top of tests/cli/run says what is tried."""
 import fcntl
 import os
 import re
@@ -16,6 +16,7 @@ import time
 
 import terminals
 from calls import CALL_PARTS
+from closed import CLOSED_CALL_PARTS, CLOSED_PARTS
 from conversation import AT_B, limits_writes
 from files import FILE_PARTS
 from story_words import B, Wrong, blocks, command, expanded, expect, get, put, wire
@@ -24,7 +25,8 @@ from streams import REQUEST, STREAM_PARTS
 HERE = os.path.dirname(os.path.realpath(__file__))
 # What stands in desk.db of the rows' folders.
 STORY = ["template errs m,interval=60", "service v1 setWeight:20 pause background:errs", "start v2"]
-MANIFEST = b'{"kind":"Rollout","metadata":{"name":"web"},"spec":{"strategy":{"canary":{}}}}'
+MANIFEST = (b'{"kind":"Rollout","metadata":{"name":"web"},"spec":{"strategy":{"canary":'
+            b'{"steps":[{"pause":{}}]}}}}')
 ROWS = (b"caller,number,service,run,metric,ordinal,taken,result,failure\n"
         b"agent,1,web,1,m,1,%d,5,\n" % B)
 
@@ -208,6 +210,42 @@ def try_programs(program, folder):
     return count
 
 
+def try_warnings(program, folder):
+    """What `check` warns of stands on standard error, and with --strict among the findings."""
+    place = os.path.join(folder, "checks")
+    os.mkdir(place)
+    timed = MANIFEST.replace(b'{"pause":{}}', b'{"setWeight":20},{"pause":{"duration":"5m"}}')
+    for name, content in (("held.json", MANIFEST), ("timed.json", timed),
+                          ("body.json", b'{"service":{"version":"v1","manifest":%s}}' % timed),
+                          ("wrong.json", timed.replace(b'"5m"', b'"5d"'))):
+        with open(os.path.join(place, name), "wb") as file:
+            file.write(content)
+    warned = (b"spec.strategy.canary.steps: no step after weight 20 waits for anybody: a version "
+              b"reaches 100 % even if nothing is measured: put an analysis step, or pause: {}, "
+              b"at the end\n")
+    found = (b"spec.strategy.canary.steps[1].pause.duration: expected 90s or 1h30m, or seconds as "
+             b"a number or a text of digits, 31,536,000 at most\n")
+    of_body = b"service.manifest." + warned
+    rows = (
+        ("held.json", 0, b"ok\n", b""),
+        ("--strict held.json", 0, b"ok\n", b""),
+        ("timed.json", 0, b"ok\n", b"canary: warning: " + warned),
+        ("--strict timed.json", 1, warned, b""),
+        ("timed.json --strict", 1, warned, b""),
+        ("--request body.json", 0, b"ok\n", b"canary: warning: " + of_body),
+        ("--request body.json --strict", 1, of_body, b""),
+        ("wrong.json", 1, found, b""),
+        ("--strict wrong.json", 1, found, b""),
+    )
+    for words, status, output, errors in rows:
+        done = run(program, ["check", *words.split()], place, capture_output=True)
+        want(f"check {words}", done, status, output, errors)
+    with open("/dev/full", "wb") as full:
+        done = run(program, ["check", "timed.json"], place, stdout=subprocess.PIPE, stderr=full)
+    want("check timed.json, to a full error stream", done, 0, b"ok\n", None)
+    return len(rows) + 1
+
+
 def first_line(row, running):
     """The first line that a program writes, within a minute."""
     signal.signal(signal.SIGALRM, lambda *_: running.kill())
@@ -285,8 +323,9 @@ def try_terminals(program, folder):
     return terminals.try_terminals(program, lambda: new_place(program, folder))
 
 
-PARTS = (try_cases, try_mistakes, try_help, try_ends, try_faulty_streams, try_programs, try_serving,
-         try_name, try_terminals, *STREAM_PARTS, *FILE_PARTS, *CALL_PARTS)
+PARTS = (try_cases, try_mistakes, try_help, try_ends, try_faulty_streams, try_programs,
+         try_warnings, try_serving, try_name, try_terminals, *STREAM_PARTS, *FILE_PARTS,
+         *CLOSED_PARTS, *CALL_PARTS, *CLOSED_CALL_PARTS)
 
 
 def main():
@@ -295,7 +334,8 @@ def main():
     if unknown:
         sys.exit(f"cli: unknown part: {' '.join(sorted(unknown))}")
     program = os.path.realpath(program)
-    left_out = CALL_PARTS if "strace" in os.environ.get("CHECK_WITHOUT", "").split() else ()
+    is_without = "strace" in os.environ.get("CHECK_WITHOUT", "").split()
+    left_out = (*CALL_PARTS, *CLOSED_CALL_PARTS) if is_without else ()
     rows = wrong = 0
     for part in PARTS:
         if part in left_out or (wanted and part.__name__ not in wanted):

@@ -7,6 +7,7 @@ import sys
 import time
 import traceback
 
+import closed
 import journals
 import kills
 import minutes
@@ -14,7 +15,9 @@ import queries
 import replies
 import reports
 import sends
+import silence
 import storms
+import strangers
 import wishes
 import words
 from world import World, running
@@ -31,7 +34,8 @@ def parts_of(*modules):
 
 
 # The long ones first.
-PARTS = parts_of(storms, kills, journals, replies, wishes, reports, sends, queries, words, minutes)
+PARTS = parts_of(storms, kills, journals, replies, wishes, closed, reports, sends, queries, silence,
+                 strangers, words, minutes)
 
 
 def fail(why):

@@ -5,6 +5,8 @@ import json
 import re
 
 LAST = 1_000_000_000
+# The most bytes of a file of which no line counts yet: a gate, the longest first line, LF, a gate.
+MOST_NEW = 110
 NAME = re.compile(r"[a-z0-9](?:[a-z0-9-]{0,61}[a-z0-9])?")
 
 
@@ -40,9 +42,12 @@ def line_of(entry):
 
 def lines_in(data):
     """The lines of a file's bytes, each behind an open gate, and how many bytes stand before the
-    closed gate; none if there is no closed gate."""
+    closed gate; none if there is no closed gate, or if the first one is closed and more stands
+    behind it than a crash leaves of a new journal."""
     if len(data) <= 1:
         return [], 0
+    if data[:1] != b"+" and len(data) > MOST_NEW:
+        return None
     lines, at = [], 0
     while data[at:at + 1] == b"+":
         end = data.find(b"\n", at)
@@ -53,7 +58,7 @@ def lines_in(data):
         except UnicodeDecodeError:
             return None
         at = end + 1
-    return None if at == len(data) else (lines, at)
+    return (lines, at) if data[at:at + 1] == b"-" else None
 
 
 def is_number(value, most=2 ** 32 - 1):
@@ -146,6 +151,11 @@ def is_new(data):
     """The file has no line: a journal has yet to begin there."""
     found = lines_in(data)
     return found is not None and not found[0]
+
+
+def is_in_doubt(data):
+    """The file may have been a journal that was cut to nothing."""
+    return len(data) <= 1 and data != b"-"
 
 
 def at_rest(data):

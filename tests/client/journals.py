@@ -2,14 +2,17 @@
 import fcntl
 import os
 import shutil
+import socket
 import subprocess
 import threading
 import time
 
-from journal_rule import LAST, at_rest, is_new, journal_of, line_of, lines_in
+from journal_rule import (
+    LAST, MOST_NEW, at_rest, is_in_doubt, is_new, journal_of, line_of, lines_in,
+)
 from world import (
-    AHEAD, BEHIND, BROKEN, CONTRADICTION, DONE, ENDED, IN_USE, KEY_USED, LATE, LOCAL, LOST,
-    NOT_BEGUN, NO_JOURNAL_FILE, OTHER_CALLER, PENDING, PENDING_SAID, PROMOTED, REFUSED, REUSED,
+    AHEAD, BEHIND, BROKEN, CONTRADICTION, DONE, EMPTIED, ENDED, IN_USE, KEY_USED, LATE, LOCAL, LOST,
+    NOT_BEGUN, NO_FILE, NO_JOURNAL_FILE, OTHER_CALLER, PENDING, PENDING_SAID, PROMOTED, REFUSED, REUSED,
     SPENT, STARTED, TOOK_PLACE, UNREACHABLE, WORDS, Caller, Wrong, add, answering, ask, environment,
     expect, free_port, process, shown, shows, two_pauses, want, want_all_said, want_delivered,
 )
@@ -52,14 +55,14 @@ WHOLE = records(ENTRIES) + b"-"
 def promised(data):
     """What `do --once first promote web` has to come to where no desk is, if the journal's file has
     these bytes: status, output, last sentence, and the file's bytes after it."""
-    if lines_in(data) is None:
-        return LOCAL, "", BROKEN, data
-    rest = at_rest(data)
+    if is_in_doubt(data):
+        return PENDING, "", NOT_BEGUN, data
     if is_new(data):
-        return PENDING, "", NOT_BEGUN, rest
+        return PENDING, "", NOT_BEGUN, at_rest(data)
     journal = journal_of(data)
     if journal is None:
-        return LOCAL, "", BROKEN, rest
+        return LOCAL, "", BROKEN, data
+    rest = at_rest(data)
     if journal.caller != "ops":
         return WORDS, "", OTHER_CALLER, rest
     for each in [*journal.kept, *([journal.pending] if journal.pending else [])]:
@@ -97,6 +100,8 @@ class Reader:
                  str(self.file), "--tries", "1", "--once", "first", "promote", "web"]
         found = self.world.run(words, self.folder)
         status, output, said, after = promised(data)
+        if status == LOCAL:
+            said = f"{said}: {self.file}"
         want(f"{row}: {data[-60:]!r}", found, status, output, said)
         expect(f"{row}: the file", self.file.read_bytes(), after)
         self.counts[status] = self.counts.get(status, 0) + 1
@@ -145,7 +150,7 @@ def try_changed_journal(world):
     reader = Reader(world, "changed")
     rows = []
     for at, byte in enumerate(WHOLE):
-        for other in (byte ^ 1, byte ^ 0x80, ord("+"), ord("\n"), ord("0"), ord('"')):
+        for other in (byte ^ 1, byte ^ 0x80, ord("+"), ord("-"), ord("\n"), ord("0"), ord('"')):
             if other != byte:
                 rows.append((at, WHOLE[:at] + bytes([other]) + WHOLE[at + 1:]))
     for at, data in world.some_of(rows, 12):
@@ -210,7 +215,7 @@ def try_two_clients(world):
         before = (desk.folder / "ops.journal").read_bytes()
         with open(desk.folder / "ops.journal", "rb") as held:
             fcntl.flock(held, fcntl.LOCK_EX)
-            want("locked", desk.do("promote", "web"), LOCAL, said=IN_USE)
+            want("locked", desk.do("promote", "web"), LOCAL, said=desk.of_file(IN_USE))
         expect("locked: the file", (desk.folder / "ops.journal").read_bytes(), before)
         # one client waits for its reply, and the other one comes
         come, let_go = [], threading.Event()
@@ -225,7 +230,7 @@ def try_two_clients(world):
                 stderr=subprocess.PIPE) as first:
             while not come and first.poll() is None:
                 time.sleep(.01)
-            want("the second client", desk.do("abort", "web"), LOCAL, said=IN_USE)
+            want("the second client", desk.do("abort", "web"), LOCAL, said=desk.of_file(IN_USE))
             let_go.set()
             _, errors = first.communicate(timeout=60)
             expect("the first client", (first.returncode, errors.decode()),
@@ -256,7 +261,7 @@ def try_many_clients(world):
                 else:
                     refused += 1
                     expect(name, (client.returncode, output, errors.decode()),
-                           (LOCAL, b"", f"canary: {IN_USE}\n"))
+                           (LOCAL, b"", f"canary: {desk.of_file(IN_USE)}\n"))
         want_delivered("many clients", desk)
         expect("promotions", desk.count("promote"), dict.fromkeys(names, 1))
     return f"{refused} found it open"
@@ -272,10 +277,134 @@ def try_lost_journal(world):
         want("second", desk.do("promote", "web"), DONE, shown(ENDED))
         expect("promotions", desk.count("promote"), {"web": 2})
         expect("it begins", desk.journal().before, 1)
-        # and so is one that was cut to nothing
-        (desk.folder / "ops.journal").write_bytes(b"")
-        want("third", desk.do("tick", "web"), DONE, shown(ENDED))
-        expect("it begins", desk.journal().before, 2)
+        want_delivered("lost", desk)
+
+
+def try_emptied_journal(world):
+    """A journal that was cut to nothing, or to its first byte, is not taken for a new one: it stays
+    as it is, until somebody removes it. A file that was made empty for a new caller is one."""
+    with world.desk("emptied") as desk:
+        add(desk)
+        key = ("--once", "k")
+        want("first", desk.do("promote", "web", options=key), DONE, shown(PROMOTED))
+        for data in (b"", b"+", b"\0"):
+            (desk.folder / "ops.journal").write_bytes(data)
+            want(f"cut to {data!r}", desk.do("promote", "web", options=key), LOCAL,
+                 said=desk.of_file(EMPTIED))
+            expect("the file", (desk.folder / "ops.journal").read_bytes(), data)
+        expect("promotions", desk.count("promote"), {"web": 1})
+        # what a crash leaves of a new file once its gate is there is a new journal
+        (desk.folder / "ops.journal").write_bytes(b"-")
+        want("begun anew", desk.do("tick", "web"), DONE, shown(PROMOTED))
+        expect("it begins", desk.journal().before, 1)
+        for at, data in enumerate((b"", b"+", b"\0")):
+            desk.write(f"c{at}.journal", data.decode())
+            want(f"a new caller: {data!r}", desk.do("tick", "web", caller=f"c{at}",
+                                                   journal=f"c{at}.journal"), DONE,
+                 shown(PROMOTED))
+            want_delivered("a new caller", desk, f"c{at}", f"c{at}.journal")
+        # and so is what a link leads to that is still to be made
+        (desk.folder / "link.journal").symlink_to(desk.folder / "made.journal")
+        want("a link", desk.do("tick", "web", journal="link.journal"), DONE, shown(PROMOTED))
+        expect("made", desk.journal("made.journal").before, 2)
+
+
+def try_other_files(world):
+    """A file that is no journal is refused, and is as it was, with its time: a manifest, a CSV, the
+    file of a desk, a list of lines with dashes, zeros, the first block of a journal gone."""
+    with world.desk("other-files") as desk:
+        add(desk)
+        key = ("--once", "k")
+        want("first", desk.do("promote", "web", options=key), DONE, shown(PROMOTED))
+        journal = (desk.folder / "ops.journal").read_bytes()
+        with world.desk("other-desk") as other:
+            add(other)
+            other.kill()
+            stopped = (other.folder / "desk.db").read_bytes()
+        rows = [
+            ("a manifest", b'{\n  "kind": "Rollout"\n}\n'), ("a line", b'{"kind":"Rollout"}'),
+            ("a CSV", b"caller,number,service\nops,1,web\n"), ("a desk's file", stopped),
+            ("a list", b"- a line of a list that is longer than what a crash leaves\n" * 3),
+            ("zeros", bytes(4096)), ("two bytes", b"{}"), ("one line", b"+\n-"),
+            ("a text with a gate", b"+ a line\n-and another one\n"),
+            ("zeros first", (bytes(512) + journal + bytes(512))[:len(journal) + 512]),
+            ("its first block gone", bytes(min(512, len(journal))) + journal[512:]),
+        ]
+        others = [byte for byte in range(256) if byte != ord("+")]
+        rows += [(f"byte 0 is {byte}", bytes([byte]) + journal[1:])
+                 for byte in (0, ord("-"), *world.some_of(others, 16))]
+        path = desk.folder / "ops.journal"
+        for row, data in rows:
+            path.write_bytes(data)
+            os.utime(path, (1, 1))
+            want(row, desk.do("promote", "web", options=key), LOCAL, said=desk.of_file(BROKEN))
+            expect(f"{row}: the file", path.read_bytes(), data)
+            expect(f"{row}: its time", path.stat().st_mtime, 1)
+        expect("promotions", desk.count("promote"), {"web": 1})
+        path.write_bytes(journal)
+        want("restored", desk.do("promote", "web", options=key), DONE, shown(PROMOTED))
+        want_delivered("restored", desk)
+
+
+def try_new_journals(world):
+    """What a crash may leave of a new journal, and just that, is a new one: a closed gate, and at
+    most so many bytes behind it as the longest first line takes with what stands after it."""
+    reader = Reader(world, "new-journals")
+    longest = {"begun": {"caller": "c" * 63, "settled": LAST}}
+    expect("the longest first line", len(b"-" + line_of(longest).encode() + b"\n-"), MOST_NEW)
+    for length in (1, 2, MOST_NEW - 1, MOST_NEW):
+        for filled in (b"\0", b"+", b"\n", b"-", b"{", b"\xff"):
+            data = (b"-" + filled * MOST_NEW)[:length]
+            expect(f"{data!r}: is new", is_new(data), True)
+            reader.read(f"{length} bytes", data)
+            reader.read(f"{length} bytes, not gated", b"x" + data)
+    for filled in (b"\0", b"+", b"-"):
+        reader.read("a byte more", b"-" + filled * MOST_NEW)
+    reader.want_counts(PENDING, LOCAL)
+    return reader.told()
+
+
+def try_each_byte(world):
+    """Each other byte at each place of the first 1,024 of a journal: none makes it a new one."""
+    reader = Reader(world, "each-byte")
+    whole = WHOLE[:-1]
+    number = 8
+    while len(whole) <= 1024:
+        whole += records([settled(number, 200, shows("web", *PROMOTED)),
+                          asked(number + 1, of_service("tick"), f"key-{number}")])
+        number += 1
+    whole += b"-"
+    rows = [(at, byte) for at in range(1024) for byte in range(256) if byte != whole[at]]
+    for at, byte in [*rows[:255], *world.some_of(rows[255:], 211)]:
+        data = whole[:at] + bytes([byte]) + whole[at + 1:]
+        expect(f"byte {at} is {byte}: is new", is_new(data), False)
+        reader.read(f"byte {at} is {byte}", data)
+    reader.want_counts(DONE, LOCAL)
+    return reader.told()
+
+
+def try_what_is_no_file(world):
+    """A FIFO, a device, a socket or a folder in the place of a journal is refused at once, and
+    nothing is asked of the desk. A path with controls is shown escaped."""
+    with world.desk("no-file") as desk:
+        add(desk)
+        os.mkfifo(desk.folder / "fifo")
+        (desk.folder / "folder").mkdir()
+        (desk.folder / "null").symlink_to("/dev/null")
+        (desk.folder / "zero").symlink_to("/dev/zero")
+        with socket.socket(socket.AF_UNIX) as listener:
+            listener.bind(str(desk.folder / "socket"))
+            for name in ("fifo", "folder", "null", "zero", "socket"):
+                begun = time.monotonic()
+                want(name, desk.do("promote", "web", journal=name), LOCAL,
+                     said=desk.of_file(NO_FILE, name))
+                if time.monotonic() - begun > 5:
+                    raise Wrong(f"{name}: the client waits")
+        name = "a\x1b[2J\u202eb"
+        (desk.folder / name).mkdir()
+        want("a path with controls", desk.do("promote", "web", journal=name), LOCAL,
+             said=desk.of_file(NO_FILE, "a\\u001b[2J\\u202eb"))
+        expect("promotions", desk.count("promote"), {})
 
 
 def try_restored_desk(world):
@@ -340,9 +469,10 @@ def try_foreign_journals(world):
         want("spent", desk.do("promote", "web", journal="spent.journal"), CONTRADICTION,
              said=SPENT)
         (desk.folder / "folder").mkdir()
-        want("a folder", desk.do("promote", "web", journal="folder"), LOCAL, said=NO_JOURNAL_FILE)
+        want("a folder", desk.do("promote", "web", journal="folder"), LOCAL,
+             said=desk.of_file(NO_FILE, "folder"))
         want("no folder", desk.do("promote", "web", journal="none/ops.journal"), LOCAL,
-             said=NO_JOURNAL_FILE)
+             said=desk.of_file(NO_JOURNAL_FILE, "none/ops.journal"))
         expect("promotions", desk.count("promote"), {})
 
 
@@ -364,7 +494,7 @@ def try_unwritable(world):
                          stderr=subprocess.PIPE, cwd="/", **nobody) as client:
                 found = client.communicate(timeout=60)
                 expect(name, (client.returncode, *found),
-                       (LOCAL, b"", f"canary: {NO_JOURNAL_FILE}\n".encode()))
+                       (LOCAL, b"", f"canary: {desk.of_file(NO_JOURNAL_FILE, name)}\n".encode()))
         desk.folder.chmod(0o755)
         expect("no file is made", (desk.folder / "new.journal").exists(), False)
         expect("the file", (desk.folder / "ops.journal").read_bytes(), before)

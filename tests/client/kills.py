@@ -118,7 +118,8 @@ def try_failing_calls(world):
                              stderr=subprocess.PIPE) as client:
                     found = client.communicate(timeout=60)
                     expect(row, (client.returncode, *found),
-                           (LOCAL, b"", f"canary: {NO_JOURNAL_FILE}\n".encode()))
+                           (LOCAL, b"", "canary: {}\n".format(
+                               desk.of_file(NO_JOURNAL_FILE, own["journal"])).encode()))
                 expect(f"{row}: in the log", "(INJECTED)" in log.read_text(), True)
                 for _ in range(2):
                     want(row, desk.do("promote", service, options=("--once", "key"), **own), DONE,

@@ -7,7 +7,7 @@ import re
 import signal
 import subprocess
 
-from world import Wrong, environment, expect, free_port, running, shows
+from world import Wrong, environment, expect, free_port, running, shows, want
 
 ROOT = pathlib.Path(__file__).resolve().parents[2]
 FAILED = ('{"code":"ok","phases":["Failed"],"run":1,"service":"web","status":"Degraded","step":1,'
@@ -87,6 +87,9 @@ def try_five_minutes(world):
         "canary: nobody answers there; trying again",
         "canary: pending: no answer came, so it may have acted or not; the same call again finds"
         " out"])
+    for name in ("errors.json", "web.json"):
+        checked = world.run(["check", "--strict", name], place)
+        want(f"README.md: check of {name}", checked, 0, "ok\n")
     if "web" not in (place / "desk.html").read_text(encoding="utf-8"):
         raise Wrong("README.md: the page does not show web")
     if not any(line.split()[:1] == ["web"] for line in lines[11:-end]):

@@ -12,7 +12,7 @@ from world import (
 )
 
 PART = "of a service, 'history' or the number of a run can be asked for"
-STATUS = "a status is Healthy, Degraded, Paused or Progressing"
+STATUS = "--until takes Healthy, Degraded, Paused, Progressing, Held and Waiting"
 
 
 def body_at(desk, path):
@@ -48,8 +48,12 @@ def try_get(world):
             want(repr(name), desk.ask("get", name), WORDS, said=INVALID_NAME)
 
 
+# Why a service with two pauses stands so.
+WHY = {"Paused": ", waits for a promotion", "Healthy": "", "Degraded": ", aborted by a command"}
+
+
 def line(status, step, weight, version="v2"):
-    return f"web {status}, step {step}, weight {weight}%, version {version}\n"
+    return f"web {status}, step {step}, weight {weight}%, version {version}{WHY[status]}\n"
 
 
 @contextlib.contextmanager
@@ -117,7 +121,7 @@ def try_watch_ends(world):
         healthy = "other Healthy, step 2, weight 100%, version v1\n"
         want("Healthy", desk.ask("watch", "--until", "Healthy", "other"), DONE, healthy)
         setup.send({"start": {"service": "other", "version": "v2"}})
-        progressing = "other Progressing, step 1, weight 5%, version v2\n"
+        progressing = "other Progressing, step 1, weight 5%, version v2, analysis run 1\n"
         want("Progressing", desk.ask("watch", "--until", "Progressing", "other"), DONE,
              progressing)
         want("each", desk.ask("watch", "--until", "Healthy,Degraded,Paused,Progressing", "other"),
@@ -130,7 +134,7 @@ def try_watch_ends(world):
         ending = threading.Timer(.3, lambda: setup.send({"abort": {"service": "other"}}))
         ending.start()
         want("Degraded", desk.ask("watch", "--until", "Degraded", "other"), REFUSED,
-             progressing + "other Degraded, step 1, weight 0%, version v2\n")
+             progressing + "other Degraded, step 1, weight 0%, version v2, aborted by a command\n")
         ending.join()
         want("no service", desk.ask("watch", "none"), REFUSED, said=NO_SERVICE)
         want("no name", desk.ask("watch", "None"), WORDS, said=INVALID_NAME)

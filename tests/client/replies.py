@@ -5,7 +5,7 @@ import time
 
 from world import (
     CONTRADICTION, DONE, FOREIGN, LOST, NOT_BEGUN, NO_DESK, PENDING, PENDING_SAID, PROMOTED,
-    STARTED, UNAVAILABLE, UNREACHABLE, Wrong, add, answering, ask, expect, free_port, put, shown,
+    SPENT, STARTED, UNAVAILABLE, UNREACHABLE, Wrong, add, answering, ask, expect, free_port, put, shown,
     shows, want, want_all_said, want_delivered,
 )
 
@@ -39,6 +39,22 @@ REPLIES = (
     ("200 with no body", reply(200, ""), FOREIGN),
     ("422 with HTML", reply(422, HTML), FOREIGN),
     ("409 with another code", reply(409, '{"code":"conflict"}'), FOREIGN),
+    ("a gateway's 400", reply(400, '{"code":"validation_error"}'), FOREIGN),
+    ("a gateway's 422", reply(422, '{"code":"validation_error"}'), FOREIGN),
+    ("a gateway's 404", reply(404, '{"code":"NOT_FOUND"}'), FOREIGN),
+    ("a gateway's 405", reply(405, '{"code":"method-not-allowed"}'), FOREIGN),
+    ("a gateway's 413", reply(413, '{"code":"PayloadTooLarge"}'), FOREIGN),
+    ("a gateway's 503", reply(503, '{"code":"overloaded"}'), FOREIGN),
+    ("a refusal with 400", reply(400, '{"code":"not-paused"}'), FOREIGN),
+    ("a refusal with 200", reply(200, '{"code":"not-paused"}'), FOREIGN),
+    ("ok with 422", reply(422, '{"code":"ok"}'), FOREIGN),
+    ("ok with 201", reply(201, '{"code":"ok"}'), FOREIGN),
+    ("reused with 422", reply(422, '{"code":"reused"}'), FOREIGN),
+    ("a length with a sign", WHOLE.replace(b"Content-Length: ", b"Content-Length: +"), FOREIGN),
+    ("a length and chunks", WHOLE.replace(b"\r\n\r\n", b"\r\nTransfer-Encoding: chunked\r\n\r\n"),
+     FOREIGN),
+    ("a length and identity", WHOLE.replace(b"\r\n\r\n", b"\r\ntransfer-encoding: identity\r\n\r\n"),
+     FOREIGN),
     ("409 ahead of nothing", reply(409, '{"code":"ahead"}'), FOREIGN),
     ("a body that is not UTF-8", reply(200, b'{"code":"ok\xff"}'), FOREIGN),
     ("no length", WHOLE.replace(b"Content-Length", b"X-Length"), FOREIGN),
@@ -91,6 +107,23 @@ def try_foreign_replies(world):
         want_delivered("foreign", desk)
         expect("promotions", desk.count("promote"), {"web": 1})
     return f"{len(REPLIES)} replies"
+
+
+def try_numbers_past_the_last(world):
+    """A count that no desk can have settled, 1,000,000,001 and more, is no desk's reply: no journal
+    begins with it, and the message is sent again. The last one begins a journal that is spent."""
+    with world.desk("past-the-last") as desk:
+        for expected in (1_000_000_002, 4_294_967_295, 4_294_967_296, 0):
+            with giving(reply(409, f'{{"code":"ahead","expected":{expected}}}')) as port:
+                found = desk.do("promote", "web", port=port)
+                want(f"{expected}", found, PENDING, said=NOT_BEGUN)
+                want_all_said(f"{expected}", found, FOREIGN, NOT_BEGUN)
+                expect("nothing is begun", (desk.folder / "ops.journal").read_bytes(), b"-")
+        with giving(reply(409, '{"code":"ahead","expected":1000000001}')) as port:
+            want("the last", desk.do("promote", "web", port=port, caller="c" * 63,
+                                     journal="last.journal"), CONTRADICTION, said=SPENT)
+            expect("the longest first line", (desk.folder / "last.journal").read_bytes(),
+                   f'+{{"begun":{{"caller":"{"c" * 63}","settled":1000000000}}}}\n-'.encode())
 
 
 def try_unreachable(world):

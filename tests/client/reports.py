@@ -24,7 +24,8 @@ NOT_IN_TIME = "what is waited for did not come in time"
 COMMAND = ("a command is promote, promote-full, abort, retry or tick SERVICE; start SERVICE"
            " VERSION; template FILE; service FILE VERSION; report SERVICE RUN METRIC RESULT, or"
            " with --failure TEXT in place of RESULT")
-INVALID_NAME = "the service is an invalid name"
+BAD_METRIC = "the METRIC has an invalid name: 1 to 63 of A-Z, a-z, 0-9, '.', '_' and '-'"
+INVALID_NAME = ("the service has an invalid name: 1 to 63 of a-z, 0-9 and '-', no '-' at an end")
 # Neither a whole number of 64 bits nor a list of 1 to 16 of them.
 NO_RESULTS = (
     "", " ", " 5", "5\n", "[1, 2]", "five", "5.0", "1e2", "0x5", "05", "-0", "+5", "--5", "-",
@@ -149,9 +150,10 @@ def try_invalid_results(world):
                  said=FAILURE)
         for run in ("0", "1000000001", "4294967296", "one", "1.0", "", "-1"):
             want(f"run {run!r}", desk.do("--", "report", "web", run, "m", "5"), WORDS, said=RUN)
-        for words in (("report", "web", "1", "m"), ("report", "Web", "1", "m", "5"),
-                      ("report", "web", "1", "m m", "5")):
-            want(words, desk.do(*words), WORDS, said=COMMAND)
+        for words, said in ((("report", "web", "1", "m"), COMMAND),
+                            (("report", "Web", "1", "m", "5"), INVALID_NAME),
+                            (("report", "web", "1", "m m", "5"), BAD_METRIC)):
+            want(words, desk.do(*words), WORDS, said=said)
         want("both", desk.do("report", "web", "1", "m", "5", options=("--failure", "x")), WORDS,
              said=COMMAND)
         expect("no journal", (desk.folder / "ops.journal").exists(), False)
@@ -173,13 +175,14 @@ def try_unknown(world):
 
 def try_agent(world):
     """The agent of examples/operations: it settles what is pending, asks what is due, measures and
-    reports that, also if there was no desk meanwhile, or if a measurement cannot be taken."""
+    reports that, also if there was no desk meanwhile, if a measurement cannot be taken, or if the
+    name of a metric or a result begins with a dash."""
     with world.desk("agent") as desk:
-        add_measured(desk, metric("m", "1s"), metric("n", "1s"))
+        add_measured(desk, metric("m", "1s"), metric("n", "1s"), metric("-x", "1s"))
         (desk.folder / "bin").mkdir()
         (desk.folder / "bin" / "canary").symlink_to(world.program)
         script = desk.folder / "bin" / "measure"
-        script.write_text('#!/bin/sh\n[ "$1" = web ] && [ "$2" = m ] && echo -5\n')
+        script.write_text('#!/bin/sh\n[ "$1" = web ] && [ "$2" != n ] && echo -5\n')
         script.chmod(0o755)
         variables = {"PATH": f"{desk.folder}/bin:{os.environ['PATH']}",
                      "CANARY_DESK": f"127.0.0.1:{desk.port}", "AGENT_FOLDER": str(desk.folder)}
@@ -191,18 +194,18 @@ def try_agent(world):
                 found = agent.communicate(timeout=120)
                 expect(row, (agent.returncode, found[0].decode()), (status, output))
 
-        both = recorded("Successful") + recorded("Error")
-        call("first", 0, both)
+        each = recorded("Successful") + recorded("Error") + recorded("Successful")
+        call("first", 0, each)
         desk.kill()
         variables["CANARY_DESK"] = f"127.0.0.1:{free_port()}"
         call("no desk", PENDING, "")
         desk.start()
         variables["CANARY_DESK"] = f"127.0.0.1:{desk.port}"
         time.sleep(1.1)
-        call("second", 0, both)
+        call("second", 0, each)
         expect("measurements", measured(desk), [
-            ("m", 1, "-5", ""), ("m", 2, "-5", ""), ("n", 1, "", "not measured"),
-            ("n", 2, "", "not measured")])
+            ("-x", 1, "-5", ""), ("-x", 2, "-5", ""), ("m", 1, "-5", ""), ("m", 2, "-5", ""),
+            ("n", 1, "", "not measured"), ("n", 2, "", "not measured")])
         want_delivered("agent", desk, "agent-web", "web.journal")
 
 

@@ -18,6 +18,8 @@ ROW_AHEAD = ("ahead: the desk has not settled what comes before this row. A row 
 NO_HEADER = "the first record of the file is not the header of a measurement file"
 NO_FILE = "the file cannot be read"
 ROWS = 300
+# The status of a call of which a row was refused.
+ROWS_REFUSED = 8
 
 
 def rows_of(count, taken):
@@ -36,6 +38,16 @@ def line(at, phase="Successful"):
 def lines_of(count):
     """The lines of such a file."""
     return "".join(line(at, "Successful" if at % 50 else "Error") for at in range(1, count + 1))
+
+
+def want_sent(row, ended, status, output, counts, said=None):
+    """The client ended with this status and output, said this sentence, if any, and counted the rows
+    that are recorded, that repeat a measurement, and that are refused."""
+    recorded, repeated, refused = counts
+    lines = [] if said is None else [f"canary: {said}"]
+    lines.append(f"canary: rows recorded: {recorded}, repeated: {repeated}, refused: {refused}")
+    found = ended.errors.splitlines()[-len(lines):]
+    expect(row, (ended.status, ended.output, found), (status, output, lines))
 
 
 def counted(desk):
@@ -65,10 +77,10 @@ def try_send(world):
                 raise Wrong(f"kill {at}: it wrote {found[-300:]!r}")
         if kills < 5:
             raise Wrong(f"only {kills} kills")
-        want("whole", desk.ask("send", "rows.csv"), DONE, whole)
-        want("again", desk.ask("send", "rows.csv"), DONE, whole)
+        want_sent("whole", desk.ask("send", "rows.csv"), DONE, whole, (ROWS, 0, 0))
+        want_sent("again", desk.ask("send", "rows.csv"), DONE, whole, (ROWS, 0, 0))
         with open(desk.folder / "rows.csv", "rb") as rows:
-            want("the input", desk.ask("send", "-", stdin=rows), DONE, whole)
+            want_sent("the input", desk.ask("send", "-", stdin=rows), DONE, whole, (ROWS, 0, 0))
         expect("measurements", counted(desk), (ROWS, ROWS, ROWS))
         # as import prints them
         desk.kill()
@@ -93,23 +105,23 @@ def try_rows(world):
                  '6 400 {"code":"bad-number"}\n7 400 {"code":"unreadable"}\n'
                  '8 400 {"code":"unreadable"}\n9 422 {"code":"unknown-run"}\n' + line(10))
         for again in ("first", "again"):
-            want(again, desk.ask("send", "refused.csv"), DONE, lines)
+            want_sent(again, desk.ask("send", "refused.csv"), ROWS_REFUSED, lines, (3, 1, 6))
         # from here on the file has other rows
         desk.write("missing.csv", HEADER + refused[0] + row % (7, 4, 5) + row % (9, 5, 5)
                    + row % (10, 6, 5))
-        want("a row is missing", desk.ask("send", "missing.csv"), CONTRADICTION,
-             line(1) + line(2) + '3 409 {"code":"ahead","expected":8}\n', ROW_AHEAD)
+        want_sent("a row is missing", desk.ask("send", "missing.csv"), CONTRADICTION,
+                  line(1) + line(2) + '3 409 {"code":"ahead","expected":8}\n', (2, 0, 0), ROW_AHEAD)
         desk.write("changed.csv", HEADER + refused[0] + refused[1].replace(",5,", ",6,")
                    + refused[2])
-        want("a row is changed", desk.ask("send", "changed.csv"), CONTRADICTION,
-             line(1) + '2 409 {"code":"reused"}\n', ROW_REUSED)
+        want_sent("a row is changed", desk.ask("send", "changed.csv"), CONTRADICTION,
+                  line(1) + '2 409 {"code":"reused"}\n', (1, 0, 0), ROW_REUSED)
         expect("measurements", counted(desk), (4, 4, 4))
         desk.write("other.csv", refused[0])
         want("no header", desk.ask("send", "other.csv"), WORDS, said=NO_HEADER)
         desk.write("empty.csv", "")
-        want("an empty file", desk.ask("send", "empty.csv"), DONE)
+        want_sent("an empty file", desk.ask("send", "empty.csv"), DONE, "", (0, 0, 0))
         desk.write("header.csv", HEADER)
-        want("a header alone", desk.ask("send", "header.csv"), DONE)
+        want_sent("a header alone", desk.ask("send", "header.csv"), DONE, "", (0, 0, 0))
         for name in ("none.csv", "."):
             want(name, desk.ask("send", name), LOCAL, said=NO_FILE)
         before = desk.kept("agent")
@@ -121,5 +133,5 @@ def try_rows(world):
         shutil.copy(desk.folder / "refused.csv", desk.folder / "more.csv")
         with open(desk.folder / "more.csv", "a", encoding="utf-8") as more:
             more.write(row % (9, 5, 5))
-        want("ahead", desk.ask("send", "more.csv"), CONTRADICTION,
-             lines + '11 409 {"code":"ahead","expected":8}\n', ROW_AHEAD)
+        want_sent("ahead", desk.ask("send", "more.csv"), CONTRADICTION,
+                  lines + '11 409 {"code":"ahead","expected":8}\n', (3, 1, 6), ROW_AHEAD)

@@ -1,4 +1,5 @@
 """Keys, and commands in the place of others: parts of client.py."""
+import json
 import subprocess
 import time
 
@@ -141,6 +142,37 @@ def try_instead(world):
         # where nothing is pending it is a command as any other
         want("nothing is pending", desk.do("retry", "web", options=INSTEAD), DONE, shown(STARTED))
         want_delivered("instead", desk)
+
+
+def try_instead_spaced(world):
+    """A manifest that takes a place is the same command with another spacing: the call again
+    settles it, with --instead or without, and it is settled once. Another manifest is a third
+    command."""
+    template = {"kind": "AnalysisTemplate", "metadata": {"name": "errors"},
+                "spec": {"metrics": [{"name": "errors", "interval": "10s", "count": 2,
+                                      "successCondition": "result <= 5"}]}}
+    for row, options in (("instead", INSTEAD), ("as a wish", ())):
+        with world.desk(f"spaced-{len(options)}") as desk:
+            add(desk)
+            desk.write("a.json", template)
+            desk.write("b.json", json.dumps(template).replace(":", ":  "))
+            desk.write("c.json", json.dumps(template).replace("<= 5", "<= 6"))
+            want("tick", desk.do("tick", "web"), DONE, shown(STARTED))
+            with lost() as port:
+                want("first", desk.do("promote", "web", tries=1, port=port), PENDING,
+                     said=PENDING_SAID)
+                want("template", desk.do("template", "a.json", tries=1, port=port,
+                                         options=INSTEAD), PENDING, said=PENDING_SAID)
+                want("spaced", desk.do("template", "b.json", tries=1, port=port, options=options),
+                     PENDING, said=PENDING_SAID)
+                want("another", desk.do("template", "c.json", tries=1, port=port,
+                                        options=INSTEAD), CONTRADICTION, said=REPLACED)
+            found = desk.do("template", "b.json", options=options)
+            want(row, found, DONE, '{"code":"ok","revision":1,"template":"errors"}\n')
+            want_all_said(row, found)
+            want_delivered(row, desk)
+            expect("requests", len(desk.kept()), 2)
+            expect("promotions", acted(desk, "promote"), [0])
 
 
 def try_replaced_wish(world):

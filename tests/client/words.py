@@ -6,7 +6,7 @@ import subprocess
 import time
 import tty
 
-from reports import COMMAND, add_measured, metric
+from reports import COMMAND, INVALID_NAME, add_measured, metric
 from world import (
     ADDED, CONTRADICTION, DONE, ENDED, KEY_USED, LOCAL, PROMOTED, REFUSED, STARTED, WORDS, Caller,
     Wrong, add, answering, environment, expect, free_port, process, running, shown, two_pauses,
@@ -15,7 +15,9 @@ from world import (
 
 ADDRESS = "the desk's address is not IP:PORT (--desk or CANARY_DESK)"
 NO_CALLER = "a caller has to be given: --as NAME or CANARY_AS"
-BAD_CALLER = "the caller is an invalid name: 1 to 63 of a-z, 0-9 and '-', no '-' at an end"
+NO_VERSION = "the VERSION is missing: a version is 1 to 63 of A-Z, a-z, 0-9, '.', '_' and '-'"
+BAD_VERSION = "the VERSION is invalid: a version is 1 to 63 of A-Z, a-z, 0-9, '.', '_' and '-'"
+BAD_CALLER = "the caller has an invalid name: 1 to 63 of a-z, 0-9 and '-', no '-' at an end"
 NO_JOURNAL = "a journal has to be given: --journal FILE or CANARY_JOURNAL"
 MANIFEST = "the desk would not take this manifest: 'canary check' says why"
 NO_FILE = "the file cannot be read"
@@ -82,11 +84,16 @@ def try_words(world):
         desk.write("template.json", {"metadata": {"name": "t"}, "spec": {"metrics": []}})
         desk.write("web.json", two_pauses())
         desk.write("long.json", '{"metadata":{"name":"long"},"status":"' + "x" * 65536 + '"}')
-        for words in (("promote",), ("promote", "web", "v2"), ("promote", "Web"), ("start", "web"),
-                      ("start", "web", "v 2"), ("tick", "web", "1", "2"), ("promoteFull", "web"),
-                      ("template",), ("template", "t.json", "v1"), ("service", "web.json"),
-                      ("service", "web.json", ""), ("stop", "web"), ("",)):
+        for words in (("promote",), ("promote", "web", "v2"), ("tick", "web", "1", "2"),
+                      ("promoteFull", "web"), ("template",), ("template", "t.json", "v1"),
+                      ("stop", "web"), ("",)):
             want(words, desk.do(*words), WORDS, said=COMMAND)
+        want("an invalid name", desk.do("promote", "Web"), WORDS, said=INVALID_NAME)
+        for words in (("start", "web"), ("service", "web.json")):
+            want(words, desk.do(*words), WORDS, said=NO_VERSION)
+        for version in ("v 2", "", "v1.2.3+build5", "sha256:0123", "x" * 64):
+            want(version, desk.do("start", "web", version), WORDS, said=BAD_VERSION)
+            want(version, desk.do("service", "web.json", version), WORDS, said=BAD_VERSION)
         want("a failure", desk.do("promote", "web", options=("--failure", "x")), WORDS,
              said=COMMAND)
         for words in (("template", "broken.json"), ("template", "template.json"),

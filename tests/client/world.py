@@ -31,7 +31,11 @@ REUSED = ("reused: the desk settled another command under this number. Somebody 
           " this name, or the journal is an old copy; nothing was sent after that")
 AHEAD = ("ahead: the desk has settled fewer commands of this caller than the journal has. The desk"
          " was restored from an older copy, or it is another desk")
-BROKEN = "this file is no whole journal: it was cut short or changed. Restore it, or move it away"
+BROKEN = ("this file is no whole journal: it is another file, or was cut short or changed. It is"
+          " left as it is. Restore it, or move it away")
+NO_FILE = "the journal has to be a regular file: this is a folder, a FIFO, a device or a socket"
+EMPTIED = ("this journal is empty, and the desk has settled commands of this caller. It is left as"
+           " it is. Restore it, or remove it to begin a new one")
 KEY_USED = "this key stands for another command in this journal"
 OTHER_CALLER = "this journal is another caller's"
 SPENT = "this caller has no number left: go on under another name"
@@ -154,6 +158,10 @@ class Desk:
         return ["do", "--desk", f"127.0.0.1:{port or self.port}", f"--as={caller}", "--journal",
                 str(self.folder / journal), "--tries", str(tries), "--timeout", str(timeout),
                 *options, *words]
+
+    def of_file(self, sentence, journal="ops.journal"):
+        """A sentence that names the journal."""
+        return f"{sentence}: {self.folder / journal}"
 
     def do(self, *words, **options):
         """A command by the client."""

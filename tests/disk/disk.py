@@ -12,6 +12,7 @@ from disk_story import (
     tell_whole, told_by, went_on,
 )
 from failing import CALLS, calls_in, failing_alone, under_strace
+from log_copying import try_log_copying, try_log_copying_full, try_log_copying_power
 from openings import try_openings
 from power_cuts import try_power_cuts
 
@@ -175,7 +176,9 @@ def try_read_only(program, folder):
     print("disk: of a file that may not be written the fault is storage", file=sys.stderr)
 
 
-STRACE_PARTS = (try_openings, try_failing_calls, try_power_cuts)
+COPYING_PARTS = (try_log_copying, try_log_copying_full, try_log_copying_power)
+SHARED_PARTS = (try_openings, *COPYING_PARTS)
+STRACE_PARTS = (*SHARED_PARTS, try_failing_calls, try_power_cuts)
 PARTS = (try_foreign_files, try_read_only, try_cut_files, try_full_disk, *STRACE_PARTS)
 
 
@@ -188,7 +191,7 @@ def main():
     for part in PARTS:
         if part in left_out or (wanted and part.__name__ not in wanted):
             continue
-        if part is try_openings:
+        if part in SHARED_PARTS:
             part(program, folder, int(step), int(first))
         else:
             part(program, folder)

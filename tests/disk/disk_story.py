@@ -43,13 +43,16 @@ def in_time(row, process):
 
 
 class Desk:
-    """A program that answers messages over a file, one after another. The log, if there is one, is
-    that of strace, which makes some of its calls fail."""
+    """A program that answers messages over a file, one after another; in memory, if there is no
+    file. The log, if there is one, is that of strace, which makes some of its calls fail. The
+    messages are those that it is told, with their replies."""
 
-    def __init__(self, program, file, row, most=None, front=(), log=None):
-        words = [*front, program, "pipe", "--at", str(B), "--step", "0", "--db", file]
+    def __init__(self, program, file, row, most=None, front=(), log=None, messages=MESSAGES):
+        words = [*front, program, "pipe", "--at", str(B), "--step", "0"]
+        if file is not None:
+            words += ["--db", file]
         first = None if most is None else lambda: limits_writes(most)
-        self.row, self.log, self.replies = row, log, []
+        self.row, self.log, self.messages, self.replies = row, log, messages, []
         self.process = subprocess.Popen(
             words, stdin=subprocess.PIPE, stdout=subprocess.PIPE, stderr=subprocess.PIPE,
             preexec_fn=first, start_new_session=True)
@@ -60,10 +63,14 @@ class Desk:
             self.replies.append(reply_of(self.process, message))
         return self.replies[-1]
 
+    def fill(self, most):
+        """From now on the disk takes so many bytes of a file."""
+        limits = (most, resource.RLIM_INFINITY)
+        resource.prlimit(self.process.pid, resource.RLIMIT_FSIZE, limits)
+
     def lift(self):
         """The disk is not full any more."""
-        most = (resource.RLIM_INFINITY, resource.RLIM_INFINITY)
-        resource.prlimit(self.process.pid, resource.RLIMIT_FSIZE, most)
+        self.fill(resource.RLIM_INFINITY)
 
     def failed_calls(self):
         """How many of its calls failed so far."""
@@ -74,7 +81,7 @@ class Desk:
 
     def want(self, at, when):
         """The desk answers this message of the story as it must."""
-        message, wanted = MESSAGES[at]
+        message, wanted = self.messages[at]
         found = self.ask(message)
         if found != wanted:
             fail(f"{self.row}: {when} the reply to message {at + 1} is {found}")
@@ -171,14 +178,14 @@ def tell_whole(desk):
 def tell_until_fault(desk, first=0):
     """Tells the story from this message on until one gets 503, or the desk has ended and answers
     nothing. Returns the message that did not get its reply, and whether it got 503."""
-    for at in range(first, len(MESSAGES)):
-        message, wanted = MESSAGES[at]
+    for at in range(first, len(desk.messages)):
+        message, wanted = desk.messages[at]
         found = desk.ask(message)
         if found == REFUSED or desk.replies == [b""]:
             return at, found == REFUSED
         if found != wanted:
             fail(f"{desk.row}: the reply to message {at + 1} is {found}")
-    return len(MESSAGES), False
+    return len(desk.messages), False
 
 
 def standing_after_503(desk, wanted):
@@ -189,11 +196,11 @@ def standing_after_503(desk, wanted):
     return found
 
 
-def tell_failing(desk, well, is_full=False):
-    """Tells the story while the disk fails, and goes on after the first 503; a disk that was full
-    has room then. Returns how many messages may be settled: those that were answered, and one more
-    if the desk gives up the book, and so ends with 503 alone."""
-    at, is_refused = tell_until_fault(desk)
+def tell_failing(desk, well, is_full=False, first=0):
+    """Tells the story from this message on while the disk fails, and goes on after the first 503; a
+    disk that was full has room then. Returns how many messages may be settled: those that were
+    answered, and one more if the desk gives up the book, and so ends with 503 alone."""
+    at, is_refused = tell_until_fault(desk, first)
     if is_refused:
         if is_full:
             desk.lift()
@@ -208,7 +215,7 @@ def tell_failing(desk, well, is_full=False):
 
 def went_on(desk, counts):
     """It answered 503, and then the rest of the story."""
-    return REFUSED in desk.replies and counts == [len(MESSAGES)]
+    return REFUSED in desk.replies and counts == [len(desk.messages)]
 
 
 def tell_after(program, file, row, well, counts):

@@ -118,14 +118,13 @@ def trace_story(program, file, log):
     tell_whole(Desk(program, file, "a traced desk", front=front))
 
 
-def settled_at(told):
-    """How many messages may be settled when so many bytes of replies went out: those that are
-    answered, and the next one."""
-    answered = 0
-    while answered < len(MESSAGES) and told >= len(MESSAGES[answered][1]):
-        told -= len(MESSAGES[answered][1])
+def settled_at(told, messages=MESSAGES, answered=0):
+    """How many messages may be settled when so many bytes of replies went out, behind those to the
+    messages that were answered before: those that are answered, and the next one."""
+    while answered < len(messages) and told >= len(messages[answered][1]):
+        told -= len(messages[answered][1])
         answered += 1
-    return list(range(answered, min(answered + 1, len(MESSAGES)) + 1))
+    return list(range(answered, min(answered + 1, len(messages)) + 1))
 
 
 def write_image(file, image):

@@ -51,7 +51,8 @@ left_out_without() {
         cc) echo "cc: refused allocations (tests/allocations/run)" ;;
         strace) echo "strace: calls that fail (tests/cli/run, tests/disk/run, tests/migrate/run," \
             "tests/client/run), power cuts (the last three), a client and a desk killed at each" \
-            "call (tests/client/run), and how much a desk writes at once (tests/listener/run)" ;;
+            "call (tests/client/run), how much a desk writes at once (tests/listener/run), and" \
+            "backups, pages and copies in turn (tests/files/run)" ;;
         sqlite3) echo "sqlite3: what it reads in a desk's file, and files that it changed" \
             "(tests/tables/run, tests/files/run)" ;;
         curl) echo "curl: its long request (tests/listener/run), and docs/API.md's session" \

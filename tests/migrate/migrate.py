@@ -3,6 +3,7 @@ they become, stops.py stops the program in between. The comment at the top of te
 what is tried."""
 import os
 import re
+import shutil
 import subprocess
 import sys
 from contextlib import closing
@@ -188,9 +189,8 @@ def try_no_desk(program, folder):
     for words in ((), ("--dry-run",)):
         want("no file", migrate(program, file, *words), refused("file"))
         want("no file: what is made", os.listdir(place), [])
-    # Of a folder no copy can be made.
     want("a folder", migrate(program, place), refused("storage"))
-    want("a folder, dry run", migrate(program, place, "--dry-run"), refused("file"))
+    want("a folder, dry run", migrate(program, place, "--dry-run"), refused("storage"))
     for kind, text, word in (("a text", "a text, longer than the first bytes of one\n", "storage"),
                              ("an empty file", "", "other-schema")):
         with open(file, "w", encoding="ascii") as written:
@@ -235,18 +235,50 @@ def try_in_use(program, folder):
     found = contents(file)
     with closing(connect(file)) as user:
         user.execute("SELECT count(*) FROM kept").fetchall()
-        want("in use", migrate(program, file), refused("in-use"))
-        want("in use: what it leaves", contents(file), found)
+        for words in ((), ("--dry-run",)):
+            want(f"in use {words}", migrate(program, file, *words), refused("in-use"))
+            want(f"in use {words}: what it leaves", contents(file), found)
     want("not in use any more", migrate(program, file), printed("migrated"))
     with subprocess.Popen([program, "serve", "--listen", "127.0.0.1:0", "--db", file],
                           stdout=subprocess.PIPE, stderr=subprocess.PIPE) as desk:
         try:
             want("a desk that listens", desk.stdout.readline()[:10], b"listening ")
-            want("a desk's", migrate(program, file), refused("in-use"))
+            for words in ((), ("--dry-run",)):
+                want(f"a desk's {words}", migrate(program, file, *words), refused("in-use"))
         finally:
             desk.kill()
     want("the desk has ended", migrate(program, file), printed("current"))
     remove(file)
+
+
+def try_same_looks(program, folder):
+    """What `migrate` refuses before it writes, a dry run refuses too: a file with another hard link,
+    a rollback journal or something else of its name beside it. Both leave all as it was."""
+    place = os.path.join(folder, "looks")
+    os.mkdir(place)
+    file = os.path.join(place, "looked")
+    for row, begin in (("a hard link", lambda: os.link(file, file + ".link")),
+                       ("a rollback journal", lambda: write_journal(file + "-journal")),
+                       ("a folder for a journal", lambda: os.mkdir(file + "-journal"))):
+        make_first(file, "story")
+        begin()
+        before, names = bytes_of(file), sorted(os.listdir(place))
+        for words in ((), ("--dry-run",)):
+            want(f"{row} {words}", migrate(program, file, *words), refused("storage"))
+            want(f"{row} {words}: its bytes", bytes_of(file) == before, True)
+            want(f"{row} {words}: what is there", sorted(os.listdir(place)), names)
+        shutil.rmtree(place)
+        os.mkdir(place)
+    make_first(file, "story")
+    names = sorted(os.listdir(place))
+    want("no look refuses", migrate(program, file, "--dry-run"), printed("would-migrate"))
+    want("no look refuses: what is there", sorted(os.listdir(place)), names)
+    shutil.rmtree(place)
+
+
+def write_journal(name):
+    with open(name, "wb") as journal:
+        journal.write(bytes.fromhex("d9d505f920a163d7") + bytes(504))
 
 
 def try_full_output(program, folder):
@@ -266,8 +298,8 @@ def try_full_output(program, folder):
 
 
 def main():
-    parts = (try_reports, try_refusals, try_no_desk, try_in_use, try_full_output, try_terminal,
-             try_changed, try_files, try_full_disk, *STRACE_PARTS)
+    parts = (try_reports, try_refusals, try_no_desk, try_in_use, try_same_looks, try_full_output,
+             try_terminal, try_changed, try_files, try_full_disk, *STRACE_PARTS)
     program, folder, *wanted = sys.argv[1:]
     unknown = set(wanted) - {part.__name__ for part in parts}
     if unknown:

@@ -30,7 +30,7 @@ def run(words, row, **more):
 
 def make_desk(program, file, row, desk):
     """A desk's file, whose requests are all accepted."""
-    words = [program, "pipe", "--at", str(stories.AT), "--step", str(desk.step), "--db", file]
+    words = [program, "pipe", "--at", str(desk.at), "--step", str(desk.step), "--db", file]
     replies = run(words, row, input=desk.stream())
     accepted = replies.count(b"HTTP/1.1 200 OK\r\n")
     if accepted != len(desk.messages):
@@ -91,7 +91,7 @@ def look_at_values(values, root, row):
         names = article.first("span", "attempt").text().split(" → ")
         shown[article.attributes["id"]] = (article.first("span", "badge").text(), *names)
     for table in root.all("table", "done"):
-        for line in [row for row in table.all("tr") if "id" in row.attributes]:
+        for line in [row for row in table.inside if "id" in row.attributes]:
             cells = [cell.text() for cell in line.inside]
             shown[cells[0]] = (cells[1], cells[2], cells[2])
     told = {name: (value["status"], value["stable"], value["version"])
@@ -110,7 +110,7 @@ def try_case(program, folder, case):
         page = drawn.read()
     if without_now(page) != without_now(run([program, "page", "--db", file, "-"], name)):
         fail(f"{name}: another page on standard output")
-    if os.path.exists(out + ".part"):
+    if parts_of(out):
         fail(f"{name}: a part of a page is left")
     root = look(page, name)
     tidy(page, name)
@@ -118,9 +118,20 @@ def try_case(program, folder, case):
     look_at_values(run([program, "status", "--json", "--db", file], name), root, name)
 
 
+def parts_of(out):
+    """What stands beside a page and begins with its name."""
+    folder, name = os.path.split(out)
+    return [found for found in os.listdir(folder) if found.startswith(name + ".")]
+
+
+# Controls (C0, DEL, C1), the ends of lines and paragraphs, and what turns the direction of a text
+# (UAX #9).
+MARKS = "[\x00-\x1f\x7f-\x9f\u061c\u200e\u200f\u2028-\u202e\u2066-\u2069]"
+
+
 def shown_text(text):
-    """A text as a page shows it."""
-    return re.sub("[\x00-\x1f\x7f]", "\ufffd", text)
+    """The text of a failure as a page shows it: a mark is \\u and four hexadecimal digits."""
+    return re.sub(MARKS, lambda mark: f"\\u{ord(mark[0]):04x}", text)
 
 
 def try_breaking(program, folder):
@@ -133,8 +144,76 @@ def try_breaking(program, folder):
     told = [title.split(": ", 1)[1] for title in titles]
     if told != wanted:
         fail(f"breaking: points say {told}, in place of {wanted}")
-    if re.search(rb"[\x00-\x09\x0b-\x1f\x7f]", page):
-        fail("breaking: a control byte in the page")
+    if re.search(MARKS, page.decode().replace("\n", "")):
+        fail("breaking: a mark in the page")
+
+
+def try_many(program, folder):
+    """The page of 200 services begins with an index: first the 40 that wait, as the page has them."""
+    file = os.path.join(folder, "many.db")
+    make_desk(program, file, "many", stories.many())
+    page = run([program, "page", "--db", file, "-"], "many")
+    root = look(page, "many")
+    tidy(page, "many")
+    told = [line for line in outline(root) if line.startswith(("index", "  link", "part", "card"))]
+    kinds = [stories.MANY[number % 20] for number in range(200)]
+    named = {kind: [f"s{number:03}-{kind}" for number in range(200) if kinds[number] == kind]
+             for kind in kinds}
+    waits = ("aborted", "held", "late", "pause")
+    waiting = [(name, kind) for kind in waits for name in named[kind]]
+    wanted = ["index Waits for somebody (40)", *(f"  link {name} {kind}" for name, kind in waiting),
+              "index Goes on by itself (60)", *(f"  link {name}" for name in named["goes"]),
+              "index Done (100)", *(f"  link {name}" for name in named["done"])]
+    if told[:len(wanted)] != wanted:
+        fail(f"many: the index is {told[:60]}")
+    drawn = [line.split(" ")[1] for line in told[len(wanted):] if line.startswith("card")]
+    if drawn != [name for name, _ in waiting] + named["goes"]:
+        fail(f"many: the cards are {drawn}")
+    if root.first("main").inside[1].tag != "nav":
+        fail("many: the page does not begin with the index")
+
+
+def try_twenty(program, folder):
+    """The page of 20 services has no index, and that of 21 has one."""
+    for count in (20, 21):
+        desk = stories.Desk()
+        for number in range(count):
+            desk.service(f"s{number}", "v1", [])
+        file = os.path.join(folder, f"{count}.db")
+        make_desk(program, file, f"{count} services", desk)
+        root = look(run([program, "page", "--db", file, "-"], "twenty"), "twenty")
+        if bool(root.first("nav")) != (count > 20):
+            fail(f"{count} services: an index: {bool(root.first('nav'))}")
+
+
+def at_second(moment):
+    return time.strftime("%H:%M:%S", time.gmtime(moment))
+
+
+def try_silence(program, folder):
+    """As the clock goes on, and nobody measures: what is under way waits for somebody, and what is
+    done says that nothing was measured."""
+    file = os.path.join(folder, "silence.db")
+    at = int(time.time()) - 3600
+    make_desk(program, file, "silence", stories.silence(at))
+    root = look(run([program, "page", "--db", file, "-"], "silence"), "silence")
+    told = list(outline(root))
+    parts = [line for line in told if line.startswith(("part", "card", "row"))]
+    wanted = ["part Waits for somebody (1)", "card under-way Paused v1 → v2 50%",
+              "part Goes on by itself (0)", "part Done (1)"]
+    if parts[:4] != wanted or not parts[5].startswith("row done | Healthy | v2 | 100%"):
+        fail(f"silence: {parts}")
+    late = [line for line in told if line.startswith("  late")]
+    since = ("  late Late: measurement 1 of errors, run 1 of the background, due since "
+             f"{at_second(at + 4)} (")
+    if len(late) != 1 or not late[0].startswith(since):
+        fail(f"silence: {late} in place of {since}")
+    ended = [line for line in told if "without a measurement" in line]
+    run_words = f"Run 1 background, errors@1, {at_second(at + 2)} to {at_second(at + 42)}"
+    if len(ended) != 2 or "; 1 run, 1 without a measurement" not in ended[0] or not (
+            ended[1].strip().startswith(run_words)
+            and ended[1].endswith("Successful ended without a measurement")):
+        fail(f"silence: {ended}")
 
 
 def try_watch(program, folder):
@@ -179,7 +258,7 @@ def try_faults(program, folder):
         if done.returncode != 1 or done.stderr != f"canary: {fault}\n".encode() or done.stdout:
             fail(f"page {words}: status {done.returncode}, {done.stderr}")
     with open(out, encoding="utf-8") as kept:
-        if kept.read() != "kept" or os.path.exists(out + ".part") or os.path.exists(missing):
+        if kept.read() != "kept" or parts_of(out) or os.path.exists(missing):
             fail("a fault changed a file")
 
 
@@ -193,6 +272,9 @@ def main(program, folder, names):
             try_case(program, folder, case)
     if not names:
         try_breaking(program, folder)
+        try_many(program, folder)
+        try_twenty(program, folder)
+        try_silence(program, folder)
         try_watch(program, folder)
         try_faults(program, folder)
     print(f"page: {len(names or known)} desks drawn", file=sys.stderr)

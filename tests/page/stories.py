@@ -9,8 +9,8 @@ AT = 7952342400
 class Desk:
     """A stream of requests, the clock of which goes on by so many seconds a message."""
 
-    def __init__(self, step=10):
-        self.step, self.now, self.messages = step, AT, []
+    def __init__(self, step=10, at=AT):
+        self.step, self.at, self.now, self.messages = step, at, at, []
         self.numbers, self.ordinals = {}, {}
 
     def put(self, caller, command):
@@ -147,6 +147,7 @@ BREAKING = [
     "&lt;b&gt; &amp; &#60;",
     "a\u0000b\u0007c\u001bd\u007fe\r\n\tf",
     "\u202eabc\u2066def\u200f",
+    "\u061ca\u0080b\u009b31mc\u2028d\u2029e",
     "\U0001f600" * 50,
     "]]><!-- --!>",
     "{{7*7}} ${7*7} javascript:alert(1)",
@@ -197,4 +198,142 @@ def thinned():
     return desk
 
 
-CASES = [nothing, states, outcomes, breaking, widest, thinned]
+def lists():
+    """Results that are lists, as a query of Prometheus returns them, by the places that conditions
+    name: each has its own limits, and numbers on either side of a comparison."""
+    desk = Desk()
+    desk.template("one", metric("rate", count=99, failureLimit=9, successCondition="result[0] >= 95"))
+    desk.template("two", metric("pair", count=99, failureLimit=9, inconclusiveLimit=9,
+                                successCondition="result[1] > 2 && result[0] < 5",
+                                failureCondition="9 <= result[0] || result[1] == -4"))
+    desk.template("far", metric("same", count=99, failureLimit=9,
+                                successCondition="result[2] > result[10] or result [ 2 ]== 1"))
+    wide = " or ".join(f"result[{place}] == {place}" for place in range(10))
+    desk.template("wide", metric("ten", count=99, failureLimit=9, successCondition=wide))
+    for name in ("one", "two", "far", "wide"):
+        desk.service(name, "v1", [analysis(name)])
+        desk.start(name, "v2")
+    desk.report("one", 1, "rate", [97], [12, 99], [98])
+    desk.report("two", 1, "pair", [1, 3], [9, 7], [7, 3], [4], "no route to host")
+    desk.report("far", 1, "same", [1, 1, 1], [0, 0, 7, 0, 0, 0, 0, 0, 0, 0, 3])
+    desk.report("wide", 1, "ten", [5, 1, 2, 3, 4, 5, 6, 7, 8, 9])
+    return desk
+
+
+def late():
+    """Measurements that are late, each at another state of its release, and some that are not."""
+    desk = Desk()
+    desk.template("errors", metric("errors", interval="10s", successCondition="result < 5"))
+    desk.template("slow", metric("slow", interval="10s", initialDelay="1h", count=2))
+    desk.template("once", {"name": "once"})
+    desk.template("both", metric("ended", interval="10s", count=1),
+                  metric("open", interval="10s", count=5),
+                  metric("hourly", interval="1h", count=2))
+    background = {"templates": [{"templateName": "errors"}]}
+    # beside a pause for a time
+    desk.service("aa-timed", "v1", [weight(30), pause("2h"), weight(60)], background)
+    desk.start("aa-timed", "v2")
+    desk.command("tick", "aa-timed")
+    desk.command("tick", "aa-timed")
+    # due for as long as its interval, and no longer
+    desk.service("bb-due", "v1", [weight(30), pause("2h"), weight(60)], background)
+    desk.start("bb-due", "v2")
+    desk.command("tick", "bb-due")
+    # measured once, and then no more
+    desk.service("cc-silent", "v1", [weight(30), pause("2h"), weight(60)], background)
+    desk.start("cc-silent", "v2")
+    desk.report("cc-silent", 1, "errors", 3)
+    for _ in range(3):
+        desk.command("tick", "cc-silent")
+    # beside a pause without an end
+    desk.service("dd-pause", "v1", [weight(30), pause()], background)
+    desk.start("dd-pause", "v2")
+    for _ in range(2):
+        desk.command("tick", "dd-pause")
+    # at a step, one of three metrics
+    desk.service("ee-step", "v1", [weight(30), analysis("both"), weight(60)])
+    desk.start("ee-step", "v2")
+    desk.report("ee-step", 1, "ended", 1)
+    desk.command("tick", "ee-step")
+    # not due yet
+    desk.service("ff-delay", "v1", [weight(30), analysis("slow")])
+    desk.start("ff-delay", "v2")
+    for _ in range(3):
+        desk.command("tick", "ff-delay")
+    # without an interval
+    desk.service("gg-once", "v1", [weight(30), analysis("once")])
+    desk.start("gg-once", "v2")
+    for _ in range(2):
+        desk.command("tick", "gg-once")
+    return desk
+
+
+def ended():
+    """Attempts that ended, within 24 hours and before: with measurements and without any."""
+    desk = Desk(step=28000)
+    desk.template("errors", metric("errors", interval="7h", successCondition="result < 5"))
+    background = {"templates": [{"templateName": "errors"}]}
+    steps = [weight(30), pause("10s")]
+    # done at 0 measurements, more than 24 hours ago, and within them
+    desk.service("aa-silent", "v1", steps, background)
+    desk.start("aa-silent", "v2")
+    desk.command("tick", "aa-silent")
+    desk.service("bb-old", "v1", steps, background)
+    desk.start("bb-old", "v2")
+    for _ in range(4):
+        desk.command("tick", "bb-old")
+    # three attempts, of which the first one ended before
+    desk.service("cc-again", "v1", [weight(30), pause()], background)
+    desk.start("cc-again", "v2")
+    desk.report("cc-again", 1, "errors", 7)
+    desk.command("retry", "cc-again")
+    desk.report("cc-again", 2, "errors", 1, 8)
+    desk.command("retry", "cc-again")
+    desk.command("abort", "cc-again")
+    desk.start("cc-again", "v3")
+    return desk
+
+
+def many():
+    """200 services, of which 40 wait: 10 aborted, 10 held, 10 late, 10 at a pause with no end."""
+    desk = Desk(step=1)
+    desk.template("errors", metric("errors", interval="1s", count=9, successCondition="result > 5",
+                                   failureCondition="result < 2"))
+    background = {"templates": [{"templateName": "errors"}]}
+    for number in range(200):
+        kind = MANY[number % 20]
+        name = f"s{number:03}-{kind}"
+        watched = background if kind in ("held", "late") else None
+        end = "1s" if kind == "done" else None if kind in ("pause", "aborted") else "2h"
+        desk.service(name, "v1", [weight(10), pause(end)], watched)
+        desk.start(name, "v2")
+        if kind == "held":
+            desk.report(name, 1, "errors", 3)
+        if kind == "aborted":
+            desk.command("abort", name)
+        if kind == "late":
+            desk.command("tick", name)
+        if kind in ("late", "done"):
+            desk.command("tick", name)
+    return desk
+
+
+# What becomes of each twenty of these services.
+MANY = ["done"] * 3 + ["late"] + ["goes"] * 4 + ["pause"] + ["done"] * 7
+MANY += ["aborted"] + ["goes"] * 2 + ["held"]
+
+
+def silence(at):
+    """A background analysis beside timed pauses, and an agent that is dead. One release is done,
+    with not one measurement; the other one is under way."""
+    desk = Desk(step=1, at=at)
+    desk.template("errors", metric("errors", interval="30s", successCondition="result < 5"))
+    background = {"templates": [{"templateName": "errors"}]}
+    desk.service("done", "v1", [weight(10), pause("20s"), weight(50), pause("20s")], background)
+    desk.start("done", "v2")
+    desk.service("under-way", "v1", [weight(10), pause("20s"), weight(50), pause("2h")], background)
+    desk.start("under-way", "v2")
+    return desk
+
+
+CASES = [nothing, states, outcomes, breaking, widest, thinned, lists, late, ended]

@@ -1,4 +1,4 @@
-conditions 221
+conditions 236
 
 # Conditions of success and failure, a result and its phase.
 phases
@@ -223,10 +223,24 @@ result == nil => result == 0
 result ?? 0 < 5 => result < 5
 default(result, 0) < 5 => result < 5
 
+instead leave it out: an agent that has no value reports a failure
+len(result) == 0 || result[0] < 5 => result[0] < 5
+len( result ) ==0 or result[0] < 5 => result[0] < 5
+isNaN(result) || result < 5 => result < 5
+isNaN (result[0])||result[0] < 5 => result[0] < 5
+(isNaN(result) || result < 5) && result > 0 => (result < 5) && result > 0
+result < 5 || isNaN(result) => result < 5
+result < 5 or len(result) == 0 => result < 5
+(result < 5 || isNaN(result)) && result > 0 => (result < 5) && result > 0
+result > 9 || isNaN(result) || result < 5 => result > 9 || result < 5
+
 instead report a failure if the value is no finite number, and leave isNaN and isInf out
 isNaN(result) => result == 1
 isInf(result) => result == 1
 !isNaN(result) && result > 5 => result > 5
+!isNaN(result) || result > 5 => result > 5
+result > 5 && isNaN(result) || result < 2 => result < 2
+isNaN(result) && result > 5 => result > 5
 
 instead write result for asInt(result): a result is a whole number
 asInt(result) < 5 => result < 5
@@ -234,6 +248,9 @@ asFloat(result[0]) < 5 => result[0] < 5
 
 instead report the length, and write result == 2 for len(result) == 2
 len(result) == 2 => result == 2
+len(result) == 01 || result < 5 => result < 5
+len(result) != 0 || result < 5 => result < 5
+len(result) == 0 && result < 5 => result < 5
 
 instead write brackets round comparisons alone: result > 5 for (result) > 5
 (result) > 5 => result > 5

@@ -1,4 +1,4 @@
-manifests 127
+manifests 175
 
 # Texts.
 between ...
@@ -20,6 +20,21 @@ between ...
 {"promote":{"service":"web"}} => kind: expected AnalysisTemplate or Rollout
      |     instead: check the body of a request by canary check --request FILE
 {"kind":null} => kind: expected AnalysisTemplate or Rollout
+{"metadata":{"name":"t"},"spec":{"metrics":[{"name":"m"}]}} => ok
+{"metadata":{"name":"web"},"spec":{"strategy":{"canary":{}}}} => ok
+{"kind":null,"metadata":{"name":"t"},"spec":{"metrics":[{"name":"m"}],"strategy":null}} => ok
+{"metadata":{"name":"T"},"spec":{"metrics":[]}} =>
+     metadata.name: expected 1 to 63 bytes of a-z 0-9 -, the first and the last no - |
+     spec.metrics: expected a list of 1 to 32 metrics
+{"spec":{"strategy":{"canary":{"steps":[{"setWeight":101}]}}}} =>
+     metadata.name: missing; expected 1 to 63 bytes of a-z 0-9 -, the first and the last no - |
+     spec.strategy.canary.steps[0].setWeight: expected a whole number, 0 to 100
+{"metadata":{"name":"t"},"spec":{"metrics":[{"name":"m"}],"strategy":{"canary":{}}}} =>
+     kind: expected AnalysisTemplate or Rollout
+     |     instead: write its kind: metrics are an AnalysisTemplate's, a strategy is a Rollout's
+{"kind":"Deployment","metadata":{"name":"web"},"spec":{"strategy":{"canary":{}}}} =>
+     kind: expected AnalysisTemplate or Rollout
+{"metadata":{"name":"t"},"spec":{"metrics":null}} => kind: expected AnalysisTemplate or Rollout
 [{"kind":"Rollout"}] => kind: expected AnalysisTemplate or Rollout
 {"kind":} => near line 1, column 9: expected JSON in UTF-8,
      with arrays and objects nested at most 127 deep
@@ -48,8 +63,10 @@ between {"kind":"AnalysisTemplate","metadata":{"name":"t"},"spec":{ ... }}
 "metrics":[{"name":"m"}],"dryRun":"m" => spec.dryRun: expected a list of objects with metricName
 "metrics":[{"name":"m"}],"templates":[{"templateName":"a"}],"measurementRetention":[] =>
      spec.templates: expected none or an empty list (others are unsupported)
+     |     instead: name each template in the analysis of the Rollout
 "metrics":[{"name":"m"}],"measurementRetention":{} =>
      spec.measurementRetention: expected none or an empty list (others are unsupported)
+     |     instead: leave it out: the desk keeps every measurement
 "metrics":[{"name":"m","interval":60},5] => spec.metrics[0].interval (metric "m"):
      expected a duration in a text, as 90s or 1h30m, up to 8760h |
      spec.metrics[1].name: missing; expected 1 to 63 bytes of A-Z a-z 0-9 . _ -
@@ -142,7 +159,8 @@ between {"kind":"Rollout","metadata":{"name":"web"},"spec":{ ... }}
      spec.strategy.canary.analysis.templates: expected each template once
 "strategy":{"canary":{"analysis":{"dryRun":[{}],"templates":[{"templateName":"A"},
     {"templateName":"b","clusterScope":true}]}}} =>
-     spec.strategy.canary.analysis.dryRun: expected none or an empty list (others are unsupported) |
+     spec.strategy.canary.analysis.dryRun: expected none or an empty list (others are unsupported)
+     |     instead: write dryRun in the spec of the AnalysisTemplate |
      spec.strategy.canary.analysis.templates[0].templateName: expected 1 to 63 bytes of a-z 0-9 -,
      the first and the last no - |
      spec.strategy.canary.analysis.templates[1].clusterScope:
@@ -152,6 +170,10 @@ between {"kind":"Rollout","metadata":{"name":"web"},"spec":{ ... }}
      expected 1 to 63 bytes of a-z 0-9 -, the first and the last no - |
      spec.strategy.canary.analysis.templates[1].templateName: missing;
      expected 1 to 63 bytes of a-z 0-9 -, the first and the last no -
+"strategy":{"canary":{"analysis":{"measurementRetention":[{"metricName":"m","limit":5}],
+    "templates":[{"templateName":"a"}]}}} => spec.strategy.canary.analysis.measurementRetention:
+     expected none or an empty list (others are unsupported)
+     |     instead: leave it out: the desk keeps every measurement
 "strategy":{"canary":{"analysis":{}}} =>
      spec.strategy.canary.analysis.templates: expected a list of 1 to 8 objects with templateName
 "strategy":{"canary":{}},"x":<<123*[>><<123*]>> => ok
@@ -232,17 +254,51 @@ begins
 between ...
 apiVersion: argoproj.io/v1alpha1 => near line 1, column 1: expected JSON in UTF-8,
      with arrays and objects nested at most 127 deep
-     |     instead: make JSON of YAML, by yq -o=json FILE
+     |     instead: make JSON of YAML, by yq -o=json FILE (yq 4), or with
+     Debian's python3-yaml by python3 -c 'import json, sys, yaml;
+     print(json.dumps(yaml.safe_load(sys.stdin), default=str))' < FILE
 <<x:0a>>kind: Rollout => near line 2, column 1: expected JSON in UTF-8,
      with arrays and objects nested at most 127 deep
-     |     instead: make JSON of YAML, by yq -o=json FILE
+     |     instead: make JSON of YAML, by yq -o=json FILE (yq 4), or with
+     Debian's python3-yaml by python3 -c 'import json, sys, yaml;
+     print(json.dumps(yaml.safe_load(sys.stdin), default=str))' < FILE
 <<x:efbbbf>>{"kind":"Rollout"} => near line 1, column 1: expected JSON in UTF-8,
      with arrays and objects nested at most 127 deep
      |     instead: save the file in UTF-8 without a byte order mark
 
 ends ...
----<<x:0a>>kind: Rollout =>  |     instead: make JSON of YAML, by yq -o=json FILE
-<<x:23>> A template<<x:0a>>kind: AnalysisTemplate =>  |     instead: make JSON of YAML, by yq -o=json FILE
+---<<x:0a>>kind: Rollout =>  |
+         instead: make JSON of YAML, by yq -o=json FILE (yq 4), or with
+     Debian's python3-yaml by python3 -c 'import json, sys, yaml;
+     print(json.dumps(yaml.safe_load(sys.stdin), default=str))' < FILE
+<<x:23>> A template<<x:0a>>kind: AnalysisTemplate =>  |
+         instead: make JSON of YAML, by yq -o=json FILE (yq 4), or with
+     Debian's python3-yaml by python3 -c 'import json, sys, yaml;
+     print(json.dumps(yaml.safe_load(sys.stdin), default=str))' < FILE
+---<<x:0a>>kind: Rollout<<x:0a>>---<<x:0a>>kind: Rollout<<x:0a>> =>  |
+         instead: make JSON of one document at a time, as of the first by
+     yq -o=json 'select(di == 0)' FILE (yq 4), or with Debian's python3-yaml by
+     python3 -c 'import json, sys, yaml;
+     print(json.dumps(list(yaml.safe_load_all(sys.stdin))[0], default=str))' < FILE
+kind: Rollout<<x:0a>>---<<x:0a>>kind: Service =>  |
+         instead: make JSON of one document at a time, as of the first by
+     yq -o=json 'select(di == 0)' FILE (yq 4), or with Debian's python3-yaml by
+     python3 -c 'import json, sys, yaml;
+     print(json.dumps(list(yaml.safe_load_all(sys.stdin))[0], default=str))' < FILE
+<<x:23>> Two<<x:0a0a>>---<<x:0a>>kind: Rollout<<x:0a>>---<<x:0a>> =>  |
+         instead: make JSON of one document at a time, as of the first by
+     yq -o=json 'select(di == 0)' FILE (yq 4), or with Debian's python3-yaml by
+     python3 -c 'import json, sys, yaml;
+     print(json.dumps(list(yaml.safe_load_all(sys.stdin))[0], default=str))' < FILE
+kind: Rollout<<x:0a>>spec:<<x:0a>>  note: a --- b<<x:0a>> =>  |
+         instead: make JSON of YAML, by yq -o=json FILE (yq 4), or with
+     Debian's python3-yaml by python3 -c 'import json, sys, yaml;
+     print(json.dumps(yaml.safe_load(sys.stdin), default=str))' < FILE
+{"kind":"Rollout"}<<x:0a>>{"kind":"Rollout"} =>  |     instead: check one document at a time:
+     each manifest is a file of its own
+{<<x:0a>>}<<x:0a>>---<<x:0a>>{<<x:0a>>} =>  |     instead: check one document at a time:
+     each manifest is a file of its own
+{<<x:0a>>  {<<x:0a>>} => with arrays and objects nested at most 127 deep
 <<x:fffe>>{<<x:00>> =>  |     instead: save the file in UTF-8 without a byte order mark
 {"kind":"Rollout"}} => with arrays and objects nested at most 127 deep
 
@@ -273,6 +329,145 @@ warns {"kind":"AnalysisTemplate","metadata":{"name":"t"},"spec":{"metrics":[ ...
 {"name":"a","successCondition":"result > 5"} => nothing
 {"name":"m","successCondition":"result > 5","x":"<<65536*x>>"} => canary: warning: manifest:
      65660 bytes, and the body of a request has at most 65,536
+
+# Rollouts that time alone brings to 100 percent, and others.
+warns {"kind":"Rollout","metadata":{"name":"web"},"spec":{"strategy":{"canary":{"steps":[ ... ]}}}}
+{"setWeight":20},{"pause":{"duration":"1h"}},{"setWeight":40},{"pause":{"duration":10}},
+    {"setWeight":60},{"pause":{"duration":10}},{"setWeight":80},{"pause":{"duration":10}} =>
+     canary: warning: spec.strategy.canary.steps: no step after weight 20 waits for anybody:
+     a version reaches 100 % even if nothing is measured:
+     put an analysis step, or pause: {}, before setWeight 40
+{"setWeight":20},{"pause":{}},{"setWeight":40},{"pause":{"duration":10}} => nothing
+{"setWeight":20},{"pause":{"duration":10}},{"setWeight":40},
+    {"analysis":{"templates":[{"templateName":"a"}]}} => nothing
+{"setWeight":20},{"pause":{"duration":10}},{"setWeight":99},{"pause":{}},{"setWeight":100} =>
+     nothing
+{"pause":{}},{"setWeight":0},{"pause":{}},{"setWeight":1},{"pause":{"duration":"1s"}} =>
+     canary: warning: spec.strategy.canary.steps: no step after weight 1 waits for anybody:
+     a version reaches 100 % even if nothing is measured:
+     put an analysis step, or pause: {}, at the end
+{"setWeight":20},{"pause":{"duration":0}},{"setWeight":100},{"pause":{}} =>
+     canary: warning: spec.strategy.canary.steps: no step between weight 20 and weight 100 waits for
+     anybody:
+     a version reaches 100 % even if nothing is measured:
+     put an analysis step, or pause: {}, before setWeight 100
+{"pause":{}},{"setWeight":100},{"pause":{}} =>
+     canary: warning: spec.strategy.canary.steps: no step between a weight above 0 and weight
+     100 waits for anybody:
+     a version reaches 100 % even if nothing is measured:
+     put a smaller setWeight, and an analysis step, or pause: {}, before setWeight 100
+ => canary: warning: spec.strategy.canary.steps: no step waits for anybody:
+     a version reaches 100 % even if nothing is measured:
+     put a setWeight, and an analysis step, or pause: {}, after it
+{"setWeight":0},{"pause":{"duration":"1h"}} =>
+     canary: warning: spec.strategy.canary.steps: no step waits for anybody:
+     a version reaches 100 % even if nothing is measured:
+     put a setWeight, and an analysis step, or pause: {}, after it
+{"analysis":{"templates":[{"templateName":"a"}]}} => nothing
+{"setWeight":0},{"pause":{}} => nothing
+
+# Two weights in a row.
+warns {"kind":"Rollout","metadata":{"name":"web"},"spec":{"strategy":{"canary":{"steps":[ ... ]}}}}
+{"setWeight":20},{"setWeight":40},{"pause":{}},{"setWeight":60},{"setWeight":60} =>
+     canary: warning: spec.strategy.canary.steps[1]: a setWeight directly after another:
+     no time passes at weight 20:
+     put a pause or an analysis step between them, or leave the first out
+     | canary: warning: spec.strategy.canary.steps[4]: a setWeight directly after another:
+     no time passes at weight 60:
+     put a pause or an analysis step between them, or leave the first out
+{"setWeight":20},{"setWeight":40} =>
+     canary: warning: spec.strategy.canary.steps[1]: a setWeight directly after another:
+     no time passes at weight 20:
+     put a pause or an analysis step between them, or leave the first out
+     | canary: warning: spec.strategy.canary.steps: no step after weight 20 waits for anybody:
+     a version reaches 100 % even if nothing is measured:
+     put an analysis step, or pause: {}, before setWeight 40
+
+# A background analysis is no step that waits. The first steps are those of Argo's documents on it.
+warns {"kind":"Rollout","metadata":{"name":"web"},"spec":{"strategy":{"canary":{"analysis":{
+    "templates":[{"templateName":"errors"}]},"steps":[ ... ]}}}}
+{"setWeight":20},{"pause":{"duration":"10m"}},{"setWeight":40},{"pause":{"duration":"10m"}},
+    {"setWeight":60},{"pause":{"duration":"10m"}},{"setWeight":80},{"pause":{"duration":"10m"}} =>
+     canary: warning: spec.strategy.canary.steps: no step after weight 20 waits for anybody:
+     a version reaches 100 % even if nothing is measured:
+     put an analysis step, or pause: {}, before setWeight 40
+{"setWeight":20},{"pause":{"duration":"5m"}} =>
+     canary: warning: spec.strategy.canary.steps: no step after weight 20 waits for anybody:
+     a version reaches 100 % even if nothing is measured:
+     put an analysis step, or pause: {}, at the end
+{"setWeight":20},{"pause":{}} => nothing
+
+# Members that mean something in Argo, and nothing here.
+warns {"kind":"Rollout","metadata":{"name":"web"},"spec":{ ... ,
+    "strategy":{"canary":{"steps":[{"pause":{}}]}}}}
+"minReadySeconds":30 => canary: warning: spec.minReadySeconds:
+     the desk ignores it, and waits for no pods:
+     put a pause before the first analysis, or start once the pods are ready
+"progressDeadlineSeconds":600,"progressDeadlineAbort":true =>
+     canary: warning: spec.progressDeadlineSeconds: the desk ignores it, and has no deadline:
+     have a job look for late measurements, and abort
+     | canary: warning: spec.progressDeadlineAbort: the desk ignores it, and no deadline aborts:
+     have a job look for late measurements, and abort
+"rollbackWindow":{"revisions":3} => canary: warning: spec.rollbackWindow:
+     the desk ignores it, and skips no step:
+     to go back, start the old version, and promote it in full
+"minReadySeconds":0,"progressDeadlineSeconds":null,"progressDeadlineAbort":false,"replicas":5,
+    "revisionHistoryLimit":3,"restartAt":"x","workloadRef":{},"selector":{},"template":{},
+    "analysis":{"successfulRunHistoryLimit":10} => nothing
+
+warns {"kind":"Rollout","metadata":{"name":"web"},"spec":{"strategy":{"canary":{ ... ,
+    "steps":[{"pause":{}}]}}}}
+"trafficRouting":{"maxTrafficWeight":1000} =>
+     canary: warning: spec.strategy.canary.trafficRouting.maxTrafficWeight:
+     the desk ignores it, and weights are percent: write each setWeight as a part of 100
+"abortScaleDownDelaySeconds":0 => canary: warning: spec.strategy.canary.abortScaleDownDelaySeconds:
+     the desk ignores it, and scales no pods:
+     keep those of the new version so long after an abort
+"scaleDownDelaySeconds":600 => canary: warning: spec.strategy.canary.scaleDownDelaySeconds:
+     the desk ignores it, and scales no pods:
+     keep those of the old version so long after a release
+"dynamicStableScale":true => canary: warning: spec.strategy.canary.dynamicStableScale:
+     the desk ignores it, and an abort sets weight 0 at once:
+     keep the pods of the stable version until a release is done
+"trafficRouting":{"maxTrafficWeight":100,"nginx":{"stableIngress":"x"}},"scaleDownDelaySeconds":0,
+    "dynamicStableScale":false,"canaryService":"a","stableService":"b","canaryMetadata":{},
+    "stableMetadata":{},"maxSurge":"25%","maxUnavailable":0,"scaleDownDelayRevisionLimit":2,
+    "pingPong":{},"antiAffinity":{},"minPodsPerReplicaSet":2 => nothing
+
+# With --strict each warning is a finding, after the others.
+strict ...
+{"metadata":{"name":"web"},"spec":{"strategy":{"canary":{"steps":[{"setWeight":20},
+    {"pause":{}}]}}}} => ok
+{"metadata":{"name":"web"},"spec":{"rollbackWindow":{},"strategy":{"canary":{"steps":[
+    {"setWeight":20},{"pause":{"duration":"5m"}}]}}}} => spec.rollbackWindow:
+     the desk ignores it, and skips no step:
+     to go back, start the old version, and promote it in full |
+     spec.strategy.canary.steps: no step after weight 20 waits for anybody:
+     a version reaches 100 % even if nothing is measured:
+     put an analysis step, or pause: {}, at the end
+{"metadata":{"name":"web"},"spec":{"rollbackWindow":{},"strategy":{"canary":{"steps":5}}}} =>
+     spec.strategy.canary.steps: expected a list of at most 64 steps |
+     spec.rollbackWindow: the desk ignores it, and skips no step:
+     to go back, start the old version, and promote it in full
+{"metadata":{"name":"t"},"spec":{"metrics":[{"name":"m"}]}} =>
+     spec.metrics[0] (metric "m"): no condition, so each result is Successful
+
+# The body of a request has the same warnings.
+warns-request ...
+{"service":{"version":"v1","manifest":{"metadata":{"name":"web"},"spec":{"rollbackWindow":{},
+    "strategy":{"canary":{"steps":[{"setWeight":20},{"setWeight":30}]}}}}}} =>
+     canary: warning: service.manifest.spec.rollbackWindow: the desk ignores it,
+     and skips no step: to go back, start the old version, and promote it in full
+     | canary: warning: service.manifest.spec.strategy.canary.steps[1]:
+     a setWeight directly after another: no time passes at weight 20:
+     put a pause or an analysis step between them, or leave the first out
+     | canary: warning: service.manifest.spec.strategy.canary.steps: no step after weight 20 waits
+     for anybody: a version reaches 100 % even if nothing is measured:
+     put an analysis step, or pause: {}, before setWeight 30
+{"template":{"metadata":{"name":"t"},"spec":{"metrics":[{"name":"m"}]}}} =>
+     canary: warning: template.spec.metrics[0] (metric "m"): no condition,
+     so each result is Successful
+{"promote":{"service":"web"}} => nothing
 
 # Bodies of requests.
 request ...

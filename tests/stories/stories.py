@@ -330,12 +330,16 @@ def told_pairs(program, rows):
     return len(rows)
 
 
+# The words of `check` for the blocks of some kinds.
+WORDS_OF = {"request": ["--request"], "warns-request": ["--request"], "strict": ["--strict"]}
+
+
 def told_of_manifest(program, kind, file, wanted):
     """What `canary check` says of a manifest, or of the body of a request; or the front or the end
     of it that is as long as what is wanted, or what it warns of."""
-    if kind == "warns":
-        return program.warnings(["check", file])
-    words = ["check", "--request", file] if kind == "request" else ["check", file]
+    words = ["check", *WORDS_OF.get(kind, []), file]
+    if kind.startswith("warns"):
+        return program.warnings(words)
     found = program.run(words, status=0 if wanted == b"ok\n" else 1)
     if kind == "begins":
         return found[:len(wanted)]

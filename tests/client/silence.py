@@ -1,0 +1,344 @@
+"""Silence: releases that nobody measures, a desk that is away, holds, and what the watchdog and the
+workflow of examples/operations do then: parts of client.py."""
+import contextlib
+import json
+import os
+import pathlib
+import re
+import signal
+import subprocess
+import time
+
+from reports import metric
+from world import (
+    DONE, REFUSED, WORDS, Caller, Wrong, add, environment, expect, process, rollout, running, want,
+    wait_until,
+)
+
+HELD = 7
+OPERATIONS = pathlib.Path(__file__).resolve().parents[2] / "examples" / "operations"
+MOMENT = r"\d{4}-\d\d-\d\dT\d\d:\d\d:\d\dZ"
+# What `check` says of steps that nobody stops (docs/API.md).
+UNSTOPPED = "a version reaches 100 % even if nothing is measured"
+
+
+def unstopped(seconds, name="web", weights=(10, 50)):
+    """A service with timed pauses beside a background analysis, and nothing that waits."""
+    steps = [step for weight in weights
+             for step in ({"setWeight": weight}, {"pause": {"duration": f"{seconds}s"}})]
+    return rollout(name, *steps, analysis={"templates": [{"templateName": f"of-{name}"}]})
+
+
+def add_unstopped(desk, seconds, name="web", interval="1s", **more):
+    setup = Caller(desk, f"setup-{name}")
+    setup.send({"template": {"metadata": {"name": f"of-{name}"},
+                             "spec": {"metrics": [metric("errors", interval)]}}})
+    setup.send({"service": {"version": "v1", "manifest": unstopped(seconds, name, **more)}})
+    setup.send({"start": {"service": name, "version": "v2"}})
+    return setup
+
+
+def state(desk, name="web"):
+    return json.loads(desk.ask("get", name).output)
+
+
+def variables(desk, **more):
+    """Those with which examples/operations are run: the program is `canary`."""
+    folder = desk.folder / "bin"
+    if not folder.exists():
+        folder.mkdir()
+        (folder / "canary").symlink_to(desk.world.program)
+    return environment(PATH=f"{folder}:{os.environ['PATH']}", CANARY_DESK=f"127.0.0.1:{desk.port}",
+                       **more)
+
+
+def watchdog(desk, seconds, *services, **more):
+    """Runs the watchdog as cron does."""
+    found = subprocess.run(
+        [OPERATIONS / "watchdog", str(seconds), *services], cwd=desk.folder, timeout=60,
+        env=variables(desk, CANARY_JOURNAL=str(desk.folder / "watchdog.journal"), **more),
+        stdin=subprocess.DEVNULL, capture_output=True)
+    return found.returncode, found.stderr.decode()
+
+
+def want_late_on_page(desk, measurement, name="web"):
+    """The page says which measurement is late."""
+    found = desk.world.run(["page", "--db", "desk.db", "-"], desk.folder)
+    expect("page", found.status, DONE)
+    text = re.sub("<[^>]*>", "", found.output)
+    if f"Late: measurement {measurement} of errors, run 1" not in text:
+        raise Wrong(f"the page does not say that measurement {measurement} of {name} is late")
+
+
+def want_warned(desk, manifest):
+    """`check` says that nothing stops such a release, with status 0; with --strict 1."""
+    desk.write("unstopped.json", manifest)
+    for words, status in ((["check"], DONE), (["check", "--strict"], REFUSED)):
+        found = desk.world.run([*words, "unstopped.json"], desk.folder)
+        expect(words, found.status, status)
+        if UNSTOPPED not in (found.errors if status == DONE else found.output):
+            raise Wrong(f"{words}: it does not warn: {found}")
+
+
+def try_dead_agent(world):
+    """An agent that has died, beside timed pauses: `check` warns, the measurement is late, and the
+    watchdog aborts the release, once. Without it the release reaches its end."""
+    with world.desk("dead-agent") as desk:
+        want_warned(desk, unstopped(600))
+        add_unstopped(desk, 600)
+        add_unstopped(desk, 1, "quick")
+        expect("nothing is late", desk.ask("due", "--late", "3600", "web").status, REFUSED)
+        expect("nothing to do", watchdog(desk, 3600, "web"), (DONE, ""))
+        # the agent measures once, and is killed
+        expect("the agent", desk.do("report", "web", "1", "errors", "0").status, DONE)
+        wait_until("it is late", lambda: desk.ask("due", "--late", "1", "web").status == DONE)
+        late = desk.ask("due", "--late", "1", "web").output
+        if not re.fullmatch(rf"web 1 errors 2 {MOMENT}\n", late):
+            raise Wrong(f"due --late: {late!r}")
+        want_late_on_page(desk, 2)
+        status, errors = watchdog(desk, 1, "web", SAY_ONLY="1")
+        expect("it only says so", (status, state(desk)["status"]), (DONE, "Paused"))
+        wanted = rf"web: measurement 2 of errors in run 1 is due since {MOMENT}\n"
+        if not re.fullmatch(wanted, errors):
+            raise Wrong(f"what the watchdog says: {errors!r}")
+        for _ in range(2):
+            expect("aborted", (watchdog(desk, 1, "web")[0], state(desk)["status"]),
+                   (DONE, "Degraded"))
+        expect("once", desk.count("abort"), {"web": 1})
+        # a later attempt is another run, which the same watchdog aborts once more
+        expect("another attempt", desk.do("retry", "web").status, DONE)
+        wait_until("late again", lambda: desk.ask("due", "--late", "1", "web").status == DONE)
+        expect("aborted again", (watchdog(desk, 1, "web")[0], state(desk)["status"]),
+               (DONE, "Degraded"))
+        expect("twice", desk.count("abort"), {"web": 2})
+        # and the other service, which nobody looked at, is done by now
+        found = state(desk, "quick")
+        expect("nobody looked", (found["status"], found["weight"]), ("Healthy", 100))
+        run = json.loads(desk.ask("get", "quick", "1").output)
+        expect("its run", (run["verdict"], run["metrics"][0]["measurements"]), ("Successful", 0))
+
+
+def try_desk_away(world):
+    """A desk that was away passes the pauses of that time at once; what is late then, the watchdog
+    aborts."""
+    with world.desk("desk-away") as desk:
+        weights = tuple(range(3, 96, 3))
+        want_warned(desk, unstopped(10, weights=weights))
+        add_unstopped(desk, 10, weights=weights)
+        before = state(desk)["weight"]
+        desk.kill()
+        expect("no desk", watchdog(desk, 1, "web")[0], 3)
+        time.sleep(5)
+        desk.start()
+        found = state(desk)
+        if found["status"] != "Paused" or found["weight"] < before + 6:
+            raise Wrong(f"two pauses have not passed: {found}, before that {before}")
+        want_late_on_page(desk, 1)
+        expect("aborted", (watchdog(desk, 1, "web")[0], state(desk)["status"]), (DONE, "Degraded"))
+
+
+def try_late(world):
+    """What is due, and what is late, of several services."""
+    with world.desk("late") as desk:
+        for name in ("one", "two"):
+            add_unstopped(desk, 600, name, interval="1h")
+        want("due of two", desk.ask("due", "one", "two"), DONE,
+             "one 1 errors 1\ntwo 1 errors 1\n")
+        want("due of one", desk.ask("due", "two"), DONE, "1 errors 1\n")
+        found = desk.ask("due", "one", "none", "two")
+        expect("one that is not there", (found.status, found.output, found.errors), (
+            DONE, "one 1 errors 1\ntwo 1 errors 1\n", "canary: there is no such service: none\n"))
+        wait_until("late", lambda: desk.ask("due", "--late", "1", "one").status == DONE)
+        expect("measured", desk.do("report", "one", "1", "errors", "0").status, DONE)
+        found = desk.ask("due", "--late", "1", "one", "two")
+        if not re.fullmatch(rf"two 1 errors 1 {MOMENT}\n", found.output):
+            raise Wrong(f"only two is late: {found}")
+        for seconds in ("0", "x", "31536001"):
+            expect(seconds, desk.ask("due", "--late", seconds, "one").status, WORDS)
+
+
+def lines_of(watch, count):
+    return [watch.stdout.readline().decode() for _ in range(count)]
+
+
+def watching(desk, *words):
+    return process([desk.world.program, "watch", "--desk", f"127.0.0.1:{desk.port}", "--tries",
+                    "100", *words], cwd=desk.folder, env=environment(), stdin=subprocess.DEVNULL,
+                   stdout=subprocess.PIPE, stderr=subprocess.PIPE)
+
+
+def add_held(desk, name="web"):
+    """A service whose analysis is Inconclusive by a result of 5, between pauses."""
+    setup = Caller(desk, f"setup-{name}")
+    setup.send({"template": {"metadata": {"name": f"of-{name}"}, "spec": {"metrics": [
+        {"name": "m", "successCondition": "result < 5", "failureCondition": "result > 5"}]}}})
+    setup.send({"service": {"version": "v1", "manifest": rollout(
+        name, {"setWeight": 20}, {"analysis": {"templates": [{"templateName": f"of-{name}"}]}},
+        {"setWeight": 50}, {"pause": {"duration": "3s"}}, {"setWeight": 80}, {"pause": {}})}})
+    return setup
+
+
+def place(status, step, weight, version="v2", name="web"):
+    return f"{name} {status}, step {step}, weight {weight}%, version {version}"
+
+
+def try_reasons(world):
+    """Why a service stands so is the end of each line; a hold, a timed pause and a pause without an
+    end are told apart by --until."""
+    with world.desk("reasons") as desk:
+        setup = add_held(desk)
+        setup.send({"start": {"service": "web", "version": "v2"}})
+        until = "Waiting,Held,Healthy,Degraded"
+        with watching(desk, "--until", until, "web") as watch:
+            expect("an analysis", lines_of(watch, 1),
+                   [place("Progressing", 1, 20) + ", analysis run 1\n"])
+            expect("inconclusive", desk.do("report", "web", "1", "m", "5").status, DONE)
+            found = watch.communicate(timeout=30)
+            expect("held", (watch.returncode, found[0].decode(), found[1]), (
+                HELD, place("Paused", 1, 20) + ", held: step 1 is Inconclusive\n", b""))
+        want("no Held among the words", desk.ask("watch", "--until", "Paused", "web"), DONE,
+             place("Paused", 1, 20) + ", held: step 1 is Inconclusive\n")
+        setup.send({"promote": {"service": "web"}})
+        begun = time.monotonic()
+        with watching(desk, "--until", until, "web") as watch:
+            found = watch.communicate(timeout=30)
+            timed, waits = found[0].decode().splitlines()
+            wanted = (re.escape(place("Paused", 3, 50)) + r", pause of 3 s until"
+                      r" (\d{4}-\d\d-\d\dT)?\d\d:\d\d:\d\dZ")
+            if not re.fullmatch(wanted, timed):
+                raise Wrong(f"a timed pause: {timed!r} in place of {wanted!r}")
+            expect("waits", (watch.returncode, waits),
+                   (DONE, place("Paused", 5, 80) + ", waits for a promotion"))
+        if time.monotonic() - begun < 2:
+            raise Wrong("the timed pause was cut short")
+        setup.send({"abort": {"service": "web"}})
+        want("aborted", desk.ask("watch", "web"), REFUSED,
+             place("Degraded", 5, 0) + ", aborted by a command\n")
+        for words in (["--until", "held"], ["--until", "Held,"], ["--forever", "--until", "Held"]):
+            expect(words, desk.ask("watch", *words, "web").status, WORDS)
+
+
+def try_json_forever(world):
+    """Lines of JSON, through an end and a start, and over a desk that is away."""
+    with world.desk("forever") as desk:
+        add(desk)
+        other = Caller(desk, "other")
+        with watching(desk, "--forever", "--json", "web") as watch:
+            def next_value():
+                value = json.loads(watch.stdout.readline())
+                return {key: value[key] for key in
+                        ("status", "step", "weight", "version", "stable", "why", "run", "until")}
+            waits = {"status": "Paused", "step": 1, "weight": 20, "version": "v2", "stable": "v1",
+                     "why": "waiting", "run": None, "until": None}
+            expect("waits", next_value(), waits)
+            other.send({"promoteFull": {"service": "web"}})
+            done = {**waits, "status": "Healthy", "step": 4, "weight": 100, "stable": "v2",
+                    "why": "plain"}
+            expect("done", next_value(), done)
+            desk.kill()
+            time.sleep(2)
+            desk.start()
+            other.send({"start": {"service": "web", "version": "v3"}})
+            expect("another release", next_value(), {**waits, "version": "v3", "stable": "v2"})
+            other.send({"abort": {"service": "web"}})
+            expect("aborted", next_value(), {
+                **waits, "status": "Degraded", "weight": 0, "version": "v3", "stable": "v2",
+                "why": "aborted"})
+            watch.send_signal(signal.SIGTERM)
+            expect("without end", watch.wait(10), -signal.SIGTERM)
+
+
+@contextlib.contextmanager
+def until_done(desk, words):
+    """Somebody asks a command again and again until the desk does it."""
+    line = f"until canary do --as other --journal other.journal {words}; do sleep 0.1; done"
+    asks = subprocess.Popen(["bash", "-c", line], cwd=desk.folder, env=variables(desk),
+                            stdin=subprocess.DEVNULL, stdout=subprocess.DEVNULL,
+                            stderr=subprocess.DEVNULL, start_new_session=True)
+    asks.is_of_group = True
+    running.add(asks)
+    yield
+    expect(words, asks.wait(30), DONE)
+    running.discard(asks)
+
+
+def workflow():
+    """The commands of the jobs of release.yml, in their order."""
+    text = (OPERATIONS / "release.yml").read_text(encoding="utf-8")
+    commands = []
+    for found in re.finditer(r"^( +)run: (\|\n((?:\1  .*\n)+)|.+\n)", text, re.MULTILINE):
+        commands.append(found[3] if found[3] else found[2])
+    return commands
+
+
+def run_workflow(desk, key, version, seconds=60):
+    """Runs the commands of the workflow as GitHub's runner does, up to the first that fails. Their
+    statuses, but for the last one, which is always run."""
+    statuses = []
+    for command in workflow()[:-1]:
+        command = command.replace("--timeout 3600", f"--timeout {seconds}")
+        job = subprocess.Popen(
+            ["bash", "--noprofile", "--norc", "-eo", "pipefail", "-c", command], cwd=desk.folder,
+            env=variables(desk, KEY=key, VERSION=version, CANARY_AS="deploy",
+                          CANARY_JOURNAL=str(desk.folder / "deploy.journal")),
+            stdin=subprocess.DEVNULL, stdout=subprocess.DEVNULL, stderr=subprocess.PIPE,
+            start_new_session=True)
+        job.is_of_group = True
+        running.add(job)
+        job.communicate(timeout=seconds + 60)
+        running.discard(job)
+        statuses.append(job.returncode)
+        if job.returncode != 0:
+            break
+    return statuses
+
+
+def try_workflow(world):
+    """The lines of release.yml: an Inconclusive hold is not promoted, a timed pause lasts, and a
+    repeat of the whole job does nothing twice."""
+    expect("the commands", [len(workflow()), workflow()[0].split()[:2]], [5, ["canary", "do"]])
+    with world.desk("workflow") as desk:
+        add_held(desk)
+        steps = [{"setWeight": 20}, {"pause": {"duration": "3s"}}, {"setWeight": 50}, {"pause": {}},
+                 {"setWeight": 80}, {"pause": {"duration": "3s"}}]
+        desk.write("timed.json", rollout("timed", *steps))
+        # of a service that is held nothing is promoted
+        with until_done(desk, "report web 1 m 5"):
+            expect("held", run_workflow(desk, "1", "v2"), [DONE, HELD])
+        expect("not promoted", desk.count("promote"), {})
+        # a person promotes it, and the job is run again: the timed pause lasts
+        expect("a person", desk.do("promote", "web").status, DONE)
+        expect("again", run_workflow(desk, "1", "v2"), [DONE, DONE, DONE, DONE])
+        expect("promoted by a person, and by the job", desk.count("promote"), {"web": 2})
+        lasted = desk.rows("SELECT moment FROM history WHERE service = 'web' AND line LIKE"
+                           " 'step 3 %' OR line LIKE 'step 4 %' ORDER BY place")
+        expect("the timed pause", lasted[1][0] - lasted[0][0], 3)
+        before = desk.rows("SELECT count(*) FROM history")
+        expect("once more", run_workflow(desk, "1", "v2"), [DONE, DONE, DONE, DONE])
+        expect("nothing twice", desk.rows("SELECT count(*) FROM history"), before)
+        # one that is aborted meanwhile fails the job
+        with until_done(desk, "abort web"):
+            expect("aborted meanwhile", run_workflow(desk, "2", "v3"), [DONE, REFUSED])
+
+
+def try_dying(world):
+    """The rows of docs/OPERATIONS.md, "If something dies", of the desk, the agent and the job: in
+    an analysis step, in a timed pause, and with a background analysis."""
+    with world.desk("dying") as desk:
+        setup = add_held(desk, "step")
+        setup.send({"start": {"service": "step", "version": "v2"}})
+        add_unstopped(desk, 1, "timed", weights=(10,))
+        desk.kill()
+        time.sleep(3)
+        desk.start()
+        expect("an analysis step waits", (state(desk, "step")["status"], state(desk, "step")["open"]),
+               ("Progressing", [1]))
+        expect("its measurement is late", desk.ask("due", "--late", "1", "step").status, DONE)
+        expect("timed pauses have ended", state(desk, "timed")["status"], "Healthy")
+        expect("a background without a measurement",
+               json.loads(desk.ask("get", "timed", "1").output)["verdict"], "Successful")
+        # the agent goes on, and a second run of the job does nothing twice
+        expect("the agent", desk.do("report", "step", "1", "m", "1").status, DONE)
+        for _ in range(2):
+            expect("the job", desk.do("--once", "job", "abort", "step").status, DONE)
+        expect("once", desk.count("abort"), {"step": 1})

@@ -1,0 +1,262 @@
+"""Programs that strace stops, ends or fails at a call while others go on: staged.py PROGRAM FOLDER.
+What they write is whole or not there, whoever writes beside them meanwhile."""
+import os
+import re
+import signal
+import subprocess
+import sys
+import time
+
+from places import (
+    DONE, FILE_FAULT, RANDOM, SECONDS, bytes_of, folder_in, make_desk, mode_of, pair, serving, told,
+    want_names, write)
+from story_words import Wrong, expect
+
+NAMING = ("rename", "renameat", "renameat2", "link", "linkat")
+NO_PLACES = {"TMPDIR": "/nowhere", "XDG_RUNTIME_DIR": ""}
+
+
+def traced(log, calls, *injected):
+    """The words before those of a program, so that strace writes these calls to a log, and does
+    what is injected."""
+    words = ["strace", "-f", "-s", "512", "-o", log, "-e", "trace=" + ",".join(calls)]
+    for call in injected:
+        words += ["-e", f"inject={call}"]
+    return words
+
+
+def calls_in(log):
+    """The calls of such a log with their words."""
+    with open(log, encoding="utf-8") as told_calls:
+        return re.findall(r"^\d+ +(\w+)\((.*)\) += (-?\w+)", told_calls.read(), re.MULTILINE)
+
+
+def wait_until(row, is_so):
+    end = time.monotonic() + SECONDS
+    while not is_so():
+        if time.monotonic() > end:
+            raise Wrong(f"{row}: not in {SECONDS} seconds")
+        time.sleep(0.01)
+
+
+def stopped_in(log):
+    """The process of which a log says that it is stopped."""
+    def found():
+        if not os.path.exists(log):
+            return None
+        with open(log, encoding="utf-8") as written:
+            return re.search(r"^(\d+) --- stopped by SIGSTOP", written.read(), re.MULTILINE)
+    wait_until(f"{log}: a process that is stopped", found)
+    return int(found()[1])
+
+
+def begin(words, **more):
+    return subprocess.Popen(words, stdin=subprocess.DEVNULL, stdout=subprocess.PIPE,
+                            stderr=subprocess.PIPE, **more)
+
+
+def end_of(process):
+    output, errors = process.communicate(timeout=SECONDS)
+    return process.returncode, output, errors
+
+
+def try_mixed_pair(program, folder):
+    """A backup that is stopped between its two names, and another under the same name that goes on
+    meanwhile: one is done, and the copy has the file and the log of that one."""
+    place = folder_in(folder, "mixed")
+    files = [os.path.join(place, name) for name in ("one", "two")]
+    for count, file in enumerate(files, 2):
+        with serving(program, file, count):
+            pass
+    copy, logs = os.path.join(place, "copy"), [os.path.join(place, f"log-{at}") for at in (0, 1)]
+    words = [[program, "backup", "--db", file, copy] for file in files]
+    stops = ["fsync:signal=STOP:when=1"], [f"{call}:signal=STOP:when=1" for call in NAMING]
+    late = begin(traced(logs[0], ["fsync"], *stops[0]) + words[0])
+    late_process = stopped_in(logs[0])
+    first = begin(traced(logs[1], NAMING, *stops[1]) + words[1])
+    first_process = stopped_in(logs[1])
+    os.kill(late_process, signal.SIGCONT)
+    ends = [end_of(late)]
+    os.kill(first_process, signal.SIGCONT)
+    ends.append(end_of(first))
+    expect("backups in turn", ends, [FILE_FAULT, DONE])
+    expect("backups in turn: the copy", bytes_of(copy), bytes_of(files[1]))
+    want_names("backups in turn: what is left", place,
+               ["one", "one-wal", "two", "two-wal", "copy", "copy-wal", "log-0", "log-1"])
+
+
+def try_killed_backups(program, folder):
+    """A backup that is killed at each call that names or removes something: what it leaves is what
+    docs/OPERATIONS.md says, and once that is removed a backup is done."""
+    place = folder_in(folder, "killed")
+    file, copy = os.path.join(place, "desk.db"), os.path.join(place, "copy")
+    make_desk(program, file)
+    log = os.path.join(folder, "killed-log")
+    backup = [program, "backup", "--db", file, copy]
+    part, own = f"copy[.]part-[0-9]+-{RANDOM}", ["desk[.]db", "desk[.]db-wal"]
+    for call, when, left in (("mkdir", 1, []), ("link", 1, [part]), ("link", 2, [part, "copy-wal"]),
+                             ("unlink", 1, [part, "copy", "copy-wal"]),
+                             ("rmdir", 1, [part, "copy", "copy-wal"])):
+        row = f"backup, killed at {call} {when}"
+        ended = told(traced(log, [call], f"{call}:signal=KILL:when={when}") + backup)
+        expect(row, ended[0] != 0, True)
+        want_names(row, place, own + left)
+        if "copy-wal" in left:
+            expect(f"{row}: again", told(backup), FILE_FAULT)
+        for name in set(os.listdir(place)) - {"desk.db", "desk.db-wal", "copy", "copy-wal"}:
+            subprocess.run(["rm", "-r", os.path.join(place, name)], check=True)
+        if "copy" in left:
+            expect(f"{row}: the copy", told([program, "status", "--db", copy])[::2], (0, b""))
+        for name in ("copy", "copy-wal"):
+            if name in left:
+                os.remove(os.path.join(place, name))
+        expect(f"{row}: once more", told(backup), DONE)
+        os.remove(copy)
+        os.remove(copy + "-wal")
+
+
+def try_failing_backups(program, folder):
+    """A backup of which a call fails leaves nothing: the second name that it takes, the folder that
+    it syncs, or the first name, as on a file system without hard links."""
+    place = folder_in(folder, "failing")
+    file, log = os.path.join(place, "desk.db"), os.path.join(folder, "failing-log")
+    make_desk(program, file)
+    calls = ("fsync", "link")
+    backup = [program, "backup", "--db", file, os.path.join(place, "copy")]
+    expect("backup", told(traced(log, calls) + backup), DONE)
+    names = [name for name, _, _ in calls_in(log)]
+    expect("backup: the order of its calls", names[-6:],
+           ["fsync", "fsync", "link", "fsync", "link", "fsync"])
+    for name in ("copy", "copy-wal"):
+        os.remove(os.path.join(place, name))
+    count = names.count("fsync")
+    for injected in ("link:error=EPERM:when=1", "link:error=EEXIST:when=2",
+                     f"fsync:error=EIO:when={count - 1}", f"fsync:error=EIO:when={count}"):
+        expect(f"backup, {injected}", told(traced(log, calls, injected) + backup), FILE_FAULT)
+        want_names(f"backup, {injected}", place, ["desk[.]db", "desk[.]db-wal"])
+
+
+def try_page_in_turn(program, folder):
+    """A page is made under a name that nobody knows before, is its owner's alone until it is whole,
+    and is synced before and after it is named; killed or failing it leaves OUT as it was."""
+    place, log = folder_in(folder, "page"), os.path.join(folder, "page-log")
+    make_desk(program, os.path.join(place, "desk.db"))
+    out = os.path.join(place, "out")
+    page = [program, "page", "--db", os.path.join(place, "desk.db"), out]
+    calls = ("open", "openat", "write", "fchmod", "fsync", "rename")
+    expect("page", told(traced(log, calls) + page, umask=0o022), DONE)
+    found = calls_in(log)
+    made = next(at for at, (_, words, _) in enumerate(found) if ".part-" in words)
+    name, words, number = found[made]
+    how = rf'AT_FDCWD, "{re.escape(out)}[.]part-[0-9]+-{RANDOM}", .*O_CREAT[|]O_EXCL.*, 0600'
+    expect("page: how it is made", bool(re.fullmatch(how, words)), True)
+    after = [(call, words) for call, words, _ in found[made + 1:]
+             if call == "rename" or re.match(rf"{number}\b", words) or call == "fsync"]
+    kinds = [call for call, _ in after if call != "write"]
+    expect("page: the order of its calls", kinds[-4:], ["fchmod", "fsync", "rename", "fsync"])
+    last_write = max(at for at, (call, _) in enumerate(after) if call == "write")
+    expect("page: its mode once it is whole", after[last_write + 1],
+           ("fchmod", f"{number}, 0644"))
+    opened = [words for call, words, _ in found if call == "openat"]
+    mask = 1 + next(at for at, words in enumerate(opened) if "/proc/self/status" in words)
+    os.remove(out)
+    unknown = traced(log, calls, f"openat:error=ENOENT:when={mask}")
+    expect("page, no mask is known", told(unknown + page, umask=0o027), DONE)
+    expect("page, no mask is known: its mode", mode_of(out), oct(0o640))
+    before = bytes_of(out)
+    for injected, left in (("rename:signal=KILL:when=1", 1), ("rename:error=EIO:when=1", 0),
+                           ("fchmod:error=EPERM:when=1", 0)):
+        ended = told(traced(log, calls, injected) + page)
+        expect(f"page, {injected}", ended[0] != 0, True)
+        expect(f"page, {injected}: OUT", bytes_of(out), before)
+        parts = [name for name in os.listdir(place) if ".part" in name]
+        expect(f"page, {injected}: what is left", len(parts), left)
+        for name in parts:
+            expect(f"page, {injected}: its name",
+                   bool(re.fullmatch(f"out[.]part-[0-9]+-{RANDOM}", name)), True)
+            os.remove(os.path.join(place, name))
+
+
+def try_places(program, folder):
+    """Where the copy of a desk's file that runs stands: in the first folder in which nobody else
+    may rename or remove it, and that has room, or else beside the file."""
+    place, log = folder_in(folder, "copied"), os.path.join(folder, "copied-log")
+    modes = {"own": 0o700, "open": 0o777, "group": 0o770, "sticky": 0o1777, "plain": 0o755}
+    places = {name: folder_in(folder, name, mode) for name, mode in modes.items()}
+    places.update({"none": "/nowhere", "unset": "", "linked": os.path.join(folder, "linked")})
+    os.symlink("own", places["linked"])
+    if os.geteuid() == 0:
+        places["stranger's"] = folder_in(folder, "strangers")
+        os.chown(places["stranger's"], 65534, 65534)
+    file = os.path.join(place, "desk.db")
+    with serving(program, file, 3):
+        for runtime, temporary, wanted in (
+                ("own", "plain", ["own"]), ("linked", "none", ["own"]),
+                ("open", "plain", ["plain"]), ("group", "own", ["own"]),
+                ("unset", "sticky", ["sticky"]), ("none", "open", ["beside"]),
+                ("unset", "none", ["beside"]), ("stranger's", "sticky", ["sticky"]),
+                ("unset", "stranger's", ["beside"])):
+            if {runtime, temporary} <= set(places):
+                there = dict(os.environ, XDG_RUNTIME_DIR=places[runtime], TMPDIR=places[temporary])
+                want_places(program, file, log, there, [places.get(name) for name in wanted])
+        there = dict(os.environ, XDG_RUNTIME_DIR=places["own"], TMPDIR=places["plain"])
+        want_places(program, file, log, there, [places["own"], places["plain"]],
+                    "write:error=ENOSPC:when=1")
+    for name in modes:
+        want_names(f"status: what is left in a folder {name}", places[name], [])
+    want_names("status: what is left", place, ["desk[.]db", "desk[.]db-wal"])
+
+
+def want_places(program, file, log, there, wanted, *injected):
+    """`status` of a desk that runs makes a folder in each of these places; None is beside it."""
+    status, output, errors = told(
+        traced(log, ["mkdir", "write"], *injected) + [program, "status", "--db", file], env=there)
+    expect(f"status, copied to {wanted}", (status, errors, output[:4]), (0, b"", b"NAME"))
+    made = [words for call, words, _ in calls_in(log) if call == "mkdir"]
+    patterns = [f"{re.escape(file)}[.]status-copy" if place is None else
+                f"{re.escape(os.path.realpath(place))}/canary-status-copy" for place in wanted]
+    for words, pattern in zip(made, patterns):
+        if not re.fullmatch(rf'"{pattern}-[0-9]+-{RANDOM}", 0700', words):
+            raise Wrong(f"status: a folder {words} in place of {pattern}")
+    expect("status: how many folders it makes", len(made), len(wanted))
+
+
+def try_folder_taken(program, folder):
+    """Somebody who may write beside the file puts a link in the place of the folder that `status`
+    made there: where it leads nothing is changed, and `status` ends."""
+    for row, injected in (("at once", "mkdir:delay_exit=700000"),
+                          ("while it copies", "openat:delay_enter=40000")):
+        place = folder_in(folder, f"taken {row}".replace(" ", "-"), 0o777)
+        file, log = os.path.join(place, "desk.db"), os.path.join(folder, "taken-log")
+        victim = folder_in(folder, f"victim {row}".replace(" ", "-"))
+        for name in ("desk.db", "desk.db-wal"):
+            write(os.path.join(victim, name), "kept")
+        with serving(program, file, 3):
+            looking = begin(traced(log, ["mkdir", "openat"], injected)
+                            + [program, "status", "--db", file],
+                            env=dict(os.environ, **NO_PLACES))
+            def made():
+                return [name for name in os.listdir(place) if ".status-copy-" in name]
+            wait_until(f"a folder taken {row}", made)
+            taken = os.path.join(place, made()[0])
+            os.rename(taken, os.path.join(place, "moved"))
+            os.symlink(victim, taken)
+            expect(f"status, its folder is taken {row}", end_of(looking), FILE_FAULT)
+        want_names(f"its folder is taken {row}", victim, ["desk[.]db", "desk[.]db-wal"])
+        expect(f"its folder is taken {row}: a victim", pair(os.path.join(victim, "desk.db")),
+               [b"kept", b"kept"])
+        expect(f"its folder is taken {row}: the link", os.readlink(taken), victim)
+
+
+def main():
+    program, folder, *names = sys.argv[1:]
+    try:
+        for part in (try_mixed_pair, try_killed_backups, try_failing_backups, try_page_in_turn,
+                     try_places, try_folder_taken):
+            if not names or part.__name__ in names:
+                part(os.path.realpath(program), folder)
+    except (Wrong, subprocess.TimeoutExpired) as fault:
+        sys.exit(f"files: {fault}")
+
+
+main()
