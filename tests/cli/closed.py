@@ -26,7 +26,8 @@ BESIDE = 4
 # SQLite's pending, reserved and shared locks.
 LOCKS = (512, 1 << 30)
 
-MANIFEST = b'{"kind":"Rollout","metadata":{"name":"web"},"spec":{"strategy":{"canary":{}}}}'
+MANIFEST = (b'{"kind":"Rollout","metadata":{"name":"web"},"spec":{"strategy":{"canary":'
+            b'{"steps":[{"pause":{}}]}}}}')
 ASKED = [put("ops", at, command(asked)) for at, (asked, _) in enumerate(RELEASE, 1)]
 # Every file that is there at first, but for the desks' files.
 FILES = {"rows.csv": FILE, "one-row.csv": HEADER + ROWS[0][0], "none": b"", "web.json": MANIFEST,
