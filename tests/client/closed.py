@@ -15,6 +15,8 @@ from world import (
 
 SUBSETS = [closed for count in range(4) for closed in itertools.combinations(range(3), count)]
 HEADER = "caller,number,service,run,metric,ordinal,taken,result,failure\n"
+# What `send` counts of a file of two rows.
+COUNTED = "rows recorded: 2, repeated: 0, refused: 0"
 
 
 def name_of(closed):
@@ -122,7 +124,7 @@ def try_closed_queries(world):
     with world.desk("closed-queries") as desk:
         add_measured(desk, metric("m", "1h"))
         history = desk.ask("get", "web", "history").output
-        line = "web Paused, step 1, weight 20%, version v2\n"
+        line = "web Paused, step 1, weight 20%, version v2, waits for a promotion\n"
         queries = ((["get", "web", "history"], DONE, history),
                    (["get", "none"], REFUSED, '{"code":"unknown-service"}\n'),
                    (["watch", "--until", "Paused", "web"], DONE, line),
@@ -167,10 +169,10 @@ def try_closed_sends(world):
                 expect(f"{name}: it ended", (ended.status, ended.output), (LOCAL, ""))
                 expect(f"{name}: settled", desk.kept(name), [])
             else:
-                want_closed(name, closed, ended, sent_lines(name))
+                want_closed(name, closed, ended, sent_lines(name), [] if 1 in closed else [COUNTED])
                 expect(f"{name}: settled", len(desk.kept(name)), 1 if 1 in closed else 2)
             words = [*sent, rows]
-            want(f"{name}, all open", world.run(words, desk.folder), DONE, sent_lines(name))
+            want(f"{name}, all open", world.run(words, desk.folder), DONE, sent_lines(name), COUNTED)
             expect(f"{name}: the file", (desk.folder / rows).read_bytes(), before)
             expect(f"{name}: settled", len(desk.kept(name)), 2)
 

@@ -12,9 +12,10 @@ from journal_rule import (
 )
 from world import (
     AHEAD, BEHIND, BROKEN, CONTRADICTION, DONE, EMPTIED, ENDED, IN_USE, KEY_USED, LATE, LOCAL, LOST,
-    NOT_BEGUN, NO_FILE, NO_JOURNAL_FILE, OTHER_CALLER, PENDING, PENDING_SAID, PROMOTED, REFUSED, REUSED,
-    SPENT, STARTED, TOOK_PLACE, UNREACHABLE, WORDS, Caller, Wrong, add, answering, ask, environment,
-    expect, free_port, process, shown, shows, two_pauses, want, want_all_said, want_delivered,
+    MARKS, NOT_BEGUN, NO_FILE, NO_JOURNAL_FILE, OTHER_CALLER, PENDING, PENDING_SAID, PROMOTED,
+    REFUSED, REUSED, SPENT, STARTED, TOOK_PLACE, UNREACHABLE, WORDS, Caller, Wrong, add, answering,
+    ask, environment, expect, free_port, process, shown, shows, two_pauses, want, want_all_said,
+    want_delivered,
 )
 
 NOBODY = 65534
@@ -76,14 +77,20 @@ def promised(data):
                                                                  "first")]) + b"-"
 
 
+def as_shown(body):
+    """A body as the client shows it: white space as spaces, any other control character escaped."""
+    return "".join(" " if each in "\t\n\r" else f"\\u{ord(each):04x}" if ord(each) in MARKS else each
+                   for each in body) + "\n"
+
+
 def promised_under_key(kept, rest):
     if kept.intent != PROMOTE:
         return CONTRADICTION, "", KEY_USED, rest
     if kept.status is None:
         return PENDING, "", PENDING_SAID, rest
     if kept.instead is not None and not kept.is_late:
-        return LATE, kept.body + "\n", TOOK_PLACE, rest
-    return DONE if kept.status == 200 else REFUSED, kept.body + "\n", None, rest
+        return LATE, as_shown(kept.body), TOOK_PLACE, rest
+    return DONE if kept.status == 200 else REFUSED, as_shown(kept.body), None, rest
 
 
 class Reader:

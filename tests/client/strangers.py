@@ -10,16 +10,13 @@ from reports import NOT_IN_TIME, add_measured, metric
 from sends import HEADER, ROW_PENDING
 from words import on_terminal
 from world import (
-    CONTRADICTION, DONE, FOREIGN, NO_DESK, PENDING, STARTED, Wrong, add, answering, environment,
-    expect, free_port, running, shown, shows, want, want_all_said,
+    CONTRADICTION, DONE, FOREIGN, MARKS, NO_DESK, PENDING, STARTED, Wrong, add, answering,
+    environment, expect, free_port, running, shown, shows, want, want_all_said,
 )
 
 ROW_UNREAD = ("the desk cannot read this row, so it will never be settled; nothing was sent after"
               " that")
 JSON = "Content-Type: application/json\r\n"
-# C0, DEL, C1, the marks of direction (UAX #9), the separators of lines and paragraphs.
-MARKS = [*range(0x20), *range(0x7f, 0xa0), 0x61c, 0x200e, 0x200f, *range(0x2028, 0x202f),
-         *range(0x2066, 0x206a)]
 # What a server may write into a name.
 NAME = "we\u001b[2J\u009b31m\u007f\u202eb\u2066\u2028\n\r\t\u0000\u061c\u00e9"
 
@@ -50,7 +47,7 @@ def try_marks(world):
     the JSON for scripts, which has the same value."""
     place = world.place("marks")
     service = body_with(code="ok", service=NAME, status="Healthy", step=4, version=NAME, weight=100,
-                        moment=5, open=[1])
+                        moment=5, open=[1], hold="none")
     run = body_with(code="ok", metrics=[{"due": 5, "measurements": 2, "name": NAME}])
     escaped = "".join(f"\\u{ord(each):04x}" if ord(each) in MARKS else each for each in NAME)
     line = f"{escaped} Healthy, step 4, weight 100%, version {escaped}\n"

@@ -63,7 +63,7 @@ def try_variables(world):
              '{"code":"unknown-service"}\n')
         want("watch", world.run(["watch", "--until", "Paused", "web"], desk.folder,
                                 variables=only_desk), DONE,
-             "web Paused, step 3, weight 50%, version v2\n")
+             "web Paused, step 3, weight 50%, version v2, waits for a promotion\n")
         want("due", world.run(["due", "web"], desk.folder, variables=only_desk), REFUSED)
         for name in ("nowhere", "", "127.0.0.1", "localhost:80", "127.0.0.1:65536",
                      "http://127.0.0.1:80"):
@@ -188,7 +188,7 @@ def try_terminals(world):
                 (["get", *at, "web"], DONE, "web Paused, step 1, weight 20%, version v2\n"),
                 (["get", *at, "none"], REFUSED, "refused: unknown-service\n"),
                 (["watch", *at, "--until", "Paused", "web"], DONE,
-                 "web Paused, step 1, weight 20%, version v2\n")):
+                 "web Paused, step 1, weight 20%, version v2, waits for a promotion\n")):
             expect(words, on_terminal(world, words, desk.folder), (status, wanted))
         # of a history there is no plainer line
         history = desk.ask("get", "web", "history").output

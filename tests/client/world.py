@@ -15,6 +15,9 @@ import time
 
 from journal_rule import journal_of
 
+# C0, DEL, C1, the marks of direction (UAX #9), the separators of lines and paragraphs.
+MARKS = [*range(0x20), *range(0x7f, 0xa0), 0x61c, 0x200e, 0x200f, *range(0x2028, 0x202f),
+         *range(0x2066, 0x206a)]
 DONE, REFUSED, WORDS, PENDING, CONTRADICTION, LOCAL, LATE = range(7)
 
 # What the client says, by docs/CLIENT.md.
