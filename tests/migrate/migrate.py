@@ -233,11 +233,12 @@ def try_in_use(program, folder):
     file = os.path.join(folder, "used")
     make_first(file, "story")
     found = contents(file)
-    with closing(connect(file)) as user:
-        user.execute("SELECT count(*) FROM kept").fetchall()
-        for words in ((), ("--dry-run",)):
+    for words in ((), ("--dry-run",)):
+        # to look at the file's contents ends all locks that this process has on it
+        with closing(connect(file)) as user:
+            user.execute("SELECT count(*) FROM kept").fetchall()
             want(f"in use {words}", migrate(program, file, *words), refused("in-use"))
-            want(f"in use {words}: what it leaves", contents(file), found)
+        want(f"in use {words}: what it leaves", contents(file), found)
     want("not in use any more", migrate(program, file), printed("migrated"))
     with subprocess.Popen([program, "serve", "--listen", "127.0.0.1:0", "--db", file],
                           stdout=subprocess.PIPE, stderr=subprocess.PIPE) as desk:
