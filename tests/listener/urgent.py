@@ -1,6 +1,8 @@
 """A client that sends urgent bytes (RFC 9293, section 3.8.5) among its requests: urgent.py PORT
 DESK, with the desk's process. An urgent byte is not part of the stream, and a read stops before it,
-though more has come: the desk has to read on. Prints what is wrong, and ends with status 1 then."""
+though more has come: the desk has to read on. A second one, before the first was reached, would make
+the first one part of the stream, so each request has one. Prints what is wrong, and ends with status
+1 then."""
 import os
 import signal
 import socket
@@ -21,7 +23,7 @@ def reply(client, row):
 
 
 def send(client, parts):
-    """Sends these parts, with an urgent byte between each two, each in a segment of its own."""
+    """Sends both parts with an urgent byte between them, each in a segment of its own."""
     for at, part in enumerate(parts):
         if at > 0:
             client.send(b"!", socket.MSG_OOB)
@@ -41,7 +43,7 @@ def try_parts(port, row, parts):
 
 def try_at_once(port, stop, parts):
     """The same, while the desk stands still: it finds all of it at once."""
-    row = f"{len(parts)} parts that came at once"
+    row = f"{len(parts[0])} bytes, urgent, {len(parts[1])}, at once"
     with socket.create_connection(("127.0.0.1", port), SECONDS) as client:
         client.setsockopt(socket.IPPROTO_TCP, socket.TCP_NODELAY, 1)
         for turn in range(3):
@@ -59,10 +61,10 @@ def main():
         os.kill(desk, signal.SIGSTOP if is_stopped else signal.SIGCONT)
         time.sleep(0.05)
 
-    for parts in ([REQUEST[:9], REQUEST[9:]], [REQUEST[:3], REQUEST[3:20], REQUEST[20:]],
-                  [b"", REQUEST], [REQUEST, b""]):
+    for parts in ([REQUEST[:9], REQUEST[9:]], [REQUEST[:20], REQUEST[20:]], [b"", REQUEST],
+                  [REQUEST, b""]):
         try_at_once(port, stop, parts)
-        try_parts(port, f"{len(parts)} parts", parts)
+        try_parts(port, f"{len(parts[0])} bytes, urgent, {len(parts[1])}", parts)
 
 
 main()

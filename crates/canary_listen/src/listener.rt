@@ -100,7 +100,7 @@ impl Listener {
             has_waiting: false,
             retry_at: 0,
             now: 0,
-            swept: 0,
+            swept: u64::MAX,
         };
         Ok(Listener {
             attendant,
