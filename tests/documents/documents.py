@@ -7,14 +7,23 @@ is 1 if there are any.
 - README.md is short, and so are the cells of its tables
 - no document speaks of what is not in the repository
 - what a person runs of tests/ stands in docs/TESTING.md or docs/PROVING.md
-- the examples of the library crates are those of their callers (lib_examples.py)"""
+- no document for developers passes its lines (LINES) by more than a tenth
+- the examples of the library crates are those of their callers (lib_examples.py)
+- names of crates and of code are there (names.py), and so are those of the tables "Where"
+  (where.py), of docs/CHANGING.md (changing.py) and of the listener's page (listener.py)
+- the tables of crates have the contracts of the crates' pages (index.py)"""
 import os
 import pathlib
 import re
 import sys
 import urllib.parse
 
+import changing
+import index
 import lib_examples
+import listener
+import names
+import where
 from pages import Page
 
 # A path of this repository: it begins with one of the folders at the root, or with `./`.
@@ -30,6 +39,16 @@ FOREIGN = re.compile(r"\bshared/|\b[Ii]ssues? #?\d+")
 README_LINES = 199
 CELL_COLUMNS = 140
 NAMING = ("docs/TESTING.md", "docs/PROVING.md")
+# The lines of each document for developers. Cut as much as you add: docs/PROVING.md says what
+# belongs where.
+LINES = {
+    "docs/ARCHITECTURE.md": 240,
+    "docs/CHANGING.md": 305,
+    "docs/DECISIONS.md": 500,
+    "docs/PROOFS.md": 94,
+    "docs/PROVING.md": 440,
+    "bench/README.md": 400,
+}
 
 
 def files_of(root):
@@ -100,6 +119,13 @@ def faults_of_readme(page):
             yield "README.md", number, f"a cell of {len(cell)} columns, more than {CELL_COLUMNS}"
 
 
+def faults_of_lines(root, pages):
+    for name, lines in LINES.items():
+        count = pages[root / name].text.count("\n")
+        if count * 10 > lines * 11:
+            yield name, count, f"it has {count} lines, more than a tenth above {lines}"
+
+
 def faults_of_words(name, page):
     for number, line in enumerate(page.text.split("\n"), 1):
         for word in FOREIGN.findall(line):
@@ -140,7 +166,10 @@ def faults_of(root):
             yield from faults_of_paths(root, name, comments_of(file), ends)
     yield from faults_of_readme(pages[root / "README.md"])
     yield from faults_of_tests(root, files, pages)
-    yield from lib_examples.faults_of(root)
+    yield from faults_of_lines(root, pages)
+    yield from names.faults_of(root, files, pages)
+    for checks in (changing, index, lib_examples, listener, where):
+        yield from checks.faults_of(root)
 
 
 def main():
