@@ -8,7 +8,8 @@ docs/ARCHITECTURE.md, in which the script makes the column "Its one contract".
     tests/documents/index.py            checks both tables
     tests/documents/index.py --write    writes them
 
-The crates come in the order of crates.txt. Those of tests and of figures have no page."""
+The crates come in the order of crates.txt, in which each stands after those that it uses, under the
+head of its family. Those of tests and of figures have no page."""
 import pathlib
 import re
 import sys
@@ -18,6 +19,7 @@ MARK = "**The contract that matters:**"
 SENTENCE = re.compile(r"(.+?)\.(?:\s+(?=[A-Z`*\[])|$)", re.DOTALL)
 PROOFS, ARCHITECTURE = "docs/PROOFS.md", "docs/ARCHITECTURE.md"
 HEAD = "## By crate\n"
+FAMILIES = ["# rules", "# store", "# HTTP", "# client", "# programs", "# tests"]
 ROW = re.compile(r"^\| (canary_\w+) \| (.*) \| (.*) \|$")
 
 
@@ -65,8 +67,25 @@ def architecture_with(text, contracts):
     return "\n".join(lines)
 
 
+def faults_of_list(root):
+    """What is wrong with the order and the heads of crates.txt."""
+    text = (root / "crates.txt").read_text(encoding="utf-8")
+    heads = [head for head in re.findall(r"^# \w+$", text, re.M)]
+    if heads != FAMILIES:
+        yield "crates.txt", 1, f"its heads are not {', '.join(FAMILIES)}"
+    crates = {folder.name for folder in (root / "crates").iterdir()}
+    seen = set()
+    for number, line in enumerate(text.split("\n"), 1):
+        name, _, libraries = line.partition(":")
+        if line and not line.startswith("#"):
+            for library in crates.intersection(libraries.split()) - seen:
+                yield "crates.txt", number, f"{name} stands before {library}, which it uses"
+            seen.add(name)
+
+
 def faults_of(root):
     """Each fault as a page, a line and what is wrong."""
+    yield from faults_of_list(root)
     contracts = {crate: contract_of(root, crate) for crate in crates_of(root)}
     for crate, contract in contracts.items():
         if contract is None:
