@@ -22,7 +22,10 @@ def sources(root):
 
 
 def has_case(file):
-    text = COMMENT.sub("", file.read_text(encoding="utf-8"))
+    text = file.read_text(encoding="utf-8")
+    if not CASE.search(text):
+        return False
+    text = COMMENT.sub("", text)
     return any(CASE.search(line) for line in text.split("\n") if not line.startswith("use "))
 
 

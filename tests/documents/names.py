@@ -77,7 +77,8 @@ def faults_of_heads(root):
 def faults_of_exceptions(root):
     """The modules of proofs that another crate cites, and the table of these does not have."""
     text = (root / EXCEPTIONS).read_text(encoding="utf-8")
-    rows = [line.strip("| ").split(" | ") for line in text.split("\n") if line.startswith("| canary")]
+    rows = [line.strip("| ").split(" | ") for line in text.split("\n")
+            if line.startswith("| canary_")]
     named = {(crate, module) for cells in rows for crate in re.findall(r"canary_\w+", cells[0])
              for module in re.split(r", ", cells[1])}
     for file in sorted((root / "crates").glob("*/*/**/*.antt")):

@@ -4,6 +4,7 @@
 - code is a file of src/, and a proof one of proofs/, likewise; `..` stands for any end or begin
 - a test is a folder of tests/, a story (`story: bodies`) or a module of a crate of tests
 - an edit is a file of planted/ if it has a °, and of must-fail/ otherwise"""
+import functools
 import re
 
 from pages import Page
@@ -51,6 +52,7 @@ def faults_of_files(root, crate, column, cell):
                 yield f"there is no {folder}/{item}{suffix} of {' or '.join(crates)}"
 
 
+@functools.cache
 def kinds_of_stories(root):
     """The first word of each story."""
     return {file.read_text(encoding="utf-8").split()[0]
