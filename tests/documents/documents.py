@@ -43,9 +43,9 @@ NAMING = ("docs/TESTING.md", "docs/PROVING.md")
 # belongs where.
 LINES = {
     "docs/ARCHITECTURE.md": 240,
-    "docs/CHANGING.md": 305,
-    "docs/DECISIONS.md": 500,
-    "docs/PROOFS.md": 94,
+    "docs/CHANGING.md": 300,
+    "docs/DECISIONS.md": 490,
+    "docs/PROOFS.md": 92,
     "docs/PROVING.md": 440,
     "bench/README.md": 400,
 }
