@@ -1,24 +1,28 @@
 """Checks that the planted bugs fit the code: edits.py ROOT (tests/edits/run gives it).
 
-A bug is a file of `crates/CRATE/must-fail` or `crates/CRATE/planted`, NAME.edit: the line
+A bug is a file of `crates/CRATE/planted` or `crates/CRATE/must-fail`, NAME.edit: the line
 `file: FILE`, which names a file of the crate, then pairs of lines `old: TEXT` and `new: TEXT`. The
 pairs are applied one after another: each old text stands in the file once as it is replaced, and in
-the end the file has changed."""
+the end the file has changed. Those of `tests/edits/itself/CRATE` are no bugs, but have to fit, too;
+and each name in `tests/edits/named` has to be one of a bug."""
 import pathlib
 import re
 import sys
+
+import shares
 
 EDIT = re.compile(r"file: (\S+)\n((?:old: .+\nnew:(?: .*)?\n)+)")
 PAIR = re.compile(r"old: (.+)\nnew: ?(.*)\n")
 
 
-def fault_of(edit):
+def fault_of(edit, crates):
     """Why the edit does not fit the code, or none."""
     found = EDIT.fullmatch(edit.read_text(encoding="utf-8"))
     if not found:
         return "is not a file and pairs of an old and a new text"
     name, pairs = found.groups()
-    file = edit.parent.parent / name
+    is_planted = edit.parent.name in ("planted", "must-fail")
+    file = crates / (edit.parent.parent if is_planted else edit.parent).name / name
     if not file.is_file():
         return f"there is no {name}"
     before = text = file.read_text(encoding="utf-8")
@@ -31,8 +35,11 @@ def fault_of(edit):
 
 def main(root):
     crates = pathlib.Path(root) / "crates"
-    edits = sorted([*crates.glob("*/must-fail/*.edit"), *crates.glob("*/planted/*.edit")])
-    faults = [(edit.relative_to(crates), fault) for edit in edits if (fault := fault_of(edit))]
+    edits = sorted([*crates.glob("*/planted/*.edit"), *crates.glob("*/must-fail/*.edit")])
+    others = sorted(pathlib.Path(root).glob("tests/edits/itself/*/*.edit"))
+    faults = [(edit, fault) for edit in edits + others if (fault := fault_of(edit, crates))]
+    faults += [(shares.NAMED, f"there is no {it}") for it in shares.named_in(root)
+               if not (crates / f"{it.replace('/', '/planted/')}.edit").is_file()]
     for edit, fault in faults:
         print(f"edits: {edit}: {fault}")
     print(f"edits: {len(edits)} planted bugs, {len(faults)} do not fit the code")

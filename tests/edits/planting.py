@@ -1,11 +1,15 @@
 """A crate's source, its planted bugs, and the texts of copies in which many of them are planted."""
+import copy
 import os
+import re
 
 import bodies
 import cutting
 
 # The functions whose clauses are laws, if the crate has any; they call no other.
 LAWS = "src/laws.rt"
+# A line beside the functions in whose place another one only adds something: a comment, an import.
+ADDS = re.compile(r"\s*//|use ")
 
 
 class Source:
@@ -29,10 +33,9 @@ class Source:
             lines[path][number - 1] = text
         return {path: "\n".join(it) for path, it in lines.items()}
 
-    def cut_off(self, edits):
-        """The texts of all files, with the bugs, in which no function stays but those that the bugs
-        change and the laws; and those that are cut off, each with its file."""
-        kept = {it for edit in edits for it in edit.changed}
+    def cut_off(self, edits, kept):
+        """The texts of all files, with the bugs, in which no function stays but those of `kept` and
+        the laws; and those that are cut off, each with its file."""
         texts, cut = {**self.texts, **self.planted(edits)}, []
         for path, functions in self.functions.items():
             gone = [it for it in functions if (path, it) not in kept and path != LAWS]
@@ -42,12 +45,18 @@ class Source:
         return texts, cut
 
 
+    def beside(self, edit):
+        """The functions of each file of code in which the bug changes more than bodies."""
+        return {(path, it) for path in edit.beyond if path != LAWS
+                for it in self.functions.get(path, ())}
+
+
 class Edit:
-    """A planted bug: its file, the lines that it changes, and the functions in whose bodies they
-    stand. It `stays_inside` if no line stands elsewhere."""
+    """A planted bug: the lines that it changes, the functions in whose bodies they stand, and the
+    files of those that stand beyond these and change something. It `stays_inside` if none does."""
 
     def __init__(self, file, source, rt):
-        self.file, self.lines = file, {}
+        self.lines = {}
         self.name = os.path.basename(file).removesuffix(".edit")
         self.texts = rt.read_edit(file, source.folder)[0] or {}
         found = []
@@ -58,9 +67,23 @@ class Edit:
                 if old != new:
                     self.lines[path, number] = new
                     of_file = source.functions.get(path, ())
-                    found.append((path, bodies.with_body(of_file, number)))
-        self.changed = {it for it in found if it[1]}
-        self.stays_inside = bool(found) and all(function for _, function in found)
+                    found.append((path, bodies.with_body(of_file, number), ADDS.match(old)))
+        self.changed = {(path, function) for path, function, _ in found if function}
+        self.beyond = {path for path, function, adds in found if not function and not adds}
+        self.stays_inside = bool(self.changed) and not self.beyond
+
+
+def with_never(crate):
+    """The crate, with checks that allow the function that proves everything, which is one of C."""
+    crate = copy.copy(crate)
+    crate.has_c = True
+    return crate
+
+
+def edits_in(folder, source, rt):
+    """The planted bugs of a folder, by their names."""
+    files = sorted(it for it in os.listdir(folder) if it.endswith(".edit"))
+    return [Edit(f"{folder}/{it}", source, rt) for it in files]
 
 
 def text_of(path):
@@ -68,11 +91,16 @@ def text_of(path):
         return file.read()
 
 
+def are_apart(one, other):
+    """Whether two bugs can be planted at once: they change no function and no line both."""
+    return not one.changed & other.changed and not one.lines.keys() & other.lines.keys()
+
+
 def grouped(edits):
-    """The bugs in groups, no two of which change one function."""
+    """The bugs in groups, of which each two can be planted at once."""
     groups = []
     for edit in edits:
-        free = (it for it in groups if not any(edit.changed & other.changed for other in it))
+        free = (it for it in groups if all(are_apart(edit, other) for other in it))
         group = next(free, None)
         if group is None:
             groups.append(group := [])

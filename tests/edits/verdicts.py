@@ -6,16 +6,22 @@ from bodies import module_of
 REFUSED, BY_NAME, AT_LIMIT = "refused", "refused by a name alone", "refused by a limit"
 # A goal is open, and a proof file names what is gone: the first may be so for the second alone.
 WITH_NAME = "refused, with a name gone"
-REFUSALS = {REFUSED, BY_NAME, AT_LIMIT, WITH_NAME}
-PROVED, BAD, UNTRIED = "PROVED", "bad edit", "not tried"
+PROVED, BAD, UNTRIED = "PROVED", "does not compile", "not tried"
+# Nothing was changed, and it is not proved: a trial of its kind says nothing.
+UNSOUND = "NOT PROVED AS IT IS"
+# What a bug has to come to, and what a group says clearly.
+GOOD = {REFUSED, WITH_NAME}
+CLEAR = {*GOOD, BY_NAME}
 
 LOCATED = re.compile(r"(?:note: )?(?:\./)?((?:src|specs|proofs)/\S+?):(\d+):\d+: (.*)")
 # A line of a proof file that names what a bug took away; `rt must-fail` has the same.
 NAMES = re.compile(r"(?:note: )?(?:\./)?proofs/.*"
                    r"(?:has no field|is not in scope|has no `|was not admitted)")
 # An open goal, or one that its answer or a lemma does not prove.
-GOAL = re.compile(r"it is not proved that|`search` found no proof|: error: `")
+GOAL = re.compile(r"it is not proved that|`search` found no proof|^(?:\./)?proofs/.*: error: `")
 COMPILER = re.compile(r"(?:\./)?(src/\S+?):(\d+):\d+: error\[[\w-]+\]")
+# A definition or a clause that has no type or no meaning.
+UNTYPED = re.compile(r"(?:\./)?specs/\S+?:\d+:\d+: error")
 
 
 def paths_of(file, function):
@@ -40,12 +46,24 @@ def is_about(line, file, function):
     return any(at[1].startswith(it) for it in folders_of(file, function))
 
 
+def heads_of(crate, file, function):
+    """How the lines begin in which a check says whether a function, and a closure in it, is
+    proved."""
+    own, *closures = (f"fn {crate}::{it}" for it in paths_of(file, function))
+    return f"{own}: ", tuple(f"{it}::" for it in closures)
+
+
 def said_of(lines, crate, file, function):
     """The lines in which a check says that the function, or a closure in it, has no proof."""
-    own, *closures = (f"fn {crate}::{it}" for it in paths_of(file, function))
-    heads = (f"{own}: ", *(f"{it}::" for it in closures))
-    said = [it for it in lines if it.startswith(heads)]
+    own, closures = heads_of(crate, file, function)
+    said = [it for it in lines if it.startswith((own, *closures))]
     return [it for it in said if re.search(": (?:no proof|not proved|could not tell)", it)]
+
+
+def is_proved(lines, crate, file, function):
+    """Whether a check says that the function is proved, with all closures in it."""
+    own = heads_of(crate, file, function)[0] + "proved"
+    return own in lines and not said_of(lines, crate, file, function)
 
 
 def reads(lines):
@@ -75,16 +93,28 @@ def of_edit(lines, crate, edit):
         unproved += said
     verdict, said = of_lines(told)
     limits = [it for it in unproved if ": could not tell" in it]
-    if limits and not verdict:
-        return AT_LIMIT, limits[0]
+    if verdict or not limits + unproved:
+        proved = all(is_proved(lines, crate, *it) for it in edit.changed)
+        return (verdict, said) if verdict else (PROVED if proved else None, said)
     # A function may have no proof for what it calls alone.
-    return (verdict, said) if verdict or not unproved else (None, f"not clear: {unproved[0]}")
+    return (AT_LIMIT, limits[0]) if limits else (None, f"not clear: {unproved[0]}")
 
 
-def of_laws(lines):
-    """The verdict on a bug, by all that a check of the laws says."""
-    is_proved = re.fullmatch(r"only=(\d+) proved=\1", lines[-1])
-    return of_lines([it for it in lines if LOCATED.match(it) and not is_proved])
+def of_all(lines):
+    """The verdict on a bug, by all that a check of the crate, or of a part of it, says."""
+    errors = [it for it in lines if COMPILER.match(it)]
+    if not reads(lines):
+        return (BAD, errors[0]) if errors else (UNTRIED, lines[0])
+    if re.match(r"logic=proved|only=(\d+) proved=\1$", lines[-1]):
+        return PROVED, lines[-1]
+    untyped = [it for it in lines if UNTYPED.match(it)]
+    if untyped:
+        return BAD, untyped[0]
+    verdict, said = of_lines([it for it in lines if LOCATED.match(it)])
+    limits = [it for it in lines if ": could not tell" in it]
+    if verdict or not limits:
+        return verdict or UNTRIED, said
+    return AT_LIMIT, limits[0]
 
 
 def faulty(lines, edits):
@@ -97,11 +127,3 @@ def faulty(lines, edits):
                        for file, function in edit.changed)]
         found += [(edit, told[0])] if told else []
     return found
-
-
-def of_try(kind, said):
-    """The verdict on a bug that `must_fail` of the kit's `rt` tried alone, by what it says."""
-    kinds = {"limit": AT_LIMIT, "missed": PROVED, "bad": BAD, "unsure": UNTRIED}
-    if kind == "refused":
-        return BY_NAME if "only because a proof file names" in said else REFUSED
-    return kinds[kind]

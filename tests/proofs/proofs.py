@@ -6,6 +6,7 @@ import sys
 import threading
 import time
 
+import times
 from kit import load_rtlib, share_stamps, take
 
 
@@ -91,8 +92,11 @@ def main():
     words = argparse.ArgumentParser(prog="tests/proofs/prove")
     words.add_argument("--lanes", type=int, default=os.cpu_count(), help="so many at a time")
     words.add_argument("--from", dest="clone", help="a clone whose kept work is taken first")
+    words.add_argument("--times", action="store_true", help="where the last run's time went")
     words.add_argument("crates", nargs="*", metavar="CRATE", help="these, and what is below")
     root, given = sys.argv[1], words.parse_intermixed_args(sys.argv[2:])
+    if given.times:
+        return times.table(root)
     rtlib = load_rtlib()
     share_stamps(rtlib)
     os.chdir(root)
@@ -106,10 +110,11 @@ def main():
     os.makedirs(logs, exist_ok=True)
     run = Run(crates, logs)
     lanes = [threading.Thread(target=run.lane) for _ in range(max(1, given.lanes))]
-    for lane in lanes:
-        lane.start()
-    for lane in lanes:
-        lane.join()
+    with times.watched(os.getpid(), f"{root}/{times.FILE}"):
+        for lane in lanes:
+            lane.start()
+        for lane in lanes:
+            lane.join()
     del held
     failed = [name for name, is_proved in run.proved.items() if not is_proved]
     print(f"{len(run.proved) - len(failed)} proved, {len(failed)} not proved")

@@ -1,0 +1,177 @@
+"""Tries planted bugs of one crate, many in one check: see tests/edits/together."""
+import collections
+import os
+import time
+
+import checks
+import kit
+import planting
+import verdicts
+
+class Trial:
+    """The source of a crate, and what came of those of its planted bugs that were tried.
+
+    A lean trial cuts off the functions that no bug of a group changes, and checks the others alone.
+    Else a check reads the whole crate, over a copy by links of what its own check kept."""
+
+    def __init__(self, crate, rt, logs, given):
+        self.crate, self.kit_rt = crate, rt
+        self.limit, self.is_lean, self.until = given.limit, given.lean, given.until
+        self.source = planting.Source(crate.folder)
+        self.logs = f"{logs}/{crate.name}"
+        self.checks, self.seconds, self.verdicts, self.is_done = 0, 0.0, {}, False
+        os.makedirs(self.logs, exist_ok=True)
+
+    def check(self, log, texts, flags=(), gone=(), kept=None):
+        """Checks the crate with these texts and without the folders `gone`, over what is in the
+        folder `kept`, if it is given."""
+        if self.until and time.monotonic() > self.until:
+            raise checks.Stopped("there was no time left")
+        rtlib = self.kit_rt.rtlib
+        with checks.room_for(self.crate) as room:
+            checks.copied(self.crate, rtlib.PARTS, room, texts, gone)
+            words = self.crate.words(["--jobs", "1", *flags], keeps=False)
+            words += ["--incremental", kept] if kept else []
+            words = [*rtlib.guarded(), rtlib.RATTLE, "check", *words]
+            ran = checks.run(words, room, f"{self.logs}/{log}.log", self.limit)
+        self.checks, self.seconds = self.checks + 1, self.seconds + ran.seconds
+        if ran.status == 2:
+            raise checks.Stopped(ran.lines[0])
+        return ran.lines
+
+    def check_whole(self, edit):
+        """What a check of the whole crate with one bug says."""
+        texts = self.source.planted([edit])
+        if self.is_lean:
+            return self.check(edit.name, texts)
+        with checks.room_for(self.crate) as room:
+            kit.link(f"{self.crate.folder}/out/incremental", f"{room}/kept")
+            return self.check(edit.name, texts, kept=f"{room}/kept")
+
+    def check_some(self, log, edits, also=(), laws=False):
+        """What a check says of the functions that the bugs change and of those of `also`, of which
+        each has its file, and of the laws, if they are asked for."""
+        kept = {it for edit in edits for it in edit.changed} | set(also)
+        names = sorted({it.module + it.name for _, it in kept}) + ["laws"] * laws
+        flags = [word for name in names for word in ("--only", name)]
+        if not self.is_lean:
+            with checks.room_for(self.crate) as room:
+                kit.link(f"{self.crate.folder}/out/incremental", f"{room}/kept")
+                return self.check(log, self.source.planted(edits), flags, kept=f"{room}/kept")
+        texts, cut = self.source.cut_off(edits, kept)
+        gone = [folder for it in cut for folder in verdicts.folders_of(*it)]
+        return self.check(log, texts, flags, gone, f"{self.crate.folder}/out/of-cut")
+
+    def settle(self, name, verdict, how, said):
+        self.verdicts[name] = (verdict, how, said)
+        self.note(f"{name}: {verdict}, {how}: {said}")
+
+    def note(self, text):
+        with open(f"{self.logs}/verdicts", "a", encoding="utf-8") as it:
+            it.write(f"{text}\n")
+
+    def try_group(self, edits, number, also=()):
+        """Plants a group at once, and gives the bugs of which it tells nothing clear, with why.
+        The functions of `also` are not changed, so they have to be proved."""
+        lines, unclear = self.check_some(f"group-{number}", edits, also), []
+        if verdicts.reads(lines):
+            for edit in edits:
+                verdict, said = verdicts.of_edit(lines, self.crate.name, edit)
+                if verdict in verdicts.CLEAR:
+                    self.settle(edit.name, verdict, f"group {number}", said)
+                else:
+                    unclear.append((edit, said))
+            self.look_at(also, lines)
+            return unclear
+        faulty = verdicts.faulty(lines, edits)
+        rest = [it for it in edits if it not in [edit for edit, _ in faulty]]
+        if len(edits) == 1:
+            return faulty or [(edits[0], lines[0])]
+        for place, part in enumerate([rest] if faulty else [rest[::2], rest[1::2]]):
+            unclear += self.try_group(part, f"{number}-{place}", also) if part else []
+        return faulty + unclear
+
+    def look_at(self, functions, lines):
+        """Settles functions that no bug changes: a trial in which one has no proof says nothing."""
+        for file, function in functions:
+            if not verdicts.is_proved(lines, self.crate.name, file, function):
+                name = f"{function.module}{function.name} as it is"
+                self.settle(name, verdicts.UNSOUND, "beside a group", "it has no proof there")
+
+    def try_alone(self, edit, why):
+        """Tries a bug once more, of which its group told nothing clear."""
+        if not self.is_lean:
+            return self.try_whole(edit)
+        lines = self.check_some(edit.name, [edit])
+        if verdicts.reads(lines):
+            verdict, said = verdicts.of_edit(lines, self.crate.name, edit)
+            return self.settle(edit.name, verdict or verdicts.UNTRIED, "alone", said)
+        faulty = verdicts.faulty(lines, [edit])
+        verdict = verdicts.BAD if faulty else verdicts.UNTRIED
+        return self.settle(edit.name, verdict, "alone", faulty[0][1] if faulty else why)
+
+    def try_beyond(self, edit):
+        """Tries a bug that changes more than bodies: in a lean trial on the laws and the functions
+        that it changes, then on all functions beside it, and on the whole crate if neither tells
+        enough."""
+        laws, beside = planting.LAWS in self.source.texts, self.source.beside(edit)
+        for also, is_told in ((set(), laws or edit.changed), (beside, beside - edit.changed)):
+            if self.is_lean and is_told:
+                lines = self.check_some(edit.name, [edit], also, laws)
+                verdict, said = self.read_whole(lines, edit)
+                if verdict not in (verdicts.PROVED, verdicts.UNTRIED):
+                    how = "with all beside it" if also else "with the laws"
+                    return self.settle(edit.name, verdict, how, said)
+        return self.try_whole(edit)
+
+    def try_whole(self, edit):
+        """Tries a bug on the whole crate."""
+        verdict, said = self.read_whole(self.check_whole(edit), edit)
+        self.settle(edit.name, verdict, "the whole crate", said)
+
+    def read_whole(self, lines, edit):
+        """The verdict on a bug by all that a check says, and the line that tells it."""
+        unread = [it for it in lines if self.kit_rt.unread(it, edit.texts)]
+        if unread:
+            return verdicts.BAD, unread[0]
+        return verdicts.of_all(lines)
+
+    def look_at_all(self, functions):
+        """Settles those of these functions that have no proof as they are."""
+        lines = self.check_some("as-they-are", [], functions) if functions else []
+        self.look_at(functions, lines)
+
+    def check_laws(self):
+        """Settles the laws as they are: a lean trial in which one has no proof says nothing."""
+        if self.is_lean and planting.LAWS in self.source.texts:
+            lines = self.check_some("laws", [], laws=True)
+            verdict, said = verdicts.of_all(lines)
+            if verdict != verdicts.PROVED:
+                self.settle("the laws as they are", verdicts.UNSOUND, "alone", said)
+
+    def run(self, edits, also=()):
+        """Tries these bugs. The functions of `also` are looked at beside the first group."""
+        begun = time.time()
+        beyond = [it for it in edits if not it.stays_inside]
+        groups, unclear = planting.grouped([it for it in edits if it.stays_inside]), []
+        for number, group in enumerate(groups, 1):
+            unclear += self.try_group(group, number, self.unchanged(also, group))
+            also = ()
+        for edit, why in unclear:
+            self.try_alone(edit, why)
+        if beyond:
+            self.check_laws()
+        for edit in beyond:
+            self.try_beyond(edit)
+        self.is_done = True
+        self.note(f"{self.told()}, {time.time() - begun:.0f} s by the clock")
+
+    def unchanged(self, functions, edits):
+        changed = {it for edit in edits for it in edit.changed}
+        return tuple(it for it in functions if it not in changed)
+
+    def told(self):
+        """How many of the bugs came to what, and how long that took."""
+        counts = collections.Counter(verdict for verdict, _, _ in self.verdicts.values())
+        told = ", ".join(f"{count} {verdict}" for verdict, count in counts.most_common())
+        return f"{told or 'none tried'}; {self.checks} checks, {self.seconds:.0f} s of a processor"
