@@ -101,11 +101,11 @@ class Gate:
         return Came(0, trial.seconds, complaints)
 
 
-def guarded(call, *given):
+def safely(call, *given):
     """What came of a call; if it fails, that is a complaint."""
     try:
         return call(*given)
-    except Exception as error:  # pylint: disable=broad-exception-caught
+    except (Exception, SystemExit) as error:  # pylint: disable=broad-exception-caught
         name = given[0].name if given else "the trials themselves"
         return Came(0, 0, [f"{name}: the trials ended: {type(error).__name__}: {error}"])
 
@@ -114,8 +114,8 @@ def in_lanes(gate):
     """Runs all trials side by side, and gives what came of each."""
     lanes = gate.given.lanes or min(gate.kit_rt.processors(), gate.kit_rt.free() // MEMORY)
     with concurrent.futures.ThreadPoolExecutor(max(1, lanes)) as pool:
-        made = [pool.submit(guarded, gate.try_itself)]
-        made += [pool.submit(guarded, gate.try_crate, it) for it in gate.with_bugs()]
+        made = [pool.submit(safely, gate.try_itself)]
+        made += [pool.submit(safely, gate.try_crate, it) for it in gate.with_bugs()]
         return [it.result() for it in made]
 
 

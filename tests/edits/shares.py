@@ -60,14 +60,21 @@ def fault_of_turn(root):
     return None if turn[1] == sum_of_crates(root) else f"the crates are not those of {TURN}"
 
 
-def turn_of_main(root):
-    """The turn of the last landing, if git knows the branch main of `origin`."""
-    words = ["git", "-C", str(root), "show", f"origin/main:{TURN}"]
+def told_by_git(root, *words):
+    """What git prints, or none if it fails."""
     try:
-        shown = subprocess.run(words, capture_output=True, text=True, check=False)
+        ran = subprocess.run(["git", "-C", str(root), *words], capture_output=True, text=True,
+                             check=False)
     except OSError:
         return None
-    return turn_in(shown.stdout) if shown.returncode == 0 else None
+    return ran.stdout if ran.returncode == 0 else None
+
+
+def turn_of_main(root):
+    """The turn of the last landing, if git knows the branch main of `origin`."""
+    if told_by_git(root, "rev-parse", "--verify", "origin/main") is None:
+        return None
+    return turn_in(told_by_git(root, "show", f"origin/main:{TURN}") or "") or (0, "")
 
 
 def take_turn(root):

@@ -19,8 +19,11 @@ class Trial:
         self.limit, self.is_lean, self.until = given.limit, given.lean, given.until
         self.source = planting.Source(crate.folder)
         self.logs = f"{logs}/{crate.name}"
+        # What the checks of a lean trial keep for one another.
+        self.kept = f"{crate.folder}/out/of-cut/{os.path.basename(logs)}"
         self.checks, self.seconds, self.verdicts, self.is_done = 0, 0.0, {}, False
-        os.makedirs(self.logs, exist_ok=True)
+        for folder in (self.logs, self.kept) if given.lean else (self.logs,):
+            os.makedirs(folder, exist_ok=True)
 
     def check(self, log, texts, flags=(), gone=(), kept=None):
         """Checks the crate with these texts and without the folders `gone`, over what is in the
@@ -59,8 +62,15 @@ class Trial:
                 kit.link(f"{self.crate.folder}/out/incremental", f"{room}/kept")
                 return self.check(log, self.source.planted(edits), flags, kept=f"{room}/kept")
         texts, cut = self.source.cut_off(edits, kept)
+        texts.update(self.without_answers({it for edit in edits for it in edit.changed}))
         gone = [folder for it in cut for folder in verdicts.folders_of(*it)]
-        return self.check(log, texts, flags, gone, f"{self.crate.folder}/out/of-cut")
+        return self.check(log, texts, flags, gone, self.kept)
+
+    def without_answers(self, functions):
+        """Empty files of answers for those of these functions that have none. If such a file is not
+        there, a check works out what it would have to hold, which takes as long as the proof."""
+        files = [f"{verdicts.folders_of(*it)[0]}Answers.antt" for it in functions]
+        return {it: "" for it in files if not os.path.exists(f"{self.crate.folder}/{it}")}
 
     def settle(self, name, verdict, how, said):
         self.verdicts[name] = (verdict, how, said)
