@@ -3,7 +3,7 @@
 - a definition is a file of specs/, of the page's crate or of the crate that its cell names
 - code is a file of src/, and a proof one of proofs/, likewise; `..` stands for any end or begin
 - a test is a folder of tests/, a story (`story: bodies`) or a module of a crate of tests
-- an edit is a file of planted/ if it has a °, and of must-fail/ otherwise"""
+- an edit is a file of planted/, or of must-fail/; it has a ° unless each gate tries it"""
 import functools
 import re
 
@@ -70,14 +70,29 @@ def faults_of_tests(root, cell):
                 yield f"there is no module {item} of tests"
 
 
+@functools.cache
+def edits_of(root):
+    """The edits that are there, and those of them that each gate tries, each as CRATE/NAME."""
+    there, tried = set(), set()
+    for file in (root / "crates").glob("*/*/*.edit"):
+        name = f"{file.parent.parent.name}/{file.stem}"
+        there.add(name)
+        if file.parent.name == "must-fail":
+            tried.add(name)
+    lines = (root / "tests/edits/named").read_text(encoding="utf-8").splitlines()
+    return there, tried | {line for line in lines if not line.startswith("#")}
+
+
 def faults_of_edits(root, crate, cell):
+    there, tried = edits_of(root)
     for crates, items in parts_of(crate, cell):
         for item in items:
             name = item.removesuffix("°").strip()
-            folder = "planted" if item.endswith("°") else "must-fail"
-            if name != "none" and not any(is_named(root, each, folder, ".edit", name)
-                                          for each in crates):
-                yield f"there is no {folder}/{name}.edit of {' or '.join(crates)}"
+            found = {f"{each}/{name}" for each in crates} & there
+            if name != "none" and not found:
+                yield f"there is no edit {name} of {' or '.join(crates)}"
+            elif name != "none" and item.endswith("°") == bool(found & tried):
+                yield f"{name}: a ° says that not each gate tries it (tests/edits/named)"
 
 
 def faults_of(root):
