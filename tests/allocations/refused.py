@@ -334,7 +334,8 @@ def try_page(trial, share):
 
     def drawn(number=0):
         status, output, told = trial.run(words, number)
-        return status, re.sub(rb"as it stood at <time .*?</time>|\(\d+ days\)", b"", output), told
+        moments = rb'as it stood at <time .*?</time>|\(\d+ days\)|<text class="tick end".*?</text>'
+        return status, re.sub(moments, b"", output), told
 
     whole = drawn()
     if whole[0] != 0 or not whole[1].endswith(b"</html>\n"):
