@@ -6,5 +6,10 @@ mod Written
 mod Filling
 mod Rewriting
 mod Beyond
+mod Filters
+mod FirstBound
+mod FirstBindings
+mod FirstMigrates
+mod FirstJudged
 mod Migrating
 mod Committing

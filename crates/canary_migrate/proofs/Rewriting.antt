@@ -1,6 +1,6 @@
 -- From the rows of the first schema to those that are judged.
 use Rattle.std.proofs.Common.{◌≡◌, [], ◌∷◌, ◌++◌, List, map, IsTrue, Ok, Err, Result, OnOk, refl, sym, ap, subst, ◌∙◌, arith}
-use Rattle.std.specs.List.{AllByRecursion}
+use Rattle.std.specs.List.{AllByRecursion, list_all}
 use Rattle.sqlite.specs.Order.{Row}
 use Rattle.sqlite.specs.State.{State, HasCleanDisk, Survives}
 use Rattle.sqlite.specs.Effect.{Database, IsDatabase}
@@ -18,6 +18,7 @@ use Rattle.canary_reads.specs.Finds.{IsSame}
 use Rattle.canary_reads.specs.First.{IsFirst, AreTemplatesIn, AreTalliesIn, IsTemplateWithin, IsFirstTallyWithin}
 use Rattle.canary_reads.specs.Reader.{IsKept, seen_inside}
 use Rattle.canary_migrate.specs.Migrated.{FirstTables, HoldsFirst, migrated}
+use Rattle.canary_migrate.specs.FirstContents.{is_plain_row}
 use Rattle.canary_migrate.specs.Fills.{IsMade, filled}
 use Rattle.canary_migrate.specs.Migrates.{IsOfFirst, IsRead, IsRewritten, HasJudgedFirstRows}
 use Rattle.canary_migrate.proofs.Beyond.{templates_within, tallies_within}
@@ -67,7 +68,7 @@ module _ (templates : List TemplateRow) (tallies : List FirstTally) (old one two
     pub typed_broken : (IsFormed one.now → ¬ HasRows one.now) → IsUsable (seen_inside two) → ¬ HasJudgedFirstRows old.now
     typed_broken broken usable f =
         let m = one_is usable in
-        broken (formed_made old one m.0.first m.1) (emptied f.0, record { layout = moved; holds = held_made old one f.0 m.0.first f.1.0 m.1 })
+        broken (formed_made old one m.0.first m.1) (emptied f.0, record { layout = moved; holds = held_made old one f.0 m.0.first f.1.held m.1 })
 
     module _ (types : IsUsable (seen_inside two) → IsFormed one.now → HasWholeTallies one.now → HasRows one.now) where
       pub rows_two : IsUsable (seen_inside two) → (t : Tables) × Holds moved two.now t × HoldsFirst old.now (first_of t templates tallies) × (filled templates tallies t ≡ migrated (first_of t templates tallies))
@@ -87,39 +88,44 @@ module _ (templates : List TemplateRow) (tallies : List FirstTally) (old one two
         pub sound_three : IsUsable (seen_inside three) → IsDatabase three.now
         sound_three usable = let r = rows_two (was usable) in sound usable r.0 r.1
 
+        -- what any rows that were held become
+        stored_of : (f : FirstTables) → HoldsFirst old.now f → IsUsable (seen_inside three) → Stores three (migrated f)
+        stored_of f holds usable =
+            let m = one_is (was usable) in
+            let only = m.0.only f holds in
+            subst (Stores three) (filled_first f templates tallies only.0 only.1) (wrote usable (emptied f) (held_two f holds (was usable)))
+
         module _ (four : State) (last : IsSame (seen_inside three) (seen_inside four)) where
           pub rewritten : (IsUsable (seen_inside four) → (t : Tables) → Stores three t → IsJudged t) → IsUsable (seen_inside four) → IsRewritten old.now four.now
           rewritten judged usable =
               let l = last usable in
+              let m = one_is (was l.0) in
               let r = rows_two (was l.0) in
               let stored : Stores three (migrated (first_of r.0 templates tallies)) = subst (Stores three) r.3 (wrote l.0 r.0 r.1) in
               record {
                 rows = first_of r.0 templates tallies;
                 held = r.2;
+                plain = m.0.plain;
                 stores = subst (λ (db : Database). IsHeld db (migrated (first_of r.0 templates tallies))) (sym l.1) stored;
                 judged = judged usable (migrated (first_of r.0 templates tallies)) stored;
+                all = λ f holds. subst (λ (db : Database). IsHeld db (migrated f)) (sym l.1) (stored_of f holds l.0);
               }
 
           -- what is refused as it is judged
           pub judge_broken : (IsUsable (seen_inside four) → (t : Tables) → Stores three t → ¬ (AreWithin t × IsJudged t)) → IsUsable (seen_inside four) → ¬ HasJudgedFirstRows old.now
-          judge_broken refused usable f =
-              let l = last usable in
-              let m = one_is (was l.0) in
-              let only = m.0.only f.0 f.1.0 in
-              let stored : Stores three (migrated f.0) = subst (Stores three) (filled_first f.0 templates tallies only.0 only.1) (wrote l.0 (emptied f.0) (held_two f.0 f.1.0 (was l.0))) in
-              refused usable (migrated f.0) stored f.1.1
+          judge_broken refused usable f = refused usable (migrated f.0) (stored_of f.0 f.1.held (last usable).0) (f.1.within, f.1.judged)
 
     -- what is refused as the tables are filled
     pub fill_broken : IsUsable (seen_inside two) → ((t : Tables) → Holds moved two.now t → ¬ AreWithin (filled templates tallies t)) → ¬ HasJudgedFirstRows old.now
     fill_broken usable refused f =
         let m = one_is usable in
-        let only = m.0.only f.0 f.1.0 in
-        refused (emptied f.0) (held_two f.0 f.1.0 usable) (subst AreWithin (sym (filled_first f.0 templates tallies only.0 only.1)) f.1.1.0)
+        let only = m.0.only f.0 f.1.held in
+        refused (emptied f.0) (held_two f.0 f.1.held usable) (subst AreWithin (sym (filled_first f.0 templates tallies only.0 only.1)) f.1.within)
 
 -- The templates and the tallies are read, one after the other.
 
 module _ (templates : List TemplateRow) (tallies : List FirstTally) (old one two : State) (first : IsUsable old → IsFirst old.now) (meta : IsUsable old → HasFirstMeta (old.now.trees 0)) (same_one : IsSame old one) (same_two : IsSame one two)
-    (templates_found : IsUsable one → IsFirst old.now → AreTemplatesIn old.now templates) (templates_only : IsUsable one → IsFirst old.now → (all : List TemplateRow) → AreTemplatesIn old.now all → templates ≡ all)
+    (plain : IsTrue (list_all is_plain_row templates)) (templates_found : IsUsable one → IsFirst old.now → AreTemplatesIn old.now templates) (templates_only : IsUsable one → IsFirst old.now → (all : List TemplateRow) → AreTemplatesIn old.now all → templates ≡ all)
     (tallies_found : IsUsable two → IsFirst one.now → AreTalliesIn one.now tallies) (tallies_only : IsUsable two → IsFirst one.now → (all : List FirstTally) → AreTalliesIn one.now all → tallies ≡ all) where
   pub read_so : IsUsable two → IsRead two.now templates tallies
   read_so usable =
@@ -135,11 +141,12 @@ module _ (templates : List TemplateRow) (tallies : List FirstTally) (old one two
         meta = meta before.0;
         templates_are = told;
         tallies_are = counts;
+        plain = plain;
         only = λ f holds. (templates_only later.0 here f.templates holds.templates, tallies_only usable there f.tallies (subst (λ (db : Database). AreTalliesIn db f.tallies) (sym before.1) holds.tallies));
       })
 
-pub templates_broken : (db : Database) → ((all : List TemplateRow) → AreTemplatesIn db all → ¬ AllByRecursion IsTemplateWithin all) → ¬ HasJudgedFirstRows db
-templates_broken db broken f = broken f.0.templates f.1.0.templates (templates_within f.0.templates f.1.1.0.revisions)
+pub templates_broken : (db : Database) → ((all : List TemplateRow) → AreTemplatesIn db all → ¬ (AllByRecursion IsTemplateWithin all × IsTrue (list_all is_plain_row all))) → ¬ HasJudgedFirstRows db
+templates_broken db broken f = broken f.0.templates f.1.held.templates (templates_within f.0.templates f.1.within.revisions, f.1.plain)
 
 pub tallies_broken : (db : Database) → ((all : List FirstTally) → AreTalliesIn db all → ¬ AllByRecursion IsFirstTallyWithin all) → ¬ HasJudgedFirstRows db
-tallies_broken db broken f = broken f.0.tallies f.1.0.tallies (tallies_within f.0.measurements f.0.tallies f.1.1.0.tallies)
+tallies_broken db broken f = broken f.0.tallies f.1.held.tallies (tallies_within f.0.measurements f.0.tallies f.1.within.tallies)

@@ -1,3 +1,4 @@
 pub mod Migrated
+pub mod FirstContents
 pub mod Fills
 pub mod Migrates

@@ -12,6 +12,7 @@ ghost use Rattle.canary_migrate.specs.Migrates.{HasFirstTables, HasSoundFirstRow
 ghost use Rattle.canary_migrate.specs.Migrates.{HasJudgedFirstRows, IsRead, IsRewritten};
 
 use crate::fill::{fill, make_tables};
+use crate::plain;
 use canary_adopting::judge::judge;
 use canary_adopting::progress::Progress;
 use canary_judging::laws as judging_laws;
@@ -22,7 +23,9 @@ use canary_reads::typed::typed;
 use canary_schema::anew::open_anew;
 use canary_schema::fault::fault_of;
 use canary_schema::first::is_first;
+use canary_schema::laws as schema_laws;
 use canary_statements::fills::set_schema;
+use canary_stored::laws as stored_laws;
 use canary_tables::fault::{Left, TableFault};
 use sqlite::{Alter, Connection, Transaction};
 use std::alloc::Global;
@@ -36,10 +39,11 @@ use std::alloc::Global;
 /// # Errors
 ///
 /// `OtherSchema` where the database has other tables, indexes or views than the first schema, or
-/// its table meta lacks the row 1, 1; `BrokenRow` where the rows do not become those of a desk, as
-/// with a second row in meta; `Memory` where an allocation was refused; `Storage` where the store
-/// failed, or the connection stands inside a transaction. What is left of the connection is handed
-/// back, with the database as it was.
+/// its table meta lacks the row 1, 1; `BrokenRow` where the rows are not what the first schema has of
+/// sound contents of its time, as with `passAfter` in a template, or with a second row in meta;
+/// `Memory` where an allocation was refused; `Storage` where the store failed, or the connection
+/// stands inside a transaction. What is left of the connection is handed back, with the database as
+/// it was.
 pub fn migrate<S: Alter + Drop, G: Progress>(
     alloc: Global,
     conn: Connection<S>,
@@ -58,6 +62,9 @@ pub fn migrate<S: Alter + Drop, G: Progress>(
     ensures opened { IfErr result (λ e. e.0 ≢ fault.InUse) }
 {
     judging_laws::judging();
+    judging_laws::exactly_those();
+    stored_laws::reads_back();
+    schema_laws::one_reading();
     if !conn.is_autocommit() {
         return Err((TableFault::Storage, Left::Connection(conn)));
     }
@@ -126,7 +133,7 @@ fn rewrite<S: Alter, G: Progress>(
     ensures failed { IsUsable (state S.Store conn.new)
         → OnErr result ((state S.Store conn.new).now ≡ (state S.Store conn.old).now) }
 {
-    let templates = first::templates(conn, alloc)?;
+    let templates = plain::templates(conn, alloc)?;
     let tallies = first::tallies(conn, alloc)?;
     transact(
         conn,

@@ -16,7 +16,7 @@ returns-then-not-is_first-2-clause-left g c = left_anew (state g.S.Store c.args.
 
 pub returns-in-Ok-migrate_rows-clause-done : goal.returns-in-Ok-migrate_rows-clause-done
 returns-in-Ok-migrate_rows-clause-done g c =
-    migrated_so c.judging.ensures (state g.S.Store c.args.conn) (state g.S.Store c.in-Ok.opened.0) (state g.S.Store c.migrate_rows.new.conn) (search rules) c.migrate_rows.ensures.held c.in-Ok-migrate_rows.ensures.done
+    migrated_so c.judging.ensures c.reads_back.ensures c.one_reading.ensures (state g.S.Store c.args.conn) (state g.S.Store c.in-Ok.opened.0) (state g.S.Store c.migrate_rows.new.conn) (search rules) c.migrate_rows.ensures.held c.in-Ok-migrate_rows.ensures.done
 
 pub returns-in-Err-migrate_rows-clause-other : goal.returns-in-Err-migrate_rows-clause-other
 returns-in-Err-migrate_rows-clause-other g c =
@@ -24,7 +24,7 @@ returns-in-Err-migrate_rows-clause-other g c =
 
 pub returns-in-Err-migrate_rows-clause-broken : goal.returns-in-Err-migrate_rows-clause-broken
 returns-in-Err-migrate_rows-clause-broken g c =
-    λ is. broken_so c.judging.ensures (state g.S.Store c.args.conn) (state g.S.Store c.in-Ok.opened.0) (state g.S.Store c.migrate_rows.new.conn) (sym c.schema.ensures.value ∙ c.is_first.ensures.0 (search rules)) (search rules) c.migrate_rows.ensures.held (search rules)
+    λ is. broken_so c.judging.ensures c.exactly_those.ensures (state g.S.Store c.args.conn) (state g.S.Store c.in-Ok.opened.0) (state g.S.Store c.migrate_rows.new.conn) (sym c.schema.ensures.value ∙ c.is_first.ensures.0 (search rules)) (search rules) c.migrate_rows.ensures.held (search rules)
 
 pub returns-in-Err-migrate_rows-clause-left : goal.returns-in-Err-migrate_rows-clause-left
 returns-in-Err-migrate_rows-clause-left g c =

@@ -10,7 +10,7 @@ use Rattle.canary_migrate.proofs.migrate.rewrite.Goals as goal
 pub transact-requires-clause-read : goal.transact-requires-clause-read
 transact-requires-clause-read g c =
     rw (c.as_slice.ensures, c.as_slice-2.ensures) (read_so c.in_ok-templates.templates c.in_ok-tallies.tallies (state g.S.Store c.args.conn.now) (state g.S.Store c.templates.new.conn) (state g.S.Store c.tallies.new.conn) c.requires.first c.requires.meta c.templates.ensures.same c.tallies.ensures.same
-    c.in_ok-templates.ensures.found c.in_ok-templates.ensures.only c.in_ok-tallies.ensures.found c.in_ok-tallies.ensures.only)
+    c.in_ok-templates.ensures.plain c.in_ok-templates.ensures.found c.in_ok-templates.ensures.only c.in_ok-tallies.ensures.found c.in_ok-tallies.ensures.only)
 
 pub returns-clause-done : goal.returns-clause-done
 returns-clause-done g c usable =
