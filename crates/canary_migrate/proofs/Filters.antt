@@ -1,6 +1,6 @@
 -- Which items of a list pass a test.
 use Rattle.std.proofs.Common.{◌≡◌, ℕ, zero, suc, List, [], ◌∷◌, ◌++◌, ◌+◌, Bool, true, false, Some, None, refl, sym, ap, ◌∙◌, subst, eqb-true, eq-eqb}
-use Rattle.std.specs.Prelude.{Option, cond, ◌&&◌, ◌==◌, not, map, filter, find, slice_get}
+use Rattle.std.specs.Prelude.{Option, cond, ◌&&◌, ◌==◌, map, filter, slice_get}
 use Rattle.std.specs.List.{AllByRecursion, prefix_len, suffix_len}
 use Rattle.std.specs.Str.{bytes_eq}
 use Rattle.std.proofs.lemmas.List.{map-append, reverse-append}

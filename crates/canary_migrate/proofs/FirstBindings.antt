@@ -1,6 +1,6 @@
 -- What is bound by the migration, key by key: of one service, and then of all.
 use Rattle.std.proofs.Common.{◌≡◌, ◌⊎◌, inl, inr, ◌≤◌, ◌<◌, ℕ, zero, suc, List, [], ◌∷◌, ◌++◌, Bool, true, false, Some, None, refl, sym, ap, ◌∙◌, subst, eqb-true, append-nil, arith}
-use Rattle.std.specs.Prelude.{Option, cond, ◌&&◌, ◌==◌, not, map, filter, find, flat_map, slice_get}
+use Rattle.std.specs.Prelude.{Option, cond, ◌&&◌, ◌==◌, not, map, filter, find, flat_map}
 use Rattle.std.specs.List.{AllByRecursion}
 use Rattle.std.specs.Str.{bytes_eq}
 use Rattle.std.proofs.lemmas.List.Elements.{filter-append}

@@ -1,12 +1,11 @@
 -- Where each template has one revision: what a strategy and its runs are bound to.
-use Rattle.std.proofs.Common.{◌≡◌, ℕ, zero, suc, List, [], ◌∷◌, ◌++◌, length, Bool, true, false, IsTrue, Some, None, refl, sym, ap, ◌∙◌, subst}
-use Rattle.std.specs.Prelude.{Option, cond, ◌&&◌, ◌||◌, not, if◌then◌else◌, nat_le, map, flat_map, slice_get, is_none}
+use Rattle.std.proofs.Common.{◌≡◌, ℕ, zero, suc, List, [], ◌∷◌, ◌++◌, Bool, true, false, Some, None, refl, sym, ap, ◌∙◌}
+use Rattle.std.specs.Prelude.{Option, ◌&&◌, ◌||◌, not, if◌then◌else◌, map, flat_map, slice_get, is_none}
 use Rattle.std.specs.List.{filter_map, list_all}
 use Rattle.std.specs.Cmp.Lexicographic.{pointwise}
 use Rattle.std.proofs.lemmas.List.{map-append, append-nil}
 use Rattle.std.proofs.lemmas.List.Concat.{flat_map-append}
 use Rattle.canary_plan.specs.declared.analysis_parts.AnalysisParts.{AnalysisParts}
-use Rattle.canary_plan.specs.declared.analysis_parts.Revision.{Revision}
 use Rattle.canary_plan.specs.declared.service.Background.{Background}
 use Rattle.canary_plan.specs.declared.service.ServiceSpec.{ServiceSpec}
 use Rattle.canary_plan.specs.declared.step.Step.{Step}

@@ -1,13 +1,12 @@
 -- Rows of the first schema whose migration is sound are those of contents of its time, if no metric
 -- has `passAfter`; and the other way round.
-use Rattle.std.proofs.Common.{◌≡◌, ◌≤◌, ◌-◌, ℕ, zero, suc, List, [], ◌∷◌, ◌++◌, length, Bool, true, false, IsTrue, Some, None, refl, sym, ap, ◌∙◌, subst, arith}
+use Rattle.std.proofs.Common.{◌≡◌, ◌-◌, ℕ, zero, suc, List, [], ◌∷◌, ◌++◌, length, Bool, true, false, IsTrue, Some, None, refl, sym, ap, ◌∙◌, subst, arith}
 use Rattle.std.specs.Prelude.{Option, cond, ◌&&◌, ◌||◌, ◌==◌, not, nat_lt, map, filter, find, flat_map, slice_get, unwrap_or, is_none}
 use Rattle.std.specs.List.{AllByRecursion, list_all, list_any}
 use Rattle.std.specs.FinMap.{get}
 use Rattle.std.specs.Cmp.Lexicographic.{pointwise}
 use Rattle.std.specs.Str.{bytes_eq}
 use Rattle.canary_plan.specs.declared.analysis_parts.AnalysisParts.{AnalysisParts}
-use Rattle.canary_plan.specs.declared.analysis_parts.Revision.{Revision}
 use Rattle.canary_plan.specs.declared.bound.BoundParts.{BoundParts}
 use Rattle.canary_plan.specs.declared.command.Command.TheVariants as command
 use Rattle.canary_plan.specs.declared.refusal.Refusal.TheVariants.{UnknownTemplate, BadStrategy}
@@ -32,18 +31,14 @@ use Rattle.canary_once.specs.Contents.{Contents}
 use Rattle.canary_once.specs.Sound.{AreContents}
 use Rattle.canary_rows.specs.declared.rows.BindingRow.{BindingRow}
 use Rattle.canary_rows.specs.declared.rows.RevisionRow.{RevisionRow}
-use Rattle.canary_rows.specs.declared.rows.TallyRow.{TallyRow}
 use Rattle.canary_rows.specs.Limits.{AreWithin, IsBindingWithin, IsRevisionWithin, IsTallyWithin}
-use Rattle.canary_rows.specs.Tables.{Tables, is_revision, is_service, is_binding}
-use Rattle.canary_stored.specs.Reading.{contents_of}
+use Rattle.canary_rows.specs.Tables.{Tables, is_revision, is_binding}
 use Rattle.canary_stored.specs.Tables.{AreRows, IsReadable, row_if, revision_rows, is_of_template, binding_rows}
 use Rattle.canary_stored.specs.Values.{revision_row, service_row, binding_row, made_from}
-use Rattle.canary_judging.specs.Soundness.{AreSoundTables}
 use Rattle.canary_reads.specs.declared.first.TemplateRow.{TemplateRow}
-use Rattle.canary_reads.specs.declared.first.FirstTally.{FirstTally}
 use Rattle.canary_migrate.specs.Migrated.{FirstTables, first_revision, first_of, bindings_to, bindings_of_runs, all_bindings, tally_of, migrated}
 use Rattle.canary_migrate.specs.FirstContents.{is_plain, is_plain_command, is_plain_row, AreFirstContents, template_row, first_tally, first_rows}
-use Rattle.canary_migrate.proofs.Filters.{own_name, own_number, all_passing, all_weaker, by_tests, none_pass, map_back}
+use Rattle.canary_migrate.proofs.Filters.{own_name, own_number, all_passing, by_tests, none_pass, map_back}
 use Rattle.canary_migrate.proofs.FirstBound.{alone_bound}
 use Rattle.canary_migrate.proofs.FirstBindings.{own_rows, attempt_alone, bound_of_service}
 use Rattle.canary_migrate.proofs.FirstMigrates.{revisions_back, tallies_back, bindings_are}

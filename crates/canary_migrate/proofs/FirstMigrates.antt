@@ -1,17 +1,14 @@
 -- What the first schema has of the rows of contents migrates to the rows of these contents.
-use Rattle.std.proofs.Common.{◌≡◌, ◌≤◌, ℕ, zero, suc, ◌+◌, length, List, [], ◌∷◌, ◌++◌, Bool, true, false, IsTrue, Some, None, refl, sym, ap, ◌∙◌, subst, append-nil, arith}
-use Rattle.std.specs.Prelude.{Option, cond, ◌&&◌, ◌==◌, map, filter, find, slice_get, unwrap_or, option_map}
+use Rattle.std.proofs.Common.{◌≡◌, ◌≤◌, ℕ, zero, suc, ◌+◌, length, List, [], ◌∷◌, ◌++◌, Bool, true, IsTrue, Some, None, refl, sym, ap, ◌∙◌, subst, append-nil, arith}
+use Rattle.std.specs.Prelude.{Option, ◌&&◌, ◌==◌, map, filter, find, slice_get, unwrap_or, option_map}
 use Rattle.std.specs.List.{AllByRecursion, suffix_len}
 use Rattle.std.specs.FinMap.{get}
 use Rattle.std.specs.Cmp.Lexicographic.{pointwise}
-use Rattle.std.specs.Str.{bytes_eq}
 use Rattle.std.proofs.lemmas.List.Elements.{filter-append}
 use Rattle.canary_condition.specs.declared.outcome.Phase.{Phase}
 use Rattle.canary_condition.specs.declared.outcome.Phase.TheVariants as phase
 use Rattle.canary_metric.specs.declared.measurement.Measurement.{Measurement}
 use Rattle.canary_metric.specs.Counts.{is_successful}
-use Rattle.canary_plan.specs.declared.analysis_parts.AnalysisParts.{AnalysisParts}
-use Rattle.canary_plan.specs.declared.analysis_parts.Revision.{Revision}
 use Rattle.canary_plan.specs.declared.bound.BoundParts.{BoundParts}
 use Rattle.canary_plan.specs.declared.strategy.CheckedStrategy.{CheckedStrategy}
 use Rattle.canary_plan.specs.declared.template.Template.{Template}
@@ -20,26 +17,26 @@ use Rattle.canary_plan.specs.PlanRefusals.{analyses}
 use Rattle.canary_plan.specs.Plans.{Templates, bound_of, strategy_of, analysis_at, all_revisions}
 use Rattle.canary_release.specs.declared.effect.Recorded.{Recorded}
 use Rattle.canary_release.specs.Desks.{ModelService, revisions_of}
-use Rattle.canary_release.specs.Order.{AreNumbered, AreRevisions, AreLists, IsRun, IsInOrder, IsInRevisions, is_of, at_revision, known_by}
+use Rattle.canary_release.specs.Order.{AreNumbered, AreLists, IsRun, IsInOrder, IsInRevisions, is_of, at_revision, known_by}
 use Rattle.canary_release.specs.Parts.{is_step_bound, is_background_bound, is_bound}
 use Rattle.canary_release.specs.Pasts.{Run, counts_of, measurement_of}
 use Rattle.canary_once.specs.Contents.{Contents}
 use Rattle.canary_once.specs.Records.{past_in, past_of}
 use Rattle.canary_once.specs.Sound.{AreContents}
-use Rattle.canary_rows.specs.declared.rows.BindingRow.{BindingRow}
 use Rattle.canary_rows.specs.declared.rows.MeasurementRow.{MeasurementRow}
 use Rattle.canary_rows.specs.declared.rows.RevisionRow.{RevisionRow}
 use Rattle.canary_rows.specs.declared.rows.RunRow.{RunRow}
-use Rattle.canary_rows.specs.declared.rows.ServiceRow.{ServiceRow}
 use Rattle.canary_rows.specs.declared.rows.TallyRow.{TallyRow}
-use Rattle.canary_rows.specs.Tables.{Tables, is_revision, is_service, is_binding, is_run, is_tally, is_measurement_of}
+use Rattle.canary_rows.specs.Tables.{Tables, is_revision, is_binding, is_run, is_tally, is_measurement_of}
 use Rattle.canary_stored.specs.Numbers.{phase_column}
 use Rattle.canary_stored.specs.Tables.{AreRows, IsReadable, row_if, revision_rows, run_at, tally_rows_of, is_of_template, revisions_of_run, binding_rows}
 use Rattle.canary_stored.specs.Values.{revision_row, service_row, binding_row, run_row, tally_row, measurement_row, made_from}
+use Rattle.canary_stored.specs.Reading.{contents_of}
+use Rattle.canary_judging.specs.Soundness.{ExactlyThose}
 use Rattle.canary_reads.specs.Finds.{first}
 use Rattle.canary_reads.specs.Metrics.{is_measurement_in}
 use Rattle.canary_migrate.specs.Migrated.{first_revision, first_of, bindings_to, names_at, run_bindings, bindings_of_runs, all_bindings, is_passed, passes_of, tally_of, migrated}
-use Rattle.canary_migrate.specs.FirstContents.{AreFirstContents, template_row, first_tally, first_rows, FirstRowsMigrate}
+use Rattle.canary_migrate.specs.FirstContents.{AreFirstContents, template_row, first_tally, first_rows, FirstRowsMigrate, SoundRowsMigrate}
 use Rattle.canary_migrate.proofs.Filters.{own_name, own_number, turned, all_weaker, by_tests, filter_twice, filter_mapped, map_back, suffix_mapped}
 use Rattle.canary_migrate.proofs.FirstBound.{AreFirstKnown, all_first, run_first}
 use Rattle.canary_migrate.proofs.FirstBindings.{own_rows, attempt_alone, of_number, none_there, bound_of_service, run_alone}
@@ -268,3 +265,8 @@ module _ (t : Tables) (c : Contents) (rows : AreRows t c) (readable : IsReadable
 
 pub first_rows_migrate : FirstRowsMigrate
 first_rows_migrate t c rows readable lawful firsts = rows_migrate t c rows readable lawful firsts
+
+pub sound_rows_migrate : ExactlyThose → SoundRowsMigrate
+sound_rows_migrate those t sound firsts =
+    let h = sound.0 in
+    (those (migrated (first_rows t))).0 (contents_of t, first_rows_migrate t (contents_of t) h.rows h.readable h.lawful firsts, h.readable, h.lawful, sound.1)

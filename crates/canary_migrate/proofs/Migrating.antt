@@ -20,7 +20,7 @@ use Rattle.canary_reads.specs.declared.meta.MetaRow.TheVariants.{Alone}
 use Rattle.canary_migrate.specs.Migrated.{FirstTables, HoldsFirst, migrated}
 use Rattle.canary_migrate.specs.FirstContents.{is_plain_row, AreFirstContents, first_rows, HasFirstRowsOf}
 use Rattle.canary_migrate.specs.Migrates.{HasFirstTables, HasSoundFirstRows, HasJudgedFirstRows, AreJudgedFirst, IsMigrated, IsRewritten}
-use Rattle.canary_migrate.proofs.FirstMigrates.{first_rows_migrate}
+use Rattle.canary_migrate.proofs.FirstMigrates.{first_rows_migrate, sound_rows_migrate}
 use Rattle.canary_migrate.proofs.FirstJudged.{first_of_migrated, contents_first, plain_templates, migrated_within}
 
 -- the row of the first schema, where it is found alone
@@ -44,7 +44,7 @@ module _ (exact : JudgingIsExact) (those : ExactlyThose) where
         held = first.held;
         plain = plain_templates t c h.rows h.readable h.lawful first.first;
         within = migrated_within t c h.rows h.readable h.lawful first.first first.within;
-        judged = (exact (migrated (first_rows t))).1 ((those (migrated (first_rows t))).0 (c, first_rows_migrate t c h.rows h.readable h.lawful first.first, h.readable, h.lawful, first.sound.1));
+        judged = (exact (migrated (first_rows t))).1 (sound_rows_migrate those t first.sound first.first);
       }
 
   -- no rows that are judged, none that are sound

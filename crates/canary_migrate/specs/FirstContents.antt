@@ -1,5 +1,5 @@
 -- Contents as the first schema could have them, and what their rows were there.
-use Rattle.std.specs.Prelude.{◌≡◌, ℕ, Bool, true, IsTrue, List, [], ◌∷◌, map, is_none, Option, Some, None}
+use Rattle.std.specs.Prelude.{◌≡◌, ℕ, Bool, true, IsTrue, List, [], ◌∷◌, map, is_none, Option, Some}
 use Rattle.std.specs.List.{list_all}
 use Rattle.std.specs.FinMap.{get}
 use Rattle.sqlite.specs.Effect.{Database}
@@ -88,3 +88,9 @@ abbrev pub FirstRowsMigrate : Type 0
 FirstRowsMigrate =
     (t : Tables) (c : Contents) → AreRows t c → IsReadable c → AreContents c
     → AreFirstContents c → AreRows (migrated (first_rows t)) c
+
+-- the law: so the rows of sound contents become rows of sound contents
+abbrev pub SoundRowsMigrate : Type 0
+SoundRowsMigrate =
+    (t : Tables) → AreSoundTables t → AreFirstContents (contents_of t)
+    → AreSoundTables (migrated (first_rows t))

@@ -1,7 +1,13 @@
-//! A law over the definitions alone.
-ghost use Rattle.canary_migrate.specs.FirstContents.{FirstRowsMigrate};
+//! Laws over the definitions alone.
+ghost use Rattle.canary_migrate.specs.FirstContents.{FirstRowsMigrate, SoundRowsMigrate};
 
-/// Contents as the first schema could have them: what it has of their rows migrates to their rows.
+use canary_judging::laws as judging_laws;
+
+/// What the first schema has of the rows of contents of its time migrates to the rows of these
+/// contents. So where they are sound, it migrates to rows of sound contents.
 pub fn first_rows()
-    ensures { FirstRowsMigrate }
-{}
+    ensures rows { FirstRowsMigrate }
+    ensures sound { SoundRowsMigrate }
+{
+    judging_laws::exactly_those();
+}
