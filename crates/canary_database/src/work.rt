@@ -76,18 +76,36 @@ pub(crate) fn on_file<R: Read, W: Write, F: Write>(
     let before = Identity::of(rt, file.name);
     let book = open(rt, file.name, errors, is_terminal)?.with_room(file.room());
     let seat = Seat::taken(rt, file.name, before)?;
-    let mut book = Watched::new(rt, seat, book);
     if makes {
         tell_made(rt.alloc(), file.name, errors, is_terminal);
     }
     let settles = work.settles();
-    let done = on_book(rt, &mut book, work, input, output, errors, is_terminal);
+    let (done, book) = on_watched(rt, seat, book, work, input, output, errors, is_terminal);
     if !settles || matches!(done, Err(Fault::Replaced)) {
         return done;
     }
-    let closed = book.into_book().into_connection().close();
+    let closed = book.into_connection().close();
     done?;
     closed.or(Err(Fault::Storage))
+}
+
+// Does this work on a book, each call of which fails once its file is found lost, and gives the
+// book back. It knows no type of book: the prover is at its limit over that of a file.
+fn on_watched<B: Book + Drop, R: Read, W: Write, F: Write>(
+    rt: &HostRuntime,
+    seat: Seat<'_>,
+    book: B,
+    work: Work,
+    input: &mut R,
+    output: &mut W,
+    errors: &mut F,
+    is_terminal: bool,
+) -> (Result<(), Fault>, B)
+    ensures { IsReading work → result.0 ≢ Err fault.BadName }
+{
+    let mut watched = Watched::new(rt, seat, book);
+    let done = on_book(rt, &mut watched, work, input, output, errors, is_terminal);
+    (done, watched.into_book())
 }
 
 /// As `on_file`, of work that reads no input.
