@@ -1,1 +1,2 @@
 pub mod TableBooks
+pub mod FirstDesks

@@ -1,2 +1,3 @@
 pub mod TableBooks
+pub mod FirstDesks
 pub mod FaultRows
