@@ -163,10 +163,12 @@ def try_odd_logs(program, folder):
     make_desk(program, file)
     os.remove(file + "-wal")
     write(os.path.join(place, "secret"), "secret")
-    for kind, make in (("a link", lambda name: os.symlink("secret", name)), ("a FIFO", os.mkfifo)):
+    for kind, make, fault in (
+            ("a link", lambda name: os.symlink("secret", name), FILE_FAULT),
+            ("a FIFO", os.mkfifo, (1, b"", b"canary: storage\n"))):
         make(file + "-wal")
         words = ["timeout", "10", program, "backup", "--db", "desk.db", "copy"]
-        expect(f"backup, the log is {kind}", told(words, cwd=place), FILE_FAULT)
+        expect(f"backup, the log is {kind}", told(words, cwd=place), fault)
         os.remove(file + "-wal")
     want_names("backup, an odd log: what is left", place, ["desk[.]db", "secret"])
 
