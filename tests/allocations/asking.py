@@ -40,17 +40,30 @@ def call(trial, address, words):
     return ["do", "--desk", address, "--as", "ops", "--journal", trial.file, *words]
 
 
-def refuse_in(trial, row, words, wanted):
+def refuse_in(trial, row, words, wanted, **variables):
     """A function that refuses an allocation of a call, and makes it again with nothing refused."""
     def refuse(number):
-        found = trial.run(words(number), number)
+        found = trial.run(words(number), number, **variables)
         asked = trial.asked()
         if found[:2] != wanted[:2] and without_path(found, trial.file) not in NO_MEMORY:
             raise Wrong(f"{row}: when allocation {number} is refused: {found!r}")
-        expect(f"{row}: after a refusal of allocation {number}", trial.run(words(number)), wanted)
+        expect(f"{row}: after a refusal of allocation {number}",
+               trial.run(words(number), **variables), wanted)
         return asked
 
     return refuse
+
+
+def refuse_by_variables(trial, share):
+    """Each allocation of a call is refused that reads its options from variables, from those of the
+    first variable on. It ends as it opens the journal, of which the folder is not there."""
+    row, words = "client do, by variables", ["do", "tick", "web"]
+    given = {"CANARY_DESK": "127.0.0.1:1", "CANARY_AS": "ops", "CANARY_JOURNAL": "/nowhere/ops"}
+    wanted = (5, b"", b"canary: the journal cannot be opened, read or written: /nowhere/ops")
+    expect(row, trial.run(words, **given), wanted)
+    trial.run(words, **{**given, "CANARY_DESK": ""})
+    share.each_from(trial.asked()).refuse_each(
+        row, refuse_in(trial, row, lambda number: words, wanted, **given))
 
 
 def ask_refused(trial, share):
@@ -61,6 +74,7 @@ def ask_refused(trial, share):
         file.write(MANIFEST)
     with contextlib.suppress(FileNotFoundError):
         os.remove(trial.file)
+    refuse_by_variables(trial, share)
     with desk_of(trial.program) as address:
         begun = trial.run(call(trial, address, ["service", manifest, "v1"]))
         expect("client: a service", begun[0], 0)

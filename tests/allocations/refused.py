@@ -83,11 +83,11 @@ class Trial:
         with open(self.counted, "rb") as told:
             return struct.unpack("L", told.read())[0]
 
-    def run(self, words, number=0):
-        """What a command line comes to: its exit status, the output, and the first line of standard
-        error."""
+    def run(self, words, number=0, **variables):
+        """What a command line comes to, with these variables besides: its exit status, the output,
+        and the first line of standard error."""
         done = subprocess.run([self.program, *words], capture_output=True, timeout=60,
-                              stdin=subprocess.DEVNULL, env=self.refusing(number))
+                              stdin=subprocess.DEVNULL, env={**self.refusing(number), **variables})
         return done.returncode, done.stdout, done.stderr.split(b"\n")[0]
 
     def converse(self, words, messages, number=0):
@@ -114,6 +114,10 @@ class Share:
 
     def __init__(self, step, first):
         self.step, self.first = step, first
+
+    def each_from(self, first):
+        """Each one from this on."""
+        return Share(1, first)
 
     def first_of(self, asked):
         """The first one, where a run asks for so many: it may ask for fewer than FIRST."""

@@ -10,6 +10,7 @@ import traceback
 import closed
 import journals
 import kills
+import limits
 import minutes
 import queries
 import replies
@@ -22,7 +23,8 @@ import wishes
 import words
 from world import World, running
 
-STRACE_PARTS = ("try_client_killed", "try_desk_killed", "try_power_cuts", "try_failing_calls")
+STRACE_PARTS = ("try_client_killed", "try_desk_killed", "try_power_cuts", "try_failing_calls",
+                "try_defaults", "try_slow_calls")
 # How many parts run beside one another: they wait more than they compute.
 BESIDE = 6
 
@@ -35,7 +37,7 @@ def parts_of(*modules):
 
 # The long ones first.
 PARTS = parts_of(storms, kills, journals, replies, wishes, closed, reports, sends, queries, silence,
-                 strangers, words, minutes)
+                 strangers, limits, words, minutes)
 
 
 def fail(why):

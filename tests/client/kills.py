@@ -209,6 +209,16 @@ class Disk:
                 found[place:place + len(written)] = written
         return bytes(found)
 
+    def note(self, call, told, result):
+        """A call on the file, with its words and its result."""
+        if call == "pwrite64":
+            place = int(told.rsplit(",", 1)[1])
+            self.changes.append((place, unescaped(BYTES.search(told)[1])[:int(result)]))
+        elif call == "ftruncate":
+            self.changes.append((int(told.split(",")[1]), None))
+        elif call in ("fsync", "fdatasync"):
+            self.synced, self.changes = self.with_changes(self.changes), []
+
     def images(self):
         """All of it, nothing of it, and each first part and each last part of a write alone."""
         yield self.synced
@@ -228,47 +238,52 @@ def unescaped(told):
 
 
 def try_power_cuts(world):
-    """Whenever the power goes, the disk has the journal as it was or with the next entry. The
-    command is on the disk before its message goes out, and the reply is before it is printed."""
+    """Whenever the power goes, the disk has the journal as it was or with the next entry, whether
+    the journal is named by a path or by a bare name. The command is on the disk before its message
+    goes out, and the reply is before it is printed."""
     with world.desk("power") as desk:
-        add(desk)
-        log = desk.folder / "log"
-        words = desk.words("promote", "web", options=("--once", "key"))
-        front = ["strace", "-f", "-o", str(log), "-xx", "-s", "1000000"]
-        expect("a traced client", run_traced(world, desk, front, words), (DONE, shown(PROMOTED)))
-        path, disk, numbers, images = str(desk.folder / "ops.journal"), Disk(), set(), 0
-        sent = printed = folder_synced = False
-        folders = set()
-        for call, told, result in CALL.findall(log.read_text()):
-            number = told.split(",")[0]
-            if call == "openat":
-                opened = unescaped(BYTES.search(told)[1]).decode()
-                if opened == path:
-                    numbers.add(result)
-                folders.discard(result)
-                if opened == str(desk.folder):
-                    folders.add(result)
-            elif call == "pwrite64" and number in numbers:
-                place = int(told.rsplit(",", 1)[1])
-                disk.changes.append((place, unescaped(BYTES.search(told)[1])[:int(result)]))
-            elif call == "ftruncate" and number in numbers:
-                disk.changes.append((int(told.split(",")[1]), None))
-            elif call in ("fsync", "fdatasync") and number in numbers:
-                disk.synced, disk.changes = disk.with_changes(disk.changes), []
-            elif call == "fsync" and number in folders:
-                folder_synced = True
-            elif call == "sendto" and b"/requests/1 " in unescaped(BYTES.search(told)[1]):
-                sent = True
-                expect("the folder is synced before a request is sent", folder_synced, True)
-            elif call == "write" and number == "1":
-                printed = True
-            for image in disk.images():
-                images += 1
-                want_image(call, image, sent, printed)
-        expect("a request was sent, and its reply printed", (sent, printed), (True, True))
-        expect("the file is as the calls made it", disk.with_changes(disk.changes),
-               (desk.folder / "ops.journal").read_bytes())
+        add(desk, "path", "bare")
+        images = power_cuts(desk, "path", str(desk.folder / "path.journal"), str(desk.folder))
+        images += power_cuts(desk, "bare", "bare.journal", ".")
     return f"{images} files that a power cut may leave"
+
+
+def power_cuts(desk, service, path, folder):
+    """Promotes a service by a journal of this path in this folder, and counts what power cuts may
+    leave of the journal meanwhile."""
+    words = desk.words("promote", service, caller=service, options=("--once", "key"))
+    words[words.index("--journal") + 1] = path
+    log, disk, numbers, images = desk.folder / "log", Disk(), set(), 0
+    front = ["strace", "-f", "-o", str(log), "-xx", "-s", "1000000"]
+    expect("a traced client", run_traced(desk.world, desk, front, words),
+           (DONE, shown(PROMOTED, service)))
+    sent = printed = folder_synced = False
+    folders = set()
+    for call, told, result in CALL.findall(log.read_text()):
+        number = told.split(",")[0]
+        if call == "openat":
+            opened = unescaped(BYTES.search(told)[1]).decode()
+            if opened == path:
+                numbers.add(result)
+            folders.discard(result)
+            if opened == folder:
+                folders.add(result)
+        elif call == "fsync" and number in folders:
+            folder_synced = True
+        elif call == "sendto" and b"/requests/1 " in unescaped(BYTES.search(told)[1]):
+            sent = True
+            expect(f"{path}: its folder is synced before a request is sent", folder_synced, True)
+        elif call == "write" and number == "1":
+            printed = True
+        elif number in numbers:
+            disk.note(call, told, result)
+        for image in disk.images():
+            images += 1
+            want_image(call, image, sent, printed)
+    expect("a request was sent, and its reply printed", (sent, printed), (True, True))
+    expect("the file is as the calls made it", disk.with_changes(disk.changes),
+           (desk.folder / path).read_bytes())
+    return images
 
 
 def want_image(call, image, sent, printed):

@@ -137,6 +137,40 @@ def try_pending_report(world):
         want_delivered("pending report", desk)
 
 
+def losing(desk):
+    """A server before a desk that loses the replies to commands: it answers a query, and the
+    request by which a journal begins."""
+    def answer(client):
+        message = client.recv(65536)
+        found = ask(desk.port, message)
+        if b"/requests/" not in message or b"/requests/1000000000 " in message:
+            client.sendall(found)
+    return answering(answer)
+
+
+def try_reports_that_differ(world):
+    """Reports of another result, failure, metric or run mean something else: none is taken for the
+    one that is pending, so each of them is measured."""
+    with world.desk("reports-that-differ") as desk:
+        add_measured(desk, metric("m", "0s"), metric("n", "0s"))
+        text, other = ("--failure", "none"), ("--failure", "none at all")
+        rows = ((("m", "5"), (), ("m", "6"), ()), (("m", "[1]"), (), ("m", "[1,1]"), ()),
+                (("m",), text, ("m",), other), (("m", "7"), (), ("m",), text),
+                (("m", "8"), (), ("n", "8"), ()))
+        for first, options, second, other_options in rows:
+            with losing(desk) as port:
+                want(first, desk.do("report", "web", "1", *first, port=port, tries=1,
+                                    options=options), PENDING, said=PENDING_SAID)
+            phase = "Error" if other_options else "Successful"
+            want(second, desk.do("report", "web", "1", *second, options=other_options), DONE,
+                 recorded(phase), BEHIND)
+        expect("measurements", measured(desk), [
+            ("m", 1, "5", ""), ("m", 2, "6", ""), ("m", 3, "[1]", ""), ("m", 4, "[1;1]", ""),
+            ("m", 5, "", "none"), ("m", 6, "", "none at all"), ("m", 7, "7", ""),
+            ("m", 8, "", "none"), ("m", 9, "8", ""), ("n", 1, "8", "")])
+        want_delivered("reports that differ", desk)
+
+
 def try_invalid_results(world):
     """What is no result is refused before anything is sent, and no journal is begun."""
     with world.desk("invalid-results") as desk:
@@ -249,3 +283,35 @@ def try_due(world):
         want(with_wait, desk.ask(*with_wait), REFUSED)
         ending.join()
         want_delivered("due", desk)
+
+
+def add_analysed(desk, name, background, step):
+    """A release of a service with a run in the background and one of its step, with a metric
+    each."""
+    setup = Caller(desk, f"setup-{name}")
+    for number, measured_by in enumerate((background, step), 1):
+        setup.send({"template": {"metadata": {"name": f"{name}-{number}"},
+                                 "spec": {"metrics": [measured_by]}}})
+    templates = [{"templates": [{"templateName": f"{name}-{number}"}]} for number in (1, 2)]
+    setup.send({"service": {"version": "v1", "manifest": rollout(
+        name, {"setWeight": 20}, {"analysis": templates[1]}, analysis=templates[0])}})
+    setup.send({"start": {"service": name, "version": "v2"}})
+
+
+def try_due_of_two_runs(world):
+    """What is due of either of two open runs is told, whichever of them waits."""
+    with world.desk("due-of-two-runs") as desk:
+        seldom, often = {**metric("seldom", "1h"), "count": 2}, {**metric("often", "0s"), "count": 9}
+        for name, background, step in (("first", often, seldom), ("second", seldom, often)):
+            add_analysed(desk, name, background, step)
+            run = 2 if name == "first" else 1
+            want("both", desk.ask("due", name), DONE,
+                 f"1 {background['name']} 1\n2 {step['name']} 1\n")
+            expect("one is measured", desk.do("report", name, str(run), "seldom", "5",
+                                              caller=name, journal=name).status, DONE)
+            for words in (["due"], ["due", "--wait", "--timeout", "20"], ["due", "--wait"]):
+                want(f"{words} {name}", desk.ask(*words, name), DONE, f"{3 - run} often 1\n")
+        want("both services", desk.ask("due", "first", "second"), DONE,
+             "first 1 often 1\nsecond 2 often 1\n")
+        expect("it is measured", desk.do("report", "first", "1", "often", "5", caller="first",
+                                         journal="first").status, DONE)

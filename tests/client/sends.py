@@ -3,10 +3,11 @@ import shutil
 import subprocess
 import time
 
+from replies import reply
 from reports import add_measured, metric
 from world import (
-    CONTRADICTION, DONE, LOCAL, PENDING, WORDS, Wrong, environment, expect, free_port, process,
-    want,
+    CONTRADICTION, DONE, FOREIGN, LOCAL, PENDING, UNAVAILABLE, WORDS, Wrong, answering, ask,
+    environment, expect, free_port, process, want, want_all_said,
 )
 
 HEADER = "caller,number,service,run,metric,ordinal,taken,result,failure\n"
@@ -135,3 +136,28 @@ def try_rows(world):
             more.write(row % (9, 5, 5))
         want_sent("ahead", desk.ask("send", "more.csv"), CONTRADICTION,
                   lines + '11 409 {"code":"ahead","expected":8}\n', (3, 1, 6), ROW_AHEAD)
+
+
+def try_rows_again(world):
+    """A row that a desk answers with 503, and one that a proxy answers, have no line: they are sent
+    again until a desk answers them."""
+    with world.desk("rows-again") as desk:
+        add_measured(desk, metric("m", "0s"))
+        desk.write("rows.csv", rows_of(3, int(time.time())))
+        others = {1: (reply(503, '{"code":"storage"}'), UNAVAILABLE),
+                  3: (reply(502, "<html>"), FOREIGN),
+                  5: (reply(503, '{"code":"no-memory"}'), UNAVAILABLE)}
+        come = []
+
+        def answer(client):
+            come.append(client.recv(65536))
+            other = others.get(len(come))
+            client.sendall(other[0] if other else ask(desk.port, come[-1]))
+
+        with answering(answer) as port:
+            found = world.run(["send", "--desk", f"127.0.0.1:{port}", "rows.csv"], desk.folder)
+        want_all_said("again", found, *(said for _, said in others.values()),
+                      "rows recorded: 3, repeated: 0, refused: 0")
+        expect("again", (found.status, found.output), (DONE, lines_of(3)))
+        expect("each message twice", come, [come[at] for at in (0, 0, 2, 2, 4, 4)])
+        expect("measurements", counted(desk), (3, 3, 3))

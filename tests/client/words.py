@@ -1,16 +1,18 @@
 """Words, variables of the environment, terminals and closed outputs: parts of client.py."""
+import json
 import os
 import select
 import signal
 import subprocess
+import threading
 import time
 import tty
 
 from reports import COMMAND, INVALID_NAME, add_measured, metric
 from world import (
     ADDED, CONTRADICTION, DONE, ENDED, KEY_USED, LOCAL, PROMOTED, REFUSED, STARTED, WORDS, Caller,
-    Wrong, add, answering, environment, expect, free_port, process, running, shown, two_pauses,
-    want, want_delivered,
+    Wrong, add, answering, ask, environment, expect, free_port, process, running, shown,
+    two_pauses, wait_until, want, want_delivered,
 )
 
 ADDRESS = "the desk's address is not IP:PORT (--desk or CANARY_DESK)"
@@ -94,8 +96,11 @@ def try_words(world):
         for version in ("v 2", "", "v1.2.3+build5", "sha256:0123", "x" * 64):
             want(version, desk.do("start", "web", version), WORDS, said=BAD_VERSION)
             want(version, desk.do("service", "web.json", version), WORDS, said=BAD_VERSION)
-        want("a failure", desk.do("promote", "web", options=("--failure", "x")), WORDS,
-             said=COMMAND)
+        desk.write("fine.json", {"metadata": {"name": "t"}, "spec": {"metrics": [{"name": "m"}]}})
+        for words in (("promote", "web"), ("start", "web", "v2"), ("template", "fine.json"),
+                      ("service", "web.json", "v1")):
+            want(f"{words}, with a failure", desk.do(*words, options=("--failure", "x")), WORDS,
+                 said=COMMAND)
         for words in (("template", "broken.json"), ("template", "template.json"),
                       ("template", "web.json"), ("service", "broken.json", "v1"),
                       ("service", "long.json", "v1")):
@@ -112,6 +117,27 @@ def try_words(world):
                    (WORDS, "", True))
         expect("no journal", (desk.folder / "ops.journal").exists(), False)
         expect("no request", desk.kept(), [])
+
+
+def try_long_manifests(world):
+    """A manifest whose command is of 65,536 bytes is taken; one of a byte more the desk would not
+    read, so nothing is asked."""
+    with world.desk("long-manifests") as desk:
+        for words, around, name in ((("template", "t.json"), '{"template":%s}', "t"),
+                                    (("service", "web.json", "v1"),
+                                     '{"service":{"manifest":%s,"version":"v1"}}', "web")):
+            value = {"metadata": {"name": "t"}, "spec": {"metrics": [{"name": "m"}]}}
+            value = {**(value if name == "t" else two_pauses()), "status": ""}
+            room = 65_536 - len(around % json.dumps(value))
+            for length, status in ((room + 1, WORDS), (room + 7, WORDS), (room, DONE)):
+                desk.write(words[1], {**value, "status": "x" * length})
+                found = desk.do(*words)
+                expect(f"{words} of {length - room} bytes more", found.status, status)
+                if status == WORDS:
+                    want(words, found, WORDS, said=MANIFEST)
+                    expect("nothing is asked", desk.kept(), [] if name == "t" else [
+                        (1, 200, '{"code":"ok","revision":1,"template":"t"}')])
+        want_delivered("long manifests", desk)
 
 
 def try_commands(world):
@@ -264,3 +290,34 @@ def try_signals(world):
                     raise Wrong(f"{number}: it took {time.monotonic() - begun} seconds")
         want("again", desk.do("promote", "web"), DONE, shown(PROMOTED))
         want_delivered("signals", desk)
+
+
+def try_stopped_client(world):
+    """A client that is stopped and goes on again while it waits for a reply hears that one: it
+    sends one message."""
+    with world.desk("stopped-client") as desk:
+        add(desk)
+        want("tick", desk.do("tick", "web"), DONE, shown(STARTED))
+        come, goes_on = [], threading.Event()
+
+        def answer(client):
+            come.append(client.recv(65536))
+            goes_on.wait(20)
+            client.sendall(ask(desk.port, come[-1]))
+
+        with answering(answer) as port, process(
+                [world.program, *desk.words("promote", "web", port=port, timeout=60)],
+                cwd=desk.folder, env=environment(), stdin=subprocess.DEVNULL,
+                stdout=subprocess.PIPE, stderr=subprocess.PIPE) as client:
+            wait_until("a message", lambda: come or client.poll() is not None)
+            for _ in range(5):
+                time.sleep(.05)
+                client.send_signal(signal.SIGSTOP)
+                time.sleep(.05)
+                client.send_signal(signal.SIGCONT)
+            time.sleep(.1)
+            goes_on.set()
+            found = client.communicate(timeout=60)
+        expect("it goes on", (client.returncode, *found), (DONE, shown(PROMOTED).encode(), b""))
+        expect("messages", len(come), 1)
+        want_delivered("stopped client", desk)

@@ -1,0 +1,198 @@
+"""Defaults, limits and spellings that a call has to keep to the number: parts of client.py."""
+import concurrent.futures
+import re
+import socket
+import subprocess
+import time
+
+from journals import records
+from replies import reply
+from reports import NOT_IN_TIME
+from sends import HEADER
+from strangers import JSON, serving, silent_after, timed
+from world import (
+    DONE, FOREIGN, LOST, NO_DESK, PENDING, REFUSED, STARTED, UNREACHABLE, Wrong, add, answering,
+    ask, environment, expect, free_port, process, shows, want, want_all_said,
+)
+
+OK = shows("web", *STARTED)
+# Milliseconds between ten messages: they double up to five seconds.
+PAUSES = [100, 200, 400, 800, 1600, 3200, 5000, 5000, 5000]
+# The calls by which a program connects, and by which it sleeps; neither comes to anything here.
+WITHOUT_NETWORK = ["-e", "trace=connect,nanosleep,clock_nanosleep", "-e",
+                   "inject=connect:error=ECONNREFUSED", "-e",
+                   "inject=nanosleep,clock_nanosleep:retval=0"]
+
+
+def run_without_network(world, place, words):
+    """How a call ends whose messages go nowhere and whose pauses are over at once, to which
+    addresses it connects, and how many milliseconds it pauses."""
+    log = place / "calls"
+    with process(["strace", "-f", "-o", str(log), *WITHOUT_NETWORK, world.program, *words],
+                 cwd=place, env=environment(), stdin=subprocess.DEVNULL, stdout=subprocess.PIPE,
+                 stderr=subprocess.PIPE) as client:
+        output, errors = client.communicate(timeout=60)
+    told = log.read_text(encoding="utf-8")
+    connected = [f"{address}:{port}" for port, address in re.findall(
+        r'connect\(.*sin_port=htons\((\d+)\), sin_addr=inet_addr\("([0-9.]+)"\)', told)]
+    slept = [int(seconds) * 1000 + int(rest) // 1_000_000 for seconds, rest in re.findall(
+        r"sleep\(.*?\{tv_sec=(\d+), tv_nsec=(\d+)\}", told)]
+    return client.returncode, output.decode(), errors.decode(), connected, slept
+
+
+def try_defaults(world):
+    """Without options and variables each call sends ten messages to 127.0.0.1:8080, after pauses
+    that double up to five seconds; with --tries as many as that says."""
+    place = world.place("defaults")
+    (place / "rows.csv").write_text(HEADER + "agent,1,web,1,m,1,5,5,\n")
+    asks = ["do", "--as", "ops", "--journal", "ops.journal"]
+    for words in (["get", "web"], ["watch", "web"], ["due", "web"], ["send", "rows.csv"],
+                  [*asks, "promote", "web"]):
+        for tries in ([], ["--tries", "7"], ["--tries", "1"]):
+            (place / "ops.journal").write_bytes(
+                records([{"begun": {"caller": "ops", "settled": 0}}]) + b"-")
+            count = int(tries[1]) if tries else 10
+            status, output, errors, connected, slept = run_without_network(
+                world, place, [words[0], *tries, *words[1:]])
+            row = f"{words} {tries}"
+            expect(row, (status, output), (PENDING, ""))
+            expect(f"{row}: what it said", errors.count(UNREACHABLE), count - 1)
+            expect(f"{row}: messages", connected, ["127.0.0.1:8080"] * count)
+            expect(f"{row}: pauses", slept, PAUSES[:count - 1])
+
+
+def field_lines(count):
+    """So many fields of a head."""
+    return "".join(f"X-{at}: y\r\n" for at in range(count))
+
+
+def try_spellings(world):
+    """The length of a reply counts in whatever case its name is written, and so does a head of 64
+    fields; one of 65 is no desk's."""
+    place = world.place("spellings")
+    whole = reply(200, OK, JSON)
+    length = b"Content-Length: "
+    for row, sent in (("lower case", whole.replace(length, b"content-length: ")),
+                      ("upper case", whole.replace(length, b"CONTENT-LENGTH: ")),
+                      ("no space", whole.replace(length, b"content-length:")),
+                      ("two spaces and a tab", whole.replace(length, b"content-length: \t ")),
+                      ("9 fields", reply(200, OK, field_lines(8))),
+                      ("64 fields", reply(200, OK, field_lines(63)))):
+        with serving(sent) as port:
+            want(row, world.run(["get", "--desk", f"127.0.0.1:{port}", "--tries", "1", "web"],
+                                place), DONE, OK + "\n")
+    with serving(reply(200, OK, field_lines(64))) as port:
+        found = world.run(["get", "--desk", f"127.0.0.1:{port}", "--tries", "2", "web"], place)
+        want_all_said("65 fields", found, FOREIGN, NO_DESK)
+        expect("65 fields", (found.status, found.output), (PENDING, ""))
+
+
+def try_longest_replies(world):
+    """A body of 64 MiB is waited for, and one of a byte more is no desk's."""
+    place = world.place("longest-replies")
+    for length, said in ((1 << 26, LOST), ((1 << 26) + 1, FOREIGN)):
+        with serving(b"HTTP/1.1 200 OK\r\nContent-Length: %d\r\n\r\n{" % length) as port:
+            found = world.run(["get", "--desk", f"127.0.0.1:{port}", "--tries", "2", "web"], place)
+            want_all_said(length, found, said, NO_DESK)
+            expect(length, (found.status, found.output), (PENDING, ""))
+
+
+def try_addresses(world):
+    """An address of IPv6 is one, with brackets around it."""
+    place = world.place("addresses")
+    found = world.run(["get", "--desk", f"[::1]:{free_port()}", "--tries", "2", "web"], place)
+    want_all_said("nobody", found, UNREACHABLE, NO_DESK)
+    expect("nobody", (found.status, found.output), (PENDING, ""))
+    try:
+        server = socket.create_server(("::1", 0), family=socket.AF_INET6)
+    except OSError:
+        return "passed, without IPv6"
+    with server, concurrent.futures.ThreadPoolExecutor(1) as pool:
+        def answer():
+            with server.accept()[0] as client:
+                client.recv(65536)
+                client.sendall(reply(200, OK, JSON))
+        answered = pool.submit(answer)
+        want("a server", world.run(
+            ["get", "--desk", f"[::1]:{server.getsockname()[1]}", "--tries", "1", "web"], place),
+            DONE, OK + "\n")
+        answered.result(20)
+    return None
+
+
+def soonest(row, least, most, call):
+    """What came of a call that takes so many seconds where the machine is not busy: each takes as
+    long at least, and of five one is over in time."""
+    for _ in range(4):
+        begun = time.monotonic()
+        found = call()
+        spent = time.monotonic() - begun
+        if spent < least:
+            raise Wrong(f"{row}: {spent:.2f} seconds, in place of {least} at least")
+        if spent <= most:
+            return found
+    return timed(row, least, most, call)
+
+
+def stalling_first(desk):
+    """A server before a desk that never answers the first message."""
+    come = []
+
+    def answer(client):
+        come.append(client.recv(65536))
+        if len(come) == 1:
+            client.recv(1)
+        else:
+            client.sendall(ask(desk.port, come[-1]))
+    return answering(answer)
+
+
+def try_default_times(world):
+    """Without --timeout a reply is waited for five seconds. So it is by `watch` and `due --wait`,
+    whose --timeout is that of the whole call: a stalled reply does not take all of it."""
+    with world.desk("default-times") as desk:
+        add(desk)
+        rows = ((["get", "--tries", "1", "web"], PENDING, silent_after()),
+                (["watch", "--timeout", "60", "--until", "Paused", "web"], DONE,
+                 stalling_first(desk)),
+                (["due", "--wait", "--timeout", "60", "web"], REFUSED, stalling_first(desk)))
+
+        def run(words, status, server):
+            with server as port:
+                found = timed(words, 4.9, 15, lambda: world.run(
+                    [words[0], "--desk", f"127.0.0.1:{port}", *words[1:]], desk.folder))
+                expect(words, found.status, status)
+
+        with concurrent.futures.ThreadPoolExecutor(len(rows)) as pool:
+            for row in [pool.submit(run, *row) for row in rows]:
+                row.result()
+
+
+def try_last_second(world):
+    """A whole call ends with its last second, and not with the one behind that."""
+    with world.desk("last-second") as desk:
+        add(desk)
+        found = soonest("watch", .9, 1.8, lambda: desk.ask("watch", "--timeout", "1", "web"))
+        want("watch", found, PENDING, "web Paused, step 1, weight 20%, version v2,"
+             " waits for a promotion\n", NOT_IN_TIME)
+
+
+def try_slow_calls(world):
+    """A connection that takes a second has that much less for its reply. Nothing is sent or read
+    without a time of its own."""
+    place, log = world.place("slow-calls"), world.folder / "slow-calls" / "log"
+    traced = ["strace", "-f", "-o", str(log), "-e", "trace=connect,setsockopt,sendto,recvfrom",
+              "-e", "inject=connect:delay_exit=1000000"]
+
+    def call(port):
+        with process([*traced, world.program, "get", "--desk", f"127.0.0.1:{port}", "--timeout",
+                      "2", "--tries", "1", "web"], cwd=place, env=environment(),
+                     stdin=subprocess.DEVNULL, stdout=subprocess.PIPE,
+                     stderr=subprocess.PIPE) as client:
+            client.communicate(timeout=60)
+            return client.returncode
+
+    with silent_after() as port:
+        expect("slow", soonest("slow", 1.9, 2.8, lambda: call(port)), PENDING)
+    found = re.findall(r"SO_SNDTIMEO|SO_RCVTIMEO|sendto\(|recvfrom\(", log.read_text())
+    expect("times of calls", found, ["SO_SNDTIMEO", "sendto(", "SO_RCVTIMEO", "recvfrom("])
