@@ -4,6 +4,7 @@ import re
 import subprocess
 from contextlib import contextmanager
 
+from conversation import STILL_AT_B, reply_of
 from story_words import B, Wrong, command, expect, put
 
 SECONDS = 60
@@ -30,6 +31,21 @@ def make_desk(program, file, count=len(STREAM), options=()):
     done = subprocess.run(words, input=b"".join(STREAM[:count]), capture_output=True,
                           timeout=SECONDS, check=True)
     expect(f"a desk in {file}", done.stdout.count(b"HTTP/1.1 200 OK"), count)
+
+
+def make_killed_desk(program, file):
+    """A desk's file whose desk settled the requests and was killed: its log has the commits."""
+    with subprocess.Popen([program, *STILL_AT_B, "--db", file], stdin=subprocess.PIPE,
+                          stdout=subprocess.PIPE) as desk:
+        for message in STREAM:
+            expect(f"a desk in {file}", reply_of(desk, message)[:15], b"HTTP/1.1 200 OK")
+        desk.kill()
+
+
+def want_started(row, program, copy):
+    """A copy has the release that the requests began."""
+    status, output, errors = told([program, "history", "--db", copy, "web"])
+    expect(row, (status, errors, b"start v2" in output), (0, b"", True))
 
 
 @contextmanager

@@ -8,8 +8,8 @@ import sys
 import time
 
 from places import (
-    DONE, FILE_FAULT, RANDOM, SECONDS, bytes_of, folder_in, make_desk, mode_of, pair, serving, told,
-    want_names, write)
+    DONE, FILE_FAULT, RANDOM, SECONDS, bytes_of, folder_in, make_desk, make_killed_desk, mode_of,
+    pair, serving, told, want_names, want_started, write)
 from story_words import Wrong, expect
 
 NAMING = ("rename", "renameat", "renameat2", "link", "linkat")
@@ -115,6 +115,26 @@ def try_killed_backups(program, folder):
         os.remove(copy + "-wal")
 
 
+def try_log_begun_anew(program, folder):
+    """A desk begins its log anew while a backup stands between the two files that it copies: it
+    copies both once more, and has what was settled before it began."""
+    place = folder_in(folder, "anew")
+    file, copy = os.path.join(place, "desk.db"), os.path.join(place, "copy")
+    log = os.path.join(folder, "anew-log")
+    make_killed_desk(program, file)
+    before = bytes_of(file + "-wal")[:32]
+    words = traced(log, ["openat"], "openat:signal=STOP:when=2") + ["-P", file + "-wal"]
+    copying = begin(words + [program, "backup", "--db", file, copy])
+    stopped = stopped_in(log)
+    make_desk(program, file)
+    expect("a log begun anew", bytes_of(file + "-wal")[:32] == before, False)
+    os.kill(stopped, signal.SIGCONT)
+    expect("backup, the log is begun anew", end_of(copying), DONE)
+    want_started("backup, the log is begun anew", program, copy)
+    want_names("backup, the log is begun anew", place,
+               ["desk[.]db", "desk[.]db-wal", "copy", "copy-wal"])
+
+
 def try_failing_backups(program, folder):
     """A backup of which a call fails leaves nothing: the second name that it takes, the folder that
     it syncs, or the first name, as on a file system without hard links."""
@@ -123,10 +143,13 @@ def try_failing_backups(program, folder):
     make_desk(program, file)
     calls = ("fsync", "link")
     backup = [program, "backup", "--db", file, os.path.join(place, "copy")]
-    expect("backup", told(traced(log, calls) + backup), DONE)
+    expect("backup", told(traced(log, calls) + ["-y"] + backup), DONE)
     names = [name for name, _, _ in calls_in(log)]
     expect("backup: the order of its calls", names[-6:],
            ["fsync", "fsync", "link", "fsync", "link", "fsync"])
+    synced = [re.sub(r"[0-9a-f]{16}", "X", re.search("([^/]*)>", words)[1])
+              for name, words, _ in calls_in(log) if name == "fsync"]
+    expect("backup: what is synced before it is named", synced[-4:], ["X", "X-wal", *2 * ["failing"]])
     for name in ("copy", "copy-wal"):
         os.remove(os.path.join(place, name))
     count = names.count("fsync")
@@ -251,8 +274,8 @@ def try_folder_taken(program, folder):
 def main():
     program, folder, *names = sys.argv[1:]
     try:
-        for part in (try_mixed_pair, try_killed_backups, try_failing_backups, try_page_in_turn,
-                     try_places, try_folder_taken):
+        for part in (try_mixed_pair, try_killed_backups, try_log_begun_anew, try_failing_backups,
+                     try_page_in_turn, try_places, try_folder_taken):
             if not names or part.__name__ in names:
                 part(os.path.realpath(program), folder)
     except (Wrong, subprocess.TimeoutExpired) as fault:

@@ -7,8 +7,8 @@ import subprocess
 import sys
 
 from places import (
-    DONE, FILE_FAULT, bytes_of, folder_in, make_desk, mode_of, pair, serving, told, want_names,
-    write)
+    DONE, FILE_FAULT, bytes_of, folder_in, make_desk, make_killed_desk, mode_of, pair, serving,
+    told, want_names, want_started, write)
 from story_words import Wrong, expect
 
 OTHER_USER = 65534
@@ -136,6 +136,40 @@ def try_modes(program, folder):
         expect("page on a stranger's file", (mode_of(out), os.stat(out).st_uid), (oct(0o644), 0))
 
 
+def try_modes_of_backups(program, folder):
+    """A copy may be read by those who may read the desk's file, and so may its log."""
+    place = folder_in(folder, "backup-modes")
+    file, copy = os.path.join(place, "desk.db"), os.path.join(place, "copy")
+    make_desk(program, file)
+    for mode in (0o600, 0o640, 0o644):
+        for name in (file, file + "-wal"):
+            os.chmod(name, mode)
+        expect("backup", told([program, "backup", "--db", file, copy], umask=0o022), DONE)
+        expect(f"backup of files of mode {mode:o}", [mode_of(copy), mode_of(copy + "-wal")],
+               [oct(mode)] * 2)
+        os.remove(copy)
+        os.remove(copy + "-wal")
+
+
+def try_links_to_desks(program, folder):
+    """A backup, a status and a page by a link to a desk's file have the log beside that file, and
+    not one beside the link."""
+    place, other = folder_in(folder, "linked-desk"), folder_in(folder, "links")
+    file, link = os.path.join(place, "desk.db"), os.path.join(other, "link")
+    make_killed_desk(program, file)
+    os.symlink(file, link)
+    for log in (None, "none of a desk"):
+        if log:
+            write(link + "-wal", log)
+        copy, page = (os.path.join(folder, f"{name} {log}") for name in ("copy", "page"))
+        expect("backup by a link", told([program, "backup", "--db", link, copy]), DONE)
+        want_started("backup by a link", program, copy)
+        status, output, errors = told([program, "status", "--db", link])
+        expect("status by a link", (status, errors, output.count(b"\nweb ")), (0, b"", 1))
+        expect("page by a link", told([program, "page", "--db", link, page]), DONE)
+        expect("page by a link: a service", b"web" in bytes_of(page), True)
+
+
 def try_at_once(program, folder):
     """Of backups that are made at once under one name one is done, and the others are refused;
     the copy is that of one desk, and nothing else is left."""
@@ -202,8 +236,8 @@ def try_folder_that_is_shut(program, folder):
 def main():
     program, folder, *names = sys.argv[1:]
     try:
-        for part in (try_names_of_desk, try_planted, try_kinds, try_modes, try_at_once,
-                     try_odd_logs, try_folder_that_is_shut):
+        for part in (try_names_of_desk, try_planted, try_kinds, try_modes, try_modes_of_backups,
+                     try_links_to_desks, try_at_once, try_odd_logs, try_folder_that_is_shut):
             if not names or part.__name__ in names:
                 part(os.path.realpath(program), folder)
     except (Wrong, subprocess.TimeoutExpired) as fault:
