@@ -1,28 +1,36 @@
 """Checks that the planted bugs fit the code: edits.py ROOT (tests/edits/run gives it).
 
 A bug is a file of `crates/CRATE/planted` or `crates/CRATE/must-fail`, NAME.edit: the line
-`file: FILE`, which names a file of the crate, then pairs of lines `old: TEXT` and `new: TEXT`. The
-pairs are applied one after another: each old text stands in the file once as it is replaced, and in
-the end the file has changed. Those of `tests/edits/itself/CRATE` are no bugs, but have to fit, too;
-and each name in `tests/edits/named` has to be one of a bug."""
+`file: FILE`, which names a file of the crate, then pairs of lines `old: TEXT` and `new: TEXT`; and
+so on for another file, where a clause is changed with its function. The pairs are applied one after
+another: each old text stands in the file once as it is replaced, and in the end the file has
+changed. Those of `tests/edits/itself/CRATE` are no bugs, but have to fit, too; and each name in
+`tests/edits/named` has to be one of a bug."""
 import pathlib
 import re
 import sys
 
 import shares
 
-EDIT = re.compile(r"file: (\S+)\n((?:old: .+\nnew:(?: .*)?\n)+)")
+PART = re.compile(r"file: (\S+)\n((?:old: .+\nnew:(?: .*)?\n)+)")
 PAIR = re.compile(r"old: (.+)\nnew: ?(.*)\n")
 
 
 def fault_of(edit, crates):
     """Why the edit does not fit the code, or none."""
-    found = EDIT.fullmatch(edit.read_text(encoding="utf-8"))
-    if not found:
-        return "is not a file and pairs of an old and a new text"
-    name, pairs = found.groups()
+    told = edit.read_text(encoding="utf-8")
+    parts = PART.findall(told)
+    if not parts or PART.sub("", told):
+        return "is not a file and pairs of an old and a new text, once or more"
     is_planted = edit.parent.name in ("planted", "must-fail")
-    file = crates / (edit.parent.parent if is_planted else edit.parent).name / name
+    crate = crates / (edit.parent.parent if is_planted else edit.parent).name
+    faults = (fault_in(crate, name, pairs) for name, pairs in parts)
+    return next((fault for fault in faults if fault), None)
+
+
+def fault_in(crate, name, pairs):
+    """Why the pairs do not fit a file of the crate, or none."""
+    file = crate / name
     if not file.is_file():
         return f"there is no {name}"
     before = text = file.read_text(encoding="utf-8")
