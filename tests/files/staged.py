@@ -45,7 +45,7 @@ def stopped_in(log):
         if not os.path.exists(log):
             return None
         with open(log, encoding="utf-8") as written:
-            return re.search(r"^(\d+) --- stopped by SIGSTOP", written.read(), re.MULTILINE)
+            return re.search(r"^(\d+) +--- stopped by SIGSTOP", written.read(), re.MULTILINE)
     wait_until(f"{log}: a process that is stopped", found)
     return int(found()[1])
 
