@@ -203,7 +203,7 @@ def try_page_in_turn(program, folder):
 def try_places(program, folder):
     """Where the copy of a desk's file that runs stands: in the first folder in which nobody else
     may rename or remove it, and that has room, or else beside the file."""
-    place, log = folder_in(folder, "copied"), os.path.join(folder, "copied-log")
+    place, log = folder_in(folder, "places"), os.path.join(folder, "places-log")
     modes = {"own": 0o700, "open": 0o777, "group": 0o770, "sticky": 0o1777, "plain": 0o755}
     places = {name: folder_in(folder, name, mode) for name, mode in modes.items()}
     places.update({"none": "/nowhere", "unset": "", "linked": os.path.join(folder, "linked")})
