@@ -1,11 +1,12 @@
 """Checks that the planted bugs fit the code: edits.py ROOT (tests/edits/run gives it).
 
-A bug is a file of `crates/CRATE/planted` or `crates/CRATE/must-fail`, NAME.edit: the line
-`file: FILE`, which names a file of the crate, then pairs of lines `old: TEXT` and `new: TEXT`; and
-so on for another file, where a clause is changed with its function. The pairs are applied one after
-another: each old text stands in the file once as it is replaced, and in the end the file has
-changed. Those of `tests/edits/itself/CRATE` are no bugs, but have to fit, too; and each name in
-`tests/edits/named` has to be one of a bug."""
+A bug is a file NAME.edit of `crates/CRATE/planted` or `crates/CRATE/must-fail`, or, if no clause
+refuses it and a test does, of `crates/CRATE/tested`: the line `file: FILE`, which names a file of
+the crate, then pairs of lines `old: TEXT` and `new: TEXT`; and so on for another file, where a
+clause is changed with its function. The pairs are applied one after another: each old text stands
+in the file once as it is replaced, and in the end the file has changed. Those of
+`tests/edits/itself/CRATE` are no bugs, but have to fit, too; and each name in `tests/edits/named`
+has to be one of a bug."""
 import pathlib
 import re
 import sys
@@ -13,6 +14,7 @@ import sys
 import shares
 
 PART = re.compile(r"file: (\S+)\n((?:old: .+\nnew:(?: .*)?\n)+)")
+FOLDERS = ("planted", "must-fail", "tested")
 PAIR = re.compile(r"old: (.+)\nnew: ?(.*)\n")
 
 
@@ -22,7 +24,7 @@ def fault_of(edit, crates):
     parts = PART.findall(told)
     if not parts or PART.sub("", told):
         return "is not a file and pairs of an old and a new text, once or more"
-    is_planted = edit.parent.name in ("planted", "must-fail")
+    is_planted = edit.parent.name in FOLDERS
     crate = crates / (edit.parent.parent if is_planted else edit.parent).name
     faults = (fault_in(crate, name, pairs) for name, pairs in parts)
     return next((fault for fault in faults if fault), None)
@@ -43,7 +45,7 @@ def fault_in(crate, name, pairs):
 
 def main(root):
     crates = pathlib.Path(root) / "crates"
-    edits = sorted([*crates.glob("*/planted/*.edit"), *crates.glob("*/must-fail/*.edit")])
+    edits = sorted(it for folder in FOLDERS for it in crates.glob(f"*/{folder}/*.edit"))
     others = sorted(pathlib.Path(root).glob("tests/edits/itself/*/*.edit"))
     faults = [(edit, fault) for edit in edits + others if (fault := fault_of(edit, crates))]
     faults += [(shares.NAMED, f"there is no {it}") for it in shares.named_in(root)
