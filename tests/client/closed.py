@@ -172,7 +172,8 @@ def try_closed_sends(world):
                 want_closed(name, closed, ended, sent_lines(name), [] if 1 in closed else [COUNTED])
                 expect(f"{name}: settled", len(desk.kept(name)), 1 if 1 in closed else 2)
             words = [*sent, rows]
-            want(f"{name}, all open", world.run(words, desk.folder), DONE, sent_lines(name), COUNTED)
+            ended = world.run(words, desk.folder)
+            want(f"{name}, all open", ended, DONE, sent_lines(name), COUNTED)
             expect(f"{name}: the file", (desk.folder / rows).read_bytes(), before)
             expect(f"{name}: settled", len(desk.kept(name)), 2)
 

@@ -79,8 +79,11 @@ def promised(data):
 
 def as_shown(body):
     """A body as the client shows it: white space as spaces, any other control character escaped."""
-    return "".join(" " if each in "\t\n\r" else f"\\u{ord(each):04x}" if ord(each) in MARKS else each
-                   for each in body) + "\n"
+    def shown_as(each):
+        if ord(each) not in MARKS:
+            return each
+        return " " if each in "\t\n\r" else f"\\u{ord(each):04x}"
+    return "".join(map(shown_as, body)) + "\n"
 
 
 def promised_under_key(kept, rest):

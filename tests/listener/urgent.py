@@ -1,8 +1,8 @@
 """A client that sends urgent bytes (RFC 9293, section 3.8.5) among its requests: urgent.py PORT
 DESK, with the desk's process. An urgent byte is not part of the stream, and a read stops before it,
-though more has come: the desk has to read on. A second one, before the first was reached, would make
-the first one part of the stream, so each request has one. Prints what is wrong, and ends with status
-1 then."""
+though more has come: the desk has to read on. A second one, before the first was reached, would
+make the first one part of the stream, so each request has one. Prints what is wrong, and ends with
+status 1 then."""
 import os
 import signal
 import socket
