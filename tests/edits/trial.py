@@ -62,15 +62,8 @@ class Trial:
                 kit.link(f"{self.crate.folder}/out/incremental", f"{room}/kept")
                 return self.check(log, self.source.planted(edits), flags, kept=f"{room}/kept")
         texts, cut = self.source.cut_off(edits, kept)
-        texts.update(self.without_answers({it for edit in edits for it in edit.changed}))
         gone = [folder for it in cut for folder in verdicts.folders_of(*it)]
         return self.check(log, texts, flags, gone, self.kept)
-
-    def without_answers(self, functions):
-        """Empty files of answers for those of these functions that have none. If such a file is not
-        there, a check works out what it would have to hold, which takes as long as the proof."""
-        files = [f"{verdicts.folders_of(*it)[0]}Answers.antt" for it in functions]
-        return {it: "" for it in files if not os.path.exists(f"{self.crate.folder}/{it}")}
 
     def settle(self, name, verdict, how, said):
         self.verdicts[name] = (verdict, how, said)
