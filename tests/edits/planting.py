@@ -46,9 +46,10 @@ class Source:
 
 
     def beside(self, edit):
-        """The functions of each file of code in which the bug changes more than bodies."""
+        """The functions with a body of each file of code in which the bug changes more than bodies.
+        """
         return {(path, it) for path in edit.beyond if path != LAWS
-                for it in self.functions.get(path, ())}
+                for it in self.functions.get(path, ()) if it.body < it.last}
 
 
 class Edit:

@@ -38,9 +38,9 @@ class Trial:
             words = [*rtlib.guarded(), rtlib.RATTLE, "check", *words]
             ran = checks.run(words, room, f"{self.logs}/{log}.log", self.limit)
         self.checks, self.seconds = self.checks + 1, self.seconds + ran.seconds
-        if ran.status == 2:
-            raise checks.Stopped(ran.lines[0])
-        return ran.lines
+        # The prover stopped and judged nothing, and says why.
+        errors = [it for it in ran.lines if ran.status == 2 and it.startswith("rattle: error")]
+        return errors or ran.lines
 
     def check_whole(self, edit):
         """What a check of the whole crate with one bug says."""
