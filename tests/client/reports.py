@@ -301,7 +301,8 @@ def add_analysed(desk, name, background, step):
 def try_due_of_two_runs(world):
     """What is due of either of two open runs is told, whichever of them waits."""
     with world.desk("due-of-two-runs") as desk:
-        seldom, often = {**metric("seldom", "1h"), "count": 2}, {**metric("often", "0s"), "count": 9}
+        seldom = {**metric("seldom", "1h"), "count": 2}
+        often = {**metric("often", "0s"), "count": 9}
         for name, background, step in (("first", often, seldom), ("second", seldom, often)):
             add_analysed(desk, name, background, step)
             run = 2 if name == "first" else 1

@@ -149,7 +149,8 @@ def try_failing_backups(program, folder):
            ["fsync", "fsync", "link", "fsync", "link", "fsync"])
     synced = [re.sub(r"[0-9a-f]{16}", "X", re.search("([^/]*)>", words)[1])
               for name, words, _ in calls_in(log) if name == "fsync"]
-    expect("backup: what is synced before it is named", synced[-4:], ["X", "X-wal", *2 * ["failing"]])
+    expect("backup: what is synced before it is named", synced[-4:],
+           ["X", "X-wal", "failing", "failing"])
     for name in ("copy", "copy-wal"):
         os.remove(os.path.join(place, name))
     count = names.count("fsync")
