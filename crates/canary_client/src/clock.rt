@@ -1,9 +1,18 @@
 //! How long a call, and each exchange of it, may take.
+ghost use Rattle.std.specs.Prelude.{◌≡◌, option_map};
+ghost use Rattle.std.specs.Duration.{as_nanos};
+ghost use Rattle.canary_client.specs.Patience.{pause_after, left_of};
+
 use crate::outcome::Stop;
 use std::time::{Duration, Instant};
 
 // The seconds between two looks at a desk.
 const BETWEEN: u64 = 1;
+
+// The first pause before a message is sent again, and the longest, in milliseconds.
+const FIRST_PAUSE: u64 = 100;
+
+const LONGEST_PAUSE: u64 = 5_000;
 
 /// A span of time that began at some moment, and ends so much later, or never.
 #[derive(Clone, Copy, Debug)]
@@ -40,10 +49,7 @@ impl Span {
     /// read.
     pub fn cut(&self, rt: &HostRuntime, time: Duration) -> Option<Duration> {
         let passed = self.start.elapsed(rt).ok()?;
-        let left = match self.most {
-            Some(most) => most.saturating_sub(passed).min(time),
-            None => time,
-        };
+        let left = left_of(self.most, passed, time);
         if left.is_zero() { None } else { Some(left) }
     }
 
@@ -73,4 +79,23 @@ impl Span {
         }
         stop
     }
+}
+
+// As much of this time as is left of a span in which so much has passed.
+fn left_of(most: Option<Duration>, passed: Duration, time: Duration) -> Duration
+    ensures { as_nanos result ≡ left_of (option_map as_nanos most) (as_nanos passed)
+        (as_nanos time) }
+{
+    match most {
+        Some(most) => most.saturating_sub(passed).min(time),
+        None => time,
+    }
+}
+
+/// The milliseconds before a message is sent again that was sent so often.
+pub fn pause_after(tried: u32) -> u64
+    ensures { result ≡ pause_after tried }
+{
+    let doubled = FIRST_PAUSE * (1u64 << tried.min(10)) / 2;
+    doubled.min(LONGEST_PAUSE)
 }

@@ -1,6 +1,7 @@
 //! The heads of replies in HTTP/1.1 (RFC 9112).
-ghost use Rattle.std.specs.Prelude.{length, All};
-ghost use Rattle.httparse.specs.Spans.{IsHeaderWithin, IsResponseWithin};
+ghost use Rattle.std.specs.Prelude.{◌≡◌, length, codes, All};
+ghost use Rattle.std.specs.Str.{str_eq_ignore_ascii_case};
+ghost use Rattle.httparse.specs.Spans.{IsHeaderWithin, IsResponseWithin, span_bytes};
 
 use canary_sending::network::Why;
 use httparse::Status;
@@ -78,7 +79,7 @@ fn has_encoding(bytes: &[u8], fields: &[HeaderSpan]) -> bool
     requires { All (IsHeaderWithin (length bytes.now)) fields.now }
 {
     for field in fields {
-        if is_named(bytes, *field, b"transfer-encoding") {
+        if is_encoding(bytes, *field) {
             return true;
         }
     }
@@ -91,7 +92,7 @@ fn length_in(bytes: &[u8], fields: &[HeaderSpan]) -> Option<usize>
 {
     let mut found = None;
     for field in fields {
-        if is_named(bytes, *field, b"content-length") {
+        if is_length(bytes, *field) {
             if found.is_some() {
                 return None;
             }
@@ -101,11 +102,25 @@ fn length_in(bytes: &[u8], fields: &[HeaderSpan]) -> Option<usize>
     found
 }
 
-// Whether a field has this name, in any case.
-fn is_named(bytes: &[u8], field: HeaderSpan, name: &[u8]) -> bool
+// Whether a field is `Transfer-Encoding`, in any case.
+fn is_encoding(bytes: &[u8], field: HeaderSpan) -> bool
     requires { IsHeaderWithin (length bytes.now) field }
+    ensures { result ≡ str_eq_ignore_ascii_case (span_bytes bytes.now field.name)
+        (codes "Transfer-Encoding") }
 {
-    field.name.of(bytes).eq_ignore_ascii_case(name)
+    field
+        .name
+        .of(bytes)
+        .eq_ignore_ascii_case(b"transfer-encoding")
+}
+
+// Whether a field is `Content-Length`, in any case.
+fn is_length(bytes: &[u8], field: HeaderSpan) -> bool
+    requires { IsHeaderWithin (length bytes.now) field }
+    ensures { result ≡ str_eq_ignore_ascii_case (span_bytes bytes.now field.name)
+        (codes "Content-Length") }
+{
+    field.name.of(bytes).eq_ignore_ascii_case(b"content-length")
 }
 
 // A number of digits alone, without a sign.

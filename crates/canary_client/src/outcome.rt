@@ -1,6 +1,6 @@
 //! How a call of the client ends, and what it says then.
 ghost use Rattle.std.specs.Prelude.{◌≡◌};
-ghost use Rattle.canary_client.specs.Outcomes.{status_of};
+ghost use Rattle.canary_client.specs.Outcomes.{status_of, outcome_of};
 
 use canary_base::error::Memory;
 use canary_journal::entry::Refusal;
@@ -164,7 +164,9 @@ pub enum Stop {
 
 impl Stop {
     /// How the call ends.
-    pub fn outcome(self) -> Outcome {
+    pub fn outcome(self) -> Outcome
+        ensures { result ≡ outcome_of self }
+    {
         match self {
             Stop::Address | Stop::NoCaller | Stop::BadCaller | Stop::NoJournal => Outcome::Words,
             Stop::Command | Stop::Result | Stop::Failure | Stop::Run => Outcome::Words,

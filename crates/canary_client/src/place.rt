@@ -1,5 +1,8 @@
 //! Where a desk is, as whom it is asked, and how patiently: what the command line or, in its place,
 //! the environment says.
+ghost use Rattle.std.specs.Prelude.{◌≡◌, IfOk, None};
+ghost use Rattle.canary_client.specs.Patience.{address_of, tries_of, reply_seconds_of};
+
 use crate::outcome::Stop;
 use canary_base::lists::Text;
 use canary_base::names::Name;
@@ -32,13 +35,13 @@ pub struct Place {
 ///
 /// # Errors
 /// `Address` if the address is not IP:PORT; `Memory`.
-pub fn place_of(rt: &HostRuntime, asked: &AskedDesk) -> Result<Place, Stop> {
+pub fn place_of(rt: &HostRuntime, asked: &AskedDesk) -> Result<Place, Stop>
+    ensures { IfOk result (λ place. (place.tries ≡ tries_of asked.now.tries)
+        × (place.reply_seconds ≡ reply_seconds_of asked.now.timeout)
+        × (place.wait_seconds ≡ asked.now.timeout)) }
+{
     let given = given_or(rt, &asked.desk, "CANARY_DESK")?;
-    let address = match &given {
-        Some(given) => given.as_str(),
-        None => DESK,
-    };
-    let Ok(desk) = address.parse::<SocketAddr>() else {
+    let Ok(desk) = address_of(&given).parse::<SocketAddr>() else {
         return Err(Stop::Address);
     };
     Ok(Place {
@@ -49,9 +52,23 @@ pub fn place_of(rt: &HostRuntime, asked: &AskedDesk) -> Result<Place, Stop> {
     })
 }
 
+// The address that was given, or that of a desk on this machine.
+fn address_of(given: &Option<Text>) -> &str
+    ensures { result.now ≡ address_of given.now }
+{
+    match given {
+        Some(given) => given.as_str(),
+        None => DESK,
+    }
+}
+
 /// The place of a call that waits: the most seconds are those of the whole call, and each exchange
 /// has as many as by default.
-pub fn waiting(place: Place) -> Place {
+pub fn waiting(place: Place) -> Place
+    ensures reply { result.reply_seconds ≡ reply_seconds_of None }
+    ensures rest { (result.desk ≡ place.desk) × (result.tries ≡ place.tries)
+        × (result.wait_seconds ≡ place.wait_seconds) }
+{
     Place {
         reply_seconds: SECONDS,
         ..place

@@ -1,7 +1,9 @@
 //! `send`: the rows of a measurement file, each a request with its own caller and number, so that
 //! the file is the journal.
-ghost use Rattle.std.specs.Prelude.{◌≡◌};
+ghost use Rattle.std.specs.Prelude.{◌≡◌, None, IfOk};
+ghost use Rattle.canary_journal.specs.Meanings.{meaning_of};
 ghost use Rattle.canary_client.specs.Outcomes.{rows_outcome};
+ghost use Rattle.canary_client.specs.Rows.{row_again};
 
 use crate::outcome::{Outcome, Stop, say, show, tell};
 use crate::place::{Place, place_of};
@@ -268,7 +270,10 @@ fn answered<N: Network>(
     network: &mut N,
     message: &str,
     tries: u32,
-) -> Result<Heard, Stop> {
+) -> Result<Heard, Stop>
+    ensures told { IfOk result (N.was_told network.new message.now) }
+    ensures counts { IfOk result (λ heard. row_again (meaning_of heard.status heard.body) ≡ None) }
+{
     for tried in 0..tries {
         let why = match network.exchange(alloc, message) {
             Ok(heard) => match why_again(alloc, &heard)? {
@@ -286,7 +291,9 @@ fn answered<N: Network>(
 }
 
 // Why a row has to be sent again that got this reply.
-fn why_again(alloc: Global, heard: &Heard) -> Result<Option<Why>, Stop> {
+fn why_again(alloc: Global, heard: &Heard) -> Result<Option<Why>, Stop>
+    ensures { IfOk result (λ why. why ≡ row_again (meaning_of heard.now.status heard.now.body)) }
+{
     match meaning_of(alloc, heard.status, heard.body.as_str())? {
         Meaning::Unavailable => Ok(Some(Why::Unavailable)),
         Meaning::Foreign => Ok(Some(Why::Foreign)),

@@ -1,5 +1,5 @@
 //! The way to a desk over TCP: one connection for each message.
-use crate::clock::Span;
+use crate::clock::{Span, pause_after};
 use crate::http::{Front, Head, MOST_HEAD, front_of};
 use crate::outcome::say;
 use crate::place::Place;
@@ -13,11 +13,6 @@ use std::time::Duration;
 
 // How many bytes are read at a time.
 const PIECE: usize = 16_384;
-
-// The first pause before a message is sent again, and the longest, in milliseconds.
-const FIRST_PAUSE: u64 = 100;
-
-const LONGEST_PAUSE: u64 = 5_000;
 
 /// The way to the desk at this address. No clause ties it to a network: that it sends each message
 /// once at most, and that a reply on a connection is the desk's answer to the message on it, is for
@@ -196,9 +191,7 @@ impl<'a> Network for Tcp<'a> {
     }
 
     fn pause(&mut self, tried: u32, why: Why) {
-        let pause = FIRST_PAUSE.saturating_mul(1u64 << tried.min(10)) / 2;
-        let pause = Duration::from_millis(pause.min(LONGEST_PAUSE));
-        if let Some(pause) = self.cut(pause) {
+        if let Some(pause) = self.cut(Duration::from_millis(pause_after(tried))) {
             say(&mut self.rt.stderr(), text_of(why));
             thread::sleep(self.rt, pause);
         }

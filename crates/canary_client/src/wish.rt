@@ -1,4 +1,7 @@
 //! The wish that the words of a command line stand for.
+ghost use Rattle.std.specs.Prelude.{◌≡◌, ◌≤◌, length, string_bytes, IfOk, OnOk};
+ghost use Rattle.canary_client.specs.Meant.{report_intent, most_body};
+
 use crate::outcome::Stop;
 use crate::place::service_of;
 use crate::report::{Measured, report_body};
@@ -180,7 +183,9 @@ fn manifest<P: Files + AllocGlobal>(rt: &P, file: &str) -> Result<String, Stop> 
 }
 
 // The body of a manifest is sent as it stands, and means its command.
-fn of_body(alloc: Global, body: String) -> Result<Asking, Stop> {
+fn of_body(alloc: Global, body: String) -> Result<Asking, Stop>
+    ensures { OnOk result (length (string_bytes body) ≤ most_body) }
+{
     if body.len() as u64 > MOST_BYTES {
         return Err(Stop::Manifest);
     }
@@ -287,7 +292,10 @@ fn has_one_entry(command: &Command) -> bool {
     }
 }
 
-fn intent_of(alloc: Global, measured: &Measured) -> Result<Text, Stop> {
+fn intent_of(alloc: Global, measured: &Measured) -> Result<Text, Stop>
+    ensures { IfOk result (λ intent. intent ≡ report_intent measured.now.service measured.now.run
+        measured.now.metric measured.now.outcome) }
+{
     let (service, run) = (measured.service.as_str(), measured.run);
     let (metric, outcome) = (measured.metric.as_str(), measured.outcome.as_str());
     Ok(Text::of(format!(in alloc; "report {service} {run} {metric} {outcome}")?))
