@@ -1,5 +1,7 @@
 -- A journal on a device.
 use Rattle.std.specs.Prelude.{◌≡◌, ◌⊎◌, ℕ, List, [], ◌∷◌, ◌++◌, Some}
+use Rattle.canary_canonical.specs.declared.form.FormFault.{FormFault}
+use Rattle.canary_canonical.specs.declared.form.FormFault.TheVariants as form
 use Rattle.canary_records.specs.declared.device.DeviceFault.{DeviceFault}
 use Rattle.canary_records.specs.declared.device.DeviceFault.TheVariants as device
 use Rattle.canary_records.specs.Texts.{texts_of}
@@ -19,6 +21,11 @@ abbrev pub keep_fault : DeviceFault → KeepFault
 keep_fault device.Memory = keep.Memory
 keep_fault device.Failed = keep.Failed
 keep_fault device.Full = keep.Full
+
+-- why texts were not read as a journal
+abbrev pub unread : FormFault → KeepFault
+unread form.Unreadable = keep.Broken
+unread form.Memory = keep.Memory
 
 -- when each fault is told: only of a device that has failed, of a file with no room, and so on;
 -- memory may be refused at any time

@@ -1,5 +1,5 @@
 -- Sending what is pending in a journal until it is settled.
-use Rattle.std.specs.Prelude.{◌≡◌, ◌⊎◌, ℕ, ◌+◌, ◌^◌, ◌≤◌, length, Bool, true, false, if◌then◌else◌, List, Some, None, option_map, unwrap_or, is_some}
+use Rattle.std.specs.Prelude.{◌≡◌, ◌⊎◌, ℕ, ◌+◌, ◌^◌, ◌≤◌, length, Bool, true, false, if◌then◌else◌, List, Some, None, Result, Ok, Err, option_map, unwrap_or, is_some}
 use Rattle.canary_journal.specs.declared.entry.Asked.{Asked}
 use Rattle.canary_journal.specs.declared.entry.Reply.{Reply}
 use Rattle.canary_journal.specs.declared.entry.Entry.TheVariants as entry
@@ -12,6 +12,7 @@ use Rattle.canary_journal.specs.Readings.{journal_in}
 use Rattle.canary_sending.specs.declared.kept.KeepFault.{KeepFault}
 use Rattle.canary_sending.specs.declared.network.Heard.{Heard}
 use Rattle.canary_sending.specs.declared.network.Why.{Why}
+use Rattle.canary_sending.specs.declared.network.Why.TheVariants as why
 use Rattle.canary_sending.specs.declared.settle.Tried.{Tried}
 use Rattle.canary_sending.specs.declared.settle.Tried.TheVariants as tried
 use Rattle.canary_sending.specs.declared.settle.Unsettled.{Unsettled}
@@ -157,3 +158,14 @@ IsWrong heard (unsettled.Ahead next) =
 IsWrong heard unsettled.Unread = meaning_of heard.status heard.body ≡ means.Unread
 IsWrong heard (unsettled.Kept fault) = ⊥
 IsWrong heard unsettled.Memory = Unit {0}
+
+-- what a reply of each meaning comes to: it settles the number, or the wish goes out in its turn, or
+-- the same is sent again, or it is an error that no try more would mend
+abbrev pub taken_for : Meaning → Heard → Bool → Result Tried Unsettled
+taken_for means.Settled heard is_late =
+    Ok (tried.Settled (record { status = heard.status; body = heard.body; is_late = is_late }))
+taken_for means.Reused heard is_late = Ok tried.Reused
+taken_for means.Unavailable heard is_late = Ok (tried.Again why.Unavailable)
+taken_for means.Foreign heard is_late = Ok (tried.Again why.Foreign)
+taken_for (means.Ahead next) heard is_late = Err (unsettled.Ahead next)
+taken_for means.Unread heard is_late = Err unsettled.Unread

@@ -9,7 +9,7 @@ ghost use Rattle.canary_journal.specs.Lines.{line_of, entry_in};
 ghost use Rattle.canary_journal.specs.Readings.{journal_in};
 ghost use Rattle.canary_sending.specs.declared.kept.KeepFault.TheVariants.{Memory};
 ghost use Rattle.canary_sending.specs.Keeping.{keep_fault, IsFault, IsKept, IsOpened, device_of};
-ghost use Rattle.canary_sending.specs.Keeping.{IsWithLine, IsNewOrBegun, IsWithOrWithout};
+ghost use Rattle.canary_sending.specs.Keeping.{IsWithLine, IsNewOrBegun, IsWithOrWithout, unread};
 
 use canary_base::error;
 use canary_base::names::Name;
@@ -101,8 +101,17 @@ pub fn open<D: Device + Drop>(alloc: Global, device: D) -> Result<Opened<D>, Kee
             let store = repaired(device, &found)?;
             Ok(Opened::Begun(KeptJournal { store, journal }))
         }
-        Err(FormFault::Unreadable) => Err(KeepFault::Broken),
-        Err(FormFault::Memory) => Err(KeepFault::Memory),
+        Err(fault) => Err(unread(fault)),
+    }
+}
+
+// Why the texts of a file were not read as a journal.
+fn unread(fault: FormFault) -> KeepFault
+    ensures { result ≡ unread fault }
+{
+    match fault {
+        FormFault::Unreadable => KeepFault::Broken,
+        FormFault::Memory => KeepFault::Memory,
     }
 }
 

@@ -10,7 +10,7 @@ ghost use Rattle.canary_sending.specs.Networks.{GoesOn};
 ghost use Rattle.canary_sending.specs.Sending.{body_of, IsAskedBy, IsSettledBy};
 ghost use Rattle.canary_sending.specs.Sending.{IsSettledOrPending, IsWhy, IsFailed, is_kept};
 ghost use Rattle.canary_sending.specs.Sending.{is_replaced, IsReused, IsOnce, IsFrom, IsOf};
-ghost use Rattle.canary_sending.specs.Sending.{IsTooLate, IsWrong};
+ghost use Rattle.canary_sending.specs.Sending.{IsTooLate, IsWrong, taken_for};
 
 use crate::kept::{KeepFault, KeptJournal};
 use crate::network::{Heard, Network, Why, request};
@@ -202,6 +202,13 @@ fn what_came(alloc: Global, heard: Heard, is_late: bool) -> Result<Tried, Unsett
     let Ok(meaning) = meaning_of(alloc, heard.status, heard.body.as_str()) else {
         return Err(Unsettled::Memory);
     };
+    taken_for(meaning, heard, is_late)
+}
+
+// What a reply of this meaning is taken for.
+fn taken_for(meaning: Meaning, heard: Heard, is_late: bool) -> Result<Tried, Unsettled>
+    ensures { result ≡ taken_for meaning heard is_late }
+{
     match meaning {
         Meaning::Settled => Ok(Tried::Settled(Reply {
             status: heard.status,
