@@ -42,10 +42,10 @@ NAMING = ("docs/TESTING.md", "docs/PROVING.md")
 # The lines of each document for developers. Cut as much as you add: docs/PROVING.md says what
 # belongs where.
 LINES = {
-    "docs/ARCHITECTURE.md": 240,
-    "docs/CHANGING.md": 300,
-    "docs/DECISIONS.md": 490,
-    "docs/PROOFS.md": 92,
+    "docs/ARCHITECTURE.md": 260,
+    "docs/CHANGING.md": 320,
+    "docs/DECISIONS.md": 515,
+    "docs/PROOFS.md": 60,
     "docs/PROVING.md": 440,
     "bench/README.md": 400,
 }
