@@ -95,9 +95,11 @@ class Trial:
         return faulty + unclear
 
     def look_at(self, functions, lines):
-        """Settles functions that no bug changes: a trial in which one has no proof says nothing."""
+        """Settles functions that no bug changes: a trial in which one has no proof says nothing. One
+        that calls a function with a bug waits for its proof, and shows nothing either way."""
         for file, function in functions:
-            if not verdicts.is_proved(lines, self.crate.name, file, function):
+            own = (lines, self.crate.name, file, function)
+            if not verdicts.is_proved(*own) and not verdicts.waits(*own):
                 name = f"{function.module}{function.name} as it is"
                 self.settle(name, verdicts.UNSOUND, "beside a group", "it has no proof there")
 

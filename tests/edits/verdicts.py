@@ -66,6 +66,14 @@ def is_proved(lines, crate, file, function):
     return own in lines and not said_of(lines, crate, file, function)
 
 
+def waits(lines, crate, file, function):
+    """Whether a check says of the function only that it calls one which is not proved, as one with
+    a bug beside it."""
+    own = heads_of(crate, file, function)[0]
+    told = [it[len(own):] for it in lines if it.startswith(own)]
+    return any(re.match(r"(?:no proof:|not proved;) it calls `", it) for it in told)
+
+
 def reads(lines):
     """Whether the check came to the prover, and went through all that it could."""
     return bool(lines) and lines[-1].startswith(("logic=", "only=", "rattle: no verdict"))
