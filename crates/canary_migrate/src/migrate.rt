@@ -39,8 +39,8 @@ use std::alloc::Global;
 /// # Errors
 ///
 /// `OtherSchema` where the database has other tables, indexes or views than the first schema, or
-/// its table meta lacks the row 1, 1; `BrokenRow` where the rows are not what the first schema has of
-/// sound contents of its time, as with `passAfter` in a template, or with a second row in meta;
+/// its table meta lacks the row 1, 1; `BrokenRow` where the rows are not what the first schema has
+/// of sound contents of its time, as with `passAfter` in a template, or with a second row in meta;
 /// `Memory` where an allocation was refused; `Storage` where the store failed, or the connection
 /// stands inside a transaction. What is left of the connection is handed back, with the database as
 /// it was.

@@ -15,10 +15,10 @@ use sqlite::{Connection, Error, ErrorCode, File, FileStore};
 /// # Errors
 ///
 /// `InUse` where another program has the file open; `OtherSchema` where it is of neither schema, as
-/// one with no tables; `BrokenRow` where its rows are not what the first schema has of sound contents
-/// of its time, as with `passAfter` in a template; `Memory` where an allocation was refused;
-/// `Storage` where the file cannot be opened, is no database, or fails. The file is as it was then;
-/// but if it fails as it is closed, it may be migrated.
+/// one with no tables; `BrokenRow` where its rows are not what the first schema has of sound
+/// contents of its time, as with `passAfter` in a template; `Memory` where an allocation was
+/// refused; `Storage` where the file cannot be opened, is no database, or fails. The file is as it
+/// was then; but if it fails as it is closed, it may be migrated.
 pub fn upgrade<G: Progress>(
     rt: &HostRuntime,
     path: &str,
