@@ -27,6 +27,7 @@ mod found_runs;
 mod found_services;
 mod kept;
 mod known;
+pub mod laws;
 mod names;
 mod notes;
 pub mod open;

@@ -6,12 +6,14 @@ use Rattle.sqlite.specs.State.{State}
 use Rattle.sqlite_trees.specs.declared.store.Store.{Ghosts}
 use Rattle.canary_once.specs.Contents.{no_contents}
 use Rattle.canary_schema.specs.Schema.{no_schema}
-use Rattle.canary_schema.specs.Stores.{IsUsable}
+use Rattle.canary_schema.specs.Cells.{tables_in}
+use Rattle.canary_schema.specs.Stores.{IsUsable, IsHeld}
+use Rattle.canary_stored.specs.Reading.{HoldsContents}
 use Rattle.canary_tables.specs.declared.fault.Left.{Left}
 use Rattle.canary_tables.specs.declared.fault.Left.TheVariants as left
 use Rattle.canary_tables.specs.Adopts.{IsAdopted, TellsTables}
 use Rattle.canary_tables.specs.Desk.{book_state, contents_in}
-use Rattle.canary_tables_laws.specs.TableBooks.{IsIntact, AreOfTheirRows, ContainsNothing, ContainsWhatWas, ShowsTables}
+use Rattle.canary_tables_laws.specs.TableBooks.{IsIntact, AreOfTheirRows, ContainsNothing, ContainsWhatWas, ShowsTables, HasItsTables}
 
 usable : (s : State) → IsIntact s → IsUsable s
 usable s i = record { clean = i.0; is_open = i.1 }
@@ -55,3 +57,14 @@ taken_over g old (Err e) adopted = tt
 pub shows : {S : Type 0} (g : Ghosts S) (l : Left S) → ShowsTables g l → TellsTables g l
 shows g (left.Connection conn) i = usable (state g conn) i
 shows g (left.Store store) i = tt
+
+pub its_tables : {S : Type 0} (g : Ghosts S) (h : Held S) → (IsUsable (state g h) → IsHeld (state g h).now (tables_in (state g h).now)) → (IsUsable (state g h) → HoldsContents (tables_in (state g h).now))
+    → IsIntact (state g h) → HasItsTables (state g h) (book_state g h)
+its_tables g h stores holds i =
+    let has = holds (usable (state g h) i) in
+    record {
+      stores = stores (usable (state g h) i);
+      rows = has.rows;
+      readable = has.readable;
+      lawful = has.lawful;
+    }

@@ -82,8 +82,8 @@ HoldsSoundFirst db = (c : Contents) × HoldsFirstContents db c
 
 -- What becomes of it.
 
--- just the tables and indexes of the first schema are there, and meta shows a row 1, 1, among others
--- or alone
+-- just the tables and indexes of the first schema are there, and meta shows a row 1, 1, among
+-- others or alone
 abbrev pub IsFirstWithMeta : Database → Type 0
 IsFirstWithMeta db =
     (db.schema ≡ first_schema) × Contains (map meta_shown (db.trees 0)) (whole 1 ∷ whole 1 ∷ [])

@@ -6,6 +6,7 @@ use Rattle.sqlite.specs.State.{State, HasCleanDisk}
 use Rattle.sqlite_trees.specs.declared.store.Store.{Ghosts}
 use Rattle.canary_once.specs.Books.{BookState}
 use Rattle.canary_once.specs.Contents.{Contents, no_contents}
+use Rattle.canary_once.specs.Sound.{AreContents}
 use Rattle.canary_rows.specs.Limits.{AreWithin}
 use Rattle.canary_rows.specs.Tables.{Tables}
 use Rattle.canary_schema.specs.Cells.{tables_in, whole}
@@ -14,6 +15,7 @@ use Rattle.canary_schema.specs.Formed.{IsDeskSchema}
 use Rattle.canary_schema.specs.Schema.{no_schema}
 use Rattle.canary_schema.specs.Stores.{IsHeld}
 use Rattle.canary_stored.specs.Reading.{contents_of}
+use Rattle.canary_stored.specs.Tables.{AreRows, IsReadable}
 use Rattle.canary_judging.specs.Soundness.{AreSoundTables}
 use Rattle.canary_tables.specs.declared.fault.Left.{Left}
 use Rattle.canary_tables.specs.declared.fault.Left.TheVariants as left
@@ -38,6 +40,14 @@ pub record IsOfItsRows {S : Type 0} (g : Ghosts S) (h : Held S) (b : BookState) 
 -- so each book over such a store
 abbrev pub AreOfTheirRows : {S : Type 0} → Ghosts S → (Held S → BookState) → Type 0
 AreOfTheirRows {S} g state_of = (h : Held S) → IsOfItsRows g h (state_of h)
+
+-- the database is a desk's, and holds just the rows of what the book contains, those of tallies and
+-- of bindings with them; all of it is read back from them
+pub record HasItsTables (s : State) (b : BookState) : Type 0 where
+  pub stores : IsHeld s.now (tables_in s.now)
+  pub rows : AreRows (tables_in s.now) b.contents
+  pub readable : IsReadable b.contents
+  pub lawful : AreContents b.contents
 
 -- a book that was made of an empty database: it is honest, and contains nothing
 pub record ContainsNothing (old new : State) (b : BookState) : Type 0 where

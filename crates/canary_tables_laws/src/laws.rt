@@ -1,10 +1,12 @@
 //! Laws over all books over tables, and over all faults.
-ghost use Rattle.canary_tables_laws.specs.TableBooks.{AreOfTheirRows};
+ghost use Rattle.sqlite.specs.Held.{state};
+ghost use Rattle.canary_tables_laws.specs.TableBooks.{IsIntact, AreOfTheirRows, HasItsTables};
 ghost use Rattle.canary_tables_laws.specs.FaultRows.{AreSqliteFaults, AreReadFaults};
 ghost use Rattle.canary_tables_laws.specs.FaultRows.{AreTableFaults};
 
 use canary_once::book::Book;
 use canary_tables::book::TableBook;
+use canary_tables::laws as table_laws;
 use sqlite::Alter;
 
 /// However a book over tables came about, its store is honest exactly where its connection is open
@@ -12,6 +14,16 @@ use sqlite::Alter;
 pub fn table_books<S: Alter>()
     ensures { AreOfTheirRows S.Store ⟦<TableBook<S> as Book>⟧.state }
 {}
+
+/// However a book over tables came about, as by `create`, by `adopt` and by each `commit`: where
+/// its connection is open and its disk did not fail, its tables are just the rows of what it
+/// contains.
+pub fn tables<S: Alter>(book: &TableBook<S>)
+    ensures { IsIntact (state S.Store book.now)
+        → HasItsTables (state S.Store book.now) (⟦<TableBook<S> as Book>⟧.state book.now) }
+{
+    table_laws::tables(book);
+}
 
 /// What each fault becomes: memory that is refused stays that, and so does a store that fails. A
 /// row that stands for no value is a broken row where a database is judged, and a failed store

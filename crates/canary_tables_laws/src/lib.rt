@@ -7,9 +7,9 @@
 //! schema, and what each fault becomes.
 //!
 //! Callers may rest on this: however a book over tables came about, it is honest exactly where its
-//! connection is open and its disk did not fail, and it contains what the rows of its tables say. A
-//! law does nothing: `laws::table_books::<S>();` is for a function whose proof wants it, of which
-//! there is none yet.
+//! connection is open and its disk did not fail, it contains what the rows of its tables say, and
+//! its tables are just the rows of what it contains. A law does nothing:
+//! `laws::table_books::<S>();` is for a function whose proof wants it, of which there is none yet.
 #![tactic(auto)]
 
 pub mod books;
