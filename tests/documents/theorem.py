@@ -1,13 +1,15 @@
 #!/usr/bin/env python3
 """Checks docs/THEOREM.md against the source.
 
-The page has the contract of `canary_once::run::run` word for word, and two lists of definitions:
-those that its clauses `answers` and `contents` reach, and those that only its other clauses reach.
-This script computes both lists from the source. Where the page differs, it prints
-`FILE:LINE: what differs` and ends with status 1.
+The page has the contract of `canary_once::run::run` word for word, and three lists of definitions:
+those that its clauses `answers` and `contents` reach, those that only its other clauses reach, and
+those that only the laws `table_books` and `tables` of canary_tables_laws reach. Its table of types
+has each type that contracts see by an `impl Model`, from canary_base up to canary_once. This script
+computes the lists from the source. Where the page differs, it prints `FILE:LINE: what differs` and
+ends with status 1.
 
     tests/documents/theorem.py            checks the page
-    tests/documents/theorem.py --print    prints both lists, to paste into the page
+    tests/documents/theorem.py --print    prints the lists, to paste into the page
 
 A definition reaches each definition that its text names. A name does not count if it is a variable
 that is bound there, a field, or the label of a field. The walk ends at Rust types
@@ -22,13 +24,19 @@ ROOT = pathlib.Path(__file__).resolve().parents[2]
 PAGE = "docs/THEOREM.md"
 RUN = "crates/canary_once/src/run.rt"
 BOOK = "crates/canary_once/src/book.rt"
+TABLES = "crates/canary_tables_laws/src/laws.rt"
 MAIN_CLAUSES = ("answers", "contents")
+TABLE_LAWS = ("table_books", "tables")
 
 NAME = r"[^\W\d][\w'-]*"
 HEAD = re.compile(rf"(?:(?:abbrev|unfoldable|record|data) )*pub (?:record |data )?({NAME})"
                   rf"|(?:abbrev|unfoldable|record|data) ({NAME})")
 USE = re.compile(r"(?:ghost )?use Rattle\.(\w+)\.specs\.([\w.]+)\.\{(.*)\}")
 ROW = re.compile(r"\| (canary_\w+) \| (\w+) \| (\d+) of (\d+) \| (.*) \|$")
+VIEW_ROW = re.compile(r"\| (canary_\w+) \| ((?:`\w+`(?:, )?)+) \|")
+MODEL = re.compile(r"^impl(?:<.*?>)? Model for (\w+)", re.M)
+# The crates whose types the main lists name.
+RULES = ("base", "condition", "metric", "plan", "canonical", "release", "once")
 
 
 class Wrong(Exception):
@@ -147,19 +155,20 @@ def reached(modules, starts):
 
 # The contract.
 
-def contract_of(lines):
-    """Where the contract of `run` begins, from 0, and its lines: all before the body."""
-    first = next((i for i, line in enumerate(lines) if line.startswith("pub fn run<")), None)
+def contract_of(lines, name="run"):
+    """Where the contract of a function begins, from 0, and its lines: all before the body."""
+    first = next((i for i, line in enumerate(lines) if line.startswith(f"pub fn {name}<")), None)
     if first is None:
-        raise Wrong(f"{RUN}:1: no function run")
-    return first, lines[first:lines.index("{", first)]
+        raise Wrong(f"{RUN if name == 'run' else TABLES}:1: no function {name}")
+    end = next(i for i in range(first, len(lines)) if lines[i] in ("{", "{}"))
+    return first, lines[first:end]
 
 
 def clauses(contract, names=None):
     """The lines of the clauses of these names, or of all."""
     chosen, takes = [], False
     for line in contract:
-        head = re.match(r"    ensures (\w+) \{", line)
+        head = re.match(r"    ensures (?:(\w+) )?\{", line)
         if head:
             takes = names is None or head[1] in names
         if takes:
@@ -173,8 +182,17 @@ def named_by(modules, lines, used):
     return {resolve(modules, *used[name]) for name in names} - {None}
 
 
+def table_starts(modules):
+    """The definitions that the laws over tables name."""
+    lines = read_lines(TABLES)
+    used = {name: place for line in lines for name, place in names_used(line).items()}
+    contracts = [line for name in TABLE_LAWS for line in clauses(contract_of(lines, name)[1])]
+    return named_by(modules, contracts, used)
+
+
 def lists_of(modules):
-    """The definitions that the main clauses reach, and those that only the others reach."""
+    """The definitions that the main clauses reach, those that only the others reach, and those that
+    only the laws over tables reach."""
     lines = read_lines(RUN)
     contract = contract_of(lines)[1]
     used = {name: place for line in lines for name, place in names_used(line).items()}
@@ -185,7 +203,8 @@ def lists_of(modules):
     state = [line for line in trait if line.startswith("ghost state:")]
     in_trait = {name: place for line in trait for name, place in names_used(line).items()}
     starts = named_by(modules, clauses(contract), used) | named_by(modules, state, in_trait)
-    return main, reached(modules, starts) - main
+    others = reached(modules, starts) - main
+    return main, others, reached(modules, table_starts(modules)) - main - others
 
 
 def count(definitions):
@@ -217,9 +236,33 @@ def page_lists(lines):
     return [rows for rows in lists if rows]
 
 
+def views():
+    """The types that contracts see by an `impl Model`, each with its crate."""
+    folders = [(f"canary_{name}", ROOT / "crates" / f"canary_{name}" / "src") for name in RULES]
+    return {(crate, name) for crate, folder in folders for path in folder.rglob("*.rt")
+            for name in MODEL.findall(path.read_text(encoding="utf-8"))}
+
+
+def view_differences(lines):
+    """Where the table of types differs from the source."""
+    right, shown, last = views(), set(), 1
+    for number, line in enumerate(lines, 1):
+        row = VIEW_ROW.match(line)
+        for name in re.findall(r"`(\w+)`", row[2]) if row else ():
+            last = number
+            if (row[1], name) not in right - shown:
+                yield number, f"{row[1]} has no other `impl Model for {name}`"
+            shown.add((row[1], name))
+    for crate, name in sorted(right - shown):
+        yield last, f"no row for {name} of {crate}"
+    if not any(f" all {len(right)}, " in line for line in lines):
+        yield last, f"the types are {len(right)}"
+
+
 def differences(modules):
     """Where the page differs from the source: the line, and what differs."""
     lines = read_lines(PAGE)
+    yield from view_differences(lines)
     first, contract = contract_of(read_lines(RUN))
     start, block = page_contract(lines)
     if block != contract:
@@ -227,10 +270,9 @@ def differences(modules):
         at = same.index(False)
         yield start + at + 1, f"the contract differs from {RUN}:{first + at + 1}"
     lists = page_lists(lines)
-    if len(lists) != 2:
-        raise Wrong(f"{PAGE}:1: {len(lists)} lists of definitions in place of 2")
-    both = lists_of(modules)
-    for rows, definitions in zip(lists, both):
+    if len(lists) != 3:
+        raise Wrong(f"{PAGE}:1: {len(lists)} lists of definitions in place of 3")
+    for rows, definitions in zip(lists, lists_of(modules)):
         counts, above = count(definitions), {}
         below = {(d[0], c[0]) for d in definitions for c in cites(modules, d) & definitions}
         for line, key, numbers, _ in rows:
@@ -249,7 +291,7 @@ def differences(modules):
 
 
 def print_lists(modules):
-    """Prints both lists, with the texts and in the order that the page has."""
+    """Prints the lists, with the texts and in the order that the page has."""
     try:
         lists = page_lists(read_lines(PAGE))
     except OSError:
