@@ -6,3 +6,4 @@ pub mod Standings
 pub mod Patience
 pub mod Meant
 pub mod Rows
+pub mod Promises

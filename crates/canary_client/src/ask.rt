@@ -1,7 +1,20 @@
 //! `do`: a command, once.
-ghost use Rattle.std.specs.Prelude.{IfOk, OnOk, ◌≡◌};
+ghost use Rattle.std.specs.Prelude.{◌≡◌, ◌⊎◌, ◌++◌, ◌∷◌, [], List, ℕ, Some, None, false};
+ghost use Rattle.std.specs.Prelude.{IfOk, OnOk, IsTrue, length, slice_get};
+ghost use Rattle.std.specs.Io.KnownBytes.{Appends};
+ghost use Rattle.canary_journal.specs.declared.entry.Asked.{Asked};
+ghost use Rattle.canary_journal.specs.declared.entry.Kept.{Kept};
+ghost use Rattle.canary_journal.specs.Journals.{JournalValue};
+ghost use Rattle.canary_markup.specs.Showing.{shown};
+ghost use Rattle.canary_markup.specs.declared.shown.Form.TheVariants.{Json};
 ghost use Rattle.canary_sending.specs.Keeping.{IsKept};
+ghost use Rattle.canary_sending.specs.Networks.{GoesOn};
+ghost use Rattle.canary_sending.specs.Sending.{IsAskedBy};
+ghost use Rattle.canary_client.specs.declared.ask.SettledAt.{SettledAt};
 ghost use Rattle.canary_client.specs.Asking.{acted, by_reply, outcome_by};
+ghost use Rattle.canary_client.specs.Beginning.{IsSettledSo};
+ghost use Rattle.canary_client.specs.Promises.{intent_of, IsFor, IsSettledAt};
+ghost use Rattle.canary_client.specs.Promises.{IsQuery, IsSentFor, reply_line};
 
 use crate::journals::{asked, asked_instead, journal_on, settled};
 use crate::outcome::{Outcome, Stop, say, say_of, show};
@@ -77,17 +90,50 @@ fn try_ask<W: Write, F: Write>(
     let (is_in_doubt, tries) = (device.is_in_doubt(), place.tries);
     let mut kept = journal_on(rt.alloc(), &mut network, device, is_in_doubt, caller, tries)?;
     let is_instead = call.is_instead;
-    let settled = settle_asked(
+    ask_kept(
         rt,
         &mut network,
         &mut kept,
         asking,
         call.key,
         is_instead,
-        place.tries,
+        tries,
+        output,
         errors,
-    )?;
-    show_settled(rt.alloc(), &kept, settled, output, errors, is_terminal)
+        is_terminal,
+    )
+}
+
+// Settles what is asked, and only then shows its reply: the promise of `do`, over any network and
+// any device.
+fn ask_kept<N: Network, D: Device, W: Write, F: Write>(
+    rt: &HostRuntime,
+    network: &mut N,
+    kept: &mut KeptJournal<D>,
+    asking: Asking,
+    key: Option<Text>,
+    is_instead: bool,
+    tries: u32,
+    output: &mut W,
+    errors: &mut F,
+    is_terminal: bool,
+) -> Result<Outcome, Stop>
+    requires { IsKept D.seen D.may_leave kept.old }
+    ensures kept { OnOk result (IsKept D.seen D.may_leave kept.new) }
+    ensures first { (output.new ≡ output.old) ⊎ (IsKept D.seen D.may_leave kept.new
+        × ((at : SettledAt) × IsSettledAt (N.was_told network.new) asking key
+        kept.old.journal kept.new.journal at)) }
+    ensures shows { IfOk result (λ outcome. (at : SettledAt)
+        × (settled : IsSettledAt (N.was_told network.new) asking key
+        kept.old.journal kept.new.journal at)
+        × (outcome ≡ outcome_by at.is_wish settled.kept)
+        × (is_terminal ≡ false → Appends (W.contents output.old) (W.contents output.new)
+        (reply_line settled.kept))) }
+    ensures sends { GoesOn N.was_sent N.was_told N.was_unanswered network.old network.new
+        (IsSentFor (N.was_told network.new) asking key kept.old.journal) }
+{
+    let settled = settle_asked(rt, network, kept, asking, key, is_instead, tries, errors)?;
+    show_settled(rt.alloc(), kept, settled, output, errors, is_terminal)
 }
 
 // The journal's file, open and locked, with its name on the disk.
@@ -122,7 +168,11 @@ fn settle_asked<N: Network, D: Device, F: Write>(
     errors: &mut F,
 ) -> Result<SettledAt, Stop>
     requires { IsKept D.seen D.may_leave kept.old }
-    ensures { OnOk result (IsKept D.seen D.may_leave kept.new) }
+    ensures kept { OnOk result (IsKept D.seen D.may_leave kept.new) }
+    ensures settled { IfOk result (IsSettledAt (N.was_told network.new) asking key
+        kept.old.journal kept.new.journal) }
+    ensures sends { GoesOn N.was_sent N.was_told N.was_unanswered network.old network.new
+        (IsSentFor (N.was_told network.new) asking key kept.old.journal) }
 {
     if key.is_none() && is_asked_instead(rt.alloc(), &kept.journal, &asking)? {
         return resumed(rt.alloc(), network, kept, false, tries);
@@ -138,14 +188,16 @@ fn settle_asked<N: Network, D: Device, F: Write>(
         Place::Behind if is_instead => instead(rt.alloc(), network, kept, asking, tries),
         Place::Behind => {
             say(errors, BEHIND);
-            settled(rt.alloc(), network, kept, tries)?;
-            ask_anew(rt, network, kept, asking, key, tries)
+            ask_next(rt, network, kept, asking, key, tries)
         }
     }
 }
 
 // Whether a command that means the same was asked already in the place of the wish that is pending.
-fn is_asked_instead(alloc: Global, journal: &Journal, asking: &Asking) -> Result<bool, Stop> {
+fn is_asked_instead(alloc: Global, journal: &Journal, asking: &Asking) -> Result<bool, Stop>
+    ensures { IfOk result (λ is. IsTrue is → (a : Asked) × (journal.now.pending ≡ Some a)
+        × IsFor asking.now None false a) }
+{
     match (journal.pending(), asking) {
         (Some(asked), Asking::Command { intent, body }) => match &asked.instead {
             Some(instead) if instead.as_str() == body.as_str() => Ok(true),
@@ -165,11 +217,36 @@ fn resumed<N: Network, D: Device>(
     tries: u32,
 ) -> Result<SettledAt, Stop>
     requires { IsKept D.seen D.may_leave kept.old }
-    ensures { OnOk result (IsKept D.seen D.may_leave kept.new) }
+    ensures kept { OnOk result (IsKept D.seen D.may_leave kept.new) }
+    ensures settled { IfOk result (λ at.
+        (at ≡ record { place = length kept.old.journal.kept; is_wish = is_wish })
+        × IsSettledSo (N.was_told network.new) kept.old.journal kept.new.journal) }
+    ensures sends { GoesOn N.was_sent N.was_told N.was_unanswered network.old network.new
+        (IsAskedBy (N.was_told network.new) kept.old.journal) }
 {
     let place = kept.journal.kept().len();
     settled(alloc, network, kept, tries)?;
     Ok(SettledAt { place, is_wish })
+}
+
+// Settles what is pending, and then asks what is new.
+fn ask_next<N: Network, D: Device>(
+    rt: &HostRuntime,
+    network: &mut N,
+    kept: &mut KeptJournal<D>,
+    asking: Asking,
+    key: Option<Text>,
+    tries: u32,
+) -> Result<SettledAt, Stop>
+    requires { IsKept D.seen D.may_leave kept.old }
+    ensures kept { OnOk result (IsKept D.seen D.may_leave kept.new) }
+    ensures settled { IfOk result (IsSettledAt (N.was_told network.new) asking key
+        kept.old.journal kept.new.journal) }
+    ensures sends { GoesOn N.was_sent N.was_told N.was_unanswered network.old network.new
+        (IsSentFor (N.was_told network.new) asking key kept.old.journal) }
+{
+    settled(rt.alloc(), network, kept, tries)?;
+    ask_anew(rt, network, kept, asking, key, tries)
 }
 
 // Asks what is new, while nothing is pending.
@@ -182,7 +259,11 @@ fn ask_anew<N: Network, D: Device>(
     tries: u32,
 ) -> Result<SettledAt, Stop>
     requires { IsKept D.seen D.may_leave kept.old }
-    ensures { OnOk result (IsKept D.seen D.may_leave kept.new) }
+    ensures kept { OnOk result (IsKept D.seen D.may_leave kept.new) }
+    ensures settled { (before : JournalValue) → IfOk result
+        (IsSettledAt (N.was_told network.new) asking key before kept.new.journal) }
+    ensures sends { GoesOn N.was_sent N.was_told N.was_unanswered network.old network.new
+        (IsSentFor (N.was_told network.new) asking key kept.old.journal) }
 {
     let place = kept.journal.kept().len();
     let wish = wish_of(rt, network, asking, key, tries)?;
@@ -200,7 +281,10 @@ fn wish_of<N: Network>(
     asking: Asking,
     key: Option<Text>,
     tries: u32,
-) -> Result<Wish, Stop> {
+) -> Result<Wish, Stop>
+    ensures wish { IfOk result (λ wish. (wish.intent ≡ intent_of asking) × (wish.key ≡ key)) }
+    ensures sends { GoesOn N.was_sent N.was_told N.was_unanswered network.old network.new IsQuery }
+{
     match asking {
         Asking::Command { intent, body } => Ok(Wish { intent, key, body }),
         Asking::Report { intent, measured } => {
@@ -231,7 +315,12 @@ fn instead<N: Network, D: Device>(
     tries: u32,
 ) -> Result<SettledAt, Stop>
     requires { IsKept D.seen D.may_leave kept.old }
-    ensures { OnOk result (IsKept D.seen D.may_leave kept.new) }
+    ensures kept { OnOk result (IsKept D.seen D.may_leave kept.new) }
+    ensures settled { (key : Option (List ℕ)) → IfOk result
+        (IsSettledAt (N.was_told network.new) asking key kept.old.journal kept.new.journal) }
+    ensures sends { (key : Option (List ℕ)) → GoesOn N.was_sent N.was_told N.was_unanswered
+        network.old network.new
+        (IsSentFor (N.was_told network.new) asking key kept.old.journal) }
 {
     let place = kept.journal.kept().len();
     let Asking::Command { body, .. } = asking else {
@@ -252,7 +341,12 @@ fn show_settled<D: Device, W: Write, F: Write>(
     output: &mut W,
     errors: &mut F,
     is_terminal: bool,
-) -> Result<Outcome, Stop> {
+) -> Result<Outcome, Stop>
+    ensures { (k : Kept) → slice_get kept.now.journal.kept settled.place ≡ Some k
+        → IfOk result (λ outcome. (outcome ≡ outcome_by settled.is_wish k)
+        × (is_terminal ≡ false → Appends (W.contents output.old) (W.contents output.new)
+        (reply_line k))) }
+{
     let Some(kept) = kept.journal.kept().get(settled.place) else {
         return Err(Stop::Refused);
     };
@@ -308,7 +402,11 @@ pub fn show_body<W: Write>(
     body: &str,
     output: &mut W,
     is_terminal: bool,
-) -> Result<(), Stop> {
+) -> Result<(), Stop>
+    ensures { OnOk result (is_terminal ≡ false
+        → Appends (W.contents output.old) (W.contents output.new)
+        (shown Json body.now ++ 10 ∷ [])) }
+{
     if is_terminal {
         if let Some(line) = line_of(alloc, body)? {
             return show(output, line.as_str());

@@ -5,7 +5,9 @@ ghost use Rattle.canary_journal.specs.declared.meaning.Meaning.TheVariants.{Ahea
 ghost use Rattle.canary_journal.specs.Journals.{asks, asks_instead, begun};
 ghost use Rattle.canary_journal.specs.Meanings.{meaning_of};
 ghost use Rattle.canary_sending.specs.Keeping.{IsKept};
-ghost use Rattle.canary_client.specs.Beginning.{IsSaid, IsOpenedOrBegun, IsSettledSo};
+ghost use Rattle.canary_sending.specs.Networks.{GoesOn};
+ghost use Rattle.canary_sending.specs.Sending.{IsAskedBy};
+ghost use Rattle.canary_client.specs.Beginning.{IsSaid, IsOpenedOrBegun, IsSettledSo, probe_text};
 
 use crate::outcome::Stop;
 use canary_base::lists::Text;
@@ -48,6 +50,8 @@ pub fn journal_on<N: Network, D: Device + Drop>(
         IsOpenedOrBegun (N.was_told network.new) caller (D.seen device) kept.journal) }
     ensures doubt { OnOk result
         (IsTrue is_in_doubt → IsSaid (N.was_told network.new) caller 0) }
+    ensures sends { GoesOn N.was_sent N.was_told N.was_unanswered network.old network.new
+        (λ m. m ≡ probe_text caller) }
 {
     if is_in_doubt {
         return journal_in_doubt(alloc, network, device, caller, tries);
@@ -71,6 +75,8 @@ fn journal_in_doubt<N: Network, D: Device + Drop>(
     ensures begun { IfOk result (λ kept.
         IsOpenedOrBegun (N.was_told network.new) caller (D.seen device) kept.journal) }
     ensures doubt { OnOk result (IsSaid (N.was_told network.new) caller 0) }
+    ensures sends { GoesOn N.was_sent N.was_told N.was_unanswered network.old network.new
+        (λ m. m ≡ probe_text caller) }
 {
     is_unknown(alloc, network, caller, tries)?;
     match open(alloc, device)? {
@@ -86,7 +92,9 @@ fn is_unknown<N: Network>(
     caller: Name,
     tries: u32,
 ) -> Result<(), Stop>
-    ensures { OnOk result (IsSaid (N.was_told network.new) caller 0) }
+    ensures said { OnOk result (IsSaid (N.was_told network.new) caller 0) }
+    ensures sends { GoesOn N.was_sent N.was_told N.was_unanswered network.old network.new
+        (λ m. m ≡ probe_text caller) }
 {
     match settled_before(alloc, network, caller, tries)? {
         0 => Ok(()),
@@ -116,6 +124,8 @@ fn begun<N: Network, D: Device + Drop>(
     ensures kept { IfOk result (IsKept D.seen D.may_leave) }
     ensures begun { IfOk result (λ kept. (settled : ℕ) × (kept.journal ≡ begun caller settled)
         × IsSaid (N.was_told network.new) caller settled) }
+    ensures sends { GoesOn N.was_sent N.was_told N.was_unanswered network.old network.new
+        (λ m. m ≡ probe_text caller) }
 {
     let settled = settled_before(alloc, network, caller, tries)?;
     begun_at(alloc, store, caller, settled)
@@ -146,7 +156,9 @@ fn settled_before<N: Network>(
     caller: Name,
     tries: u32,
 ) -> Result<u32, Stop>
-    ensures { IfOk result (IsSaid (N.was_told network.new) caller) }
+    ensures said { IfOk result (IsSaid (N.was_told network.new) caller) }
+    ensures sends { GoesOn N.was_sent N.was_told N.was_unanswered network.old network.new
+        (λ m. m ≡ probe_text caller) }
 {
     let message = request(alloc, caller, LAST, PROBE)?;
     for tried in 0..tries {
@@ -202,6 +214,8 @@ pub fn asked<N: Network, D: Device>(
     ensures kept { OnOk result (IsKept D.seen D.may_leave kept.new) }
     ensures settled { OnOk result (IsSettledSo (N.was_told network.new)
         (asks kept.old.journal wish) kept.new.journal) }
+    ensures sends { GoesOn N.was_sent N.was_told N.was_unanswered network.old network.new
+        (IsAskedBy (N.was_told network.new) (asks kept.old.journal wish)) }
 {
     let number = kept.journal.number();
     kept.keep(alloc, Entry::Asked { number, wish })?;
@@ -224,6 +238,8 @@ pub fn asked_instead<N: Network, D: Device>(
     ensures kept { OnOk result (IsKept D.seen D.may_leave kept.new) }
     ensures settled { OnOk result (IsSettledSo (N.was_told network.new)
         (asks_instead kept.old.journal body) kept.new.journal) }
+    ensures sends { GoesOn N.was_sent N.was_told N.was_unanswered network.old network.new
+        (IsAskedBy (N.was_told network.new) (asks_instead kept.old.journal body)) }
 {
     let number = kept.journal.number();
     kept.keep(alloc, Entry::Instead { number, body })?;
@@ -245,6 +261,8 @@ pub fn settled<N: Network, D: Device>(
     ensures kept { OnOk result (IsKept D.seen D.may_leave kept.new) }
     ensures settled { OnOk result (IsSettledSo (N.was_told network.new)
         kept.old.journal kept.new.journal) }
+    ensures sends { GoesOn N.was_sent N.was_told N.was_unanswered network.old network.new
+        (IsAskedBy (N.was_told network.new) kept.old.journal) }
 {
     match settle(alloc, network, kept, tries) {
         Ok(()) => Ok(()),

@@ -1,5 +1,6 @@
 //! How a call of the client ends, and what it says then.
-ghost use Rattle.std.specs.Prelude.{◌≡◌};
+ghost use Rattle.std.specs.Prelude.{◌≡◌, [], ◌∷◌, ◌++◌, OnOk};
+ghost use Rattle.std.specs.Io.KnownBytes.{Appends};
 ghost use Rattle.canary_client.specs.Outcomes.{status_of, outcome_of};
 
 use canary_base::error::Memory;
@@ -359,7 +360,10 @@ pub fn say_of<F: Write>(alloc: Global, errors: &mut F, sentence: &str, path: &st
 ///
 /// # Errors
 /// `Output` if the output failed.
-pub fn show<W: Write>(output: &mut W, line: &str) -> Result<(), Stop> {
+pub fn show<W: Write>(output: &mut W, line: &str) -> Result<(), Stop>
+    ensures { OnOk result
+        (Appends (W.contents output.old) (W.contents output.new) (line.now ++ 10 ∷ [])) }
+{
     match output.write_all(line.as_bytes()) {
         Ok(()) => {}
         Err(_) => return Err(Stop::Output),

@@ -1,5 +1,9 @@
 //! Replies as people and scripts see them: nothing that came from a server is a command of a
 //! terminal.
+ghost use Rattle.std.specs.Prelude.{◌≡◌, string_bytes, IfOk};
+ghost use Rattle.canary_markup.specs.Showing.{shown};
+ghost use Rattle.canary_markup.specs.declared.shown.Form.TheVariants.{Json};
+
 use crate::run_line::run_line;
 use canary_base::error::Memory;
 use canary_markup::shown::{Form, shown};
@@ -38,7 +42,9 @@ fn plainer(alloc: Global, value: &Value) -> Result<Option<String>, Memory> {
 ///
 /// # Errors
 /// `Memory` if an allocation was refused.
-pub fn json_of(alloc: Global, body: &str) -> Result<String, Memory> {
+pub fn json_of(alloc: Global, body: &str) -> Result<String, Memory>
+    ensures { IfOk result (λ text. string_bytes text ≡ shown Json body.now) }
+{
     shown(alloc, body, Form::Json)
 }
 

@@ -1,6 +1,9 @@
 //! Queries, sent until they are answered.
 ghost use Rattle.std.specs.Prelude.{◌≡◌};
 ghost use Rattle.canary_journal.specs.Meanings.{is_among};
+ghost use Rattle.canary_sending.specs.Messages.{query_text};
+ghost use Rattle.canary_sending.specs.Networks.{GoesOn};
+ghost use Rattle.canary_client.specs.Promises.{IsQuery};
 ghost use Rattle.canary_client.specs.Queries.{why_again, not_found_codes};
 
 use crate::outcome::Stop;
@@ -19,7 +22,10 @@ pub fn answer<N: Network>(
     network: &mut N,
     path: &str,
     tries: u32,
-) -> Result<Heard, Stop> {
+) -> Result<Heard, Stop>
+    ensures { GoesOn N.was_sent N.was_told N.was_unanswered network.old network.new
+        (λ m. m ≡ query_text path.now) }
+{
     let message = query(alloc, path)?;
     for tried in 0..tries {
         let why = match network.exchange(alloc, message.as_str()) {
@@ -80,7 +86,9 @@ pub fn value_at<N: Network>(
     network: &mut N,
     path: &str,
     tries: u32,
-) -> Result<Value, Stop> {
+) -> Result<Value, Stop>
+    ensures { GoesOn N.was_sent N.was_told N.was_unanswered network.old network.new IsQuery }
+{
     let heard = answer(alloc, network, path, tries)?;
     let value = match Value::from_str(alloc, heard.body.as_str()) {
         Ok(value) => value,

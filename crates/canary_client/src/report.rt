@@ -1,4 +1,7 @@
 //! Reports of one measurement.
+ghost use Rattle.canary_sending.specs.Networks.{GoesOn};
+ghost use Rattle.canary_client.specs.Promises.{IsQuery};
+
 use crate::outcome::Stop;
 use crate::query::value_at;
 use canary_base::lists::Text;
@@ -52,7 +55,9 @@ pub fn next_ordinal<N: Network>(
     network: &mut N,
     measured: &Measured,
     tries: u32,
-) -> Result<u64, Stop> {
+) -> Result<u64, Stop>
+    ensures { GoesOn N.was_sent N.was_told N.was_unanswered network.old network.new IsQuery }
+{
     let (service, run) = (measured.service.as_str(), measured.run);
     let path = format!(in alloc; "/services/{service}/runs/{run}")?;
     let found = value_at(alloc, network, path.as_str(), tries)?;

@@ -1,6 +1,7 @@
 //! The wish that the words of a command line stand for.
-ghost use Rattle.std.specs.Prelude.{◌≡◌, ◌≤◌, length, string_bytes, IfOk, OnOk};
+ghost use Rattle.std.specs.Prelude.{◌≡◌, ◌≤◌, length, string_bytes, IfOk, IfSome, IsTrue, OnOk};
 ghost use Rattle.canary_client.specs.Meant.{report_intent, most_body};
+ghost use Rattle.canary_client.specs.Promises.{intent_of, Means};
 
 use crate::outcome::Stop;
 use crate::place::service_of;
@@ -42,7 +43,9 @@ pub enum Asking {
 
 impl Asking {
     /// What is meant, by which a second call is known to mean the same.
-    pub fn intent(&self) -> &str {
+    pub fn intent(&self) -> &str
+        ensures { result.now ≡ intent_of self.now }
+    {
         match self {
             Asking::Command { intent, .. } => intent.as_str(),
             Asking::Report { intent, .. } => intent.as_str(),
@@ -199,7 +202,9 @@ fn of_body(alloc: Global, body: String) -> Result<Asking, Stop>
 }
 
 // What the body of a request means: the canonical text of its command, if it has one.
-fn intent_in(alloc: Global, body: &str) -> Result<Option<Text>, Stop> {
+fn intent_in(alloc: Global, body: &str) -> Result<Option<Text>, Stop>
+    ensures { IfOk result (λ found. IfSome found (λ intent. Means intent body.now)) }
+{
     match command_from_json(alloc, body.as_bytes()) {
         Ok(command) => Ok(Some(writing::text(alloc, &command)?)),
         Err(WireFault::Memory) => Err(Stop::Memory),
@@ -211,7 +216,9 @@ fn intent_in(alloc: Global, body: &str) -> Result<Option<Text>, Stop> {
 ///
 /// # Errors
 /// `Memory`.
-pub fn has_intent(alloc: Global, body: &str, intent: &str) -> Result<bool, Stop> {
+pub fn has_intent(alloc: Global, body: &str, intent: &str) -> Result<bool, Stop>
+    ensures { IfOk result (λ is. IsTrue is → Means intent.now body.now) }
+{
     match intent_in(alloc, body)? {
         Some(found) => Ok(found.as_str() == intent),
         None => Ok(false),

@@ -1,3 +1,3 @@
 mod KeptLemmas
-mod NetworkLemmas
+pub mod NetworkLemmas
 mod SettleLemmas

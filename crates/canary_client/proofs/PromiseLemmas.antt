@@ -1,0 +1,199 @@
+-- Where what was asked is settled, and which messages go out for it.
+use Rattle.std.proofs.Common.{◌≡◌, ◌⊎◌, inl, inr, ℕ, suc, ◌+◌, List, [], ◌∷◌, ◌++◌, length, Bool, true, false, Option, Some, None, refl, sym, ap, ◌∙◌, subst, arith}
+use Rattle.std.specs.Prelude.{◌&&◌, cond, not, get_or, is_none, option_map, unwrap_or, position, slice_get, if◌then◌else◌}
+use Rattle.std.specs.Str.{bytes_eq}
+use Rattle.std.proofs.lemmas.Slice.Eq.{bytes_eq-Decides}
+use Rattle.std.proofs.lemmas.List.Quantifiers.{position-Some}
+use Rattle.std.proofs.lemmas.Option.{get_or_from_slice_get}
+use Rattle.canary_journal.specs.declared.entry.Asked.{Asked}
+use Rattle.canary_journal.specs.declared.entry.Kept.{Kept}
+use Rattle.canary_journal.specs.declared.entry.Place.{Place}
+use Rattle.canary_journal.specs.declared.entry.Place.TheVariants as place
+use Rattle.canary_journal.specs.declared.entry.Reply.{Reply}
+use Rattle.canary_journal.specs.declared.entry.Wish.{Wish}
+use Rattle.canary_journal.specs.Journals.{JournalValue, asks, asks_instead, has_key, is_kept_under, kept_with, place_of, place_under, place_without, place_pending, settled_place, settles}
+use Rattle.canary_sending.specs.declared.network.Heard.{Heard}
+use Rattle.canary_sending.specs.Sending.{IsAskedBy, IsSettledBy}
+use Rattle.canary_sending.proofs.NetworkLemmas.{asked_more}
+use Rattle.canary_client.specs.declared.ask.SettledAt.{SettledAt}
+use Rattle.canary_client.specs.declared.wish.Asking.{Asking}
+use Rattle.canary_client.specs.Beginning.{IsSettledSo}
+use Rattle.canary_client.specs.Promises.{intent_of, AsksFor, IsFor, IsReplyAt, IsSettledAt, IsPendingFor, IsSentFor}
+
+-- the item that comes after a list
+item_after : {X : Type 0} (xs : List X) (x : X) → slice_get (xs ++ x ∷ []) (length xs) ≡ Some x
+item_after [] x = refl
+item_after (y ∷ xs) x = item_after xs x
+
+-- What stands at a place.
+
+same_bytes : (b : Bool) (xs ys : List ℕ) → bytes_eq xs ys ≡ b → b ≡ true → xs ≡ ys
+same_bytes b xs ys e h = (bytes_eq-Decides xs ys).0 (e ∙ h)
+
+key_of : (wish : Wish) (own : Option (List ℕ)) (key : List ℕ) → wish.key ≡ own → unwrap_or (option_map (λ k. bytes_eq k key) own) false ≡ true → wish.key ≡ Some key
+key_of wish None key is has = let none : ⊥ = cc has in absurd none
+key_of wish (Some own) key is has = is ∙ ap Some ((bytes_eq-Decides own key).0 has)
+
+no_key : (own : Option (List ℕ)) → is_none own ≡ true → own ≡ None
+no_key None none = refl
+no_key (Some k) none = let never : ⊥ = cc none in absurd never
+
+-- a wish without a key that is pending
+pending_without : (a : Asked) (intent : List ℕ) (none same : Bool) → is_none a.wish.key ≡ none → bytes_eq a.wish.intent intent ≡ same → (if none && same then place.Pending else place.Behind) ≡ place.Pending
+    → (a.wish.intent ≡ intent) × (a.wish.key ≡ None)
+pending_without a intent true true n s e = ((bytes_eq-Decides a.wish.intent intent).0 s, no_key a.wish.key n)
+pending_without a intent true false n s e = let never : ⊥ = cc e in absurd never
+pending_without a intent false same n s e = let never : ⊥ = cc e in absurd never
+
+-- one with a key
+pending_under : (a : Asked) (intent key : List ℕ) (has same : Bool) → has_key key a.wish ≡ has → bytes_eq a.wish.intent intent ≡ same → (if not has then place.Behind else (if same then place.Pending else place.KeyUsed)) ≡ place.Pending
+    → (a.wish.intent ≡ intent) × (a.wish.key ≡ Some key)
+pending_under a intent key true true h s e =
+    ((bytes_eq-Decides a.wish.intent intent).0 s, key_of a.wish a.wish.key key refl h)
+pending_under a intent key true false h s e = let never : ⊥ = cc e in absurd never
+pending_under a intent key false same h s e = let never : ⊥ = cc e in absurd never
+
+not_settled : (kept : List Kept) (i : ℕ) (intent : List ℕ) (b : Bool) → (if b then place.Settled i else place.KeyUsed) ≡ place.Pending → ⊥
+not_settled kept i intent true e = cc e
+not_settled kept i intent false e = cc e
+
+pending_at : (j : JournalValue) (intent key : List ℕ) (pending : Option Asked) (a : Asked) → pending ≡ Some a → (at : Option ℕ) → place_under (record j { pending = pending }) intent key at ≡ place.Pending → (a.wish.intent ≡ intent) × (a.wish.key ≡ Some key)
+pending_at j intent key None a is at e = let never : ⊥ = cc is in absurd never
+pending_at j intent key (Some b) a is None e =
+    let same : b ≡ a = cc is in
+    subst (λ x. (x.wish.intent ≡ intent) × (x.wish.key ≡ Some key)) same (pending_under b intent key (has_key key b.wish) (bytes_eq b.wish.intent intent) refl refl e)
+pending_at j intent key (Some b) a is (Some i) e =
+    absurd (not_settled j.kept i intent (unwrap_or (option_map (λ (k : Kept). bytes_eq k.asked.wish.intent intent) (slice_get j.kept i)) false) e)
+
+-- what is pending is what was asked, if the journal has it as pending
+pub is_pending : (what : Asking) (j : JournalValue) (key : Option (List ℕ)) (a : Asked) → j.pending ≡ Some a → place_of j (intent_of what) key ≡ place.Pending → IsFor what key true a
+is_pending what j None a is e =
+    let from : place_without (Some a) (intent_of what) ≡ place.Pending = ap (λ p. place_without p (intent_of what)) (sym is) ∙ e in
+    pending_without a (intent_of what) (is_none a.wish.key) (bytes_eq a.wish.intent (intent_of what)) refl refl from
+is_pending what j (Some key) a is e =
+    pending_at j (intent_of what) key j.pending a is (position (is_kept_under key) j.kept) e
+
+-- under a key the journal has what was asked, if it has it as settled
+found_at : (kept : List Kept) (intent : List ℕ) (place i : ℕ) (found : Option Kept) → slice_get kept i ≡ found
+    → (if unwrap_or (option_map (λ (k : Kept). bytes_eq k.asked.wish.intent intent) found) false then place.Settled i else place.KeyUsed) ≡ place.Settled place
+    → (k : Kept) × (slice_get kept place ≡ Some k) × (k.asked.wish.intent ≡ intent) × (i ≡ place)
+found_at kept intent place i None there e = let never : ⊥ = cc e in absurd never
+found_at kept intent place i (Some k) there e = by (bytes_eq k.asked.wish.intent intent) refl e
+  where
+    by : (b : Bool) → bytes_eq k.asked.wish.intent intent ≡ b → (if b then place.Settled i else place.KeyUsed) ≡ place.Settled place
+        → (k : Kept) × (slice_get kept place ≡ Some k) × (k.asked.wish.intent ≡ intent) × (i ≡ place)
+    by true same e =
+        let at : i ≡ place = cc e in
+        (k, ap (slice_get kept) (sym at) ∙ there, (bytes_eq-Decides k.asked.wish.intent intent).0 same, at)
+    by false same e = let never : ⊥ = cc e in absurd never
+
+settled_under : (what : Asking) (j : JournalValue) (key : List ℕ) (place : ℕ) (at : Option ℕ) → position (is_kept_under key) j.kept ≡ at → place_under j (intent_of what) key at ≡ place.Settled place
+    → (k : Kept) × (slice_get j.kept place ≡ Some k) × IsFor what (Some key) true k.asked
+settled_under what j key place None is e = by j.pending e
+  where
+    by : (pending : Option Asked) → place_pending pending (intent_of what) key ≡ place.Settled place → (k : Kept) × (slice_get j.kept place ≡ Some k) × IsFor what (Some key) true k.asked
+    by None e = let never : ⊥ = cc e in absurd never
+    by (Some a) e = among (has_key key a.wish) (bytes_eq a.wish.intent (intent_of what)) e
+      where
+        among : (has same : Bool) → (if not has then place.Behind else (if same then place.Pending else place.KeyUsed)) ≡ place.Settled place → (k : Kept) × (slice_get j.kept place ≡ Some k) × IsFor what (Some key) true k.asked
+        among true true e = let never : ⊥ = cc e in absurd never
+        among true false e = let never : ⊥ = cc e in absurd never
+        among false same e = let never : ⊥ = cc e in absurd never
+settled_under what j key place (Some i) is e =
+    let found = found_at j.kept (intent_of what) place i (slice_get j.kept i) refl e in
+    let k = found.0 in
+    let has = (position-Some (is_kept_under key) j.kept i k is).1.0 in
+    let here : get_or j.kept i k ≡ k = get_or_from_slice_get j.kept i k k (ap (slice_get j.kept) found.1.1.1 ∙ found.1.0) in
+    let under : has_key key k.asked.wish ≡ true = ap (is_kept_under key) (sym here) ∙ has in
+    (k, found.1.0, found.1.1.0, key_of k.asked.wish k.asked.wish.key key refl under)
+
+-- the journal has what was asked as settled, under its key, if it says so
+pub is_settled : (what : Asking) (j : JournalValue) (key : Option (List ℕ)) (place : ℕ) → place_of j (intent_of what) key ≡ place.Settled place → (k : Kept) × (slice_get j.kept place ≡ Some k) × IsFor what key true k.asked
+is_settled what j None place e = by j.pending e
+  where
+    by : (pending : Option Asked) → place_without pending (intent_of what) ≡ place.Settled place → (k : Kept) × (slice_get j.kept place ≡ Some k) × IsFor what None true k.asked
+    by None e = let never : ⊥ = cc e in absurd never
+    by (Some a) e = among (is_none a.wish.key && bytes_eq a.wish.intent (intent_of what)) e
+      where
+        among : (b : Bool) → (if b then place.Pending else place.Behind) ≡ place.Settled place → (k : Kept) × (slice_get j.kept place ≡ Some k) × IsFor what None true k.asked
+        among true e = let never : ⊥ = cc e in absurd never
+        among false e = let never : ⊥ = cc e in absurd never
+is_settled what j (Some key) place e =
+    settled_under what j key place (position (is_kept_under key) j.kept) refl e
+
+-- What a reply settles.
+
+kept_after : (kept : List Kept) (pending : Option Asked) (a : Asked) (reply : Reply) → pending ≡ Some a → slice_get (kept_with kept pending reply) (length kept) ≡ Some (record { asked = a; reply = reply })
+kept_after kept None a reply is = let none : ⊥ = cc is in absurd none
+kept_after kept (Some b) a reply is =
+    let same : b ≡ a = cc is in
+    item_after kept (record { asked = b; reply = reply }) ∙ ap (λ x. Some (record { asked = x; reply = reply })) same
+
+-- what is pending was asked, and a reply of the desk settles it
+pub settles_at : (told : List ℕ → Heard → Type 0) (what : Asking) (key : Option (List ℕ)) (old j new : JournalValue) (is_wish : Bool)
+    → ((a : Asked) → j.pending ≡ Some a → IsFor what key is_wish a) → IsSettledSo told j new → IsSettledAt told what key old new (record { place = length j.kept; is_wish = is_wish })
+settles_at told what key old j new is_wish for so =
+    let reply = so.0 in
+    let by = so.1.0 in
+    subst (λ n. IsSettledAt told what key old n (record { place = length j.kept; is_wish = is_wish })) (sym so.1.1) (record {
+      kept = record { asked = by.asked; reply = reply };
+      there = kept_after j.kept j.pending by.asked reply by.pending;
+      asked = for by.asked by.pending;
+      reply = inr (record { told = by.told; meaning = by.meaning });
+    })
+
+-- what the journal had stays there
+pub had_before : (told : List ℕ → Heard → Type 0) (what : Asking) (key : Option (List ℕ)) (j : JournalValue) (place : ℕ) → ((k : Kept) × (slice_get j.kept place ≡ Some k) × IsFor what key true k.asked)
+    → IsSettledAt told what key j j (record { place = place; is_wish = true })
+had_before told what key j place has =
+    record { kept = has.0; there = has.1.0; asked = has.1.1; reply = inl has.1.0 }
+
+-- What is pending once it was asked.
+
+pub asked_now : (what : Asking) (key : Option (List ℕ)) (j : JournalValue) (wish : Wish) → wish.intent ≡ intent_of what → wish.key ≡ key → (a : Asked) → (asks j wish).pending ≡ Some a → IsFor what key true a
+asked_now what key j wish means has a is =
+    let same : wish ≡ a.wish = ap (λ o. unwrap_or (option_map (λ (x : Asked). x.wish) o) wish) is in
+    (ap (λ (w : Wish). w.intent) (sym same) ∙ means, ap (λ (w : Wish). w.key) (sym same) ∙ has)
+
+instead_of : (what : Asking) (key : Option (List ℕ)) (body : List ℕ) (pending : Option Asked) → AsksFor what body → (a : Asked) → option_map (λ (x : Asked). record x { instead = Some body }) pending ≡ Some a → IsFor what key false a
+instead_of what key body None asks a is = let none : ⊥ = cc is in absurd none
+instead_of what key body (Some b) asks a is =
+    let same : Some body ≡ a.instead = ap (λ o. unwrap_or (option_map (λ (x : Asked). x.instead) o) None) is in
+    (body, sym same, asks)
+
+pub asked_instead : (what : Asking) (key : Option (List ℕ)) (j : JournalValue) (body : List ℕ) → AsksFor what body → (a : Asked) → (asks_instead j body).pending ≡ Some a → IsFor what key false a
+asked_instead what key j body asks a is = instead_of what key body j.pending asks a is
+
+-- What is sent.
+
+-- of what was asked now
+pub sent_now : (told : List ℕ → Heard → Type 0) (what : Asking) (key : Option (List ℕ)) (j now : JournalValue) (is_wish : Bool) → now.caller ≡ j.caller → ((a : Asked) → now.pending ≡ Some a → IsFor what key is_wish a)
+    → (m : List ℕ) → IsAskedBy told now m → IsSentFor told what key j m
+sent_now told what key j now is_wish same for m by = inr (inr (
+  now,
+  record {
+    same = same;
+    asked = by.asked;
+    pending = by.pending;
+    is_wish = is_wish;
+    is = for by.asked by.pending;
+  },
+  by,
+))
+
+-- what was sent with fewer replies is sent with more
+pub sent_more : (T U : List ℕ → Heard → Type 0) → ((m : List ℕ) (heard : Heard) → T m heard → U m heard) → (what : Asking) (key : Option (List ℕ)) (j : JournalValue) (m : List ℕ) → IsSentFor T what key j m → IsSentFor U what key j m
+sent_more T U more what key j m (inl query) = inl query
+sent_more T U more what key j m (inr (inl before)) = inr (inl (asked_more T U more j m before))
+sent_more T U more what key j m (inr (inr now)) =
+    inr (inr (now.0, now.1.0, asked_more T U more now.0 m now.1.1))
+
+-- once a number is settled nothing is pending, so what goes out is of what was asked
+pub sent_after : (told earlier : List ℕ → Heard → Type 0) (what : Asking) (key : Option (List ℕ)) (j new : JournalValue) → IsSettledSo earlier j new → (m : List ℕ) → IsSentFor told what key new m → IsSentFor told what key j m
+sent_after told earlier what key j new so m sent =
+    by (subst (λ n. IsSentFor told what key n m) so.1.1 sent)
+  where
+    by : IsSentFor told what key (settles j so.0) m → IsSentFor told what key j m
+    by (inl query) = inl query
+    by (inr (inl before)) = let none : ⊥ = cc before.pending in absurd none
+    by (inr (inr now)) = inr (inr now)

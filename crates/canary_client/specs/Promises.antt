@@ -1,0 +1,82 @@
+-- What a call of `do` promises: it shows the reply of what was asked, under its number, and the
+-- journal has that reply before anything is shown.
+use Rattle.std.specs.Prelude.{◌≡◌, ◌⊎◌, ◌+◌, ℕ, Bool, true, false, List, [], ◌∷◌, ◌++◌, Option, Some, slice_get}
+use Rattle.canary_plan.specs.declared.command.Command.{Command}
+use Rattle.canary_canonical.specs.Texts.{command_text}
+use Rattle.canary_manifest.specs.Commands.{body_reading}
+use Rattle.canary_manifest.specs.Readings.{readable}
+use Rattle.canary_markup.specs.Showing.{shown}
+use Rattle.canary_markup.specs.declared.shown.Form.TheVariants.{Json}
+use Rattle.canary_journal.specs.declared.entry.Asked.{Asked}
+use Rattle.canary_journal.specs.declared.entry.Kept.{Kept}
+use Rattle.canary_journal.specs.declared.meaning.Meaning.TheVariants.{Settled}
+use Rattle.canary_journal.specs.Journals.{JournalValue}
+use Rattle.canary_journal.specs.Meanings.{meaning_of}
+use Rattle.canary_sending.specs.declared.network.Heard.{Heard}
+use Rattle.canary_sending.specs.Messages.{request_text, query_text}
+use Rattle.canary_sending.specs.Sending.{body_of, IsAskedBy}
+use Rattle.canary_client.specs.declared.ask.SettledAt.{SettledAt}
+use Rattle.canary_client.specs.declared.wish.Asking.{Asking}
+use Rattle.canary_client.specs.declared.wish.Asking.TheVariants as asking
+
+-- What was asked.
+
+-- what it means, by which it is known again
+abbrev pub intent_of : Asking → List ℕ
+intent_of (asking.Command intent body) = intent
+intent_of (asking.Report intent measured) = intent
+
+-- a body means this: it is read as the command with this canonical text
+abbrev pub Means : List ℕ → List ℕ → Type 0
+Means intent body = (c : Command) × (body_reading body ≡ readable c) × (command_text c ≡ intent)
+
+-- a body asks for it: its own, or one that means the same; a report is asked in no other place
+abbrev pub AsksFor : Asking → List ℕ → Type 0
+AsksFor (asking.Command intent own) body = (body ≡ own) ⊎ Means intent body
+AsksFor (asking.Report intent measured) body = ⊥
+
+-- a number was asked for it: the wish means it and has its key; or, if it is not the wish, what was
+-- asked in the place of one asks for it
+abbrev pub IsFor : Asking → Option (List ℕ) → Bool → Asked → Type 0
+IsFor what key true a = (a.wish.intent ≡ intent_of what) × (a.wish.key ≡ key)
+IsFor what key false a = (body : List ℕ) × (a.instead ≡ Some body) × AsksFor what body
+
+-- Where its reply stands.
+
+-- the desk answered so to a message under the number of this place
+pub record IsReplyAt (was_told : List ℕ → Heard → Type 0) (j : JournalValue) (place : ℕ) (k : Kept) : Type 0 where
+  pub told : was_told (request_text j.caller (j.before + place + 1) (body_of k.asked k.reply.is_late))
+      (record { status = k.reply.status; body = k.reply.body })
+  pub meaning : meaning_of k.reply.status k.reply.body ≡ Settled
+
+-- at this place the journal has what was asked and its reply: since before, or the desk gave it now
+pub record IsSettledAt (was_told : List ℕ → Heard → Type 0) (what : Asking) (key : Option (List ℕ)) (old new : JournalValue) (at : SettledAt) : Type 0 where
+  pub kept : Kept
+  pub there : slice_get new.kept at.place ≡ Some kept
+  pub asked : IsFor what key at.is_wish kept.asked
+  pub reply : (slice_get old.kept at.place ≡ Some kept) ⊎ IsReplyAt was_told new at.place kept
+
+-- a reply as it is shown where no person reads: one line, the body with its marks escaped
+abbrev pub reply_line : Kept → List ℕ
+reply_line k = shown Json k.reply.body ++ 10 ∷ []
+
+-- What is sent.
+
+-- a query, which changes nothing
+abbrev pub IsQuery : List ℕ → Type 0
+IsQuery m = (path : List ℕ) × (m ≡ query_text path)
+
+-- what is pending in a journal of the same caller was asked now
+pub record IsPendingFor (what : Asking) (key : Option (List ℕ)) (caller : List ℕ) (j : JournalValue) : Type 0 where
+  pub same : j.caller ≡ caller
+  pub asked : Asked
+  pub pending : j.pending ≡ Some asked
+  pub is_wish : Bool
+  pub is : IsFor what key is_wish asked
+
+-- a message of a call: a query, one of what was pending before it, or one of what was asked
+abbrev pub IsSentFor : (List ℕ → Heard → Type 0) → Asking → Option (List ℕ) → JournalValue → List ℕ → Type 0
+IsSentFor was_told what key j m =
+    IsQuery m
+    ⊎ (IsAskedBy was_told j m
+    ⊎ ((now : JournalValue) × IsPendingFor what key j.caller now × IsAskedBy was_told now m))
