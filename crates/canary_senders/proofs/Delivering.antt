@@ -16,7 +16,7 @@ use Rattle.canary_once.specs.Contents.{Contents, receipts_of, count_of, receipt_
 use Rattle.canary_once.specs.Laws.{RunsOn}
 use Rattle.canary_once.specs.Answers.{is_of, is_new, next_number, news_of, bare, receipt_of, after, reused_reply, ahead_reply, repeat_reply, answer}
 use Rattle.canary_senders.specs.Senders.{commands_of}
-use Rattle.canary_senders.specs.Delivery.{Message, Answered, World, begun, Step, Ask, Instead, Send, Comes, Hears, Other, with_last, one_of, sends, settles, notes, hears, request_of, comes, is_own, happens, runs, Among, AreChosen, IsDelivered, Delivers}
+use Rattle.canary_senders.specs.Delivery.{Message, Answered, World, begun, Step, Ask, Instead, Send, Comes, Hears, Other, with_last, one_of, sends, settles, notes, hears, request_of, comes, is_own, happens, runs, Among, AreChosen, IsDelivered, Delivers, AsksNoOther}
 use Rattle.canary_senders.proofs.Lists.{behind}
 use Rattle.canary_senders.proofs.Receipts.{own, receipt_for, replies_after, receipts_after, own_commands}
 
@@ -438,3 +438,10 @@ delivers same on caller before steps =
     is_delivered caller before (runs caller settled (begun before) steps)
     (by_all same caller (receipts_of before caller) steps (begun before) (at_first caller before))
     (after_all on before caller settled steps (begun before) (nothing_came before))
+
+only_at : (command asked : Command) (i : ℕ) → slice_get (asked ∷ []) i ≡ Some command → command ≡ asked
+only_at command asked zero e = let same : asked ≡ command = cc e in sym same
+only_at command asked (suc i) e = let none : ⊥ = cc e in absurd none
+
+pub asks_no_other : AsksNoOther
+asks_no_other command asked among = only_at command asked among.0 among.1

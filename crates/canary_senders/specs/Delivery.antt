@@ -188,3 +188,7 @@ Delivers =
     (caller : List ℕ) (before : Contents) (steps : List Step)
     → IsDelivered caller before
     (runs caller (length (receipts_of before caller)) (begun before) steps)
+
+-- who asked one command under a number asked no other one under it
+abbrev pub AsksNoOther : Type 0
+AsksNoOther = (command asked : Command) → Among command (asked ∷ []) → command ≡ asked

@@ -1,6 +1,6 @@
 //! Laws over all senders.
 ghost use Rattle.canary_once.specs.Contents.{no_contents};
-ghost use Rattle.canary_senders.specs.Delivery.{Delivers};
+ghost use Rattle.canary_senders.specs.Delivery.{Delivers, AsksNoOther};
 ghost use Rattle.canary_senders.specs.Journaling.{Begins, Asks, AsksInstead, Hears};
 ghost use Rattle.canary_senders.specs.Senders.{NobodyHasSettled, SettleFirstParts};
 ghost use Rattle.canary_senders.specs.Senders.{NoneIsReused, LastSettlesAll, OrderDoesNotMatter};
@@ -46,7 +46,8 @@ pub fn arrivals()
 /// order, and one that the caller asked under it: just these act. What the caller heard is what the
 /// desk keeps, and if nothing is pending, all that it asked is settled, and it heard each reply.
 pub fn delivery()
-    ensures { Delivers }
+    ensures delivers { Delivers }
+    ensures no_other { AsksNoOther }
 {
     plans::same_commands();
     laws::running_on();
