@@ -7,13 +7,15 @@ import subprocess
 import time
 import tty
 
-from story_words import Wrong, expect
+from story_words import B, Wrong, command, expect, put
 
 ERASED = b"\r\x1b[K"
 CLEARED = b"\x1b[H\x1b[2J"
 # The rows of the desk that cli.py makes: five receipts; the bindings of the attempt and of its run;
 # a run, its tally and its measurement; five lines of web, one of them on the run, and one of help.
 DESK_ROWS = 16
+# The rows of a desk whose one caller adds so many revisions: their receipts.
+RECEIPTS = 260
 HEADER = b"caller,number,service,run,metric,ordinal,taken,result,failure\n"
 MADE = b"canary: made new.db, since there was no such file\n"
 
@@ -87,6 +89,20 @@ def try_judging(program, place):
         written, shown = run_showing(program, words, place)
         expect(words, (written, judged(words, shown)), (plain.stdout, b""))
     return len(rows)
+
+
+def try_pages(program, place):
+    """The receipts of a caller who has more than 256 are judged in pages, each counted once."""
+    sent = [put("ops", number, command("template errs m,interval=60"))
+            for number in range(1, RECEIPTS + 1)]
+    made = subprocess.run([program, "pipe", "--at", str(B), "--step", "1", "--db", "pages.db"],
+                          input=b"".join(sent), cwd=place, timeout=60, capture_output=True)
+    expect("a caller of many requests", made.stdout.count(b"HTTP/1.1 200 OK"), RECEIPTS)
+    words = ["status", "--db", "pages.db"]
+    _, shown = run_showing(program, words, place)
+    found = counts(words, shown, rb"canary: (\d+) of %d rows judged" % RECEIPTS)
+    expect(f"{words}: rows judged", found, [256, RECEIPTS])
+    return 1
 
 
 def try_drawing(program, place):
@@ -232,5 +248,6 @@ def try_watching(program, place):
 
 def try_terminals(program, new_place):
     """Each of these in a new folder with a desk's file."""
-    parts = (try_judging, try_drawing, try_reading, try_missing, try_faults, try_watching)
+    parts = (try_judging, try_pages, try_drawing, try_reading, try_missing, try_faults,
+             try_watching)
     return sum(part(program, new_place()) for part in parts)

@@ -1,6 +1,8 @@
-"""How much memory a desk takes for what it keeps of its file: rooms.py PROGRAM FOLDER. A desk
-registers services of 64 steps, each time in a new file, with `--cache` in different sizes. No
-clause says how much memory a program takes."""
+"""How much memory a desk takes for what it keeps of its file: rooms.py PROGRAM FOLDER. With `--cache`
+in different sizes, and each time in a new file, a desk registers services of 64 steps. Then each
+service grows as its release begins: all its steps are analysed by a wide template. Last, 100
+callers send long commands, of which each receipt has one. No clause says how much memory a program
+takes."""
 import json
 import os
 import re
@@ -14,17 +16,53 @@ from story_words import Wrong, put
 SERVICES, STEPS = 1_500, 64
 # The least bytes that 64 steps take in memory.
 LEAST = 1_024
+# Releases that begin, and the metrics of each step; callers, and the long commands of each.
+RELEASES, METRICS = 100, 32
+CALLERS, COMMANDS, CONDITIONS, LONG = 100, 5, 30, 1_000
+# The room of the releases and the callers, of which services have a half and receipts an eighth.
+ROOM = 8 << 20
 SECONDS = 300
 ACCEPTED = b"HTTP/1.1 200 "
 
 
-def registration(number):
-    """The request that registers a service of 64 steps."""
+def request(caller, number, command):
+    return put(caller, number, json.dumps(command, separators=(",", ":")).encode())
+
+
+def registration(number, service, steps):
+    """The request that registers a service of these steps."""
+    manifest = {"metadata": {"name": service}, "spec": {"strategy": {"canary": {"steps": steps}}}}
+    return request("ops", number, {"service": {"manifest": manifest, "version": "v1"}})
+
+
+def template(caller, number, name, metrics):
+    spec = {"metadata": {"name": name}, "spec": {"metrics": metrics}}
+    return request(caller, number, {"template": spec})
+
+
+def registrations():
     steps = [{"setWeight": weight} for weight in range(STEPS)]
-    manifest = {"metadata": {"name": f"s{number}"},
-                "spec": {"strategy": {"canary": {"steps": steps}}}}
-    command = {"service": {"manifest": manifest, "version": "v1"}}
-    return put("ops", number, json.dumps(command, separators=(",", ":")).encode())
+    return [registration(number, f"s{number}", steps) for number in range(1, SERVICES + 1)]
+
+
+def releases():
+    """Services that are registered, and each begins a release then, which binds 64 analyses."""
+    wide = [{"name": f"m{at}"} for at in range(METRICS)]
+    steps = STEPS * [{"analysis": {"templates": [{"templateName": "wide"}]}}]
+    sent = [template("ops", 1, "wide", wide)]
+    for at in range(RELEASES):
+        start = {"start": {"service": f"s{at}", "version": "v2"}}
+        sent += [registration(2 * at + 2, f"s{at}", steps), request("ops", 2 * at + 3, start)]
+    return sent
+
+
+def long_commands():
+    """Templates of many callers, whose conditions are long."""
+    condition = "result <" + LONG * " " + "5"
+    metrics = [{"name": f"m{at}", "successCondition": condition, "failureCondition": condition}
+               for at in range(CONDITIONS)]
+    return [template(f"c{caller}", number, "long", metrics) for caller in range(CALLERS)
+            for number in range(1, COMMANDS + 1)]
 
 
 def most_memory(process):
@@ -33,19 +71,19 @@ def most_memory(process):
         return 1_024 * int(re.search(r"VmHWM:\s+(\d+) kB", status.read())[1])
 
 
-def wait_for_replies(process, answers):
+def wait_for_replies(process, answers, count):
     """Waits until all requests are accepted."""
     end = time.monotonic() + SECONDS
     while time.monotonic() < end and process.poll() is None:
         with open(answers, "rb") as found:
-            if found.read().count(ACCEPTED) == SERVICES:
+            if found.read().count(ACCEPTED) == count:
                 return
         time.sleep(0.1)
-    raise Wrong("a desk that keeps its services does not accept them all")
+    raise Wrong("a desk that keeps what it reads does not accept all requests")
 
 
-def memory_with(program, folder, stream, words):
-    """The most memory of a desk with these words, which answers the stream."""
+def memory_with(program, folder, sent, words):
+    """The most memory of a desk with these words, which answers these requests."""
     file, answers = (os.path.join(folder, name) for name in ("roomed", "roomed-answers"))
     for path in (file, f"{file}-wal"):
         if os.path.exists(path):
@@ -53,9 +91,9 @@ def memory_with(program, folder, stream, words):
     with open(answers, "wb") as output, subprocess.Popen(
             [program, *STILL_AT_B, "--db", file, *words], stdin=subprocess.PIPE,
             stdout=output) as process:
-        process.stdin.write(stream)
+        process.stdin.write(b"".join(sent))
         process.stdin.flush()
-        wait_for_replies(process, answers)
+        wait_for_replies(process, answers, len(sent))
         most = most_memory(process)
         process.stdin.close()
         if process.wait(SECONDS) != 0:
@@ -63,16 +101,34 @@ def memory_with(program, folder, stream, words):
     return most
 
 
+def try_services(program, folder):
+    """With room for them a desk keeps the services that it registers, and without room none."""
+    sent = registrations()
+    nothing, little, by_default = (memory_with(program, folder, sent, words) for words in (
+        ["--cache", "1"], ["--cache", "262144"], []))
+    if by_default - nothing < SERVICES * LEAST:
+        raise Wrong(f"a desk keeps no services: {nothing}, {by_default} bytes of memory")
+    if little - nothing > SERVICES * LEAST // 2:
+        raise Wrong(f"a desk keeps more than --cache says: {nothing}, {little} bytes of memory")
+
+
+def try_room(program, folder, row, sent):
+    """What a desk keeps of these takes no more than twice the room, which is an estimate; all of it
+    would take three times as much at least."""
+    nothing, kept = (memory_with(program, folder, sent, ["--cache", room])
+                     for room in ("1", str(ROOM)))
+    print(f"files: {row}: {kept - nothing} bytes of memory more in a room of {ROOM}",
+          file=sys.stderr)
+    if kept - nothing > 2 * ROOM:
+        raise Wrong(f"{row}: a desk keeps more than --cache says: {nothing}, {kept}")
+
+
 def main():
     program, folder = sys.argv[1:]
-    stream = b"".join(map(registration, range(1, SERVICES + 1)))
     try:
-        nothing, little, by_default = (memory_with(program, folder, stream, words) for words in (
-            ["--cache", "1"], ["--cache", "262144"], []))
-        if by_default - nothing < SERVICES * LEAST:
-            raise Wrong(f"a desk keeps no services: {nothing}, {by_default} bytes of memory")
-        if little - nothing > SERVICES * LEAST // 2:
-            raise Wrong(f"a desk keeps more than --cache says: {nothing}, {little} bytes of memory")
+        try_services(program, folder)
+        try_room(program, folder, "services that grow", releases())
+        try_room(program, folder, f"receipts of {CALLERS} callers", long_commands())
     except (Wrong, subprocess.TimeoutExpired) as fault:
         sys.exit(f"files: {fault}")
 

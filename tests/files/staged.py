@@ -12,6 +12,7 @@ from places import (
     pair, serving, told, want_names, want_started, write)
 from story_words import Wrong, expect
 
+WRITING = ("pwrite64", "fsync", "fdatasync", "ftruncate")
 NAMING = ("rename", "renameat", "renameat2", "link", "linkat")
 NO_PLACES = {"TMPDIR": "/nowhere", "XDG_RUNTIME_DIR": ""}
 
@@ -272,11 +273,49 @@ def try_folder_taken(program, folder):
         expect(f"its folder is taken {row}: the link", os.readlink(taken), victim)
 
 
+def try_no_memory(program, folder):
+    """The system has no memory as a program opens a desk's file, at each time that it opens it:
+    that is refused memory."""
+    place = folder_in(folder, "no-memory")
+    file, log = os.path.join(place, "desk.db"), os.path.join(folder, "no-memory-log")
+    make_desk(program, file)
+    asked = ["-P", file, program, "history", "--db", file, "web"]
+    expect("history, traced", told(traced(log, ["openat"]) + asked)[::2], (0, b""))
+    opened = len(calls_in(log))
+    expect("how often history opens the file: at least twice", opened >= 2, True)
+    before = pair(file)
+    for at in range(1, opened + 1):
+        injected = f"openat:error=ENOMEM:when={at}"
+        expect(f"history, no memory to open the file, {at}",
+               told(traced(log, ["openat"], injected) + asked), (1, b"", b"canary: memory\n"))
+    expect("no memory to open the file: what is left", pair(file), before)
+
+
+def try_making(program, folder):
+    """Each call that writes or syncs fails as a desk's file is made: the program says so. The file
+    that is made then has pages of 512 bytes."""
+    place = folder_in(folder, "making")
+    file, log = os.path.join(place, "desk.db"), os.path.join(folder, "making-log")
+    asked = ["-P", file, "-P", file + "-wal", program, "pipe", "--at", "0", "--step", "0",
+             "--db", file]
+    expect("a desk that is made", told(traced(log, WRITING) + asked), (0, b"", b""))
+    names = [name for name, _, _ in calls_in(log)]
+    for at, name in enumerate(names):
+        row = f"a desk that is made, {name} {at + 1} fails"
+        for left in (file, file + "-wal"):
+            os.remove(left)
+        injected = f"{name}:error=EIO:when={names[:at + 1].count(name)}"
+        expect(row, told(traced(log, WRITING, injected) + asked), (1, b"", b"canary: storage\n"))
+        expect(f"{row}, and then made", told(asked[4:]), (0, b"", b""))
+        expect(f"{row}: the size of its pages", bytes_of(file)[16:18], b"\x02\x00")
+
+
 def main():
     program, folder, *names = sys.argv[1:]
     try:
-        for part in (try_mixed_pair, try_killed_backups, try_log_begun_anew, try_failing_backups,
-                     try_page_in_turn, try_places, try_folder_taken):
+        for part in (try_no_memory, try_making, try_mixed_pair, try_killed_backups,
+                     try_log_begun_anew, try_failing_backups, try_page_in_turn, try_places,
+                     try_folder_taken):
             if not names or part.__name__ in names:
                 part(os.path.realpath(program), folder)
     except (Wrong, subprocess.TimeoutExpired) as fault:

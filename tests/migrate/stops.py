@@ -14,6 +14,7 @@ from power_cuts import CALL, TRACED, Trace, write_image
 
 # The calls that read, write or sync a file.
 CALLS = ("pread64", "pwrite64", "fsync", "fdatasync", "ftruncate")
+SYNCS = ("fsync", "fdatasync")
 KILLED = -9
 
 
@@ -107,14 +108,18 @@ def try_stops(program, folder):
             alone = [[(name, "error=EIO", count)] for name, count in counted]
             after = [[(call, "error=EIO", f"{names[:at].count(call) + 1}+") for call in CALLS]
                      for at in range(len(names))]
-            try_rows(stopped, "fails alone", alone, refused("storage"))
+            found = try_rows(stopped, "fails alone", alone, refused("storage"))
+            last = max(at for at, name in enumerate(names) if name in SYNCS)
+            want("the last sync, as the file is closed, fails alone: whether it ends so, and whether"
+                 " it is migrated", found[last], (True, True))
             try_rows(stopped, "fails with all after it", after, refused("storage"))
     remove(stopped.file)
     remove(stopped.whole)
 
 
 def try_rows(stopped, how, rows, end):
-    """One way to stop at each of some calls. At the first one nothing can have been written."""
+    """One way to stop at each of some calls. At the first one nothing can have been written.
+    Returns what was found at each."""
     found = [stopped.stop(f"call {at + 1}, {row[0]}, {how}", row, end)
              for at, row in enumerate(rows)]
     want(f"the first call {how}: whether it ends so, and whether it is migrated", found[0],
@@ -122,6 +127,7 @@ def try_rows(stopped, how, rows, end):
     ended, done = map(sum, zip(*found))
     print(f"migrate: {len(rows)} times a call {how}; the program ended so in {ended}, and the file"
           f" was migrated in {done}", file=sys.stderr)
+    return found
 
 
 def try_full_disk(program, folder):

@@ -1,5 +1,5 @@
 //! Callers, and what is kept of their requests.
-ghost use Rattle.std.specs.Prelude.{◌≡◌, ◌≢◌, ◌<◌, ◌≤◌, ◌↔◌, suc, Some, IsTrue, IfOk, OnOk, Err};
+ghost use Rattle.std.specs.Prelude.{◌≡◌, ◌≢◌, ◌+◌, ◌<◌, ◌≤◌, ◌↔◌, suc, Some, IsTrue, IfOk, OnOk, Err};
 ghost use Rattle.std.specs.List.{AllByRecursion, sum_by};
 ghost use Rattle.canary_stored.specs.Values.{receipt_of_row};
 ghost use Rattle.canary_judging.specs.Judged.{AreCallersJudged, IsCallerJudged};
@@ -158,6 +158,7 @@ fn page_end(before: u32, settled: u32) -> u32
     requires { before < settled }
     ensures more { before < result }
     ensures within { result ≤ settled }
+    ensures page { result ≤ before + PAGE }
 {
     before + PAGE.min(settled - before)
 }

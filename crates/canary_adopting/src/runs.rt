@@ -1,6 +1,6 @@
 //! The runs of a service, judged with what they are bound to and their tallies. Their rows are read
 //! in pages.
-ghost use Rattle.std.specs.Prelude.{◌≡◌, ◌≢◌, ◌∷◌, ◌<◌, ◌≤◌, ◌↔◌, [], false, ℕ, List, IsTrue};
+ghost use Rattle.std.specs.Prelude.{◌≡◌, ◌≢◌, ◌∷◌, ◌+◌, ◌<◌, ◌≤◌, ◌↔◌, [], false, ℕ, List, IsTrue};
 ghost use Rattle.std.specs.Prelude.{IfOk, IfSome, None, Err, length, map, filter};
 ghost use Rattle.std.specs.FinMap.{empty};
 ghost use Rattle.canary_rows.specs.declared.rows.TallyRow.{TallyRow};
@@ -101,6 +101,7 @@ fn page_end(before: u32, count: u32) -> u32
     requires { before < count }
     ensures more { before < result }
     ensures within { result ≤ count }
+    ensures page { result ≤ before + PAGE }
 {
     before + PAGE.min(count - before)
 }

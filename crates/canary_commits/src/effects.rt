@@ -1,8 +1,10 @@
 //! What happens to a service, one thing after another, as rows inside a transaction.
-ghost use Rattle.std.specs.Prelude.{◌≡◌, length, Some, Err, IfOk, IfErr, OnOk};
+ghost use Rattle.std.specs.Prelude.{◌≡◌, ◌≢◌, length, string_bytes, Some, Err};
+ghost use Rattle.std.specs.Prelude.{IfOk, IfErr, OnOk};
 ghost use Rattle.std.specs.List.{AllByRecursion};
 ghost use Rattle.sqlite.specs.Held.{state};
 ghost use Rattle.canary_condition.specs.PhaseTexts.{phase_of_number};
+ghost use Rattle.canary_plan.specs.Lines.{words};
 ghost use Rattle.canary_plan.specs.Plans.{distinct};
 ghost use Rattle.canary_release.specs.declared.effect.Effect.TheVariants.{Told, Opened, Measured};
 ghost use Rattle.canary_rows.specs.Changes.{HasRun, HasTally, with_ending};
@@ -31,6 +33,17 @@ use canary_stored::writing::phase_number;
 use sqlite::{Alter, Transaction};
 use std::alloc::Global;
 
+// The words of a line, as its row has them.
+fn words_of(alloc: Global, line: &Line) -> Result<String, StoreFault>
+    ensures value { IfOk result (λ text. string_bytes text ≡ words line.now.event) }
+    ensures readable { OnOk result (IsReadableLine line.now) }
+    ensures unasked { result ≢ Err StoreFault.Storage }
+{
+    let mut text = String::new(alloc);
+    line.words(&mut text)?;
+    Ok(text)
+}
+
 // A line comes last in the service's history.
 fn tell<S: Alter>(
     tx: &mut Transaction<'_, S>,
@@ -47,8 +60,7 @@ fn tell<S: Alter>(
     ensures kept { StaysCommitted (state S.Store tx.old.conn.now) (state S.Store tx.new.conn.now) }
     ensures survives { SurvivesCut (state S.Store tx.old.conn.now) (state S.Store tx.new.conn.now) }
 {
-    let mut words = String::new(alloc);
-    line.words(&mut words)?;
+    let words = words_of(alloc, line)?;
     insert_line(tx, service, line.moment, words.as_str()).map_err(fault_of)?;
     Ok(())
 }

@@ -1,5 +1,6 @@
 //! Opening the file at a path as a database of SQLite.
-ghost use Rattle.std.specs.Prelude.{codes, ◌≡◌, IsTrue, IfOk, IfErr};
+ghost use Rattle.std.specs.Prelude.{codes, ◌≡◌, ◌==◌, IsTrue, IfOk, IfErr};
+ghost use Rattle.std.specs.List.{starts_with};
 ghost use Rattle.sqlite.specs.Files.{file_state, IsOpened};
 ghost use Rattle.sqlite.specs.Held.{IsNew};
 ghost use Rattle.sqlite.specs.Opening.{is_open_error};
@@ -45,6 +46,8 @@ const NO_MEMORY: Error = Error::SqliteFailure(ErrorCode::OutOfMemory);
 pub fn connect(rt: &HostRuntime, path: &str) -> Result<Connection<FileStore<File>>, Error>
     ensures memory { path.now ≡ codes ":memory:"
         → result ≡ Err (Error.SqliteFailure ErrorCode.CannotOpen) }
+    ensures uri { IsTrue (starts_with (λ a b. a == b) path.now (codes "file:"))
+        → result ≡ Err (Error.SqliteFailure ErrorCode.CannotOpen) }
     ensures named { IfErr result (λ e. IsTrue (is_open_error e)) }
     ensures opened { IfOk result (λ c. HasCleanDisk (file_state c) → IsOpened c) }
     ensures fresh { IfOk result IsNew }
@@ -71,11 +74,13 @@ pub fn connect(rt: &HostRuntime, path: &str) -> Result<Connection<FileStore<File
 fn open_pair<S: Start>(rt: &HostRuntime, path: &str, start: S) -> Result<Files<FileFrom<S>>, Error>
     ensures memory { path.now ≡ codes ":memory:"
         → result ≡ Err (Error.SqliteFailure ErrorCode.CannotOpen) }
+    ensures uri { IsTrue (starts_with (λ a b. a == b) path.now (codes "file:"))
+        → result ≡ Err (Error.SqliteFailure ErrorCode.CannotOpen) }
     ensures named { IfErr result (λ e. IsTrue (is_open_error e)) }
     ensures usable { IfOk result (λ files. IsTrue (file_is_usable S.Start files.log)
         × IsTrue (file_is_usable S.Start files.db)) }
 {
-    if path == ":memory:" || path.starts_with("file:") {
+    if path == ":memory:" || path.as_bytes().starts_with(b"file:") {
         return Err(CANNOT_OPEN);
     }
     match sqlite_std_file::open(rt, path, start) {

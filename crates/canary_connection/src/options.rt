@@ -1,4 +1,7 @@
 //! What the store keeps in memory, and how long its log grows, by the size of a file's pages.
+ghost use Rattle.std.specs.Prelude.{◌≡◌, ◌≤◌, ◌*◌};
+ghost use Rattle.sqlite_wal.specs.PageSize.{bytes_of};
+
 use sqlite::Options;
 use sqlite_wal::PageSize;
 
@@ -14,7 +17,13 @@ const BYTES_WRITTEN: usize = 8_192_000;
 const BYTES_IN_LOG: usize = 4_096_000;
 
 // The options of a file with pages of this size.
-pub(crate) fn options(size: PageSize, seed: u64) -> Options {
+pub(crate) fn options(size: PageSize, seed: u64) -> Options
+    ensures pages { result.cache_pages ≤ PAGES_READ }
+    ensures read { result.cache_pages * bytes_of size ≤ BYTES_READ }
+    ensures written { result.spill_pages * bytes_of size ≤ BYTES_WRITTEN }
+    ensures log { result.checkpoint_frames * bytes_of size ≤ BYTES_IN_LOG }
+    ensures seed { result.seed ≡ seed }
+{
     let bytes = size.bytes();
     Options {
         cache_pages: PAGES_READ.min(BYTES_READ / bytes),
@@ -25,7 +34,10 @@ pub(crate) fn options(size: PageSize, seed: u64) -> Options {
 }
 
 // Those of a file that is made, which has one page.
-pub(crate) fn first_options(seed: u64) -> Options {
+pub(crate) fn first_options(seed: u64) -> Options
+    ensures pages { result.cache_pages ≡ 1 }
+    ensures seed { result.seed ≡ seed }
+{
     let mut options = Options::new(seed);
     options.cache_pages = 1;
     options

@@ -11,7 +11,7 @@ use Rattle.std.specs.Map.{lookup, remove_entry, set_value}
 use Rattle.std.proofs.lemmas.Map.Text.{is_eq-slice_cmp}
 use Rattle.std.proofs.lemmas.Slice.Eq.{bytes_eq-Decides}
 use Rattle.canary_tables.specs.declared.entries.Weighed.{Weighed}
-use Rattle.canary_tables.specs.Entries.{Named, IsWithin, unweighed, weights, weight_if, value_if, at_name, first_of, IsPut}
+use Rattle.canary_tables.specs.Entries.{Named, IsWithin, unweighed, weights, weight_if, value_if, at_name, first_of, IsPut, IsEntered}
 
 abbrev Items : Type 0 → Type 0
 Items A = List (List ℕ × Weighed A)
@@ -81,8 +81,16 @@ not_there : {A : Type 0} (x : Option A) → ((v : A) → x ≡ Some v → None �
 not_there None h = refl
 not_there (Some v) h = sym (h v refl)
 
-absent : {A : Type 0} (m o : Named A) (k : List ℕ) → IsWithin m o → get o k ≡ None → get m k ≡ None
+pub absent : {A : Type 0} (m o : Named A) (k : List ℕ) → IsWithin m o → get o k ≡ None → get m k ≡ None
 absent m o k within none = not_there (get m k) (λ v is. sym none ∙ within k v is)
+
+first_none : {A : Type 0} (a f : Found A) → value_if (option_or a f) ≡ None → a ≡ None
+first_none None f is = refl
+first_none (Some x) f is = let never : Some x.value ≡ None = is in cc
+
+-- what the map has not, the first entries have not
+pub not_in_first : {A : Type 0} (m : Named A) (es fs : Items A) (k : List ℕ) → held es fs ≡ m → get m k ≡ None → at_name es k ≡ None
+not_in_first {A} m es fs k view none = first_none (at_name es k) (at_name fs k) (sym (get_held es fs k) ∙ ap (λ (n : Named A). get n k) view ∙ none)
 
 there_or : {A : Type 0} (v w : A) (x : Option A) (b : Bool) → (b ≡ true → x ≡ Some v → None ≡ Some v) → x ≡ Some v → cond b (Some w) x ≡ Some v
 there_or v w x true h is = let none : None ≡ Some v = h refl is in cc
@@ -112,6 +120,12 @@ put_within {A} o es fs ds k w within more q v is =
     ∙ put_or v w (at_name es q) (at_name fs q) (get o q) (is_it k q) (λ there. within q v (get_held es fs q ∙ there))
     (ap (λ (a : Found A). value_if (option_or a (at_name fs q))) (sym (more q)) ∙ sym (get_held ds fs q) ∙ is)
 
+-- what was there or has left, with one that was entered or not
+pub entered_within : {A : Type 0} (o m : Named A) (b : Bool) (es fs ds : Items A) (k : List ℕ) (w : Weighed A) → held es fs ≡ m → IsWithin m o → get o k ≡ None → (b ≡ true → IsEntered es ds k w) → (b ≡ false → ds ≡ es) → IsWithin (held ds fs) (insert o k w.value)
+entered_within {A} o m true es fs ds k w view within none entered refused = put_within o es fs ds k w (subst (λ (n : Named A). IsWithin n o) (sym view) within) (entered refl)
+entered_within {A} o m false es fs ds k w view within none entered refused =
+    kept_within (held ds fs) o k w.value (subst (λ (n : Named A). IsWithin n o) (sym (ap (λ (xs : Items A). held xs fs) (refused refl) ∙ view)) within) none
+
 pub put_there : {A : Type 0} (fs ds : Items A) (k : List ℕ) (w : Weighed A) → at_name ds k ≡ Some w → get (held ds fs) k ≡ Some w.value
 put_there {A} fs ds k w is = get_held ds fs k ∙ ap (λ (a : Found A). value_if (option_or a (at_name fs k))) is
 
@@ -119,6 +133,10 @@ put_there {A} fs ds k w is = get_held ds fs k ∙ ap (λ (a : Found A). value_if
 
 pub same_name : (k : List ℕ) → is_it k k ≡ true
 same_name k = is_eq-slice_cmp k k ∙ (bytes_eq-Decides k k).1 refl
+
+-- what was entered is there
+pub entered_there : {A : Type 0} (es ds : Items A) (k : List ℕ) (w : Weighed A) → IsEntered es ds k w → at_name ds k ≡ Some w
+entered_there {A} es ds k w entered = entered k ∙ ap (λ (b : Bool). cond b (Some w) (at_name es k)) (same_name k)
 
 -- of what was taken out nothing is there
 pub none_there : {A : Type 0} (m : Named A) (k : List ℕ) → get (remove m k) k ≡ None
@@ -187,11 +205,14 @@ nothing_written {A} (e ∷ es) test w is = one (test e.0) (nothing_written es te
 
 -- Weights.
 
-pub weights_more : {A : Type 0} (es : Items A) (k : List ℕ) (w : Weighed A) → weights (insert_entry (slice_cmp nat_cmp) es k w) ≤ w.weight + weights es
-weights_more [] k w = omega arith
-weights_more {A} (e ∷ es) k w =
-    let rest = weights_more es k w in
-    elim (slice_cmp nat_cmp k e.0) as (λ (r : Ordering). weights (match_ordering r ((k, w) ∷ e ∷ es) ((e.0, w) ∷ es) (e ∷ insert_entry (slice_cmp nat_cmp) es k w)) ≤ w.weight + (e.1.weight + weights es)) [ Less ↦ omega arith | Equal ↦ omega arith | Greater ↦ omega (arith, rest) ]
+-- what is entered adds its weight
+pub weights_entered : {A : Type 0} (es : Items A) (k : List ℕ) (w : Weighed A) → at_name es k ≡ None → weights (insert_entry (slice_cmp nat_cmp) es k w) ≡ weights es + w.weight
+weights_entered [] k w none = omega arith
+weights_entered {A} (e ∷ es) k w none = one (slice_cmp nat_cmp k e.0) (weights_entered es k w) none where
+  one : (r : Ordering) → (at_name es k ≡ None → weights (insert_entry (slice_cmp nat_cmp) es k w) ≡ weights es + w.weight) → cond (is_eq r) (Some e.1) (at_name es k) ≡ None → weights (match_ordering r ((k, w) ∷ e ∷ es) ((e.0, w) ∷ es) (e ∷ insert_entry (slice_cmp nat_cmp) es k w)) ≡ (e.1.weight + weights es) + w.weight
+  one Less rest none = omega arith
+  one Equal rest none = let never : Some e.1 ≡ None = none in cc
+  one Greater rest none = let more = rest none in omega (arith, more)
 
 pub weights_less : {A : Type 0} (es : Items A) (test : List ℕ → Bool) → weights (remove_entry test es) + weight_if (lookup test es) ≡ weights es
 weights_less [] test = refl

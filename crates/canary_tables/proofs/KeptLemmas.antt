@@ -32,7 +32,7 @@ use Rattle.canary_tables.specs.Desk.{IsDesk, contents_in}
 use Rattle.canary_tables.specs.declared.kept.Kept.{Kept}
 use Rattle.canary_tables.specs.declared.kept.NumberedReceipt.{NumberedReceipt}
 use Rattle.canary_tables.specs.Entries.{Named, IsWithin}
-use Rattle.canary_tables.specs.Kept.{AreCounts, AreServices, AreTemplates, AreReceipts, AreKept, without_revised, with_changed, kept_of, IsKnown}
+use Rattle.canary_tables.specs.Kept.{AreCounts, AreServices, AreTemplates, AreReceipts, AreKept, KeepsNothing, without_revised, with_changed, kept_of, IsKnown}
 use Rattle.canary_tables.proofs.EntryLemmas.{is_it, equal_names, kept_within, same_name}
 
 pub there_is : (o : Option ModelService) (k : ServiceParts) → option_map shape o ≡ Some k → (m : ModelService) × ((o ≡ Some m) × (shape m ≡ k))
@@ -205,15 +205,6 @@ without_revised_is_within m Nothing = λ name t is. is
 without_revised_is_within m (Updates s effects) = λ name t is. is
 without_revised_is_within m (AddsTemplate template) = without_is_within m template.spec.name
 
-pub forgotten : (c : Contents) (change : DeskChange) (old new : Kept) → AreKept old c → new.counts ≡ old.counts → new.services ≡ old.services → new.templates ≡ without_revised old.templates change → new.receipts ≡ old.receipts → AreKept new c
-forgotten c change old new are counts services templates receipts =
-    record {
-      counts = subst (λ (m : Named ℕ). AreCounts m c) (sym counts) are.counts;
-      services = subst (λ (m : Named ServiceParts). AreServices m c) (sym services) are.services;
-      templates = subst (λ (m : Named Template). AreTemplates m c) (sym templates) (λ name t is. are.templates name t (without_revised_is_within old.templates change name t is));
-      receipts = subst (λ (m : Named NumberedReceipt). AreReceipts m c) (sym receipts) are.receipts;
-    }
-
 -- One is read.
 
 pub count_kept : (c : Contents) (old new : Kept) (caller : List ℕ) (count : ℕ) → AreKept old c → count ≡ count_of c caller → IsWithin new.counts (insert old.counts caller count) → new.services ≡ old.services → new.templates ≡ old.templates → new.receipts ≡ old.receipts → AreKept new c
@@ -254,9 +245,6 @@ receipt_kept c old new caller number found are is counts services templates rece
     }
 
 -- what is kept of a database is that of one that contains the same
-pub kept_of_same : (old new : State) (kept : Kept) → AreKept kept (contents_in old) → new.now ≡ old.now → AreKept kept (contents_in new)
-kept_of_same old new kept are same = subst (λ (db : Database). AreKept kept (contents_of (tables_in db))) (sym same) are
-
 -- what is kept once a request is settled
 pub settled_kept : KeepsWhatIsSeen → (old new : State) (s : Settlement) (before forgot after : Kept) → IsSettling (contents_in old) s → IsDesk new → contents_in new ≡ with_settlement (contents_in old) s → AreKept before (contents_in old)
     → forgot.counts ≡ before.counts → forgot.services ≡ before.services → forgot.templates ≡ without_revised before.templates s.change → IsWithin after.counts (insert forgot.counts s.caller s.number) → IsWithin after.services (with_changed forgot.services s.change) → after.templates ≡ forgot.templates
@@ -291,11 +279,11 @@ none_of_nothing : {A : Type 0} (m : Named A) (k : List ℕ) (v : A) → m ≡ em
 none_of_nothing {A} m k v is e =
     let none : None ≡ Some v = sym (get-empty (slice_cmp nat_cmp) k) ∙ ap (λ (n : Named A). get n k) (sym is) ∙ e in cc
 
-pub nothing_kept : (kept : Kept) (c : Contents) → kept.counts ≡ empty → kept.services ≡ empty → kept.templates ≡ empty → kept.receipts ≡ empty → AreKept kept c
-nothing_kept kept c counts services templates receipts =
+pub nothing_kept : (kept : Kept) (c : Contents) → KeepsNothing kept → AreKept kept c
+nothing_kept kept c nothing =
     record {
-      counts = λ name count e. absurd (none_of_nothing kept.counts name count counts e);
-      services = λ name s e. absurd (none_of_nothing kept.services name s services e);
-      templates = λ name t e. absurd (none_of_nothing kept.templates name t templates e);
-      receipts = λ place r e. absurd (none_of_nothing kept.receipts place r receipts e);
+      counts = λ name count e. absurd (none_of_nothing kept.counts name count nothing.counts e);
+      services = λ name s e. absurd (none_of_nothing kept.services name s nothing.services e);
+      templates = λ name t e. absurd (none_of_nothing kept.templates name t nothing.templates e);
+      receipts = λ place r e. absurd (none_of_nothing kept.receipts place r nothing.receipts e);
     }

@@ -45,3 +45,9 @@ abbrev pub IsPut : {A : Type 0} → List (List ℕ × Weighed A) → List (List 
 IsPut old new name value =
     (other : List ℕ) → value_if (at_name new other)
     ≡ (if is_at (slice_cmp nat_cmp name) other then Some value else value_if (at_name old other))
+
+-- an entry was put under a name: the others are what they were
+abbrev pub IsEntered : {X : Type 0} → List (List ℕ × X) → List (List ℕ × X) → List ℕ → X → Type 0
+IsEntered old new name entry =
+    (other : List ℕ) → at_name new other
+    ≡ (if is_at (slice_cmp nat_cmp name) other then Some entry else at_name old other)

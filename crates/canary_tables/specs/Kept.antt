@@ -1,6 +1,6 @@
 -- What a book keeps of what it has read.
 use Rattle.std.specs.Prelude.{◌≡◌, ℕ, List, Option, Some, None}
-use Rattle.std.specs.FinMap.{get, insert, remove}
+use Rattle.std.specs.FinMap.{get, insert, remove, empty}
 use Rattle.canary_plan.specs.declared.template.Template.{Template}
 use Rattle.canary_release.specs.declared.service.ServiceParts.{ServiceParts}
 use Rattle.canary_release.specs.declared.decide.DeskChange.{DeskChange}
@@ -40,6 +40,13 @@ pub record AreKept (kept : Kept) (c : Contents) : Type 0 where
   pub services : AreServices kept.services c
   pub templates : AreTemplates kept.templates c
   pub receipts : AreReceipts kept.receipts c
+
+-- nothing is kept
+pub record KeepsNothing (kept : Kept) : Type 0 where
+  pub counts : kept.counts ≡ empty
+  pub services : kept.services ≡ empty
+  pub templates : kept.templates ≡ empty
+  pub receipts : kept.receipts ≡ empty
 
 -- without the template of which a change adds a revision
 abbrev pub without_revised : Named Template → DeskChange → Named Template

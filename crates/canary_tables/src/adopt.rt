@@ -139,7 +139,6 @@ impl<S: Alter + Drop> TableBook<S> {
                 conn,
                 notes: Notes::none(),
                 kept: Kept::new(alloc, DEFAULT_ROOM),
-                room: DEFAULT_ROOM,
             }),
             Err(fault) => Err((fault, Left::Connection(conn))),
         }

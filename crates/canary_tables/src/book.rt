@@ -32,7 +32,6 @@ pub struct TableBook<S: Alter> {
     pub(crate) conn: Connection<S>,
     pub(crate) notes: Notes,
     pub(crate) kept: Kept,
-    pub(crate) room: u64,
 }
 
 impl<S: Alter> Model for TableBook<S> {
@@ -72,7 +71,6 @@ impl<S: Alter> TableBook<S> {
     {
         let mut book = self;
         book.kept = Kept::new(book.alloc, bytes);
-        book.room = bytes;
         book
     }
 }
@@ -130,10 +128,7 @@ impl<S: Alter> Book for TableBook<S> {
         self.notes = Notes::none();
         match known::commit(&mut self.conn, self.alloc, &mut self.kept, settlement) {
             Ok(()) => Ok(()),
-            Err(fault) => {
-                self.kept = Kept::new(self.alloc, self.room);
-                Err(book_fault(fault))
-            }
+            Err(fault) => Err(book_fault(fault)),
         }
     }
 }

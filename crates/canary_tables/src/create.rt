@@ -64,7 +64,6 @@ impl<S: Alter> TableBook<S> {
                 conn,
                 notes: Notes::none(),
                 kept: Kept::new(alloc, DEFAULT_ROOM),
-                room: DEFAULT_ROOM,
             }),
             Err(fault) => Err((fault.into(), conn)),
         }

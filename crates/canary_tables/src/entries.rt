@@ -1,10 +1,10 @@
 //! Values under names, as far as there is room for them.
-ghost use Rattle.std.specs.Prelude.{◌≡◌, ◌+◌, true, None, Some, ℕ, List, option_copied};
-ghost use Rattle.std.specs.Prelude.{IfSome, IfNone};
+ghost use Rattle.std.specs.Prelude.{◌≡◌, ◌≤◌, ◌<◌, ◌+◌, ◌^◌, if◌then◌else◌, true, false, None, Some, ℕ, List};
+ghost use Rattle.std.specs.Prelude.{option_copied, IfSome, IfNone};
 ghost use Rattle.std.specs.Option.{option_or};
 ghost use Rattle.std.specs.FinMap as map;
 ghost use Rattle.canary_tables.specs.Entries.{IsWithin, weights, weight_if, value_if, first_of};
-ghost use Rattle.canary_tables.specs.Entries.{IsPut};
+ghost use Rattle.canary_tables.specs.Entries.{at_name, IsPut, IsEntered};
 
 use canary_base::names::Name;
 use std::alloc::Global;
@@ -30,7 +30,7 @@ pub(crate) struct Entries<V: Drop> {
 }
 
 impl<V: Drop> Model for Entries<V> {
-    ghost use Rattle.std.specs.Prelude.{◌+◌, ◌≤◌, List, ℕ, map, ◌++◌};
+    ghost use Rattle.std.specs.Prelude.{◌≡◌, ◌+◌, ◌≤◌, List, ℕ, map, ◌++◌};
     ghost use Rattle.std.specs.Ordering.{nat_cmp};
     ghost use Rattle.std.specs.Cmp.Lexicographic.{slice_cmp};
     ghost use Rattle.std.specs.FinMap as maps;
@@ -44,7 +44,7 @@ impl<V: Drop> Model for Entries<V> {
     ghost view = { λ s. maps.from_entries
         (map unweighed (s.recent.entries ++ s.earlier.entries)) };
 
-    ghost invariant = { λ s. (weights s.recent.entries + weights s.earlier.entries ≤ s.weight)
+    ghost invariant = { λ s. (weights s.recent.entries + weights s.earlier.entries ≡ s.weight)
         × (s.weight ≤ s.room) };
 }
 
@@ -109,13 +109,7 @@ impl<V: Drop> Entries<V> {
         if weight > self.room - self.weight {
             return false;
         }
-        match self.recent.insert(name, Weighed { value, weight }) {
-            Ok(_) => {
-                self.weight += weight;
-                true
-            }
-            Err(_) => false,
-        }
+        enter(&mut self.recent, &mut self.weight, name, value, weight)
     }
 
     // Others leave if there is no room for this weight.
@@ -142,6 +136,33 @@ impl<V: Drop> Entries<V> {
     }
 }
 
+// Enters a value of this weight under a name that has none, and adds the weight to the sum. It says
+// whether it did: it does not if memory is refused.
+fn enter<V: Drop>(
+    entries: &mut BTreeMap<Name, Weighed<V>>,
+    sum: &mut u64,
+    name: Name,
+    value: V,
+    weight: u64,
+) -> bool
+    requires free { at_name entries.old.entries name ≡ None }
+    requires fits { sum.old + weight < 2 ^ 64 }
+    ensures sum { sum.new ≡ (if result then sum.old + weight else sum.old) }
+    ensures weights { weights entries.new.entries
+        ≡ (if result then weights entries.old.entries + weight else weights entries.old.entries) }
+    ensures entered { result ≡ true → IsEntered entries.old.entries entries.new.entries name
+        (record { value = value; weight = weight }) }
+    ensures refused { result ≡ false → entries.new.entries ≡ entries.old.entries }
+{
+    match entries.insert(name, Weighed { value, weight }) {
+        Ok(_) => {
+            *sum += weight;
+            true
+        }
+        Err(_) => false,
+    }
+}
+
 // Puts a value in place of the one under that name, if one is there that weighs no less. A value
 // that is not put comes back.
 fn replace<V: Drop>(
@@ -154,6 +175,7 @@ fn replace<V: Drop>(
     ensures back { IfSome result (λ back. (back ≡ value)
         × (entries.new.entries ≡ entries.old.entries)) }
     ensures put { IfNone result (IsPut entries.old.entries entries.new.entries name value) }
+    ensures weight { IfNone result (weight ≤ weight_if (at_name entries.new.entries name)) }
 {
     match entries.get_mut(&name) {
         Some(there) if weight <= there.weight => {

@@ -1,11 +1,11 @@
 //! What a book keeps of what it has read: how many requests of callers are settled, services,
 //! templates, and receipts.
-ghost use Rattle.std.specs.Prelude.{◌≡◌, true, None, Some, IfSome, option_copied};
+ghost use Rattle.std.specs.Prelude.{◌≡◌, ◌+◌, true, None, Some, IfSome, option_copied};
 ghost use Rattle.std.specs.FinMap as map;
 ghost use Rattle.canary_once.specs.Contents.{Contents, put_some, receipt_at};
 ghost use Rattle.canary_tables.specs.Entries.{IsWithin};
 ghost use Rattle.canary_tables.specs.Kept.{AreKept, with_changed, kept_of, without_revised};
-ghost use Rattle.canary_tables.specs.Kept.{AreReceipts};
+ghost use Rattle.canary_tables.specs.Kept.{AreReceipts, KeepsNothing};
 
 use crate::entries::Entries;
 use crate::weights::{BYTES_OF_COUNT, bytes_of_receipt, bytes_of_service, bytes_of_template};
@@ -73,6 +73,31 @@ fn letter(number: u32) -> u8 {
     b'a'.wrapping_add((number % LETTERS) as u8)
 }
 
+// How many bytes of the room each part has.
+#[derive(Clone, Copy)]
+struct Parts {
+    counts: u64,
+    services: u64,
+    templates: u64,
+    receipts: u64,
+}
+
+// The parts of a room, which they fill.
+fn parts_of(room: u64) -> Parts
+    ensures { result.counts + result.services + result.templates + result.receipts ≡ room }
+{
+    let counts = room / PARTS_OF_COUNTS;
+    let templates = room / PARTS_OF_TEMPLATES;
+    let receipts = room / PARTS_OF_RECEIPTS;
+    let services = room - (counts + templates + receipts);
+    Parts {
+        counts,
+        services,
+        templates,
+        receipts,
+    }
+}
+
 /// What a book keeps of what it has read, as far as there is room for it.
 #[derive(Drop)]
 pub(crate) struct Kept {
@@ -83,28 +108,34 @@ pub(crate) struct Kept {
     pub(crate) templates: Entries<Template>,
     /// Receipts, each in a place of its caller and number.
     receipts: Entries<NumberedReceipt>,
+    // The room for all of it, in bytes by estimate.
+    room: u64,
 }
 
 impl Kept {
     /// Nothing, with room for so many bytes by estimate; it takes no memory.
     pub(crate) fn new(alloc: Global, room: u64) -> Kept
-        ensures counts { result.counts ≡ map.empty }
-        ensures services { result.services ≡ map.empty }
-        ensures templates { result.templates ≡ map.empty }
-        ensures receipts { result.receipts ≡ map.empty }
+        ensures nothing { KeepsNothing result }
+        ensures room { result.room ≡ room }
         ensures kept { (c : Contents) → AreKept result c }
     {
-        let room_for_counts = room / PARTS_OF_COUNTS;
-        let room_for_templates = room / PARTS_OF_TEMPLATES;
-        let room_for_receipts = room / PARTS_OF_RECEIPTS;
-        let others = room_for_counts + room_for_templates + room_for_receipts;
-        let room_for_services = room - others;
+        let parts = parts_of(room);
         Kept {
-            counts: Entries::new(alloc, room_for_counts),
-            services: Entries::new(alloc, room_for_services),
-            templates: Entries::new(alloc, room_for_templates),
-            receipts: Entries::new(alloc, room_for_receipts),
+            counts: Entries::new(alloc, parts.counts),
+            services: Entries::new(alloc, parts.services),
+            templates: Entries::new(alloc, parts.templates),
+            receipts: Entries::new(alloc, parts.receipts),
+            room,
         }
+    }
+
+    /// Forgets all that is kept. There is as much room for more as there was.
+    pub(crate) fn forget(&mut self, alloc: Global)
+        ensures nothing { KeepsNothing self.new }
+        ensures room { self.new.room ≡ self.old.room }
+        ensures kept { (c : Contents) → AreKept self.new c }
+    {
+        *self = Kept::new(alloc, self.room);
     }
 
     /// Keeps how many requests of a caller are settled, in place of the count that is kept.

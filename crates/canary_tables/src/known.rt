@@ -1,5 +1,6 @@
 //! What a book keeps is asked before its tables.
-ghost use Rattle.std.specs.Prelude.{◌≡◌, false, IfOk, OnOk, OnErr};
+ghost use Rattle.std.specs.Prelude.{◌≡◌, ◌≢◌, false, Err, None, Some, IfOk, OnOk, OnErr};
+ghost use Rattle.std.specs.FinMap as map;
 ghost use Rattle.sqlite.specs.Held.{state};
 ghost use Rattle.canary_release.specs.Desks.{newest};
 ghost use Rattle.canary_release.specs.Shapes.{seen};
@@ -8,7 +9,7 @@ ghost use Rattle.canary_once.specs.Contents.{IsSettling, with_settlement};
 ghost use Rattle.canary_schema.specs.Stores.{IsUsable};
 ghost use Rattle.canary_reads.specs.Finds.{IsSame};
 ghost use Rattle.canary_tables.specs.Desk.{IsDesk, contents_in};
-ghost use Rattle.canary_tables.specs.Kept.{AreKept};
+ghost use Rattle.canary_tables.specs.Kept.{AreKept, KeepsNothing};
 
 use crate::kept::Kept;
 use crate::settle::settle;
@@ -78,11 +79,19 @@ pub(crate) fn receipt<S: Alter>(
         found ≡ receipt_at (contents_in (state S.Store conn.old)) caller.now number) }
 {
     if let Some(receipt) = kept.receipt_of(caller, number) {
-        return Ok(Some(receipt.copy(alloc)?));
+        return copied(alloc, receipt);
     }
     let found = found::receipt(conn, alloc, caller, number)?;
     kept.keep_receipt(alloc, *caller, number, found.as_ref());
     Ok(found)
+}
+
+// A copy of a receipt that is kept.
+fn copied(alloc: Global, receipt: &Receipt) -> Result<Option<Receipt>, StoreFault>
+    ensures copy { IfOk result (λ copy. copy ≡ Some receipt.now) }
+    ensures unasked { result ≢ Err StoreFault.Storage }
+{
+    Ok(Some(receipt.copy(alloc)?))
 }
 
 /// The service of that name, if there is one. If it is not kept yet, it is read from the tables,
@@ -106,6 +115,8 @@ pub(crate) fn service<S: Alter>(
         → AreKept kept.new (contents_in (state S.Store conn.new)) }
     ensures found { IsUsable (state S.Store conn.new) → IfOk result (λ found.
         found ≡ seen (contents_in (state S.Store conn.old)).desk name.now) }
+    ensures storage { result ≡ Err StoreFault.Storage
+        → map.get kept.old.services name.now ≡ None }
 {
     if let Some(service) = kept.services.get(*name) {
         return Ok(Some(service.copy(alloc)?));
@@ -133,6 +144,8 @@ fn template<S: Alter>(
         → AreKept kept.new (contents_in (state S.Store conn.new)) }
     ensures found { IsUsable (state S.Store conn.new) → IfOk result (λ found.
         found ≡ newest (contents_in (state S.Store conn.old)).desk.templates name.now) }
+    ensures storage { result ≡ Err StoreFault.Storage
+        → map.get kept.old.templates name.now ≡ None }
 {
     if let Some(template) = kept.templates.get(*name) {
         return Ok(Some(template.copy(alloc)?));
@@ -178,7 +191,8 @@ pub(crate) fn templates<S: Alter>(
 /// revision is forgotten first.
 ///
 /// # Errors
-/// `Memory` if an allocation was refused, `Storage` if the store failed; nothing changed.
+/// `Memory` if an allocation was refused, `Storage` if the store failed; nothing changed in the
+/// tables, and nothing is kept any more.
 pub(crate) fn commit<S: Alter>(
     conn: &mut Connection<S>,
     alloc: Global,
@@ -197,6 +211,7 @@ pub(crate) fn commit<S: Alter>(
         → OnOk result (IsDesk (state S.Store conn.new)) }
     ensures kept { IsUsable (state S.Store conn.new)
         → AreKept kept.new (contents_in (state S.Store conn.new)) }
+    ensures nothing { OnErr result (KeepsNothing kept.new) }
     ensures settled { IsUsable (state S.Store conn.new)
         → OnOk result (contents_in (state S.Store conn.new)
         ≡ with_settlement (contents_in (state S.Store conn.old)) settlement) }
@@ -205,7 +220,14 @@ pub(crate) fn commit<S: Alter>(
 {
     desk_laws::changes();
     kept.forget_revised(&settlement.change);
-    settle(conn, alloc, &settlement, kept.known(&settlement.change))?;
-    kept.keep(settlement);
-    Ok(())
+    match settle(conn, alloc, &settlement, kept.known(&settlement.change)) {
+        Ok(()) => {
+            kept.keep(settlement);
+            Ok(())
+        }
+        Err(fault) => {
+            kept.forget(alloc);
+            Err(fault)
+        }
+    }
 }

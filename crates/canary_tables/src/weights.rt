@@ -1,4 +1,7 @@
 //! About how many bytes what a book keeps takes in memory.
+ghost use Rattle.std.specs.Prelude.{◌≤◌, ◌+◌, ◌-◌, ◌^◌, length, min};
+ghost use Rattle.canary_canonical.specs.Texts.{command_text};
+
 use canary_base::lists::Text;
 use canary_once::book::Receipt;
 use canary_plan::bound::Bound;
@@ -30,8 +33,11 @@ const BYTES_OF_DRY_RUN: u64 = 128;
 
 const BYTES_OF_CONDITION_BYTE: u64 = 48;
 
-/// A receipt, with whose it is.
-pub(crate) fn bytes_of_receipt(receipt: &Receipt) -> u64 {
+/// A receipt, with whose it is: the bytes of both of its texts at least.
+pub(crate) fn bytes_of_receipt(receipt: &Receipt) -> u64
+    ensures texts { min (length (command_text receipt.now.command)
+        + length receipt.now.reply.body) (2 ^ 64 - 1) ≤ result }
+{
     let command = receipt.command.text().len() as u64;
     let body = receipt.reply.body.as_str().len() as u64;
     BYTES_OF_RECEIPT

@@ -1,5 +1,5 @@
 -- What a book over tables is, without a definition of canary_tables.
-use Rattle.std.specs.Prelude.{◌≡◌, IsTrue, [], ◌∷◌, map, Contains}
+use Rattle.std.specs.Prelude.{◌≡◌, ◌⊎◌, IsTrue, false, [], ◌∷◌, map, Contains}
 use Rattle.sqlite.specs.Effect.{Database}
 use Rattle.sqlite.specs.Held.{Held, state}
 use Rattle.sqlite.specs.State.{State, HasCleanDisk}
@@ -12,6 +12,7 @@ use Rattle.canary_rows.specs.Tables.{Tables}
 use Rattle.canary_schema.specs.Cells.{tables_in, whole}
 use Rattle.canary_schema.specs.First.{meta_shown}
 use Rattle.canary_schema.specs.Formed.{IsDeskSchema}
+use Rattle.canary_schema.specs.Numbered.{IsLeft}
 use Rattle.canary_schema.specs.Schema.{no_schema}
 use Rattle.canary_schema.specs.Stores.{IsHeld}
 use Rattle.canary_stored.specs.Reading.{contents_of}
@@ -19,6 +20,8 @@ use Rattle.canary_stored.specs.Tables.{AreRows, IsReadable}
 use Rattle.canary_judging.specs.Soundness.{AreSoundTables}
 use Rattle.canary_tables.specs.declared.fault.Left.{Left}
 use Rattle.canary_tables.specs.declared.fault.Left.TheVariants as left
+use Rattle.canary_tables.specs.declared.fault.TableFault.{TableFault}
+use Rattle.canary_tables.specs.declared.fault.TableFault.TheVariants as fault
 
 -- the connection is open, and its disk did not fail
 abbrev pub IsIntact : State → Type 0
@@ -82,3 +85,21 @@ IsDeskWithMeta db =
 -- rows of sound contents stand in it, each of which a program can hold
 abbrev pub HoldsSoundRows : Database → Type 0
 HoldsSoundRows db = (t : Tables) × (IsHeld db t × (AreWithin t × AreSoundTables t))
+
+-- What is left of a connection where a database is refused.
+
+-- the database is as it was: a connection shows that, and of a store alone its trees
+abbrev pub IsAsItWas : {S : Type 0} → Ghosts S → State → Left S → Type 0
+IsAsItWas g old (left.Connection conn) =
+    IsIntact (state g conn) → IsIntact old × ((state g conn).now ≡ old.now)
+IsAsItWas g old (left.Store store) = IsLeft old (g.view store)
+
+-- no more than a store is left only where memory was refused or the store failed
+abbrev pub MayLoseConnection : {S : Type 0} → TableFault → Left S → Type 0
+MayLoseConnection f (left.Connection conn) = Unit {0}
+MayLoseConnection f (left.Store store) = (f ≡ fault.Memory) ⊎ (f ≡ fault.Storage)
+
+-- a connection that is left stands in no transaction
+abbrev pub StandsInNone : {S : Type 0} → Left S → Type 0
+StandsInNone (left.Connection conn) = conn.in_transaction ≡ false
+StandsInNone (left.Store store) = Unit {0}

@@ -1,4 +1,5 @@
 use Rattle.std.proofs.Common.{◌≡◌, Some, sym, ap, subst, ◌∙◌}
+use Rattle.std.proofs.lemmas.Result.{IfOk-weaker}
 use Rattle.std.specs.Prelude.{option_copied, IfSome}
 use Rattle.sqlite.specs.Held.{state}
 use Rattle.canary_once.specs.Contents.{receipt_at}
@@ -21,4 +22,4 @@ pub returns-in-Some-clause-found : goal.returns-in-Some-clause-found
 returns-in-Some-clause-found g c = λ usable.
     let kept = subst (λ o. IfSome (option_copied o) (λ r. receipt_at (contents_in (state g.S.Store c.args.conn.now)) c.args.caller.now c.args.number ≡ Some r)) c.in-Some.is
     (c.receipt_of.ensures (contents_in (state g.S.Store c.args.conn.now)) (c.requires.kept usable).receipts) in
-    ap Some c.in_ok-copy.ensures ∙ sym kept
+    IfOk-weaker c.copied.result _ _ (λ copy e. e ∙ sym kept) c.copied.ensures.copy

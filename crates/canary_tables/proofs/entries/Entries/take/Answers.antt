@@ -8,21 +8,21 @@ use Rattle.canary_tables.proofs.entries.Entries.take.Goals as goal
 pub overflow_sub-self : goal.overflow_sub-self
 overflow_sub-self g c =
     let r : weights c.remove-recent.new.self.entries + c.weight_of.result ≡ weights c.self.inside.recent.entries = taken_weighs c.self.inside.recent.entries c.remove-recent.new.self.entries c.args.name c.remove-recent.result c.weight_of.result c.weight_of.ensures c.remove-recent.ensures.value c.remove-recent.ensures.entries in
-    let i : weights c.self.inside.recent.entries + weights c.self.inside.earlier.entries ≤ c.self.inside.weight = c.self.invariant.0 in
+    let i : weights c.self.inside.recent.entries + weights c.self.inside.earlier.entries ≡ c.self.inside.weight = c.self.invariant.0 in
     omega arith
 
 pub overflow_sub-self-2 : goal.overflow_sub-self-2
 overflow_sub-self-2 g c =
     let r : weights c.remove-recent.new.self.entries + c.weight_of.result ≡ weights c.self.inside.recent.entries = taken_weighs c.self.inside.recent.entries c.remove-recent.new.self.entries c.args.name c.remove-recent.result c.weight_of.result c.weight_of.ensures c.remove-recent.ensures.value c.remove-recent.ensures.entries in
     let e : weights c.remove-earlier.new.self.entries + c.weight_of-2.result ≡ weights c.self.inside.earlier.entries = taken_weighs c.self.inside.earlier.entries c.remove-earlier.new.self.entries c.args.name c.remove-earlier.result c.weight_of-2.result c.weight_of-2.ensures c.remove-earlier.ensures.value c.remove-earlier.ensures.entries in
-    let i : weights c.self.inside.recent.entries + weights c.self.inside.earlier.entries ≤ c.self.inside.weight = c.self.invariant.0 in
+    let i : weights c.self.inside.recent.entries + weights c.self.inside.earlier.entries ≡ c.self.inside.weight = c.self.invariant.0 in
     omega arith
 
 pub invariant_of-self : goal.invariant_of-self
 invariant_of-self g c =
     let r : weights c.remove-recent.new.self.entries + c.weight_of.result ≡ weights c.self.inside.recent.entries = taken_weighs c.self.inside.recent.entries c.remove-recent.new.self.entries c.args.name c.remove-recent.result c.weight_of.result c.weight_of.ensures c.remove-recent.ensures.value c.remove-recent.ensures.entries in
     let e : weights c.remove-earlier.new.self.entries + c.weight_of-2.result ≡ weights c.self.inside.earlier.entries = taken_weighs c.self.inside.earlier.entries c.remove-earlier.new.self.entries c.args.name c.remove-earlier.result c.weight_of-2.result c.weight_of-2.ensures c.remove-earlier.ensures.value c.remove-earlier.ensures.entries in
-    let i : weights c.self.inside.recent.entries + weights c.self.inside.earlier.entries ≤ c.self.inside.weight = c.self.invariant.0 in
+    let i : weights c.self.inside.recent.entries + weights c.self.inside.earlier.entries ≡ c.self.inside.weight = c.self.invariant.0 in
     let j : c.self.inside.weight ≤ c.self.inside.room = c.self.invariant.1 in
     (omega arith, omega arith)
 
