@@ -15,4 +15,4 @@ held-preserved g c =
     (point (g.C.Clock.tells c.send_first.new.clock) (g.B.Book.state c.send_first.new.book))
     (clients_attendance c.args.self.now.clients) (clients_attendance c.held.self.clients) (clients_attendance c.send_first.new.self.clients)
     (c.going_on.ensures.then c.args.clock.now c.held.clock c.send_first.new.clock c.args.book.now c.held.book c.send_first.new.book)
-    c.held.invariant c.send_first.ensures
+    c.held.invariant.0 c.send_first.ensures.attends
