@@ -172,7 +172,7 @@ impl Clients {
         crowds();
         if let Some(client) = self.by_number.remove(&number) {
             let unsent = in_place_of(self.unsent, client.unsent(), 0);
-            self.unsent = if self.by_number.is_empty() { 0 } else { unsent };
+            self.unsent = unless_nobody(self.by_number.len(), unsent);
             self.keep(client);
         }
     }
@@ -218,4 +218,11 @@ fn in_place_of(sum: usize, old: usize, new: usize) -> usize
     ensures { result ≡ in_place_of sum old new }
 {
     sum.saturating_sub(old).saturating_add(new)
+}
+
+// A sum over so many clients: nothing if there are none.
+fn unless_nobody(count: usize, sum: usize) -> usize
+    ensures { result ≡ (if count == 0 then 0 else sum) }
+{
+    if count == 0 { 0 } else { sum }
 }
