@@ -12,8 +12,8 @@ use csv::{ByteRecord, ErrorKind, Reader, ReaderBuilder};
 use std::alloc::Global;
 use std::io::Read;
 
-/// A measurement file that is read record by record, and how many records were taken of it. An import
-/// alone takes any.
+/// A measurement file that is read record by record, and how many records were taken of it. An
+/// import alone takes any.
 #[derive(Drop)]
 pub struct FileReader<S> {
     reader: Reader<S>,

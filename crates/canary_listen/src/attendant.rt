@@ -165,7 +165,7 @@ impl Attendant {
         ensures sent { deque_len self.new.held ≡ 0 }
     {
         going_on::<C, B>();
-        'held: for _sent in 0..self.held.len() {
+        'held: for sent in 0..self.held.len() {
             self.send_first(rt, clock, book);
         }
     }

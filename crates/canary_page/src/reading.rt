@@ -249,8 +249,8 @@ fn opened(alloc: Global, opening: &Opening) -> Result<RunRecord, Memory> {
     })
 }
 
-// Adds the measurements of these runs to their charts, page by page up to an empty one, and says how
-// many the service has, of all its runs.
+// Adds the measurements of these runs to their charts, page by page up to an empty one, and says
+// how many the service has, of all its runs.
 fn read_measurements<B: Book>(
     alloc: Global,
     book: &mut B,
