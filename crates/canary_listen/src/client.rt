@@ -237,7 +237,7 @@ impl Client {
         if input.is_open && (input.may_hold_more || ready.may_hold_more) {
             self.is_reported = false;
         }
-        if wants == Wants::Write && !output.is_open {
+        if wants == Wants::Write && part == Part::Sends {
             return Fate::Owed;
         }
         self.settle(wants, pace.answers_queries(), ready.now)

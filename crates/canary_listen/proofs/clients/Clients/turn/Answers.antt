@@ -36,5 +36,5 @@ returns-clause-unsent g c =
     let map : Map = c.get_mut.follows.lender new in
     let was = there_is s.by_number c.args.number old c.in-Some.ensures.value in
     let is = (written s.by_number map c.args.number old new c.in-Some.ensures.value (c.get_mut.follows.holds new)).changed in
-    c.in_place_of.ensures
+    c.in_place_of-self.ensures
     ∙ (λ i. in_place_of s.unsent ((c.unsent-before.ensures ∙ owed_there (crowd_in s.by_number) c.args.number (client_talk old) was) i) ((c.unsent.ensures ∙ owed_there (crowd_in map) c.args.number (client_talk new) is) i))
