@@ -15,10 +15,10 @@ held-preserved g c =
     let fewer = c.send_first.ensures.fewer in
     let most = c.held-test.true in (
       attends_then (point (g.C.Clock.tells c.args.clock.now) (g.B.Book.state c.args.book.now))
-      (point (g.C.Clock.tells c.held.clock) (g.B.Book.state c.held.book))
-      (point (g.C.Clock.tells c.send_first.new.clock) (g.B.Book.state c.send_first.new.book))
-      (clients_attendance c.args.self.now.clients) (clients_attendance c.held.self.clients) (clients_attendance c.send_first.new.self.clients)
-      (c.going_on.ensures.then c.args.clock.now c.held.clock c.send_first.new.clock c.args.book.now c.held.book c.send_first.new.book)
-      c.held.invariant.0 c.send_first.ensures.attends,
+          (point (g.C.Clock.tells c.held.clock) (g.B.Book.state c.held.book))
+          (point (g.C.Clock.tells c.send_first.new.clock) (g.B.Book.state c.send_first.new.book))
+          (clients_attendance c.args.self.now.clients) (clients_attendance c.held.self.clients) (clients_attendance c.send_first.new.self.clients)
+          (c.going_on.ensures.then c.args.clock.now c.held.clock c.send_first.new.clock c.args.book.now c.held.book c.send_first.new.book)
+          c.held.invariant.0 c.send_first.ensures.attends,
       omega (arith, so_far, fewer, most),
     )
