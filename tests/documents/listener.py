@@ -6,7 +6,7 @@ import re
 
 PAGE = "crates/canary_listen/README.md"
 ENUMS = {
-    "Awaited": "crates/canary_listen/src/client.rt",
+    "Awaited": "crates/canary_listen/src/wait.rt",
     "Fate": "crates/canary_listen/src/client.rt",
     "Part": "crates/canary_listen/src/client.rt",
     "Stage": "crates/canary_wire/src/conversation.rt",

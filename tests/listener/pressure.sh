@@ -51,26 +51,92 @@ make_history() {
     half_close "$work/stream" "the service is not started"
 }
 
-# While one client does not take its replies, a query of another waits, and a request is answered.
-queries_wait() {
-    local client other tries
+# A client that does not take its replies, so that too much is unsent: `deaf_client` is its process.
+# Opens the connections $1 and $2 of clients whose queries wait.
+make_queries_wait() {
+    local tries
     start --max-unsent-total 1
     make_history
     write_queries 6000 /services/web/history > "$work/stream"
     python3 -c "$deaf" "$port" "$work/reads" < "$work/stream" 2> "$work/deaf" &
+    deaf_client=$!
     for ((tries = 0; tries < 15; tries++)); do
-        open client
-        get /services/nobody >&"$client"
-        read_reply "$client" 1 || break
-        hang_up "$client"
+        open "$1"
+        get /services/nobody >&"${!1}"
+        read_reply "${!1}" 1 || break
+        hang_up "${!1}"
         sleep 0.3
     done
     [ "$tries" -lt 15 ] || miss "the desk answers queries while too much is unsent"
+    open "$2"
+    get /services/nobody >&"${!2}"
+}
+
+# While one client does not take its replies, queries of others wait, and a request is answered.
+queries_wait() {
+    local deaf_client first second other
+    make_queries_wait first second
     open other
     put last 1 "$nobody" >&"$other"
     want_reply "$other" 422 5 "a request waits while too much is unsent"
     : > "$work/reads"
-    want_reply "$client" 404 10 "the query is not answered once the replies are taken"
+    want_reply "$first" 404 10 "the query is not answered once the replies are taken"
+    want_reply "$second" 404 10 "the second query is not answered once the replies are taken"
+}
+
+# What was unsent to a client no longer counts once it has gone: the others need not wait for it.
+gone_owe_nothing() {
+    local deaf_client first second
+    make_queries_wait first second
+    kill -9 "$deaf_client"
+    wait "$deaf_client" 2> /dev/null || true
+    want_reply "$first" 404 10 "the query is not answered once the other client has gone"
+    want_reply "$second" 404 10 "the second query is not answered once the other client has gone"
+    want_service 2000
+}
+
+# There are many of them, and all are let go at once: not one each second.
+lets_stalled_go() {
+    local head body bodies=() slow begun writer count
+    start --read-timeout 2
+    begun=$(now)
+    open head
+    printf 'PUT /callers/head/requests/1 HTTP/1.1\r\nContent-Le' >&"$head"
+    for ((count = 0; count < 10; count++)); do
+        open body
+        printf 'PUT /callers/body/requests/1 HTTP/1.1\r\nContent-Length: 32\r\n\r\n{"promote"' \
+            >&"$body"
+        bodies+=("$body")
+    done
+    open slow
+    while printf P >&"$slow"; do sleep 0.3; done 2> /dev/null &
+    writer=$!
+    want_service 1000
+    for body in "$head" "${bodies[@]}" "$slow"; do
+        want_end "$body" 2 5 "$begun"
+    done
+    kill "$writer" 2> /dev/null || true
+    want_truncated 12
+    want_service 1000
+}
+
+# Each message comes in one write with the begin of the next one, so the desk always waits for the
+# rest of a message: not for longer than --read-timeout, since it answers one meanwhile.
+keeps_streaming() {
+    local client begun
+    printf 'ices/nobody HTTP/1.1\r\n\r\nGET /serv' > "$work/part"
+    start --read-timeout 2
+    open client
+    begun=$(now)
+    printf 'GET /serv' >&"$client"
+    while [ "$(($(now) - begun))" -lt 6500 ]; do
+        sleep 0.2
+        cat "$work/part" 1>&"$client" 2> /dev/null || miss "the desk lets a client go that streams"
+        want_reply "$client" 404 10 "the desk lets a client go that streams, or does not answer it"
+    done
+    printf 'ices/nobody HTTP/1.1\r\n\r\n' >&"$client"
+    want_reply "$client" 404
+    want_faults
 }
 
 bears_unread_errors() {

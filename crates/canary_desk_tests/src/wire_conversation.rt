@@ -44,19 +44,28 @@ const REPLIES: &str = concat!(
     r#"{"code":"unknown-service"}"#
 );
 
-// Gives pieces, and would block after each; then it ends.
+// Why each second call gives nothing: it would block, or, in turn, it was interrupted.
+fn pause(calls: u32) -> io::Error {
+    if calls % 4 == 1 {
+        ErrorKind::WouldBlock.into()
+    } else {
+        ErrorKind::Interrupted.into()
+    }
+}
+
+// Gives pieces, with a pause after each; then it ends.
 #[derive(Drop)]
 struct Incoming<'a> {
     rest: &'a [u8],
     size: usize,
-    blocks: bool,
+    calls: u32,
 }
 
 impl Read for Incoming<'_> {
     fn read(&mut self, buf: &mut [u8]) -> io::Result<usize> {
-        self.blocks = !self.blocks;
-        if self.blocks {
-            return Err(ErrorKind::WouldBlock.into());
+        self.calls = self.calls.saturating_add(1);
+        if self.calls % 2 == 1 {
+            return Err(pause(self.calls));
         }
         let count = self.size.min(buf.len()).min(self.rest.len());
         let (piece, rest) = self.rest.split_at(count);
@@ -66,21 +75,21 @@ impl Read for Incoming<'_> {
     }
 }
 
-// Takes so many bytes a write, and would block after each where these are few.
+// Takes so many bytes a write, with a pause after each where these are few.
 #[derive(Drop)]
 struct Outgoing {
     bytes: Vec<u8>,
     size: usize,
-    blocks: bool,
+    calls: u32,
     writes: usize,
 }
 
 impl Write for Outgoing {
     fn write(&mut self, buf: &[u8]) -> io::Result<usize> {
         self.writes = self.writes.saturating_add(1);
-        self.blocks = !self.blocks;
-        if self.blocks && self.size < 1000 {
-            return Err(ErrorKind::WouldBlock.into());
+        self.calls = self.calls.saturating_add(1);
+        if self.calls % 2 == 1 && self.size < 1000 {
+            return Err(pause(self.calls));
         }
         let count = buf.len().min(self.size);
         self.bytes.extend_from_slice(&buf[..count])?;
@@ -96,7 +105,7 @@ fn writing(alloc: Global, size: usize) -> Outgoing {
     Outgoing {
         bytes: Vec::new(alloc),
         size,
-        blocks: false,
+        calls: 0,
         writes: 0,
     }
 }
@@ -133,7 +142,8 @@ const ONE_BY_ONE: Paced = Paced {
 // The turns after which a conversation has no end.
 const MOST_TURNS: u32 = 100_000;
 
-// The most that was owed, and the turns, of a conversation to the end of its input.
+// The most that was owed, and the turns, of a conversation to the end of its input: the most turns
+// if it ended otherwise.
 #[derive(Clone, Copy)]
 struct Ran {
     owed: usize,
@@ -173,11 +183,11 @@ fn take_turns(
     for turns in 0..MOST_TURNS {
         let wants = talk.turn(alloc, routes, reader, writer, &mut now, book, &mut pace);
         owed = owed.max(talk.owes());
-        if wants == Wants::Nothing(Cause::Memory) {
-            return Err(Memory);
-        }
-        if wants == Wants::Nothing(Cause::EndOfInput) {
-            return Ok(Ran { owed, turns });
+        match wants {
+            Wants::Nothing(Cause::Memory) => return Err(Memory),
+            Wants::Nothing(Cause::EndOfInput) => return Ok(Ran { owed, turns }),
+            Wants::Nothing(_) => break,
+            _ => {}
         }
     }
     Ok(Ran {
@@ -191,7 +201,7 @@ fn is_answered(alloc: Global, size: usize, out: usize, most: usize) -> Result<bo
     let mut reader = Incoming {
         rest: STREAM.as_bytes(),
         size,
-        blocks: false,
+        calls: 0,
     };
     let mut writer = writing(alloc, out);
     let ran = run(alloc, &mut reader, &mut writer, most, FAR)?;
@@ -220,7 +230,7 @@ fn is_written_by_turns(alloc: Global, stream: &[u8]) -> Result<bool, Memory> {
     let mut reader = Incoming {
         rest: stream,
         size: 100_000,
-        blocks: true,
+        calls: 1,
     };
     let mut writer = writing(alloc, 1_000_000);
     let ran = run(alloc, &mut reader, &mut writer, 1_000_000, FAR)?;
@@ -232,7 +242,7 @@ fn is_written_one_by_one(alloc: Global, stream: &[u8], count: usize) -> Result<b
     let mut reader = Incoming {
         rest: stream,
         size: 100_000,
-        blocks: true,
+        calls: 1,
     };
     let mut writer = writing(alloc, 1_000_000);
     run(alloc, &mut reader, &mut writer, 1_000_000, ONE_BY_ONE)?;
@@ -266,7 +276,7 @@ fn replies_before_and_after(alloc: Global) -> Result<(usize, usize), Memory> {
         )
         .as_bytes(),
         size: 1000,
-        blocks: true,
+        calls: 1,
     };
     let mut writer = writing(alloc, 1_000);
     let waiting = Paced {
@@ -329,7 +339,7 @@ fn answer_new(alloc: Global, writer: &mut Outgoing, book: &mut MemoryBook) -> Re
     let mut reader = Incoming {
         rest: NEW.as_bytes(),
         size: 1000,
-        blocks: true,
+        calls: 1,
     };
     let mut pace = FAR;
     for _ in 0..10 {
@@ -376,7 +386,7 @@ fn stages(alloc: Global, stream: &str) -> Result<(Stage, Stage), Memory> {
     let mut reader = Incoming {
         rest: stream.as_bytes(),
         size: 1000,
-        blocks: true,
+        calls: 1,
     };
     let mut writer = writing(alloc, 1_000);
     let before = talk.stage();

@@ -12,7 +12,7 @@ use Rattle.canary_files.specs.Writes.{Known, Writes}
 use Rattle.canary_files.specs.Rows.{header, is_header}
 use Rattle.canary_files.specs.RowExchanges.{Exchange, rows_of, lines_from, lines, told_line, Point, Exchanges, Went}
 use Rattle.canary_files.specs.Taking.{Fields, HasTaken, TakesNext, taken_of, spare_of}
-use Rattle.canary_files.specs.Importing.{Answers, ImportsSome, ImportsTaken, ImportsTo, EndsSo, KeepsBook, IsSoFar}
+use Rattle.canary_files.specs.Importing.{Answers, ImportsSome, ImportsTo, KeepsBook, IsSoFar}
 use Rattle.canary_files.proofs.WriteLemmas.{appends_none, appends_more, writes_all}
 use Rattle.canary_files.proofs.ExchangeLemmas.{went_none, went_one, went_then, holds_of}
 use Rattle.canary_files.proofs.ReadLemmas.{begins}
@@ -72,7 +72,7 @@ module _ {S : Type 0} (left : S → Known) (spare : S → ℕ) where
                   (appends_more w w1 w2 (lines so.exchanges) (told_line (n + 1) x.handling) so.written (writes_all w1 w2 (told_line (n + 1) x.handling) wrote));
             }
 
-        pub so_far_until : RunsOn → (f : WriteFault) → Writes w1 w2 (told_line (n + 1) x.handling) (Err f) → (file : Known) → HasTaken left file r0 (header ∷ []) → EndsSo file (taken_of r2) (spare_of spare r2) w w2 p p2 (Err fault.Write)
+        pub so_far_until : RunsOn → (f : WriteFault) → Writes w1 w2 (told_line (n + 1) x.handling) (Err f) → (file : Known) → HasTaken left file r0 (header ∷ []) → ImportsTo file (taken_of r2) (spare_of spare r2) w w2 p p2 (Err fault.Write)
         so_far_until goes f wrote file s =
             let m : length so.exchanges ≡ n = so.many in
             let number : length so.exchanges + 1 ≡ n + 1 = omega (arith, m) in
@@ -95,21 +95,27 @@ module _ {S : Type 0} (left : S → Known) (spare : S → ℕ) where
         pub keeps_more : KeepsBook p.book p2.book
         keeps_more = keeps_of p p2 (so.exchanges ++ x ∷ []) went_more
 
-      pub so_far_too_many : RunsOn → n ≡ 1000000 → (file : Known) → HasTaken left file r0 (header ∷ []) → EndsSo file (taken_of r2) (spare_of spare r2) w w1 p p1 (Err fault.RowsSpent)
-      so_far_too_many goes full file s = inl (
-        rows_of so.exchanges,
-        fields,
-        begins left file r2.reader (header ∷ (rows_of so.exchanges ++ fields ∷ [])) (takes file (header ∷ rows_of so.exchanges) (so.stands file s)).stands,
-        length-map so.exchanges (λ (y : Exchange). y.fields) ∙ so.many ∙ full,
-        answers_of_went goes w w1 p p1 so.exchanges so.went so.written,
-      )
+      pub so_far_too_many : RunsOn → n ≡ 1000000 → (file : Known) → HasTaken left file r0 (header ∷ []) → ImportsTo file (taken_of r2) (spare_of spare r2) w w1 p p1 (Err fault.RowsSpent)
+      so_far_too_many goes full file s =
+          let next = takes file (header ∷ rows_of so.exchanges) (so.stands file s) in
+          let rows : length (rows_of so.exchanges) ≡ 1000000 = length-map so.exchanges (λ (y : Exchange). y.fields) ∙ so.many ∙ full in
+          let many : taken_of r2 ≡ suc (length (rows_of so.exchanges ++ fields ∷ [])) = next.many in
+          inl (
+            (
+              rows_of so.exchanges,
+              fields,
+              begins left file r2.reader (header ∷ (rows_of so.exchanges ++ fields ∷ [])) next.stands,
+              rows,
+              answers_of_went goes w w1 p p1 so.exchanges so.went so.written,
+            ),
+            omega (arith, many, rows, length-append (rows_of so.exchanges) (fields ∷ [])),
+          )
 
     pub so_far_all : RunsOn → ((file : Known) (records : List Fields) → HasTaken left file r1 records → TakesNext left spare file r2 records fields (Ok false))
-        → (file : Known) → HasTaken left file r0 (header ∷ []) → EndsSo file (taken_of r2) (spare_of spare r2) w w1 p p1 (Ok n)
+        → (file : Known) → HasTaken left file r0 (header ∷ []) → ImportsTo file (taken_of r2) (spare_of spare r2) w w1 p p1 (Ok n)
     so_far_all goes takes file s =
         let t = takes file (header ∷ rows_of so.exchanges) (so.stands file s) in
-        let rows : length (rows_of so.exchanges) ≡ n = length-map so.exchanges (λ (y : Exchange). y.fields) ∙ so.many in
-        let many : taken_of r2 ≡ suc (length (rows_of so.exchanges)) = t.1 in (
+        let rows : length (rows_of so.exchanges) ≡ n = length-map so.exchanges (λ (y : Exchange). y.fields) ∙ so.many in (
           (
             header ∷ rows_of so.exchanges,
             rows_of so.exchanges,
@@ -118,10 +124,10 @@ module _ {S : Type 0} (left : S → Known) (spare : S → ℕ) where
             sym rows,
             answers_of_went goes w w1 p p1 so.exchanges so.went so.written,
           ),
-          omega (arith, many, rows),
+          t.1,
         )
 
-    so_far_taken : RunsOn → (file : Known) → HasTaken left file r0 (header ∷ []) → taken_of r2 ≡ length (header ∷ rows_of so.exchanges) → ImportsTaken file (taken_of r2) w w1 p p1
+    so_far_taken : RunsOn → (file : Known) → HasTaken left file r0 (header ∷ []) → taken_of r2 ≡ length (header ∷ rows_of so.exchanges) → ImportsSome file (taken_of r2) w w1 p p1
     so_far_taken goes file s many = (
       header ∷ rows_of so.exchanges,
       rows_of so.exchanges,
@@ -132,7 +138,7 @@ module _ {S : Type 0} (left : S → Known) (spare : S → ℕ) where
     )
 
     pub so_far_failed : RunsOn → (f : ImportFault) → ((file : Known) (records : List Fields) → HasTaken left file r1 records → TakesNext left spare file r2 records fields (Err f))
-        → (file : Known) → HasTaken left file r0 (header ∷ []) → EndsSo file (taken_of r2) (spare_of spare r2) w w1 p p1 (Err f)
+        → (file : Known) → HasTaken left file r0 (header ∷ []) → ImportsTo file (taken_of r2) (spare_of spare r2) w w1 p p1 (Err f)
     so_far_failed goes fault.Read takes file s =
         let t = takes file (header ∷ rows_of so.exchanges) (so.stands file s) in (t.0, so_far_taken goes file s t.1)
     so_far_failed goes fault.Memory takes file s = so_far_taken goes file s (takes file (header ∷ rows_of so.exchanges) (so.stands file s))
@@ -144,38 +150,26 @@ module _ {S : Type 0} (left : S → Known) (spare : S → ℕ) where
     pub keeps_so : KeepsBook p.book p1.book
     keeps_so = keeps_of p p1 so.exchanges so.went
 
--- ---- how it ended
-
-imports_some : (file : Known) (taken : ℕ) (w w1 : Known) (p q : Point) → ImportsTaken file taken w w1 p q → ImportsSome file w w1 p q
-imports_some file taken w w1 p q t = (t.0, t.1, t.2, t.3, t.4)
-
-pub imports_to : (file : Known) (taken spare : ℕ) (w w1 : Known) (p q : Point) (r : Result ℕ ImportFault) → EndsSo file taken spare w w1 p q r → ImportsTo file w w1 p q r
-imports_to file taken spare w w1 p q (Ok n) e = e.0
-imports_to file taken spare w w1 p q (Err fault.Read) e = imports_some file taken w w1 p q e.1
-imports_to file taken spare w w1 p q (Err fault.Write) e = e.0
-imports_to file taken spare w w1 p q (Err fault.Memory) e = imports_some file taken w w1 p q e
-imports_to file taken spare w w1 p q (Err fault.Header) e = e
-imports_to file taken spare w w1 p q (Err fault.RowsSpent) (inl e) = inl e
-imports_to file taken spare w w1 p q (Err fault.RowsSpent) (inr e) = inr (imports_some file taken w w1 p q e.1)
-
 -- ---- the header
 
 module _ {S : Type 0} (left : S → Known) (spare : S → ℕ) (file : Known) (r0 r1 : FileReader S) (w : Known) (p : Point) (s : HasTaken left file r0 []) (fields : Fields) where
-  pub import_none : RunsOn → TakesNext left spare file r1 [] fields (Ok false) → ImportsTo file w w p p (Ok 0)
-  import_none goes takes = ([], [], takes.0, refl, refl, answers_none goes w p)
+  pub import_none : RunsOn → TakesNext left spare file r1 [] fields (Ok false) → ImportsTo file (taken_of r1) (spare_of spare r1) w w p p (Ok 0)
+  import_none goes takes = (([], [], takes.0, refl, refl, answers_none goes w p), takes.1)
 
-  none_taken : RunsOn → ImportsSome file w w p p
-  none_taken goes = ([], [], begins left file r0.reader [] s.stands, refl, answers_none goes w p)
+  none_taken : RunsOn → taken_of r1 ≡ 0 → ImportsSome file (taken_of r1) w w p p
+  none_taken goes many = ([], [], begins left file r0.reader [] s.stands, refl, answers_none goes w p, many)
 
-  pub import_failed : RunsOn → (f : ImportFault) → TakesNext left spare file r1 [] fields (Err f) → ImportsTo file w w p p (Err f)
-  import_failed goes fault.Read takes = none_taken goes
-  import_failed goes fault.Memory takes = none_taken goes
-  import_failed goes fault.RowsSpent takes = inr (none_taken goes)
+  pub import_failed : RunsOn → (f : ImportFault) → TakesNext left spare file r1 [] fields (Err f) → ImportsTo file (taken_of r1) (spare_of spare r1) w w p p (Err f)
+  import_failed goes fault.Read takes = (takes.0, none_taken goes takes.1)
+  import_failed goes fault.Memory takes = none_taken goes takes
+  import_failed goes fault.RowsSpent takes = inr (takes.0, none_taken goes takes.1)
   import_failed goes fault.Write takes = absurd takes
   import_failed goes fault.Header takes = absurd takes
 
-  pub import_other : RunsOn → is_header fields ≡ false → TakesNext left spare file r1 [] fields (Ok true) → ImportsTo file w w p p (Err fault.Header)
-  import_other goes off takes = (fields, begins left file r1.reader (fields ∷ []) takes.stands, header_not fields off, answers_none goes w p)
+  pub import_other : RunsOn → is_header fields ≡ false → TakesNext left spare file r1 [] fields (Ok true) → ImportsTo file (taken_of r1) (spare_of spare r1) w w p p (Err fault.Header)
+  import_other goes off takes =
+      let one : taken_of r1 ≡ length (fields ∷ []) = takes.many in
+      ((fields, begins left file r1.reader (fields ∷ []) takes.stands, header_not fields off, answers_none goes w p), omega (arith, one))
 
   pub has_header : is_header fields ≡ true → TakesNext left spare file r1 [] fields (Ok true) → HasTaken left file r1 (header ∷ [])
   has_header on takes = let P : Fields → Type 0 = λ t. HasTaken left file r1 (t ∷ []) in subst P (header_is fields on) takes

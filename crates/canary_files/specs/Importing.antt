@@ -34,11 +34,12 @@ ImportsAll file w new_w old new count =
     × HasRecords file records × AreDataRows records rows
     × (count ≡ length rows) × Answers w new_w old new rows
 
--- so were the first rows of a file
-abbrev pub ImportsSome : Known → Known → Known → Point → Point → Type 0
-ImportsSome file w new_w old new =
+-- so were the first rows of a file of which so many records were taken: all these
+abbrev pub ImportsSome : Known → ℕ → Known → Known → Point → Point → Type 0
+ImportsSome file taken w new_w old new =
     (records : List Fields) × (rows : List Fields)
     × BeginsWith file records × AreDataRows records rows × Answers w new_w old new rows
+    × (taken ≡ length records)
 
 -- so were the first rows of a file, but that the writer failed in the midst of the last one's line
 pub record ImportsUntil (file w new_w : Known) (old new : Point) : Type 0 where
@@ -63,15 +64,22 @@ ImportsTooMany file w new_w old new =
     (rows : List Fields) × (more : Fields) × BeginsWith file (header ∷ rows ++ more ∷ [])
     × (length rows ≡ 1000000) × Answers w new_w old new rows
 
--- what it did, by how it ended
-abbrev pub ImportsTo : Known → Known → Known → Point → Point → Result ℕ ImportFault → Type 0
-ImportsTo file w new_w old new (Ok count) = ImportsAll file w new_w old new count
-ImportsTo file w new_w old new (Err fault.Read) = ImportsSome file w new_w old new
-ImportsTo file w new_w old new (Err fault.Write) = ImportsUntil file w new_w old new
-ImportsTo file w new_w old new (Err fault.Memory) = ImportsSome file w new_w old new
-ImportsTo file w new_w old new (Err fault.Header) = HasNoHeader file w new_w old new
-ImportsTo file w new_w old new (Err fault.RowsSpent) =
-    ImportsTooMany file w new_w old new ⊎ ImportsSome file w new_w old new
+-- what it did, by how it ended, how many records were taken, and how many more bytes are asked for
+-- at most: the reader failed if there are some, and the most bytes were read if there are none
+abbrev pub ImportsTo : Known → ℕ → ℕ → Known → Known → Point → Point → Result ℕ ImportFault → Type 0
+ImportsTo file taken spare w new_w old new (Ok count) =
+    (all : ImportsAll file w new_w old new count) × (taken ≡ length all.0)
+ImportsTo file taken spare w new_w old new (Err fault.Read) =
+    (0 < spare) × ImportsSome file taken w new_w old new
+ImportsTo file taken spare w new_w old new (Err fault.Write) =
+    (until : ImportsUntil file w new_w old new) × (taken ≡ length until.exchanges + 2)
+ImportsTo file taken spare w new_w old new (Err fault.Memory) =
+    ImportsSome file taken w new_w old new
+ImportsTo file taken spare w new_w old new (Err fault.Header) =
+    HasNoHeader file w new_w old new × (taken ≡ 1)
+ImportsTo file taken spare w new_w old new (Err fault.RowsSpent) =
+    (ImportsTooMany file w new_w old new × (taken ≡ 1000002))
+    ⊎ ((spare ≡ 0) × ImportsSome file taken w new_w old new)
 
 -- what an import leaves of a book, however it ended
 pub record KeepsBook (old new : BookState) : Type 0 where
@@ -82,29 +90,6 @@ pub record KeepsBook (old new : BookState) : Type 0 where
   pub receipts : new.is_honest → KeepsReceipts old.contents new.contents
 
 -- ---- step by step
-
--- so were the first rows of a file of which so many records were taken: all these
-abbrev pub ImportsTaken : Known → ℕ → Known → Known → Point → Point → Type 0
-ImportsTaken file taken w new_w old new =
-    (records : List Fields) × (rows : List Fields)
-    × BeginsWith file records × AreDataRows records rows × Answers w new_w old new rows
-    × (taken ≡ length records)
-
--- what it did, by how many records were taken, and how many more bytes are asked for at most: the
--- reader failed if there are some, and the most bytes were read if there are none
-abbrev pub EndsSo : Known → ℕ → ℕ → Known → Known → Point → Point → Result ℕ ImportFault → Type 0
-EndsSo file taken spare w new_w old new (Ok count) =
-    ImportsAll file w new_w old new count × (taken ≡ count + 1)
-EndsSo file taken spare w new_w old new (Err fault.Read) =
-    (0 < spare) × ImportsTaken file taken w new_w old new
-EndsSo file taken spare w new_w old new (Err fault.Write) =
-    (until : ImportsUntil file w new_w old new) × (taken ≡ length until.exchanges + 2)
-EndsSo file taken spare w new_w old new (Err fault.Memory) =
-    ImportsTaken file taken w new_w old new
-EndsSo file taken spare w new_w old new (Err fault.Header) = HasNoHeader file w new_w old new
-EndsSo file taken spare w new_w old new (Err fault.RowsSpent) =
-    ImportsTooMany file w new_w old new
-    ⊎ ((spare ≡ 0) × ImportsTaken file taken w new_w old new)
 
 -- since a file was at its header these rows were answered, and they are all that were taken
 pub record IsSoFar {S : Type 0} (left : S → Known) (first now : FileReader S) (w now_w : Known)

@@ -1,14 +1,14 @@
 //! Importing measurement files.
-ghost use Rattle.std.specs.Prelude.{◌≡◌, ◌≢◌, ◌≤◌, ◌∷◌, [], Err, IfOk};
+ghost use Rattle.std.specs.Prelude.{◌≡◌, ◌≢◌, ◌≤◌, ◌∷◌, [], Ok, Err, IfOk};
 ghost use Rattle.canary_files.specs.Writes.{Known};
 ghost use Rattle.canary_files.specs.Rows.{header};
 ghost use Rattle.canary_files.specs.RowExchanges.{point};
 ghost use Rattle.canary_files.specs.Taking.{HasTaken, taken_of, spare_of};
-ghost use Rattle.canary_files.specs.Importing.{EndsSo, ImportsTo, KeepsBook};
+ghost use Rattle.canary_files.specs.Importing.{ImportsTo, KeepsBook};
 
 use crate::answer::answer_row;
-use crate::bounded::{Bounded, Limited, MOST_BYTES};
-use crate::reading::{FileReader, file_reader, next_record};
+use crate::bounded::Limited;
+use crate::reading::{FileReader, has_begun, next_record};
 use crate::row::is_header;
 use canary_once::book::Book;
 use canary_once::clock::Clock;
@@ -52,39 +52,42 @@ pub enum ImportFault {
 /// from 1 on, the status, and the body, with a space between them and LF behind. A row is refused
 /// with status 400 as `unreadable` where it has not nine fields, then as `bad-name` for its caller,
 /// as `bad-number` for its number, and as `unreadable` for anything else; where memory runs out as
-/// it is read, its status is 503. A file without any record has no rows.
+/// it is read, its status is 503. A file without any record has no rows, nor has one of which a
+/// record was taken before: nothing is read of it.
 ///
 /// # Errors
 /// `Header` if the first record is another: nothing was asked and written. `Read` if the reader
-/// failed, `Memory` if there was none for the next record, and `RowsSpent` if a row follows the
-/// 1,000,000th, or if the reader gave 1,000,000,000 bytes and more were needed: each row that was
-/// taken before is answered, and its line written. `Write` if the writer failed or took no byte:
-/// what was written are the lines of the rows that were answered, up to the midst of the last one;
-/// if that row was a new request, and not answered 503, it is settled.
-pub fn import<R: Read, W: Write, C: Clock, B: Book>(
+/// failed before the most bytes were read, `Memory` if there was none for the next record, and
+/// `RowsSpent` if a row follows the 1,000,000th, or if the reader gave 1,000,000,000 bytes and more
+/// were needed: each row that was taken before is answered, and its line written. `Write` if the
+/// writer failed or took no byte: what was written are the lines of the rows that were answered, up
+/// to the midst of the last one; if that row was a new request, and not answered 503, it is
+/// settled.
+pub fn import<S: Read + Limited, W: Write, C: Clock, B: Book>(
     alloc: Global,
-    input: &mut R,
+    file: &mut FileReader<S>,
     output: &mut W,
     clock: &mut C,
     book: &mut B,
 ) -> Result<u64, ImportFault>
-    ensures rows { ImportsTo (R.remaining input.old)
+    ensures rows { (bytes : Known) → HasTaken S.remaining bytes file.old []
+        → ImportsTo bytes (taken_of file.new) (spare_of S.spare file.new)
         (W.contents output.old) (W.contents output.new)
         (point (C.tells clock.old) (B.state book.old))
         (point (C.tells clock.new) (B.state book.new)) result }
+    ensures once { taken_of file.old ≢ 0 → (result ≡ Ok 0) × (file.new ≡ file.old)
+        × (output.new ≡ output.old) × (clock.new ≡ clock.old) × (book.new ≡ book.old) }
     ensures limit { IfOk result (λ rows. rows ≤ MOST_ROWS) }
     ensures header { result ≡ Err ImportFault.Header → (output.new ≡ output.old)
         × (clock.new ≡ clock.old) × (book.new ≡ book.old) }
     ensures kept { KeepsBook (B.state book.old) (B.state book.new) }
 {
     running_on();
-    let bounded = Bounded {
-        source: input,
-        left: MOST_BYTES,
-    };
-    let mut file = file_reader(alloc, bounded);
+    if has_begun(file) {
+        return Ok(0);
+    }
     let mut fields = ByteRecord::new(alloc);
-    match next_record(&mut file, &mut fields) {
+    match next_record(file, &mut fields) {
         Ok(true) => {}
         Ok(false) => return Ok(0),
         Err(fault) => return Err(fault),
@@ -92,7 +95,7 @@ pub fn import<R: Read, W: Write, C: Clock, B: Book>(
     if !is_header(&fields) {
         return Err(ImportFault::Header);
     }
-    import_rows(alloc, &mut file, &mut fields, output, clock, book)
+    import_rows(alloc, file, &mut fields, output, clock, book)
 }
 
 // Answers the rows of a file behind its header.
@@ -106,7 +109,7 @@ fn import_rows<S: Read + Limited, W: Write, C: Clock, B: Book>(
 ) -> Result<u64, ImportFault>
     requires { taken_of file.old ≡ 1 }
     ensures rows { (bytes : Known) → HasTaken S.remaining bytes file.old (header ∷ [])
-        → EndsSo bytes (taken_of file.new) (spare_of S.spare file.new)
+        → ImportsTo bytes (taken_of file.new) (spare_of S.spare file.new)
         (W.contents output.old) (W.contents output.new)
         (point (C.tells clock.old) (B.state book.old))
         (point (C.tells clock.new) (B.state book.new)) result }

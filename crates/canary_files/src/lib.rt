@@ -19,7 +19,7 @@ pub mod export;
 pub mod history;
 pub mod import;
 pub mod laws;
-mod reading;
+pub mod reading;
 mod records;
 pub mod row;
 mod writing;

@@ -1,34 +1,53 @@
 //! The records of a measurement file, one after another.
-ghost use Rattle.std.specs.Prelude.{◌≡◌, ◌≢◌, ◌≤◌, ◌+◌, [], List, ℕ, Ok, Err, true};
+ghost use Rattle.std.specs.Prelude.{◌≡◌, ◌≢◌, ◌≤◌, ◌+◌, [], List, ℕ, Ok, Err, true, false};
+ghost use Rattle.csv.specs.Reading.{reader_source};
 ghost use Rattle.csv.specs.Records.{fields_of};
 ghost use Rattle.canary_files.specs.Writes.{Known};
 ghost use Rattle.canary_files.specs.Taking.{StandsBehind, HasTaken, TakesNext, taken_of, IsEnd};
+ghost use Rattle.canary_files.specs.Taking.{left_of, spare_of};
 
-use crate::bounded::Limited;
+use crate::bounded::{Bounded, Limited, MOST_BYTES};
 use crate::import::ImportFault;
 use csv::{ByteRecord, ErrorKind, Reader, ReaderBuilder};
 use std::alloc::Global;
 use std::io::Read;
 
-// A measurement file, and how many records were taken of it. Only `next_record` takes one.
+/// A measurement file that is read record by record, and how many records were taken of it. An
+/// import alone takes any.
 #[derive(Drop)]
-pub(crate) struct FileReader<S> {
+pub struct FileReader<S> {
     reader: Reader<S>,
     taken: u64,
 }
 
-// A file at its first record.
-pub(crate) fn file_reader<S: Read>(alloc: Global, source: S) -> FileReader<S>
-    ensures { HasTaken S.remaining (S.remaining source) result [] }
-{
-    FileReader {
-        reader: reader_of(alloc, source),
-        taken: 0,
+impl<R: Read + Drop> FileReader<Bounded<R>> {
+    /// A file at its first record, of which 1,000,000,000 bytes are asked for at most.
+    pub fn new(alloc: Global, source: R) -> FileReader<Bounded<R>>
+        ensures begins { HasTaken (λ b. R.remaining b.source) (R.remaining source) result [] }
+        ensures spare { spare_of left_of result ≡ MOST_BYTES }
+    {
+        let bounded = Bounded {
+            source,
+            left: MOST_BYTES,
+        };
+        FileReader {
+            reader: reader_of(alloc, bounded),
+            taken: 0,
+        }
     }
 }
 
+// Whether a record was taken of a file already.
+pub(crate) fn has_begun<S>(file: &FileReader<S>) -> bool
+    ensures begun { result ≡ true → taken_of file.now ≢ 0 }
+    ensures fresh { result ≡ false → taken_of file.now ≡ 0 }
+{
+    file.taken > 0
+}
+
 fn reader_of<S: Read>(alloc: Global, source: S) -> Reader<S>
-    ensures { StandsBehind S.remaining (S.remaining source) result [] }
+    ensures stands { StandsBehind S.remaining (S.remaining source) result [] }
+    ensures source { reader_source result ≡ source }
 {
     ReaderBuilder::new()
         .has_headers(false)

@@ -1,5 +1,5 @@
 -- The clients of the code as conversations.
-use Rattle.std.specs.Prelude.{◌≡◌, ℕ, true, Some, option_map, IfSome}
+use Rattle.std.specs.Prelude.{◌≡◌, ℕ, length, true, Some, option_map, unwrap_or, IfSome}
 use Rattle.std.specs.Ordering.{nat_cmp}
 use Rattle.std.specs.BTreeMap.{get, btree_map_len}
 use Rattle.canary_wire.specs.Conversing.{Talk}
@@ -19,6 +19,10 @@ crowd_of c = λ client. option_map client_talk (get nat_cmp c.by_number client)
 
 abbrev pub clients_attendance : Clients → Attendance
 clients_attendance c = attendance (crowd_of c) c.next
+
+-- how many bytes a client has still to take; none if there is no such client
+abbrev pub owed_to : Crowd → ℕ → ℕ
+owed_to crowd client = unwrap_or (option_map (λ t. length t.owed) (crowd client)) 0
 
 -- if there is such a client, the system reports its connection once that is ready
 abbrev pub IsReported : Clients → ℕ → Type 0

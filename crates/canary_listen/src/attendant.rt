@@ -1,5 +1,6 @@
 //! Clients are accepted, have their turns, and are let go.
 ghost use Rattle.std.specs.Prelude.{◌≡◌, ◌≢◌, Some, IsTrue, false, option_map, ◌-◌};
+ghost use Rattle.std.specs.VecDeque.{deque_len};
 ghost use Rattle.canary_wire.specs.Exchanges.{point};
 ghost use Rattle.canary_listen.specs.Attending.{Attends, KeepsServed};
 ghost use Rattle.canary_listen.specs.Crowd.{clients_attendance, IsReported, AreAllServed};
@@ -86,7 +87,7 @@ impl Attendant {
 
     // Does what is to be done for each that was reported. If many more are to come, a reply is held
     // back until there are some, which are sent one after another: so the system wakes clients that
-    // wait for replies less often, and who is woken finds several.
+    // wait for replies less often, and who is woken finds several. None is held back in the end.
     pub(crate) fn attend_all<R: time::Clock + AllocGlobal, C: Clock, B: Book>(
         &mut self,
         rt: &R,
@@ -94,9 +95,10 @@ impl Attendant {
         clock: &mut C,
         book: &mut B,
     )
-        ensures { Attends (point (C.tells clock.old) (B.state book.old))
+        ensures attends { Attends (point (C.tells clock.old) (B.state book.old))
             (point (C.tells clock.new) (B.state book.new))
             (clients_attendance self.old.clients) (clients_attendance self.new.clients) }
+        ensures sent { deque_len self.new.held ≡ 0 }
     {
         going_on::<C, B>();
         let (mut left, now) = (events.iter().count(), self.now);
@@ -110,6 +112,7 @@ impl Attendant {
             };
             self.attend_next(rt, event.token(), ready, clock, book);
         }
+        self.send_held(rt, clock, book);
     }
 
     // Sends replies that are held back, if enough are, and then does what is to be done where this
@@ -156,12 +159,13 @@ impl Attendant {
         clock: &mut C,
         book: &mut B,
     )
-        ensures { Attends (point (C.tells clock.old) (B.state book.old))
+        ensures attends { Attends (point (C.tells clock.old) (B.state book.old))
             (point (C.tells clock.new) (B.state book.new))
             (clients_attendance self.old.clients) (clients_attendance self.new.clients) }
+        ensures sent { deque_len self.new.held ≡ 0 }
     {
         going_on::<C, B>();
-        'held: for _ in 0..self.held.len() {
+        'held: for sent in 0..self.held.len() {
             self.send_first(rt, clock, book);
         }
     }
@@ -173,9 +177,10 @@ impl Attendant {
         clock: &mut C,
         book: &mut B,
     )
-        ensures { Attends (point (C.tells clock.old) (B.state book.old))
+        ensures attends { Attends (point (C.tells clock.old) (B.state book.old))
             (point (C.tells clock.new) (B.state book.new))
             (clients_attendance self.old.clients) (clients_attendance self.new.clients) }
+        ensures fewer { deque_len self.new.held ≡ deque_len self.old.held - 1 }
     {
         going_on::<C, B>();
         if let Some(number) = self.held.pop_front() {
@@ -197,9 +202,10 @@ impl Attendant {
         clock: &mut C,
         book: &mut B,
     )
-        ensures { Attends (point (C.tells clock.old) (B.state book.old))
+        ensures attends { Attends (point (C.tells clock.old) (B.state book.old))
             (point (C.tells clock.new) (B.state book.new))
             (clients_attendance self.old.clients) (clients_attendance self.new.clients) }
+        ensures held { ready.part ≢ Part.Sends → self.new.held ≡ self.old.held }
     {
         if token == SOCKET {
             self.has_waiting = true;
@@ -226,8 +232,9 @@ impl Attendant {
 
     // Keeps a client, or lets it go.
     fn settle(&mut self, number: usize, fate: Fate)
-        ensures { KeepsServed (clients_attendance self.old.clients)
+        ensures keeps { KeepsServed (clients_attendance self.old.clients)
             (clients_attendance self.new.clients) }
+        ensures held { fate ≢ Fate.Owed → self.new.held ≡ self.old.held }
     {
         match fate {
             Fate::Stays(interest) => self.await_ready(number, interest),
@@ -253,6 +260,7 @@ impl Attendant {
         ensures reported { IsReported self.new.clients number }
         ensures keeps { KeepsServed (clients_attendance self.old.clients)
             (clients_attendance self.new.clients) }
+        ensures held { self.new.held ≡ self.old.held }
     {
         if !self.clients.report(self.poll.registry(), number, interest) {
             self.clients.remove(number);
@@ -280,8 +288,9 @@ impl Attendant {
 
     // Lets a client go, and notes the fault with which its connection ended.
     fn let_go(&mut self, number: usize, cause: Cause)
-        ensures { KeepsServed (clients_attendance self.old.clients)
+        ensures keeps { KeepsServed (clients_attendance self.old.clients)
             (clients_attendance self.new.clients) }
+        ensures held { self.new.held ≡ self.old.held }
     {
         if let Some(address) = self.clients.address(number) {
             self.reports.note(cause, address);
@@ -376,6 +385,7 @@ impl Attendant {
         ensures keeps { KeepsServed (clients_attendance self.old.clients)
             (clients_attendance self.new.clients) }
         ensures rests { kind ≡ ErrorKind.WouldBlock → self.new.has_waiting ≡ false }
+        ensures asks { kind ≢ ErrorKind.WouldBlock → self.new.has_waiting ≡ self.old.has_waiting }
     {
         match kind {
             ErrorKind::WouldBlock => self.has_waiting = false,

@@ -1,11 +1,12 @@
 //! A client: its connection, the conversation with it, and how long it may take.
-ghost use Rattle.std.specs.Prelude.{◌≡◌, None};
+ghost use Rattle.std.specs.Prelude.{◌≡◌, ◌≢◌, None, false, length};
 ghost use Rattle.canary_wire.specs.Conversing.{TakesTurn};
 ghost use Rattle.canary_wire.specs.Exchanges.{point};
 ghost use Rattle.canary_wire.specs.Talks.{talk_of};
 ghost use Rattle.canary_listen.specs.Crowd.{client_talk};
 
 use crate::limits::Limits;
+use crate::wait::{Awaited, Wait};
 use canary_once::book::Book;
 use canary_once::clock::Clock;
 use canary_wire::conversation::{Cause, Conversation, Pace, Routes, Wants};
@@ -25,21 +26,6 @@ const DRAINED_AT_ONCE: usize = 16_384;
 // for too, since a read stops short before it.
 fn its_bytes() -> Interest {
     Interest::READABLE | Interest::PRIORITY
-}
-
-// What a client is waited for.
-#[derive(Clone, Copy, Debug, PartialEq, Eq)]
-enum Awaited {
-    // The first byte of its next message.
-    Message,
-    // The rest of a message.
-    Rest,
-    // To take what it is owed.
-    Reading,
-    // Nothing: its query waits until other clients took what they are owed.
-    Room,
-    // To end its sending side, after its last reply.
-    Leaving,
 }
 
 // What becomes of a client after its turn.
@@ -127,11 +113,7 @@ impl Write for Output<'_> {
 pub(crate) struct Client {
     stream: TcpStream,
     conversation: Conversation,
-    awaited: Awaited,
-    // When it began to be waited for so, or its last message was answered, in seconds.
-    since: u64,
-    // How many of its messages were answered then.
-    answered: u64,
+    wait: Wait,
     // How many bytes were read after its last reply.
     drained: usize,
     // Whether the system reports its connection once that is ready for what was asked last.
@@ -155,9 +137,7 @@ impl Client {
         Client {
             stream,
             conversation,
-            awaited: Awaited::Message,
-            since: now,
-            answered: 0,
+            wait: Wait::for_first(now),
             drained: 0,
             is_reported: false,
             interest: its_bytes(),
@@ -171,17 +151,19 @@ impl Client {
     }
 
     // How many bytes it has still to take.
-    pub(crate) fn unsent(&self) -> usize {
+    pub(crate) fn unsent(&self) -> usize
+        ensures { result ≡ length (client_talk self.now).owed }
+    {
         self.conversation.owes()
     }
 
     // Since which second it is idle: nothing is unsent, and no message has begun.
     pub(crate) fn idle_since(&self) -> Option<u64> {
-        if self.awaited == Awaited::Message
+        if self.wait.awaited == Awaited::Message
             && self.conversation.holds() == 0
             && self.unsent() == 0
         {
-            Some(self.since)
+            Some(self.wait.since)
         } else {
             None
         }
@@ -189,7 +171,7 @@ impl Client {
 
     // Whether its query waits until queries are answered again.
     pub(crate) fn waits_for_room(&self) -> bool {
-        self.awaited == Awaited::Room
+        self.wait.awaited == Awaited::Room
     }
 
     // Its conversation, where the client has gone: its connection is closed.
@@ -232,10 +214,11 @@ impl Client {
         pace: &mut P,
         ready: Ready,
     ) -> Fate
-        ensures { TakesTurn None None None None
+        ensures turn { TakesTurn None None None None
             (point (C.tells clock.old) (B.state book.old))
             (point (C.tells clock.new) (B.state book.new))
             (client_talk self.old) (client_talk self.new) }
+        ensures taken { ready.part ≢ Part.Sends → result ≢ Fate.Owed }
     {
         let part = self.part(ready);
         let stream = &self.stream;
@@ -254,14 +237,16 @@ impl Client {
         if input.is_open && (input.may_hold_more || ready.may_hold_more) {
             self.is_reported = false;
         }
-        if wants == Wants::Write && !output.is_open {
+        if wants == Wants::Write && part == Part::Sends {
             return Fate::Owed;
         }
         self.settle(wants, pace.answers_queries(), ready.now)
     }
 
     // What it does in its turn: one that has bytes to take already takes them first.
-    fn part(&self, ready: Ready) -> Part {
+    fn part(&self, ready: Ready) -> Part
+        ensures { ready.part ≢ Part.Sends → result ≢ Part.Sends }
+    {
         if ready.part == Part::Sends && self.unsent() > 0 {
             Part::Whole
         } else {
@@ -271,7 +256,9 @@ impl Client {
 
     // What becomes of it where its conversation waits for this.
     fn settle(&mut self, wants: Wants, answers_queries: bool, now: u64) -> Fate
-        ensures { client_talk self.new ≡ client_talk self.old }
+        ensures same { client_talk self.new ≡ client_talk self.old }
+        ensures told { result ≢ Fate.Owed }
+        ensures anew { wants ≢ Wants.Read → self.new.is_reported ≡ false }
     {
         if wants != Wants::Read {
             self.is_reported = false;
@@ -310,23 +297,22 @@ impl Client {
 
     // Notes what it is waited for, from now on where that is new or a message was answered.
     fn wait_for(&mut self, awaited: Awaited, now: u64)
-        ensures { client_talk self.new ≡ client_talk self.old }
+        ensures same { client_talk self.new ≡ client_talk self.old }
+        ensures reported { self.new.is_reported ≡ self.old.is_reported }
     {
         let answered = self.conversation.answered();
-        if self.awaited != awaited || self.answered != answered {
-            self.awaited = awaited;
-            self.answered = answered;
-            self.since = now;
-        }
+        self.wait = self.wait.renewed(awaited, answered, now);
     }
 
     // Its last reply was written: its connection is ended on this side, and what it still sends is
     // read and thrown away for a while. If it were closed at once, the system would answer what is
     // still sent with a reset, and the reply could be lost.
     fn drain(&mut self, now: u64) -> Fate
-        ensures { client_talk self.new ≡ client_talk self.old }
+        ensures same { client_talk self.new ≡ client_talk self.old }
+        ensures told { result ≢ Fate.Owed }
+        ensures reported { self.new.is_reported ≡ self.old.is_reported }
     {
-        if self.awaited != Awaited::Leaving {
+        if self.wait.awaited != Awaited::Leaving {
             let _ = self.stream.shutdown(Shutdown::Write);
             self.wait_for(Awaited::Leaving, now);
         }
@@ -346,19 +332,9 @@ impl Client {
         Fate::Stays(its_bytes())
     }
 
-    // Why it is let go at this second, if it took too long. One that waits for others is not.
+    // Why it is let go at this second, if it took too long.
     pub(crate) fn overdue(&self, limits: Limits, now: u64) -> Option<Cause> {
-        let (most, cause) = match self.awaited {
-            Awaited::Message => (limits.idle_seconds, Cause::EndOfInput),
-            Awaited::Rest => (limits.message_seconds, Cause::Truncated),
-            Awaited::Reading => (limits.idle_seconds, Cause::Write),
-            Awaited::Leaving => (limits.message_seconds, Cause::EndOfInput),
-            Awaited::Room => return None,
-        };
-        if now.saturating_sub(self.since) <= most {
-            return None;
-        }
-        Some(cause)
+        self.wait.overdue(limits, now)
     }
 }
 

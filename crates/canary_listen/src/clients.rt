@@ -1,13 +1,15 @@
 //! The clients that are being served, by the numbers of their connections.
-ghost use Rattle.std.specs.Prelude.{◌≡◌, ◌≤◌, IfOk, IsTrue, None, vec_len};
+ghost use Rattle.std.specs.Prelude.{◌≡◌, ◌≢◌, ◌≤◌, ◌-◌, ◌==◌, if◌then◌else◌};
+ghost use Rattle.std.specs.Prelude.{IfOk, IfSome, IsTrue, None, Some, vec_len};
 ghost use Rattle.std.specs.Ordering.{nat_cmp};
 ghost use Rattle.std.specs.BTreeMap.{get, btree_map_len};
 ghost use Rattle.canary_wire.specs.Conversing.{begun};
 ghost use Rattle.canary_wire.specs.Exchanges.{point};
 ghost use Rattle.canary_wire.specs.Talks.{talk_of};
 ghost use Rattle.canary_listen.specs.Attending.{Attends, KeepsServed, nobody};
+ghost use Rattle.canary_listen.specs.Sums.{in_place_of};
 
-use crate::client::{Client, Fate, Ready};
+use crate::client::{Client, Fate, Part, Ready};
 use crate::limits::Limits;
 use canary_base::error::Memory;
 use canary_once::book::Book;
@@ -32,10 +34,12 @@ pub(crate) struct Clients {
     // How many bytes they have still to take, all together.
     unsent: usize,
     ghost few: { vec_len spare ≤ 64 },
+    ghost owed_to_some: { btree_map_len by_number ≡ 0 → unsent ≡ 0 },
 }
 
 impl Clients {
     ghost use Rattle.canary_listen.specs.Crowd.{client_talk, clients_attendance, IsReported};
+    ghost use Rattle.canary_listen.specs.Crowd.{crowd_of, owed_to};
 
     // None.
     pub(crate) fn new(alloc: Global) -> Clients
@@ -50,7 +54,9 @@ impl Clients {
     }
 
     // How many bytes they have still to take, all together.
-    pub(crate) fn unsent(&self) -> usize {
+    pub(crate) fn unsent(&self) -> usize
+        ensures { result ≡ self.now.unsent }
+    {
         self.unsent
     }
 
@@ -93,6 +99,7 @@ impl Clients {
     fn keep(&mut self, client: Client)
         ensures same { clients_attendance self.new ≡ clients_attendance self.old }
         ensures clients { self.new.by_number ≡ self.old.by_number }
+        ensures unsent { self.new.unsent ≡ self.old.unsent }
     {
         if self.spare.len() < MOST_SPARE {
             let _ = self.spare.push(client.into_conversation());
@@ -125,9 +132,12 @@ impl Clients {
         pace: &mut P,
         ready: Ready,
     ) -> Option<Fate>
-        ensures { Attends (point (C.tells clock.old) (B.state book.old))
+        ensures attends { Attends (point (C.tells clock.old) (B.state book.old))
             (point (C.tells clock.new) (B.state book.new))
             (clients_attendance self.old) (clients_attendance self.new) }
+        ensures unsent { IfSome result (λ fate. self.new.unsent ≡ in_place_of self.old.unsent
+            (owed_to (crowd_of self.old) number) (owed_to (crowd_of self.new) number)) }
+        ensures taken { ready.part ≢ Part.Sends → result ≢ Some Fate.Owed }
     {
         crowds();
         going_on::<C, B>();
@@ -151,14 +161,18 @@ impl Clients {
         }
     }
 
-    // Lets a client go: its connection is closed.
+    // Lets a client go: its connection is closed. What it was owed is owed no more, and nothing is
+    // once nobody is left.
     pub(crate) fn remove(&mut self, number: usize)
         ensures keeps { KeepsServed (clients_attendance self.old) (clients_attendance self.new) }
         ensures gone { get nat_cmp self.new.by_number number ≡ None }
+        ensures unsent { self.new.unsent ≡ (if btree_map_len self.new.by_number == 0 then 0
+            else self.old.unsent - owed_to (crowd_of self.old) number) }
     {
         crowds();
         if let Some(client) = self.by_number.remove(&number) {
-            self.unsent = in_place_of(self.unsent, client.unsent(), 0);
+            let unsent = in_place_of(self.unsent, client.unsent(), 0);
+            self.unsent = unless_nobody(self.by_number.len(), unsent);
             self.keep(client);
         }
     }
@@ -200,6 +214,15 @@ impl Clients {
 }
 
 // A sum with this part in place of that one.
-fn in_place_of(sum: usize, old: usize, new: usize) -> usize {
+fn in_place_of(sum: usize, old: usize, new: usize) -> usize
+    ensures { result ≡ in_place_of sum old new }
+{
     sum.saturating_sub(old).saturating_add(new)
+}
+
+// A sum over so many clients: nothing if there are none.
+fn unless_nobody(count: usize, sum: usize) -> usize
+    ensures { result ≡ (if count == 0 then 0 else sum) }
+{
+    if count == 0 { 0 } else { sum }
 }

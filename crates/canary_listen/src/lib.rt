@@ -21,4 +21,5 @@ pub mod placed;
 mod reports;
 mod slice;
 pub mod unblocked;
+mod wait;
 pub mod wall_clock;

@@ -1,1 +1,2 @@
 pub mod DrawnLemmas
+mod PageLemmas

@@ -1,5 +1,7 @@
 //! What is read of a book.
-ghost use Rattle.canary_files.specs.Exporting.{Stays};
+ghost use Rattle.std.specs.Prelude.{◌≡◌, IfOk, length};
+ghost use Rattle.canary_once.specs.Records.{measurements_of};
+ghost use Rattle.canary_files.specs.Exporting.{Stays, recorded_of};
 
 use crate::chart::Chart;
 use crate::conditions::{Conditions, conditions_of};
@@ -247,24 +249,28 @@ fn opened(alloc: Global, opening: &Opening) -> Result<RunRecord, Memory> {
     })
 }
 
-// Adds the measurements of these runs to their charts, page by page.
+// Adds the measurements of these runs to their charts, page by page up to an empty one, and says
+// how many the service has, of all its runs.
 fn read_measurements<B: Book>(
     alloc: Global,
     book: &mut B,
     name: &Name,
     runs: &mut Vec<ShownRun>,
-) -> Result<(), PageFault>
-    ensures { Stays (B.state book.old) (B.state book.new) }
+) -> Result<u64, PageFault>
+    ensures stays { Stays (B.state book.old) (B.state book.new) }
+    ensures all { (B.state book.new).is_honest → IfOk result (λ count.
+        count ≡ length (recorded_of (B.state book.old).contents name.now)) }
 {
     let mut from = 0;
     for _ in 0..u64::MAX {
         let count = read_page(alloc, book, name, from, runs)?;
         if count == 0 {
-            return Ok(());
+            return Ok(from);
         }
         from = count.saturating_add(from);
     }
-    Ok(())
+    // No memory has so many pages.
+    Err(PageFault::Memory)
 }
 
 // Adds those of one page, and says how many it has.
@@ -275,7 +281,9 @@ fn read_page<B: Book>(
     from: u64,
     runs: &mut Vec<ShownRun>,
 ) -> Result<u64, PageFault>
-    ensures { Stays (B.state book.old) (B.state book.new) }
+    ensures stays { Stays (B.state book.old) (B.state book.new) }
+    ensures page { (B.state book.new).is_honest → IfOk result (λ count.
+        count ≡ length (measurements_of (B.state book.old).contents name.now from 256)) }
 {
     let page = book.measurements(name, from, PAGE)?;
     add_all(alloc, page.as_slice(), runs)?;

@@ -61,7 +61,8 @@ imported (Err f) = Err (of_import f)
 -- a measurement file was imported, and this is how that ended
 abbrev pub ImportsSo : Known → Known → Known → rows.Point → rows.Point → Result ℕ Fault → Type 0
 ImportsSo file w new_w old new result =
-    (done : Result ℕ ImportFault) × (result ≡ imported done) × ImportsTo file w new_w old new done
+    (done : Result ℕ ImportFault) × (result ≡ imported done)
+    × (taken : ℕ) × (spare : ℕ) × ImportsTo file taken spare w new_w old new done
 
 -- why no more was written of a service's file
 abbrev pub TellsExport : Contents → List ℕ → Fault → Type 0

@@ -5,7 +5,7 @@ use Rattle.canary_files.specs.declared.writing.WriteFault.{WriteFault}
 use Rattle.canary_files.specs.Writes.{Known, Writes}
 use Rattle.canary_files.specs.Rows.{header}
 use Rattle.canary_files.specs.Taking.{HasTaken, taken_of, spare_of}
-use Rattle.canary_files.specs.Importing.{EndsSo}
+use Rattle.canary_files.specs.Importing.{ImportsTo}
 use Rattle.canary_files.specs.RowExchanges.{point, told_line}
 use Rattle.canary_files.proofs.ImportLemmas.{so_far_none, so_far_more, so_far_until, so_far_too_many, so_far_all, so_far_failed, keeps_more}
 use Rattle.canary_files.proofs.import.import_rows.Goals as goal
@@ -78,7 +78,7 @@ pub returns-in-Ok-false-next_record-clause-rows : goal.returns-in-Ok-false-next_
 returns-in-Ok-false-next_record-clause-rows g c =
     let takes = rw (c.in-Ok-false-next_record.is, c.in-Ok-false-next_record.field-0-test) at c.next_record-2.ensures.next in
     let full : c.rows.done ≡ 1000000 = (let past = c.rows-test.false in let most = c.rows.auto.done-end in omega arith) in
-    let P : ℕ → Type 0 = λ n. (bytes : Known) → HasTaken g.S.Read.remaining bytes c.args.file.now (header ∷ []) → EndsSo bytes (taken_of c.next_record-2.new.file) (spare_of g.S.Limited.spare c.next_record-2.new.file) (g.W.Write.contents c.args.output.now) (g.W.Write.contents c.rows.output)
+    let P : ℕ → Type 0 = λ n. (bytes : Known) → HasTaken g.S.Read.remaining bytes c.args.file.now (header ∷ []) → ImportsTo bytes (taken_of c.next_record-2.new.file) (spare_of g.S.Limited.spare c.next_record-2.new.file) (g.W.Write.contents c.args.output.now) (g.W.Write.contents c.rows.output)
     (point (g.C.Clock.tells c.args.clock.now) (g.B.Book.state c.args.book.now))
     (point (g.C.Clock.tells c.rows.clock) (g.B.Book.state c.rows.book)) (Ok n) in
     subst P full (so_far_all g.S.Read.remaining g.S.Limited.spare c.args.file.now c.rows.file c.next_record-2.new.file (g.W.Write.contents c.args.output.now) (g.W.Write.contents c.rows.output)

@@ -3,9 +3,9 @@ use Rattle.std.specs.Prelude.{option_map}
 use Rattle.csv.specs.Reading.{strip_bom, builder_config, builder_trim, builder_names_headers, Reached}
 use Rattle.canary_files.proofs.reading.reader_of.Goals as goal
 
-pub returns : goal.returns
+pub returns-clause-stands : goal.returns-clause-stands
 unfolding Reached
-returns g c = record {
+returns-clause-stands g c = record {
   config = c.from_reader.ensures.config ∙ ap builder_config c.flexible.ensures ∙ ap builder_config c.has_headers.ensures ∙ c.new.ensures.config;
   trim = c.from_reader.ensures.trim ∙ ap builder_trim c.flexible.ensures ∙ ap builder_trim c.has_headers.ensures ∙ c.new.ensures.trim;
   ready = inr

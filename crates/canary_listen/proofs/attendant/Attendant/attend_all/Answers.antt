@@ -16,3 +16,12 @@ events-preserved g c =
     (clients_attendance c.args.self.now.clients) (clients_attendance c.events.self.clients) (clients_attendance c.attend_next.new.self.clients)
     (c.going_on.ensures.then c.args.clock.now c.events.clock c.attend_next.new.clock c.args.book.now c.events.book c.attend_next.new.book)
     c.events.invariant c.attend_next.ensures
+
+pub returns-clause-attends : goal.returns-clause-attends
+returns-clause-attends g c =
+    attends_then (point (g.C.Clock.tells c.args.clock.now) (g.B.Book.state c.args.book.now))
+    (point (g.C.Clock.tells c.events.clock) (g.B.Book.state c.events.book))
+    (point (g.C.Clock.tells c.send_held.new.clock) (g.B.Book.state c.send_held.new.book))
+    (clients_attendance c.args.self.now.clients) (clients_attendance c.events.self.clients) (clients_attendance c.send_held.new.self.clients)
+    (c.going_on.ensures.then c.args.clock.now c.events.clock c.send_held.new.clock c.args.book.now c.events.book c.send_held.new.book)
+    c.events.invariant c.send_held.ensures.attends

@@ -10,4 +10,4 @@ returns g c =
     (point (g.C.Clock.tells c.attend.new.clock) (g.B.Book.state c.attend.new.book))
     (clients_attendance c.args.self.now.clients) (clients_attendance c.send_due.new.self.clients) (clients_attendance c.attend.new.self.clients)
     (c.going_on.ensures.then c.args.clock.now c.send_due.new.clock c.attend.new.clock c.args.book.now c.send_due.new.book c.attend.new.book)
-    c.send_due.ensures c.attend.ensures
+    c.send_due.ensures c.attend.ensures.attends

@@ -1,3 +1,5 @@
+use Rattle.std.proofs.Common.{◌≡◌, ◌+◌}
+use Rattle.std.specs.VecDeque.{deque_len}
 use Rattle.canary_wire.specs.Exchanges.{point}
 use Rattle.canary_listen.specs.Attending.{Attends}
 use Rattle.canary_listen.specs.Crowd.{clients_attendance}
@@ -7,3 +9,4 @@ abbrev pub invariant-held : goal.invariant-held
 invariant-held g l =
     Attends (point (g.C.Clock.tells l.fn.clock) (g.B.Book.state l.fn.book)) (point (g.C.Clock.tells l.clock) (g.B.Book.state l.book))
     (clients_attendance l.fn.self.clients) (clients_attendance l.self.clients)
+    × (deque_len l.self.held + l.sent ≡ deque_len l.fn.self.held)
