@@ -1,8 +1,8 @@
-"""How much memory a desk takes for what it keeps of its file: rooms.py PROGRAM FOLDER. With `--cache`
-in different sizes, and each time in a new file, a desk registers services of 64 steps. Then each
-service grows as its release begins: all its steps are analysed by a wide template. Last, 100
-callers send long commands, of which each receipt has one. No clause says how much memory a program
-takes."""
+"""How much memory a desk takes for what it keeps of its file: rooms.py PROGRAM FOLDER. With
+`--cache` in different sizes, and each time in a new file, a desk registers services of 64 steps.
+Then services grow as their releases begin: each step is analysed by a template of several metrics.
+Last, 100 callers send long commands, of which each receipt has one. No clause says how much memory
+a program takes."""
 import json
 import os
 import re
@@ -17,10 +17,10 @@ SERVICES, STEPS = 1_500, 64
 # The least bytes that 64 steps take in memory.
 LEAST = 1_024
 # Releases that begin, and the metrics of each step; callers, and the long commands of each.
-RELEASES, METRICS = 100, 32
-CALLERS, COMMANDS, CONDITIONS, LONG = 100, 5, 30, 1_000
+RELEASES, METRICS = 60, 8
+CALLERS, COMMANDS, CONDITIONS, LONG = 100, 2, 30, 1_000
 # The room of the releases and the callers, of which services have a half and receipts an eighth.
-ROOM = 8 << 20
+ROOM = 2 << 20
 SECONDS = 300
 ACCEPTED = b"HTTP/1.1 200 "
 
@@ -113,8 +113,8 @@ def try_services(program, folder):
 
 
 def try_room(program, folder, row, sent):
-    """What a desk keeps of these takes no more than twice the room, which is an estimate; all of it
-    would take three times as much at least."""
+    """What a desk keeps of these takes no more than twice the room, which is an estimate. All of it
+    would take more than three times the room."""
     nothing, kept = (memory_with(program, folder, sent, ["--cache", room])
                      for room in ("1", str(ROOM)))
     print(f"files: {row}: {kept - nothing} bytes of memory more in a room of {ROOM}",

@@ -110,8 +110,8 @@ def try_stops(program, folder):
                      for at in range(len(names))]
             found = try_rows(stopped, "fails alone", alone, refused("storage"))
             last = max(at for at, name in enumerate(names) if name in SYNCS)
-            want("the last sync, as the file is closed, fails alone: whether it ends so, and whether"
-                 " it is migrated", found[last], (True, True))
+            want("the last sync, as the file is closed, fails alone: whether it ends so, and"
+                 " whether it is migrated", found[last], (True, True))
             try_rows(stopped, "fails with all after it", after, refused("storage"))
     remove(stopped.file)
     remove(stopped.whole)

@@ -1,5 +1,6 @@
 //! Callers, and what is kept of their requests.
-ghost use Rattle.std.specs.Prelude.{◌≡◌, ◌≢◌, ◌+◌, ◌<◌, ◌≤◌, ◌↔◌, suc, Some, IsTrue, IfOk, OnOk, Err};
+ghost use Rattle.std.specs.Prelude.{◌≡◌, ◌≢◌, ◌+◌, ◌<◌, ◌≤◌, ◌↔◌, suc, Some, IsTrue, IfOk, OnOk};
+ghost use Rattle.std.specs.Prelude.{Err};
 ghost use Rattle.std.specs.List.{AllByRecursion, sum_by};
 ghost use Rattle.canary_stored.specs.Values.{receipt_of_row};
 ghost use Rattle.canary_judging.specs.Judged.{AreCallersJudged, IsCallerJudged};

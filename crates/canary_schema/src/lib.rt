@@ -14,7 +14,6 @@
 //!             conn,
 //!             notes: Notes::none(),
 //!             kept: Kept::new(alloc, DEFAULT_ROOM),
-//!             room: DEFAULT_ROOM,
 //!         }),
 //!         Err(fault) => Err((fault.into(), conn)),
 //!     }

@@ -24,10 +24,7 @@ use Rattle.canary_once.specs.declared.book.Receipt.{Receipt}
 use Rattle.canary_once.specs.declared.book.Settlement.{Settlement}
 use Rattle.canary_once.specs.Contents.{Contents, count_of, receipt_at, receipts_of, IsSettling, with_settlement, put_some}
 use Rattle.canary_once.proofs.Events.{keep_keeps}
-use Rattle.canary_stored.specs.Reading.{contents_of}
 use Rattle.sqlite.specs.State.{State}
-use Rattle.sqlite.specs.Effect.{Database}
-use Rattle.canary_schema.specs.Cells.{tables_in}
 use Rattle.canary_tables.specs.Desk.{IsDesk, contents_in}
 use Rattle.canary_tables.specs.declared.kept.Kept.{Kept}
 use Rattle.canary_tables.specs.declared.kept.NumberedReceipt.{NumberedReceipt}
@@ -49,13 +46,6 @@ known_so c services (Updates s effects) known are is = λ k e. are s.stand.name 
 
 fewer_services : (c : Contents) (m n : Named ServiceParts) → AreServices m c → IsWithin n m → AreServices n c
 fewer_services c m n are within = λ name s is. are name s (within name s is)
-
-not_none : {A : Type 0} (b : Bool) (x : Option A) (v : A) → cond b None x ≡ Some v → x ≡ Some v
-not_none true x v e = let never : ⊥ = cc in absurd never
-not_none false x v e = e
-
-without_is_within : {A : Type 0} (m : Named A) (k : List ℕ) → IsWithin (remove m k) m
-without_is_within {A} m k q v is = not_none (is_it q k) (get m q) v (sym (get-remove nat_list_cmp_total m k q) ∙ is)
 
 pub one_count_more : (c : Contents) (m n : Named ℕ) (caller : List ℕ) (count : ℕ) → AreCounts m c → count ≡ count_of c caller → IsWithin n (insert m caller count) → AreCounts n c
 one_count_more c m n caller count are is within q k there =
@@ -198,12 +188,6 @@ kept_after law c s old new settling order are counts services templates receipts
       templates = templates_after c.desk settling.step.0 s.receipt.command s.change settling.step.1.change old.templates new.templates are.templates templates;
       receipts = receipts (with_settlement c s) (receipts_stay c s old.receipts are.receipts) (receipt_settled c s settling.number);
     }
-
--- what a failed commit leaves
-without_revised_is_within : (m : Named Template) (change : DeskChange) → IsWithin (without_revised m change) m
-without_revised_is_within m Nothing = λ name t is. is
-without_revised_is_within m (Updates s effects) = λ name t is. is
-without_revised_is_within m (AddsTemplate template) = without_is_within m template.spec.name
 
 -- One is read.
 

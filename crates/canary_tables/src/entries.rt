@@ -1,6 +1,6 @@
 //! Values under names, as far as there is room for them.
-ghost use Rattle.std.specs.Prelude.{◌≡◌, ◌≤◌, ◌<◌, ◌+◌, ◌^◌, if◌then◌else◌, true, false, None, Some, ℕ, List};
-ghost use Rattle.std.specs.Prelude.{option_copied, IfSome, IfNone};
+ghost use Rattle.std.specs.Prelude.{◌≡◌, ◌≤◌, ◌<◌, ◌+◌, ◌^◌, if◌then◌else◌, true, false};
+ghost use Rattle.std.specs.Prelude.{None, Some, ℕ, List, option_copied, IfSome, IfNone};
 ghost use Rattle.std.specs.Option.{option_or};
 ghost use Rattle.std.specs.FinMap as map;
 ghost use Rattle.canary_tables.specs.Entries.{IsWithin, weights, weight_if, value_if, first_of};
