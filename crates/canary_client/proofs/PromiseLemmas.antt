@@ -14,11 +14,13 @@ use Rattle.canary_journal.specs.declared.entry.Wish.{Wish}
 use Rattle.canary_journal.specs.Journals.{JournalValue, asks, asks_instead, has_key, is_kept_under, kept_with, place_of, place_under, place_without, place_pending, settled_place, settles}
 use Rattle.canary_sending.specs.declared.network.Heard.{Heard}
 use Rattle.canary_sending.specs.Sending.{IsAskedBy, IsSettledBy}
-use Rattle.canary_sending.proofs.NetworkLemmas.{asked_more}
+use Rattle.canary_sending.specs.declared.network.Why.{Why}
+use Rattle.canary_sending.specs.Networks.{GoesOn}
+use Rattle.canary_sending.proofs.NetworkLemmas.{asked_more, then_on, wider}
 use Rattle.canary_client.specs.declared.ask.SettledAt.{SettledAt}
 use Rattle.canary_client.specs.declared.wish.Asking.{Asking}
 use Rattle.canary_client.specs.Beginning.{IsSettledSo}
-use Rattle.canary_client.specs.Promises.{intent_of, AsksFor, IsFor, IsReplyAt, IsSettledAt, IsPendingFor, IsSentFor}
+use Rattle.canary_client.specs.Promises.{intent_of, AsksFor, IsFor, IsReplyAt, IsSettledAt, IsQuery, IsPendingFor, IsSentFor}
 
 -- the item that comes after a list
 item_after : {X : Type 0} (xs : List X) (x : X) → slice_get (xs ++ x ∷ []) (length xs) ≡ Some x
@@ -74,52 +76,52 @@ is_pending what j (Some key) a is e =
     pending_at j (intent_of what) key j.pending a is (position (is_kept_under key) j.kept) e
 
 -- under a key the journal has what was asked, if it has it as settled
-found_at : (kept : List Kept) (intent : List ℕ) (place i : ℕ) (found : Option Kept) → slice_get kept i ≡ found
-    → (if unwrap_or (option_map (λ (k : Kept). bytes_eq k.asked.wish.intent intent) found) false then place.Settled i else place.KeyUsed) ≡ place.Settled place
-    → (k : Kept) × (slice_get kept place ≡ Some k) × (k.asked.wish.intent ≡ intent) × (i ≡ place)
-found_at kept intent place i None there e = let never : ⊥ = cc e in absurd never
-found_at kept intent place i (Some k) there e = by (bytes_eq k.asked.wish.intent intent) refl e
+found_at : (kept : List Kept) (intent : List ℕ) (n i : ℕ) (found : Option Kept) → slice_get kept i ≡ found
+    → (if unwrap_or (option_map (λ (k : Kept). bytes_eq k.asked.wish.intent intent) found) false then place.Settled i else place.KeyUsed) ≡ place.Settled n
+    → (k : Kept) × (slice_get kept n ≡ Some k) × (k.asked.wish.intent ≡ intent) × (i ≡ n)
+found_at kept intent n i None there e = let never : ⊥ = cc e in absurd never
+found_at kept intent n i (Some k) there e = by (bytes_eq k.asked.wish.intent intent) refl e
   where
-    by : (b : Bool) → bytes_eq k.asked.wish.intent intent ≡ b → (if b then place.Settled i else place.KeyUsed) ≡ place.Settled place
-        → (k : Kept) × (slice_get kept place ≡ Some k) × (k.asked.wish.intent ≡ intent) × (i ≡ place)
+    by : (b : Bool) → bytes_eq k.asked.wish.intent intent ≡ b → (if b then place.Settled i else place.KeyUsed) ≡ place.Settled n
+        → (k : Kept) × (slice_get kept n ≡ Some k) × (k.asked.wish.intent ≡ intent) × (i ≡ n)
     by true same e =
-        let at : i ≡ place = cc e in
+        let at : i ≡ n = cc e in
         (k, ap (slice_get kept) (sym at) ∙ there, (bytes_eq-Decides k.asked.wish.intent intent).0 same, at)
     by false same e = let never : ⊥ = cc e in absurd never
 
-settled_under : (what : Asking) (j : JournalValue) (key : List ℕ) (place : ℕ) (at : Option ℕ) → position (is_kept_under key) j.kept ≡ at → place_under j (intent_of what) key at ≡ place.Settled place
-    → (k : Kept) × (slice_get j.kept place ≡ Some k) × IsFor what (Some key) true k.asked
-settled_under what j key place None is e = by j.pending e
+settled_under : (what : Asking) (j : JournalValue) (key : List ℕ) (n : ℕ) (at : Option ℕ) → position (is_kept_under key) j.kept ≡ at → place_under j (intent_of what) key at ≡ place.Settled n
+    → (k : Kept) × (slice_get j.kept n ≡ Some k) × IsFor what (Some key) true k.asked
+settled_under what j key n None is e = by j.pending e
   where
-    by : (pending : Option Asked) → place_pending pending (intent_of what) key ≡ place.Settled place → (k : Kept) × (slice_get j.kept place ≡ Some k) × IsFor what (Some key) true k.asked
+    by : (pending : Option Asked) → place_pending pending (intent_of what) key ≡ place.Settled n → (k : Kept) × (slice_get j.kept n ≡ Some k) × IsFor what (Some key) true k.asked
     by None e = let never : ⊥ = cc e in absurd never
     by (Some a) e = among (has_key key a.wish) (bytes_eq a.wish.intent (intent_of what)) e
       where
-        among : (has same : Bool) → (if not has then place.Behind else (if same then place.Pending else place.KeyUsed)) ≡ place.Settled place → (k : Kept) × (slice_get j.kept place ≡ Some k) × IsFor what (Some key) true k.asked
+        among : (has same : Bool) → (if not has then place.Behind else (if same then place.Pending else place.KeyUsed)) ≡ place.Settled n → (k : Kept) × (slice_get j.kept n ≡ Some k) × IsFor what (Some key) true k.asked
         among true true e = let never : ⊥ = cc e in absurd never
         among true false e = let never : ⊥ = cc e in absurd never
         among false same e = let never : ⊥ = cc e in absurd never
-settled_under what j key place (Some i) is e =
-    let found = found_at j.kept (intent_of what) place i (slice_get j.kept i) refl e in
+settled_under what j key n (Some i) is e =
+    let found = found_at j.kept (intent_of what) n i (slice_get j.kept i) refl e in
     let k = found.0 in
-    let has = (position-Some (is_kept_under key) j.kept i k is).1.0 in
-    let here : get_or j.kept i k ≡ k = get_or_from_slice_get j.kept i k k (ap (slice_get j.kept) found.1.1.1 ∙ found.1.0) in
+    let has = (position-Some (is_kept_under key) j.kept i k is).1 in
+    let here : get_or j.kept i k ≡ k = get_or_from_slice_get j.kept i k k (ap (slice_get j.kept) found.3 ∙ found.1) in
     let under : has_key key k.asked.wish ≡ true = ap (is_kept_under key) (sym here) ∙ has in
-    (k, found.1.0, found.1.1.0, key_of k.asked.wish k.asked.wish.key key refl under)
+    (k, found.1, (found.2, key_of k.asked.wish k.asked.wish.key key refl under))
 
 -- the journal has what was asked as settled, under its key, if it says so
-pub is_settled : (what : Asking) (j : JournalValue) (key : Option (List ℕ)) (place : ℕ) → place_of j (intent_of what) key ≡ place.Settled place → (k : Kept) × (slice_get j.kept place ≡ Some k) × IsFor what key true k.asked
-is_settled what j None place e = by j.pending e
+pub is_settled : (what : Asking) (j : JournalValue) (key : Option (List ℕ)) (n : ℕ) → place_of j (intent_of what) key ≡ place.Settled n → (k : Kept) × (slice_get j.kept n ≡ Some k) × IsFor what key true k.asked
+is_settled what j None n e = by j.pending e
   where
-    by : (pending : Option Asked) → place_without pending (intent_of what) ≡ place.Settled place → (k : Kept) × (slice_get j.kept place ≡ Some k) × IsFor what None true k.asked
+    by : (pending : Option Asked) → place_without pending (intent_of what) ≡ place.Settled n → (k : Kept) × (slice_get j.kept n ≡ Some k) × IsFor what None true k.asked
     by None e = let never : ⊥ = cc e in absurd never
     by (Some a) e = among (is_none a.wish.key && bytes_eq a.wish.intent (intent_of what)) e
       where
-        among : (b : Bool) → (if b then place.Pending else place.Behind) ≡ place.Settled place → (k : Kept) × (slice_get j.kept place ≡ Some k) × IsFor what None true k.asked
+        among : (b : Bool) → (if b then place.Pending else place.Behind) ≡ place.Settled n → (k : Kept) × (slice_get j.kept n ≡ Some k) × IsFor what None true k.asked
         among true e = let never : ⊥ = cc e in absurd never
         among false e = let never : ⊥ = cc e in absurd never
-is_settled what j (Some key) place e =
-    settled_under what j key place (position (is_kept_under key) j.kept) refl e
+is_settled what j (Some key) n e =
+    settled_under what j key n (position (is_kept_under key) j.kept) refl e
 
 -- What a reply settles.
 
@@ -130,23 +132,24 @@ kept_after kept (Some b) a reply is =
     item_after kept (record { asked = b; reply = reply }) ∙ ap (λ x. Some (record { asked = x; reply = reply })) same
 
 -- what is pending was asked, and a reply of the desk settles it
-pub settles_at : (told : List ℕ → Heard → Type 0) (what : Asking) (key : Option (List ℕ)) (old j new : JournalValue) (is_wish : Bool)
-    → ((a : Asked) → j.pending ≡ Some a → IsFor what key is_wish a) → IsSettledSo told j new → IsSettledAt told what key old new (record { place = length j.kept; is_wish = is_wish })
-settles_at told what key old j new is_wish for so =
+pub settles_at : (told : List ℕ → Heard → Type 0) (what : Asking) (key : Option (List ℕ)) (old j new : JournalValue) (is_wish : Bool) (n : ℕ) → n ≡ length j.kept
+    → ((a : Asked) → j.pending ≡ Some a → IsFor what key is_wish a) → IsSettledSo told j new → IsSettledAt told what key old new (record { place = n; is_wish = is_wish })
+settles_at told what key old j new is_wish n at for so =
     let reply = so.0 in
-    let by = so.1.0 in
-    subst (λ n. IsSettledAt told what key old n (record { place = length j.kept; is_wish = is_wish })) (sym so.1.1) (record {
+    let by = so.1 in
+    subst (λ p. IsSettledAt told what key old new (record { place = p; is_wish = is_wish })) (sym at)
+    (subst (λ k. IsSettledAt told what key old k (record { place = length j.kept; is_wish = is_wish })) (sym so.2) (record {
       kept = record { asked = by.asked; reply = reply };
       there = kept_after j.kept j.pending by.asked reply by.pending;
       asked = for by.asked by.pending;
       reply = inr (record { told = by.told; meaning = by.meaning });
-    })
+    }))
 
 -- what the journal had stays there
-pub had_before : (told : List ℕ → Heard → Type 0) (what : Asking) (key : Option (List ℕ)) (j : JournalValue) (place : ℕ) → ((k : Kept) × (slice_get j.kept place ≡ Some k) × IsFor what key true k.asked)
-    → IsSettledAt told what key j j (record { place = place; is_wish = true })
-had_before told what key j place has =
-    record { kept = has.0; there = has.1.0; asked = has.1.1; reply = inl has.1.0 }
+pub had_before : (told : List ℕ → Heard → Type 0) (what : Asking) (key : Option (List ℕ)) (j : JournalValue) (n : ℕ) → ((k : Kept) × (slice_get j.kept n ≡ Some k) × IsFor what key true k.asked)
+    → IsSettledAt told what key j j (record { place = n; is_wish = true })
+had_before told what key j n has =
+    record { kept = has.0; there = has.1; asked = has.2; reply = inl has.1 }
 
 -- What is pending once it was asked.
 
@@ -186,14 +189,68 @@ pub sent_more : (T U : List ℕ → Heard → Type 0) → ((m : List ℕ) (heard
 sent_more T U more what key j m (inl query) = inl query
 sent_more T U more what key j m (inr (inl before)) = inr (inl (asked_more T U more j m before))
 sent_more T U more what key j m (inr (inr now)) =
-    inr (inr (now.0, now.1.0, asked_more T U more now.0 m now.1.1))
+    inr (inr (now.0, now.1, asked_more T U more now.0 m now.2))
 
 -- once a number is settled nothing is pending, so what goes out is of what was asked
 pub sent_after : (told earlier : List ℕ → Heard → Type 0) (what : Asking) (key : Option (List ℕ)) (j new : JournalValue) → IsSettledSo earlier j new → (m : List ℕ) → IsSentFor told what key new m → IsSentFor told what key j m
 sent_after told earlier what key j new so m sent =
-    by (subst (λ n. IsSentFor told what key n m) so.1.1 sent)
+    by (subst (λ n. IsSentFor told what key n m) so.2 sent)
   where
     by : IsSentFor told what key (settles j so.0) m → IsSentFor told what key j m
     by (inl query) = inl query
     by (inr (inl before)) = let none : ⊥ = cc before.pending in absurd none
     by (inr (inr now)) = inr (inr now)
+
+-- Call after call.
+
+module _ {N : Type 0} (was_sent : N → List ℕ → Type 0) (was_told : N → List ℕ → Heard → Type 0) (was_unanswered : N → List ℕ → Why → Type 0) where
+  -- one message, once more
+  pub once_more : (old mid new : N) (text sent : List ℕ) → sent ≡ text → GoesOn was_sent was_told was_unanswered old mid (λ m. m ≡ text) → GoesOn was_sent was_told was_unanswered mid new (λ m. m ≡ sent)
+      → GoesOn was_sent was_told was_unanswered old new (λ m. m ≡ text)
+  once_more old mid new text sent same first second =
+      then_on was_sent was_told was_unanswered old mid new _ _ _ first second (λ m e. e) (λ m e. e ∙ same)
+
+  -- and a pause
+  pub paused : (old mid new : N) (P : List ℕ → Type 0) → GoesOn was_sent was_told was_unanswered old mid P → GoesOn was_sent was_told was_unanswered mid new (λ _. ⊥) → GoesOn was_sent was_told was_unanswered old new P
+  paused old mid new P first second =
+      then_on was_sent was_told was_unanswered old mid new _ _ _ first second (λ m p. p) (λ m no. absurd no)
+
+  -- what was pending goes out
+  pub of_before : (what : Asking) (key : Option (List ℕ)) (j : JournalValue) (old new : N) → GoesOn was_sent was_told was_unanswered old new (IsAskedBy (was_told new) j) → GoesOn was_sent was_told was_unanswered old new (IsSentFor (was_told new) what key j)
+  of_before what key j old new goes =
+      wider was_sent was_told was_unanswered old new _ _ goes (λ m by. inr (inl by))
+
+  -- what was asked goes out
+  pub of_now : (what : Asking) (key : Option (List ℕ)) (j now : JournalValue) (is_wish : Bool) (old new : N) → now.caller ≡ j.caller → ((a : Asked) → now.pending ≡ Some a → IsFor what key is_wish a)
+      → GoesOn was_sent was_told was_unanswered old new (IsAskedBy (was_told new) now) → GoesOn was_sent was_told was_unanswered old new (IsSentFor (was_told new) what key j)
+  of_now what key j now is_wish old new same for goes =
+      wider was_sent was_told was_unanswered old new _ _ goes (sent_now (was_told new) what key j now is_wish same for)
+
+  -- queries go out
+  pub of_queries : (what : Asking) (key : Option (List ℕ)) (j : JournalValue) (old new : N) → GoesOn was_sent was_told was_unanswered old new IsQuery → GoesOn was_sent was_told was_unanswered old new (IsSentFor (was_told new) what key j)
+  of_queries what key j old new goes =
+      wider was_sent was_told was_unanswered old new _ _ goes (λ m query. inl query)
+
+  -- what was asked goes out after another command is settled
+  pub of_after : (what : Asking) (key : Option (List ℕ)) (j now : JournalValue) (old new : N) → IsSettledSo (was_told old) j now → GoesOn was_sent was_told was_unanswered old new (IsSentFor (was_told new) what key now)
+      → GoesOn was_sent was_told was_unanswered old new (IsSentFor (was_told new) what key j)
+  of_after what key j now old new so goes =
+      wider was_sent was_told was_unanswered old new _ _ goes (sent_after (was_told new) (was_told old) what key j now so)
+
+  -- one after the other
+  pub of_both : (what : Asking) (key : Option (List ℕ)) (j : JournalValue) (old mid new : N) → GoesOn was_sent was_told was_unanswered old mid (IsSentFor (was_told mid) what key j) → GoesOn was_sent was_told was_unanswered mid new (IsSentFor (was_told new) what key j)
+      → GoesOn was_sent was_told was_unanswered old new (IsSentFor (was_told new) what key j)
+  of_both what key j old mid new first second =
+      then_on was_sent was_told was_unanswered old mid new _ _ _ first second (sent_more (was_told mid) (was_told new) second.told_still what key j) (λ m s. s)
+
+-- what was asked in the place of the wish that is pending
+pub pending_instead : (what : Asking) (key : Option (List ℕ)) (pending : Option Asked) → ((a : Asked) × (pending ≡ Some a) × IsFor what None false a) → (b : Asked) → pending ≡ Some b → IsFor what key false b
+pending_instead what key pending asked b is =
+    let same : asked.0 ≡ b = ap (λ o. unwrap_or o asked.0) (sym asked.1 ∙ is) in
+    subst (λ x. IsFor what key false x) same asked.2
+
+-- the place that a call answers
+pub at_place : (told : List ℕ → Heard → Type 0) (what : Asking) (key : Option (List ℕ)) (j new : JournalValue) (is_wish : Bool) (at : SettledAt)
+    → ((a : Asked) → j.pending ≡ Some a → IsFor what key is_wish a) → (at ≡ record { place = length j.kept; is_wish = is_wish }) × IsSettledSo told j new → IsSettledAt told what key j new at
+at_place told what key j new is_wish at for so =
+    subst (λ p. IsSettledAt told what key j new p) (sym so.0) (settles_at told what key j j new is_wish (length j.kept) refl for so.1)

@@ -1,6 +1,6 @@
 //! `do`: a command, once.
 ghost use Rattle.std.specs.Prelude.{◌≡◌, ◌⊎◌, ◌++◌, ◌∷◌, [], List, ℕ, Some, None, false};
-ghost use Rattle.std.specs.Prelude.{IfOk, OnOk, IsTrue, length, slice_get};
+ghost use Rattle.std.specs.Prelude.{IfOk, OnOk, IsTrue, Option, length, slice_get};
 ghost use Rattle.std.specs.Io.KnownBytes.{Appends};
 ghost use Rattle.canary_journal.specs.declared.entry.Asked.{Asked};
 ghost use Rattle.canary_journal.specs.declared.entry.Kept.{Kept};

@@ -18,7 +18,7 @@ use canary_records::device::Device;
 use canary_records::store::Store;
 use canary_sending::kept::{KeptJournal, Opened, begin, open};
 use canary_sending::network::{Heard, Network, Why, request};
-use canary_sending::settle::settle;
+use canary_sending::settle::{rest, settle};
 use std::alloc::Global;
 
 // The last number: a request under it is ahead of any caller that has sent fewer.
@@ -170,9 +170,7 @@ fn settled_before<N: Network>(
             Err(Why::Memory) => return Err(Stop::Memory),
             Err(why) => why,
         };
-        if tried + 1 < tries {
-            network.pause(tried + 1, why);
-        }
+        rest(network, tried + 1, tries, why);
     }
     Err(Stop::NotBegun)
 }

@@ -9,6 +9,7 @@ ghost use Rattle.canary_client.specs.Queries.{why_again, not_found_codes};
 use crate::outcome::Stop;
 use canary_journal::meaning::is_of_message;
 use canary_sending::network::{Heard, Network, Why, query};
+use canary_sending::settle::rest;
 use serde_json::Value;
 use std::alloc::Global;
 
@@ -36,9 +37,7 @@ pub fn answer<N: Network>(
             Err(Why::Memory) => return Err(Stop::Memory),
             Err(why) => why,
         };
-        if tried + 1 < tries {
-            network.pause(tried + 1, why);
-        }
+        rest(network, tried + 1, tries, why);
     }
     Err(Stop::NoDesk)
 }

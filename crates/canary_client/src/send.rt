@@ -17,6 +17,7 @@ use canary_files::row::{Refusal, Row, RowFault, is_header, row_of};
 use canary_journal::meaning::{Meaning, meaning_of};
 use canary_plan::command::Command;
 use canary_sending::network::{Heard, Network, Why, request};
+use canary_sending::settle::rest;
 use canary_words::words::AskedDesk;
 use csv::{ByteRecord, ErrorKind, Reader, ReaderBuilder};
 use serde_json::Value;
@@ -283,9 +284,7 @@ fn answered<N: Network>(
             Err(Why::Memory) => return Err(Stop::Memory),
             Err(why) => why,
         };
-        if tried + 1 < tries {
-            network.pause(tried + 1, why);
-        }
+        rest(network, tried + 1, tries, why);
     }
     Err(Stop::RowUnanswered)
 }

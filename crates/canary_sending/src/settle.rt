@@ -98,8 +98,8 @@ fn reply_to<N: Network>(
     Err(Unsettled::Pending)
 }
 
-// Waits, if there is to be one try more.
-fn rest<N: Network>(network: &mut N, tried: u32, tries: u32, why: Why)
+/// Waits after so many of these tries, if there is to be one more.
+pub fn rest<N: Network>(network: &mut N, tried: u32, tries: u32, why: Why)
     ensures { GoesOn N.was_sent N.was_told N.was_unanswered network.old network.new (λ _. ⊥) }
 {
     if tried < tries {
