@@ -20,20 +20,18 @@ pub struct FileReader<S> {
     taken: u64,
 }
 
-impl<R: Read + Drop> FileReader<Bounded<R>> {
-    /// A file at its first record, of which 1,000,000,000 bytes are asked for at most.
-    pub fn new(alloc: Global, source: R) -> FileReader<Bounded<R>>
-        ensures begins { HasTaken (λ b. R.remaining b.source) (R.remaining source) result [] }
-        ensures spare { spare_of left_of result ≡ MOST_BYTES }
-    {
-        let bounded = Bounded {
-            source,
-            left: MOST_BYTES,
-        };
-        FileReader {
-            reader: reader_of(alloc, bounded),
-            taken: 0,
-        }
+/// A measurement file at its first record, of which 1,000,000,000 bytes are asked for at most.
+pub fn file_reader<R: Read + Drop>(alloc: Global, source: R) -> FileReader<Bounded<R>>
+    ensures begins { HasTaken (λ b. R.remaining b.source) (R.remaining source) result [] }
+    ensures spare { spare_of left_of result ≡ MOST_BYTES }
+{
+    let bounded = Bounded {
+        source,
+        left: MOST_BYTES,
+    };
+    FileReader {
+        reader: reader_of(alloc, bounded),
+        taken: 0,
     }
 }
 

@@ -7,7 +7,7 @@ ghost use Rattle.canary_programs.specs.Programs.{ImportsSo, imported};
 
 use crate::fault::Fault;
 use canary_files::import::{ImportFault, MOST_ROWS};
-use canary_files::reading::FileReader;
+use canary_files::reading::file_reader;
 use canary_once::book::Book;
 use canary_once::clock::Clock;
 use std::alloc::Global;
@@ -33,7 +33,7 @@ pub fn import_rows<R: Read, W: Write, C: Clock, B: Book>(
         × (clock.new ≡ clock.old) × (book.new ≡ book.old) }
     ensures kept { KeepsBook (B.state book.old) (B.state book.new) }
 {
-    let mut file = FileReader::new(alloc, input);
+    let mut file = file_reader(alloc, input);
     imported(canary_files::import::import(alloc, &mut file, output, clock, book))
 }
 
