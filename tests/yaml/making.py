@@ -9,9 +9,9 @@ WORDS = """web errors canary successCondition setWeight pause duration interval 
 args value prometheus query sum rate http_requests_total service latency p99 image nginx:1.25
 apps/v1 argoproj.io/v1alpha1 app.kubernetes.io/name true-ish nullable""".split()
 # Plain scalars of one word on which versions of YAML, or their readers, part or may part.
-SCALARS = """yes no on off y n Y N Yes NO On OFF true True TRUE tRUE false null Null NULL nULL ~ 0 00
--0 -00 +0 1 -1 +1 0123 017 08 -017 +08 007 0o17 0o8 0O17 +0o17 0x1F 0X1F +0x1F 0x 0xg 0x_1 0x1_f
-0b101 0b2 -0b1 0B1 0b_ 0b1_0 1_000 1__0 1_ _1 0.1_0 1_0.5 1e1_0 1,000 1_a 12:30:45 190:20:30 12:30
+SCALARS = """yes no on off y n Y N Yes NO On OFF true True TRUE tRUE false null Null NULL nULL ~ 0
+00 -0 -00 +0 1 -1 +1 0123 017 08 -017 +08 007 0o17 0o8 0O17 +0o17 0x1F 0X1F +0x1F 0x 0xg 0x_1 0x1_f
+0b101 0b2 -0b1 0B1 0b_ 0b1_0 1_000 1__0 1_ _1 0.1_0 1_0.5 1e1_0 1e_5 +_1 -_ 1,000 1_a 12:30:45 190:20:30 12:30
 1:60 08:30 0:30 01:30.5 1:2.5_0 1:2: :1 a:1 1: 2001-01-01 2001-12-14t21:59:43.10-05:00 2001-1-1
 2001-12-14T21:59:43Z 1e3 1.5e3 1.5e+3 1e-7 1e+5 5. .5 +.5 -.5e1 1. ._5 .5_0 . .. .e1 1e 1e999 1.2.3
 1.20 .inf -.INF +.Inf .nan .NaN .nAn -.nan = << 1.0.0 10s 25% 0xffffffffffffffff
@@ -137,12 +137,12 @@ def printed_scalar(rng, value, column):
     return value if is_plain(value) else in_quotes(rng, value)
 
 
-def noise(rng):
-    """A blank line, a comment, or mostly nothing."""
-    kind = rng.random()
-    if kind < 0.05:
-        return "\n"
-    return " " * rng.randint(0, 8) + '# a comment: [not] "read\n' if kind < 0.1 else ""
+def noise(rng, column):
+    """A comment, maybe with a blank line after it, or mostly nothing. It begins in this column at
+    most, so it is no part of a literal that may stand before it."""
+    if rng.random() < 0.9:
+        return ""
+    return " " * rng.randint(0, column) + '# a comment: [not] "read\n' + rng.choice(["", "\n"])
 
 
 def end_of_line(rng):
@@ -166,7 +166,7 @@ def printed_item(rng, value, column):
     mark = " " * column + "-"
     if isinstance(value, (dict, list)) and value:
         inner = printed_lines(rng, value, column + 2)
-        is_compact = inner.lstrip(" ")[0] not in "#\n"
+        is_compact = inner.lstrip(" ")[0] != "#"
         return mark + (inner[column + 1:] if is_compact else "\n" + inner)
     return mark + " " + printed_leaf(rng, value, column)
 
@@ -174,8 +174,10 @@ def printed_item(rng, value, column):
 def printed_lines(rng, value, column):
     """The lines of a mapping or a sequence as kubectl prints them, with comments."""
     if isinstance(value, dict):
-        return "".join(noise(rng) + printed_member(rng, *it, column) for it in value.items())
-    return "".join(noise(rng) + printed_item(rng, it, column) for it in value)
+        parts = [printed_member(rng, *it, column) for it in value.items()]
+    else:
+        parts = [printed_item(rng, it, column) for it in value]
+    return "".join(noise(rng, column) + part for part in parts)
 
 
 def printed(rng):
@@ -195,8 +197,8 @@ def as_json(rng):
                       separators=rng.choice([None, (",", ":")]))
 
 
-PIECES = ["\n", " ", "  ", "\t", ":", ": ", "- ", "-", "#", " #", '"', "'", "|", ">", "|-\n", ">+\n",
-          "[", "]", "{", "}", ",", "&a ", "*a", "!t ", "? ", "<<: ", "%", "@", "`", "---\n",
+PIECES = ["\n", " ", "  ", "\t", ":", ": ", "- ", "-", "#", " #", '"', "'", "|", ">", "|-\n",
+          ">+\n", "[", "]", "{", "}", ",", "&a ", "*a", "!t ", "? ", "<<: ", "%", "@", "`", "---\n",
           "...\n", "---", "\\", "\\u", "\\x4", "\r\n", "\r", "\x00", "\x07", "\u00e9", "\ufeff",
           "~", "0x", ".inf", "1e999", "key: value\n", '"a": b', "- - - ", "[[[[", "{{", "|2\n",
           ">1-\n", "\n\n", "a: b: c", "\u2028", "yes", "y: ", "0644", "1_000"]

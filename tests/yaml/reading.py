@@ -1,5 +1,5 @@
-"""Compares what a program reads in YAML with what PyYAML reads: reading.py [--seed N] [--all]
-[--program FILE]. The comment at the top of tests/yaml/run says what is tried."""
+"""Compares what a program reads in YAML with what PyYAML reads: reading.py --program FILE
+[--seed N] [--all] [PART..]. The comment at the top of tests/yaml/run says what is tried."""
 import argparse
 import collections
 import json
@@ -9,6 +9,7 @@ import resource
 import subprocess
 import sys
 
+import kubectl
 import large
 import making
 import reference
@@ -120,7 +121,7 @@ def is_place(refusal, text):
     return 1 <= line <= len(lines) + 1 and 1 <= column <= columns + 1
 
 
-def try_scalars():
+def try_scalars(_rng, _count):
     """Each scalar as an item in brackets, as a value, and as a key."""
     group = Group("scalars on which versions may part")
     for word in making.SCALARS:
@@ -132,7 +133,7 @@ def try_scalars():
 def try_printed(rng, count):
     """What kubectl prints is read, as what it printed."""
     group = Group("as kubectl prints")
-    for text, value in (making.printed(rng) for _ in range(count)):
+    for text, value in (making.printed(rng) for _ in range(count // 4)):
         answer = group.answer(text.encode())
         is_same = answer and answer[0] == "read" and reference.same(answer[1], [value])
         group.counts["read as what was printed" if is_same else "READ OTHERWISE"] += 1
@@ -144,7 +145,7 @@ def try_printed(rng, count):
 def try_json(rng, count):
     """JSON is read as Python reads it."""
     group = Group("JSON")
-    for text in (making.as_json(rng) for _ in range(count)):
+    for text in (making.as_json(rng) for _ in range(count // 10)):
         answer = group.answer(text.encode())
         is_same = answer and answer[0] == "read" and reference.same(answer[1], [json.loads(text)])
         group.counts["read alike" if is_same else "READ OTHERWISE"] += 1
@@ -155,13 +156,13 @@ def try_json(rng, count):
 
 def try_dumped(rng, count):
     group = Group("as yaml.safe_dump prints")
-    for _ in range(count):
+    for _ in range(count // 4):
         group.judge(making.dumped(rng).encode(), is_strict=True)
     return group.end()
 
 
 def try_mutated(rng, count):
-    group = Group("changed at random")
+    group, count = Group("changed at random"), count * 4 // 10
     make = [lambda: making.printed(rng)[0], lambda: making.as_json(rng),
             lambda: making.dumped(rng)]
     for _ in range(count):
@@ -180,7 +181,7 @@ def seconds_of(text):
     return answer, after.ru_utime - before.ru_utime + after.ru_stime - before.ru_stime
 
 
-def try_large():
+def try_large(_rng, _count):
     """Large and hostile texts, each within a second of a processor, at the best of three times."""
     group, slowest = Group("large and hostile texts"), 0
     for name, (text, is_read) in large.TEXTS.items():
@@ -196,10 +197,39 @@ def try_large():
         slowest = max(slowest, seconds)
         if seconds > 1:
             group.faults.append(f"{name}: {seconds:.2f} seconds")
-        if is_read not in (None, state == "read") or state == "refused" and not is_place(found, text):
+        is_wrong = is_read not in (None, state == "read")
+        if is_wrong or state == "refused" and not is_place(found, text):
             group.faults.append(f"{name}: {state}: {shown(found)}")
     print(f"tests/yaml: the slowest large text took {slowest:.2f} seconds of a processor")
     return group.end()
+
+
+def try_kubectl(rng, count):
+    """What kubectl prints is read as what it was given, and what is read of a plain scalar is what
+    kubectl reads."""
+    group = Group("kubectl")
+    if not kubectl.is_here():
+        print("tests/yaml: kubectl is not here")
+        return 0
+    words = [it for it in making.SCALARS if it[-1] != ":" and it.lower()[-4:] not in (".inf", ".nan")]
+    for word, value in zip(words, kubectl.read(words)):
+        answer = group.answer(f"a: {word}\n".encode())
+        group.counts[f"scalars {answer and answer[0]}"] += 1
+        if answer and answer[0] == "read" and not kubectl.alike(answer[1][0]["a"], value):
+            group.fault("kubectl reads another value", word.encode(), answer, value)
+    values = kubectl.printable(making.structure(rng) for _ in range(count // 10))
+    answer = group.answer(kubectl.printed(values).encode())
+    found = [it["spec"]["value"] for it in answer[1]] if answer and answer[0] == "read" else []
+    group.counts["values printed"] += len(values)
+    for value, one in zip(values, found):
+        if not kubectl.alike(value, one):
+            group.fault("kubectl printed", repr(value).encode(), one)
+    if len(values) != len(found):
+        group.faults.append(f"{len(found)} of {len(values)} values were read: {shown(answer)}")
+    return group.end()
+
+
+PARTS = [try_scalars, try_kubectl, try_printed, try_json, try_dumped, try_mutated, try_large]
 
 
 def main():
@@ -208,14 +238,13 @@ def main():
     words.add_argument("--seed", type=int, default=0)
     words.add_argument("--all", action="store_true")
     words.add_argument("--program", required=True)
+    words.add_argument("parts", nargs="*", metavar="PART")
     given = words.parse_args()
     PROGRAM = given.program
-    rng = random.Random(given.seed)
     count = 10_000 if given.all else 1_000
     print(f"tests/yaml: {count} texts, --seed {given.seed}")
-    faults = try_scalars() + try_large()
-    faults += try_printed(rng, count // 4) + try_json(rng, count // 10)
-    faults += try_dumped(rng, count // 4) + try_mutated(rng, count * 4 // 10)
+    parts = [it for it in PARTS if it.__name__ in given.parts or not given.parts]
+    faults = sum(part(random.Random(given.seed), count) for part in parts)
     if faults:
         print(f"tests/yaml: {faults} faults; --seed {given.seed} repeats them", file=sys.stderr)
     return 1 if faults else 0

@@ -17,12 +17,10 @@ SCHEMA = {
               r"|[-+]?\.(inf|Inf|INF)|\.(nan|NaN|NAN)", list("-+.0123456789")),
     "merge": ("<<", ["<"]),
 }
-# What kubectl takes for a boolean or a number, and neither YAML 1.2 nor PyYAML by YAML 1.1 does:
-# go-yaml v2 has y and n, reads numbers by strconv.ParseInt with base 0, and leaves out each `_`.
-KUBECTL = re.compile(r"[yYnN]|[-+]?0([bB]_*[01][01_]*|[oO]_*[0-7][0-7_]*"
-                     r"|[xX]_*[0-9a-fA-F][0-9a-fA-F_]*)"
-                     r"|(?=.*_)([-+]?[0-9][0-9_]*(\.[0-9_]*)?|[-+]\.[0-9][0-9_]*)"
-                     r"([eE][-+]?[0-9][0-9_]*)?")
+# What kubectl takes for a boolean or a number, and neither YAML 1.2 nor PyYAML by YAML 1.1 does: y
+# and n, and numbers in other bases, if each `_` is left out.
+KUBECTL = re.compile(r"[yYnN]|[-+]?0([bB][01]+|[oO][0-7]+|[xX][0-9a-fA-F]+)")
+KUBECTL_DECIMAL = re.compile(r"[-+]?(\.[0-9]+|[0-9]+(\.[0-9]*)?)([eE][-+]?[0-9]+)?")
 # All of them read these alike.
 HEXADECIMAL = re.compile("0x[0-9a-fA-F]+")
 
@@ -105,9 +103,15 @@ def is_apart(word):
     new = value_by(CoreLoader, word)
     if isinstance(new, float):
         return False
-    if KUBECTL.fullmatch(word) and not HEXADECIMAL.fullmatch(word):
+    if is_number_of_kubectl(word) and not HEXADECIMAL.fullmatch(word):
         return True
     return not same(value_by(yaml.SafeLoader, word), new)
+
+
+def is_number_of_kubectl(word):
+    """go-yaml v2, by which kubectl reads, leaves out each `_` of a word that begins as a number."""
+    short = word.replace("_", "") if word[:1] in set("+-0123456789") else word
+    return bool(KUBECTL.fullmatch(short) or short != word and KUBECTL_DECIMAL.fullmatch(short))
 
 
 def refuse_apart(node):

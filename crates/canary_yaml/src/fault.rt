@@ -73,8 +73,8 @@ impl Why {
             Why::Duplicate => "a key that this mapping has already: leave one out",
             Why::Nesting => "mappings and sequences nested more than 127 deep",
             Why::Indentation => "an indentation that fits no line before it",
-            Why::NoKey => "no key with a colon: write one as the lines before it",
-            Why::Colon => "a colon after a value: put a text in quotes, a mapping on lines of its own",
+            Why::NoKey => "no key with a colon, as in the lines before it",
+            Why::Colon => "a colon after a value: put a text in quotes, a mapping on its own lines",
             Why::Indicator => "no text begins with this character: put it in quotes",
             Why::NoComma => "no comma and no closing bracket: write one before this",
             Why::Unclosed => "a quote or a bracket that is not closed",
@@ -85,15 +85,15 @@ impl Why {
             Why::OldTrue => "YAML 1.1 reads true here: write true, or put it in quotes",
             Why::OldFalse => "YAML 1.1 reads false here: write false, or put it in quotes",
             Why::LeadingZero => {
-                "YAML 1.1 reads 0644 as 420: write 420 for it, or put it in quotes"
+                "base 8 in YAML 1.1, by a first 0: write 420 for 0644, or put it in quotes"
             }
             Why::Base => {
-                "not every YAML reads 0b101 as 5, 0o17 as 15: write base 10, or put it in quotes"
+                "a base that not every YAML reads: write 15 for 0o17, or put it in quotes"
             }
             Why::Underscore => {
-                "YAML 1.1 reads 1_000 as 1000: write it without _, or put it in quotes"
+                "a number in YAML 1.1 alone: write 1000 for 1_000, or put it in quotes"
             }
-            Why::Base60 => "YAML 1.1 reads 12:30 as 750, in base 60: put it in quotes",
+            Why::Base60 => "base 60 in YAML 1.1, as 750 for 12:30: put it in quotes",
             Why::Trailing => "more text after a value",
             Why::Empty => "the text has no document",
             Why::Second => "a second document: keep each in a file of its own",

@@ -43,8 +43,8 @@ fn quoted_len(line: &[u8], quote: u8) -> usize {
 /// The key that begins here. The cursor is left right after it.
 ///
 /// # Errors
-/// `Merge`; `KeyKind`, if it is a number, a boolean or null; what a plain scalar that YAML 1.1 reads
-/// as another value is refused for, or a text in quotes; `Memory`.
+/// `Merge`; `KeyKind`, if it is a number, a boolean or null; what `value_of` refuses a plain scalar
+/// for, or `read_quoted` a text in quotes; `Memory`.
 pub(crate) fn read_key(alloc: Global, c: &mut Cursor<'_>, style: Style) -> Result<String, Fault> {
     let begin = *c;
     if c.peek() == b'"' || c.peek() == b'\'' {

@@ -17,14 +17,18 @@ pub(crate) struct Decimal<'a> {
 impl<'a> Decimal<'a> {
     /// The number that a text spells.
     pub(crate) fn read(text: &'a [u8]) -> Option<Decimal<'a>> {
-        let (whole, rest) = split_digits(after_sign(text));
+        let number = after_sign(text);
+        let (whole, rest) = split_digits(number);
         let (fraction, rest) = split_fraction(rest);
         let digits = if whole.is_empty() {
             fraction.unwrap_or(&[])
         } else {
             whole
         };
-        if !begins_with_digit(digits) || !is_exponent(rest) {
+        // kubectl reads +_1, and no version of YAML reads _1.
+        let is_signed = number.len() < text.len();
+        let is_number = begins_with_digit(digits) || is_signed && has_digit(digits);
+        if !is_number || !is_exponent(rest) {
             return None;
         }
         Some(Decimal {
@@ -93,7 +97,7 @@ fn is_exponent(text: &[u8]) -> bool {
         [] => true,
         [b'e' | b'E', rest @ ..] => {
             let (digits, rest) = split_digits(after_sign(rest));
-            begins_with_digit(digits) && rest.is_empty()
+            has_digit(digits) && rest.is_empty()
         }
         _ => false,
     }
@@ -105,6 +109,11 @@ fn begins_with_digit(digits: &[u8]) -> bool {
         [b'0'..=b'9', ..] => true,
         _ => false,
     }
+}
+
+// Whether they are not all `_`.
+fn has_digit(digits: &[u8]) -> bool {
+    count_of(digits, b"_") < digits.len()
 }
 
 // The digits from the first on that is not 0.
@@ -147,7 +156,7 @@ pub(crate) fn has_base(text: &[u8]) -> bool {
 
 // Whether all are of this kind, and not each of them is `_`.
 fn are_of(digits: &[u8], kind: &[u8]) -> bool {
-    count_of(digits, kind) == digits.len() && count_of(digits, b"_") < digits.len()
+    count_of(digits, kind) == digits.len() && has_digit(digits)
 }
 
 /// Whether YAML 1.1 reads it as a number in base 60, as 12:30:45 or 1:30.5.

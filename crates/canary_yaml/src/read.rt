@@ -69,7 +69,8 @@ pub fn read_one(alloc: Global, bytes: &[u8]) -> Result<Value, Fault>
 }
 
 /// The value of a text in JSON (RFC 8259), or else that of the one document of a text in YAML. JSON
-/// is read as `serde_json` reads it, of any length: of a key that stands twice the last value counts.
+/// is read as `serde_json` reads it, of any length: of a key that stands twice the last value
+/// counts.
 ///
 /// # Errors
 /// As `read_one`, if the text is not JSON.

@@ -1,8 +1,8 @@
-//! What texts mean, with values from the examples and the core schema of the YAML 1.2 specification,
-//! and where what is refused stands.
+//! What texts mean, with values from the examples and the core schema of YAML 1.2.2, and where what
+//! is refused stands.
 //!
-//! A row is a text, ` => ` and what is wanted. In the text the signs of `sign` stand for LF and other
-//! characters that no row can show.
+//! A row is a text, ` => ` and what is wanted. In the text the signs of `sign` stand for LF and
+//! other characters that no row can show.
 use canary_yaml::fault::Fault;
 use canary_yaml::read::{read_documents, read_json_or_yaml, read_one};
 use serde_json::Value;
@@ -21,7 +21,8 @@ a:¶b: # none¶c:¶  # here¶  d => {"a":null,"b":null,"c":"d"}
 - null¶- ~¶-¶- yes!¶- nO¶ => [null,null,null,"yes!","nO"]
 [0x1F, 0, 00, 007, +5, 1., .5, -.5e1, 1e3, 1.20] => [31,0,0,7,5,1.0,0.5,-5.0,1000.0,1.2]
 [18446744073709551615, -9223372036854775808] => [18446744073709551615,-9223372036854775808]
-[1.2.3, 0x, 0o8, 0b2, 1_a, _1, ._5, +x, 0b_] => ["1.2.3","0x","0o8","0b2","1_a","_1","._5","+x","0b_"]
+[1.2.3, 0x, 0o8, 0b2, 0b_] => ["1.2.3","0x","0o8","0b2","0b_"]
+[1_a, _1, ._5, +x] => ["1_a","_1","._5","+x"]
 [08:30, 1:60, 1:2:x, a:1, =, 10s, 25%] => ["08:30","1:60","1:2:x","a:1","=","10s","25%"]
 [2001-12-14, 2001-12-14T21:59:43Z] => ["2001-12-14","2001-12-14T21:59:43Z"]
 ["yes", 'off', "0644", "12:30"] => ["yes","off","0644","12:30"]
@@ -101,6 +102,7 @@ mode: 0644 => 1:7 LeadingZero
 [1_000] => 1:2 Underscore
 [0.1_0] => 1:2 Underscore
 [-1e1_0] => 1:2 Underscore
+[+_1] => 1:2 Underscore
 [12:30:45] => 1:2 Base60
 [+1_0:5] => 1:2 Base60
 [01:30.5] => 1:2 Base60
@@ -201,7 +203,10 @@ fn limits_are_what_they_should(rt: HostRuntime) -> Result<(), Fail> {
     assert_eq!(rt; long(alloc, 1_048_576)?.len(), 1_048_578);
     assert_eq!(rt; long(alloc, 1_048_577)?.as_str(), "1:1 Length");
     let bytes = "a: \u{e9}".as_bytes();
-    assert_eq!(rt; shown(alloc, bytes.get(..4).unwrap_or(&[]))?.as_str(), "1:4 Utf8");
+    assert_eq!(rt;
+        shown(alloc, bytes.get(..4).unwrap_or(&[]))?.as_str(),
+        "1:4 Utf8"
+    );
     Ok(())
 }
 
