@@ -82,7 +82,7 @@ TEXTS = {
     "a long number with _": (filled("1_"), False),
     "a long number in base 60": (filled(":1", "1"), False),
     "zeros": (filled("0"), True),
-    "zeros and a one": (filled("0", end="1"), False),
+    "zeros and a nine": (filled("0", end="9"), False),
     "aliases": (filled("*a "), False),
     "anchors": ("a: &a [x]\n" + "".join(f"b{it}: &b{it} [*a, *a]\n" for it in range(9)), False),
     "a word of many characters": ("\u65e5" * (MOST // 3), True),
