@@ -18,6 +18,11 @@ def asked(text, form):
     return done.stdout.decode()
 
 
+def is_value(word):
+    """Whether a plain scalar is one that stands after a colon, and has a meaning in JSON."""
+    return not word.endswith(":") and word.lower()[-4:] not in (".inf", ".nan")
+
+
 def read(words):
     """The values of plain scalars, as kubectl reads them."""
     head = "".join(f"{key}: {json.dumps(value)}\n" for key, value in HEAD.items())
@@ -27,8 +32,8 @@ def read(words):
 
 
 def printable(values):
-    """Those that kubectl prints as it reads them: it leaves `<<` without quotes as a key; and, as no
-    other reader does, numbers out of range, which are texts to it."""
+    """Those of which kubectl's print is read by all: it leaves a key `<<` without quotes, and texts
+    that are numbers out of range to others."""
     texts = ('"<<"', '"1e999"', '"0x10000000000000000"')
     return [value for value in values if not any(it in json.dumps(value) for it in texts)]
 

@@ -11,7 +11,8 @@ apps/v1 argoproj.io/v1alpha1 app.kubernetes.io/name true-ish nullable""".split()
 # Plain scalars of one word on which versions of YAML, or their readers, part or may part.
 SCALARS = """yes no on off y n Y N Yes NO On OFF true True TRUE tRUE false null Null NULL nULL ~ 0
 00 -0 -00 +0 1 -1 +1 0123 017 08 -017 +08 007 0o17 0o8 0O17 +0o17 0x1F 0X1F +0x1F 0x 0xg 0x_1 0x1_f
-0b101 0b2 -0b1 0B1 0b_ 0b1_0 1_000 1__0 1_ _1 0.1_0 1_0.5 1e1_0 1e_5 +_1 -_ 1,000 1_a 12:30:45 190:20:30 12:30
+0b101 0b2 -0b1 0B1 0b_ 0b1_0 1_000 1__0 1_ _1 0.1_0 1_0.5 1e1_0 1e_5 +_1 -_ 1,000
+1_a 12:30:45 190:20:30 12:30
 1:60 08:30 0:30 01:30.5 1:2.5_0 1:2: :1 a:1 1: 2001-01-01 2001-12-14t21:59:43.10-05:00 2001-1-1
 2001-12-14T21:59:43Z 1e3 1.5e3 1.5e+3 1e-7 1e+5 5. .5 +.5 -.5e1 1. ._5 .5_0 . .. .e1 1e 1e999 1.2.3
 1.20 .inf -.INF +.Inf .nan .NaN .nAn -.nan = << 1.0.0 10s 25% 0xffffffffffffffff

@@ -211,7 +211,7 @@ def try_kubectl(rng, count):
     if not kubectl.is_here():
         print("tests/yaml: kubectl is not here")
         return 0
-    words = [it for it in making.SCALARS if it[-1] != ":" and it.lower()[-4:] not in (".inf", ".nan")]
+    words = [it for it in making.SCALARS if kubectl.is_value(it)]
     for word, value in zip(words, kubectl.read(words)):
         answer = group.answer(f"a: {word}\n".encode())
         group.counts[f"scalars {answer and answer[0]}"] += 1

@@ -47,17 +47,20 @@ fn push_quoted(text: &mut Vec<u8>, c: &mut Cursor<'_>) -> Result<(), Fault> {
 
 // Joins the line that ends here with the next one that is not blank.
 fn read_break(c: &mut Cursor<'_>, text: &mut Vec<u8>, kept: usize) -> Result<(), Fault> {
-    let read = text.get(kept..).unwrap_or(&[]);
-    let white = read
-        .iter()
-        .rev()
-        .take_while(|byte| is_white(**byte))
-        .count();
-    let end = text.len().saturating_sub(white);
-    text.truncate(end);
+    drop_white(text, kept);
     let blank = c.skip_break();
     go_on(c)?;
     push_break(text, blank)
+}
+
+// Drops the white space at the end of a text that is longer than that.
+fn drop_white(text: &mut Vec<u8>, kept: usize) {
+    for _ in kept..text.len() {
+        if !is_white(text.last().copied().unwrap_or(0)) {
+            break;
+        }
+        text.pop();
+    }
 }
 
 // Goes to what comes first in the line that begins here.
