@@ -45,8 +45,8 @@ pub(crate) fn read_block(
     Ok(Value::Object(read_members(alloc, c, depth - 1)?))
 }
 
-/// The value that begins here where no block mapping or sequence may: in the line of its key, or of
-/// the marker of its document.
+/// The value that begins here, in the line of its key or of the marker of its document. So it is no
+/// block mapping or sequence.
 ///
 /// # Errors
 /// As `read_block`; `Colon` or `Trailing`, if the line goes on after the value.

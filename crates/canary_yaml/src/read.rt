@@ -30,7 +30,8 @@ pub struct Document {
 /// has 1,048,576 bytes at most.
 ///
 /// # Errors
-/// `Refused` with the first thing that is not read, by `Why`; `Memory`.
+/// `Refused`: `Length`, `Utf8` or `Control`, if the bytes are not such a text, else by another name
+/// of `Why` the first thing that is not read. `Memory`.
 pub fn read_documents(alloc: Global, bytes: &[u8]) -> Result<Vec<Document>, Fault> {
     let text = text_of(alloc, bytes)?;
     let mut c = Cursor::new(text.as_slice());

@@ -1,9 +1,9 @@
-//! What a plain scalar means: the core schema of YAML 1.2, where YAML 1.1 reads the same.
+//! What a plain scalar means: the core schema of YAML 1.2, as far as other readers agree.
 //!
-//! kubectl reads by YAML 1.1, as its reader has it. What the two versions read as different values
-//! is refused, with two exceptions, in which kubectl reads as YAML 1.2 and JSON do: 1e3 is a number
-//! here, which needs a point and a sign in YAML 1.1; and a date, which that has as a value of its
-//! own, is a text, as is `=`.
+//! kubectl reads by YAML 1.1. A plain scalar that the two versions, or kubectl, read as different
+//! values is refused. Two kinds are read as kubectl and JSON have them: 1e3 is a number, though YAML
+//! 1.1 wants a point and a sign; and a date, like `=`, is a text, though YAML 1.1 has a value of its
+//! own for it.
 ghost use Rattle.std.specs.Prelude.{◌≡◌, IfOk};
 ghost use Rattle.serde_json.specs.Data.{depth as nesting};
 ghost use Rattle.serde_json.specs.View.{view};
