@@ -23,6 +23,4 @@ mod plain;
 mod quoted;
 pub mod read;
 mod schema;
-#[cfg(test)]
-mod tests;
 mod text;

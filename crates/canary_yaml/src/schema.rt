@@ -1,9 +1,9 @@
 //! What a plain scalar means: the core schema of YAML 1.2, as far as other readers agree.
 //!
 //! kubectl reads by YAML 1.1. A plain scalar that the two versions, or kubectl, read as different
-//! values is refused. Two kinds are read as kubectl and JSON have them: 1e3 is a number, though YAML
-//! 1.1 wants a point and a sign; and a date, like `=`, is a text, though YAML 1.1 has a value of its
-//! own for it.
+//! values is refused. Two kinds are read as kubectl and JSON have them: 1e3 is a number, though
+//! YAML 1.1 wants a point and a sign; and a date, like `=`, is a text, though YAML 1.1 has a value
+//! of its own for it.
 ghost use Rattle.std.specs.Prelude.{◌≡◌, IfOk};
 ghost use Rattle.serde_json.specs.Data.{depth as nesting};
 ghost use Rattle.serde_json.specs.View.{view};
