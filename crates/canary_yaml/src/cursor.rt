@@ -54,6 +54,18 @@ impl<'a> Cursor<'a> {
         }
     }
 
+    /// The fault of a number here that kubectl reads as this one; `Range` if 64 bits do not hold it.
+    pub(crate) fn fault_of(&self, reads: Option<i64>) -> Fault {
+        match (self.fault(Why::Range), reads) {
+            (Fault::Refused { line, column, .. }, Some(reads)) => Fault::Number {
+                line,
+                column,
+                reads,
+            },
+            (fault, _) => fault,
+        }
+    }
+
     /// The number of the line, from 1.
     pub(crate) fn line(&self) -> usize {
         self.line

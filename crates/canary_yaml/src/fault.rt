@@ -16,6 +16,14 @@ pub enum Fault {
         column: usize,
         why: Why,
     },
+    /// A plain scalar at this line and column is this number to kubectl, and another one or a text to
+    /// YAML 1.1 or 1.2: 0644, 0o644 or 0b101.
+    #[error("line {line}, column {column}: kubectl reads {reads}: write that, or put it in quotes")]
+    Number {
+        line: usize,
+        column: usize,
+        reads: i64,
+    },
 }
 
 /// What is not read. `text` says it in words, with what to write instead.
@@ -46,8 +54,6 @@ pub enum Why {
     NotFinite,
     OldTrue,
     OldFalse,
-    LeadingZero,
-    Base,
     Underscore,
     Base60,
     Trailing,
@@ -84,12 +90,6 @@ impl Why {
             Why::NotFinite => "infinity and NaN, which JSON does not have: put a text in quotes",
             Why::OldTrue => "YAML 1.1 reads true here: write true, or put it in quotes",
             Why::OldFalse => "YAML 1.1 reads false here: write false, or put it in quotes",
-            Why::LeadingZero => {
-                "base 8 in YAML 1.1, by a first 0: write 420 for 0644, or put it in quotes"
-            }
-            Why::Base => {
-                "a base that not every YAML reads: write 15 for 0o17, or put it in quotes"
-            }
             Why::Underscore => {
                 "a number in YAML 1.1 alone: write 1000 for 1_000, or put it in quotes"
             }

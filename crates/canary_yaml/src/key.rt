@@ -52,21 +52,20 @@ pub(crate) fn read_key(alloc: Global, c: &mut Cursor<'_>, style: Style) -> Resul
     }
     let part = plain_part(c.rest(), style);
     c.skip(part.len());
-    if let Some(why) = refusal_of(part) {
-        return Err(begin.fault(why));
-    }
+    refuse_key(part, &begin)?;
     string_of(Vec::from_slice(alloc, part)?, &begin)
 }
 
-// Why a plain scalar is no key.
-fn refusal_of(part: &[u8]) -> Option<Why> {
+// Refuses a plain scalar that is no key. It began here.
+fn refuse_key(part: &[u8], begin: &Cursor<'_>) -> Result<(), Fault> {
     if part == b"<<".as_slice() {
-        return Some(Why::Merge);
+        return Err(begin.fault(Why::Merge));
     }
     match meaning_of(part) {
-        Meaning::Text => None,
-        Meaning::Refused(why) => Some(why),
-        _ => Some(Why::KeyKind),
+        Meaning::Text => Ok(()),
+        Meaning::Refused(why) => Err(begin.fault(why)),
+        Meaning::InOtherBase(number) => Err(begin.fault_of(number)),
+        _ => Err(begin.fault(Why::KeyKind)),
     }
 }
 

@@ -1,4 +1,6 @@
 //! Numbers, as plain scalars spell them.
+ghost use Rattle.std.specs.Prelude.{◌≤◌};
+
 use crate::cursor::count_of;
 use std::alloc::{AllocError, Global};
 
@@ -152,6 +154,34 @@ pub(crate) fn has_base(text: &[u8]) -> bool {
         [b'0', b'x' | b'X', digits @ ..] => are_of(digits, b"0123456789abcdefABCDEF_"),
         _ => false,
     }
+}
+
+/// The number that kubectl reads in a text that begins with 0, or with a sign and 0: in the base of
+/// its letter, else in base 8 if the digits are of that, and in base 10. None if 64 bits do not
+/// hold it.
+pub(crate) fn number_of_kubectl(text: &[u8]) -> Option<i64> {
+    let number = after_sign(text);
+    let value = match number {
+        [b'0', b'b' | b'B', digits @ ..] => value_in(digits, 2),
+        [b'0', b'o' | b'O', digits @ ..] => value_in(digits, 8),
+        [b'0', b'x' | b'X', digits @ ..] => value_in(digits, 16),
+        _ if are_of(number, b"01234567") => value_in(number, 8),
+        _ => value_in(number, 10),
+    };
+    let is_negative = text.first() == Some(&b'-');
+    if is_negative {
+        value?.checked_neg()
+    } else {
+        value
+    }
+}
+
+// The number that digits of that base spell, if 64 bits hold it.
+fn value_in(digits: &[u8], base: u32) -> Option<i64>
+    requires least { 2 ≤ base }
+    requires most { base ≤ 36 }
+{
+    i64::from_str_radix(std::str::from_utf8(digits).ok()?, base).ok()
 }
 
 // Whether all are of this kind, and not each of them is `_`.

@@ -10,7 +10,7 @@ ghost use Rattle.serde_json.specs.View.{view};
 
 use crate::cursor::Cursor;
 use crate::fault::{Fault, Why};
-use crate::number::{Decimal, has_base, in_base_16, is_in_base_60};
+use crate::number::{Decimal, has_base, in_base_16, is_in_base_60, number_of_kubectl};
 use serde_json::{Number, Value};
 use std::alloc::Global;
 
@@ -23,6 +23,8 @@ pub(crate) enum Meaning<'a> {
     Whole(u64),
     Text,
     Refused(Why),
+    // A number to kubectl, and another one or a text to others; None if 64 bits do not hold it.
+    InOtherBase(Option<i64>),
 }
 
 /// What a plain scalar means.
@@ -68,7 +70,7 @@ fn meaning_of_number(text: &[u8]) -> Meaning<'_> {
         };
     }
     if has_base(text) {
-        return Meaning::Refused(Why::Base);
+        return in_other_base(text);
     }
     if is_in_base_60(text) {
         return Meaning::Refused(Why::Base60);
@@ -77,21 +79,26 @@ fn meaning_of_number(text: &[u8]) -> Meaning<'_> {
 }
 
 // What a number in base 10 means, which the text spells.
-fn meaning_of_decimal<'a>(text: &[u8], number: Decimal<'a>) -> Meaning<'a> {
+fn meaning_of_decimal<'a>(text: &'a [u8], number: Decimal<'a>) -> Meaning<'a> {
+    if text.contains(&b'_') || number.has_leading_zero() {
+        return in_other_base(text);
+    }
+    Meaning::Decimal(number)
+}
+
+// What a number means that is one to kubectl, and another one or a text to others.
+fn in_other_base(text: &[u8]) -> Meaning<'_> {
     if text.contains(&b'_') {
         return Meaning::Refused(Why::Underscore);
     }
-    if number.has_leading_zero() {
-        return Meaning::Refused(Why::LeadingZero);
-    }
-    Meaning::Decimal(number)
+    Meaning::InOtherBase(number_of_kubectl(text))
 }
 
 /// The value of a plain scalar, which began here.
 ///
 /// # Errors
-/// `OldTrue`, `OldFalse`, `LeadingZero`, `Base`, `Underscore` or `Base60`, if YAML 1.1 reads it as
-/// another value; `NotFinite` or `Range`, if JSON has no such number; `Memory`.
+/// `OldTrue`, `OldFalse`, `Underscore`, `Base60` or a `Number`, if not all read it as one value;
+/// `NotFinite` or `Range`, if JSON has no such number; `Memory`.
 #[tactic(auto, using(crate::proofs::Nesting::nests))]
 pub(crate) fn value_of(alloc: Global, text: Vec<u8>, begin: &Cursor<'_>) -> Result<Value, Fault>
     ensures { IfOk result (λ v. nesting (view v) ≡ 0) }
@@ -102,6 +109,7 @@ pub(crate) fn value_of(alloc: Global, text: Vec<u8>, begin: &Cursor<'_>) -> Resu
         Meaning::Decimal(number) => number_of(alloc, number, begin),
         Meaning::Whole(number) => Ok(Value::Number(Number::from(number))),
         Meaning::Refused(why) => Err(begin.fault(why)),
+        Meaning::InOtherBase(number) => Err(begin.fault_of(number)),
         Meaning::Text => Ok(Value::String(string_of(text, begin)?)),
     }
 }

@@ -93,14 +93,16 @@ a:¶  off => 2:3 OldFalse
 n: 1 => 1:1 OldFalse
 [NO] => 1:2 OldFalse
 a: no => 1:4 OldFalse
-mode: 0644 => 1:7 LeadingZero
-[-08] => 1:2 LeadingZero
-010: a => 1:1 LeadingZero
-[0o17] => 1:2 Base
-[0b101] => 1:2 Base
-[0X1f] => 1:2 Base
-[+0x1f] => 1:2 Base
-[0x_1] => 1:2 Base
+mode: 0644 => 1:7 reads 420
+[-017] => 1:2 reads -15
+[-08] => 1:2 reads -8
+010: a => 1:1 reads 8
+[0o17] => 1:2 reads 15
+[0b101] => 1:2 reads 5
+[0X1f] => 1:2 reads 31
+[-0x1f] => 1:2 reads -31
+[0X10000000000000000] => 1:2 Range
+[0x_1] => 1:2 Underscore
 [1_000] => 1:2 Underscore
 [0.1_0] => 1:2 Underscore
 [-1e1_0] => 1:2 Underscore
@@ -144,6 +146,13 @@ fn shown(alloc: Global, bytes: &[u8]) -> Result<String, Fail> {
         Err(Fault::Refused { line, column, why }) => {
             Ok(format!(in alloc; "{line}:{column} {why:?}")?)
         }
+        Err(
+            Fault::Number {
+                line,
+                column,
+                reads,
+            },
+        ) => { Ok(format!(in alloc; "{line}:{column} reads {reads}")?) }
     }
 }
 
@@ -236,6 +245,9 @@ fn json_is_read_as_json(rt: HostRuntime) -> Result<(), Fail> {
     assert_eq!(rt; found.as_str(), "{\"a\":2}");
     let found = shown_of_either(alloc, "a: [1")?;
     let want = "line 1, column 6: a quote or a bracket that is not closed";
+    assert_eq!(rt; found.as_str(), want);
+    let found = shown_of_either(alloc, "a: 0644")?;
+    let want = "line 1, column 4: kubectl reads 420: write that, or put it in quotes";
     assert_eq!(rt; found.as_str(), want);
     Ok(())
 }
