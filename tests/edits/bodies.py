@@ -4,10 +4,11 @@ import collections
 import re
 
 # A function of a file: the module by which it is named, which is that of its type if the impl is of
-# no trait; its name there; and the numbers of its first line, attributes among them, of the line
-# that opens its body and of its last line, from 1.
-Function = collections.namedtuple("Function", "module name first body last")
+# no trait; its name there; the numbers of its first line, attributes among them, of the line that
+# opens its body and of its last line, from 1; and the cycle of calls that it names, or nothing.
+Function = collections.namedtuple("Function", "module name first body last cycle")
 
+CYCLE = re.compile(r" *#\[cycle\((\w+)\)\]")
 HEAD = re.compile(r"( *)(?:pub(?:\(\w+\))? )?fn (\w+)")
 TYPE = re.compile(r"^(?:pub(?:\(\w+\))? )?(?:struct|enum) (\w+)", re.MULTILINE)
 BLOCK = re.compile(r"(?:pub(?:\(\w+\))? )?(?:impl\b|trait (\w+))(.*)")
@@ -100,7 +101,9 @@ def functions_of(file, text, homes):
         if head and head[1] == (" " * 4 if block else ""):
             body, last = body_of(lines, place, head[1])
             first = first_of(lines, place)
-            found.append(Function(module, block + head[2], first + 1, body + 1, last + 1))
+            named = (it[1] for it in map(CYCLE.match, lines[first:place]) if it)
+            at = first + 1, body + 1, last + 1
+            found.append(Function(module, block + head[2], *at, next(named, "")))
             place = last
         place += 1
     return found

@@ -1,6 +1,7 @@
 """Cuts functions off: their clauses stay, and their bodies call a function whose clause is false,
 which proves whatever they ensure. So they are proved in no time, and the functions that call them
 as ever: each is proved against the clauses of the others. Such a copy is for a trial alone."""
+from bodies import CYCLE
 
 MODULE = "cut_off"
 NEVER = """//! Proves everything.
@@ -26,6 +27,9 @@ def cut_off(text, functions):
             opening = lines[function.body - 1].removesuffix("{")
             lines[function.body - 1] = opening + BODY
             lines[function.body : function.last] = [""] * (function.last - function.body)
+            for place in range(function.first - 1, function.body):
+                # It calls nothing any more.
+                lines[place] = "" if CYCLE.match(lines[place]) else lines[place]
     return "\n".join(lines)
 
 

@@ -34,11 +34,13 @@ class Source:
         return {path: "\n".join(it) for path, it in lines.items()}
 
     def cut_off(self, edits, kept):
-        """The texts of all files, with the bugs, in which no function stays but those of `kept` and
-        the laws; and those that are cut off, each with its file."""
+        """The texts of all files, with the bugs, in which no function stays but those of `kept`, of
+        their cycles of calls, and the laws; and those that are cut off, each with its file."""
         texts, cut = {**self.texts, **self.planted(edits)}, []
+        cycles = cycles_of(kept)
         for path, functions in self.functions.items():
-            gone = [it for it in functions if (path, it) not in kept and path != LAWS]
+            gone = [it for it in functions if (path, it) not in kept and path != LAWS
+                    and not cycles & cycles_of([(path, it)])]
             texts[path] = cutting.cut_off(texts[path], gone)
             cut += [(path, it) for it in gone]
         cutting.add_never(texts)
@@ -92,8 +94,16 @@ def text_of(path):
         return file.read()
 
 
+def cycles_of(functions):
+    """The cycles of calls in which these functions are, each with its file: one proof is of all."""
+    return {(path, it.cycle) for path, it in functions if it.cycle}
+
+
 def are_apart(one, other):
-    """Whether two bugs can be planted at once: they change no function and no line both."""
+    """Whether two bugs can be planted at once: they change no function, no line and no cycle of
+    calls both."""
+    if cycles_of(one.changed) & cycles_of(other.changed):
+        return False
     return not one.changed & other.changed and not one.lines.keys() & other.lines.keys()
 
 

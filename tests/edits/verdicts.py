@@ -32,8 +32,10 @@ def paths_of(file, function):
 
 
 def folders_of(file, function):
-    """The folders of a function's proof, and of those of its closures."""
-    return ["proofs/" + it.replace("::", "/") + "/" for it in paths_of(file, function)]
+    """The folders of a function's proof, with its cycle's, and of those of its closures."""
+    paths = [*paths_of(file, function)]
+    paths += [f"{function.module}+{function.cycle}"] if function.cycle else []
+    return ["proofs/" + it.replace("::", "/") + "/" for it in paths]
 
 
 def is_about(line, file, function):

@@ -3,7 +3,7 @@
 
 # The tools without which nothing here runs, and those that `./check --without` may name.
 required=(rt bash python3 awk)
-optional=(cc strace sqlite3 curl)
+optional=(cc strace sqlite3 curl pyyaml)
 
 # The tool $1 is here, and does what the scripts ask of it; or the machine has IPv6.
 has() {
@@ -15,6 +15,7 @@ sys.exit(sys.version_info < (3, 10) or sqlite3.sqlite_version_info < (3, 37))' ;
         strace) strace -o /dev/null true ;;
         ipv6) python3 -c 'import socket; socket.socket(socket.AF_INET6).bind(("::1", 0))' ;;
         sqlite3) sqlite3 :memory: 'CREATE TABLE made (id INTEGER) STRICT' ;;
+        pyyaml) python3 -c 'import yaml' ;;
         *) command -v "$1" ;;
     esac > /dev/null 2>&1 < /dev/null
 }
@@ -28,6 +29,7 @@ described() {
         cc) echo "cc, a C compiler with the C library's headers" ;;
         strace) echo "strace, which has to be able to trace a process" ;;
         sqlite3) echo "sqlite3 3.37 or later" ;;
+        pyyaml) echo "PyYAML, the module yaml of python3" ;;
         *) echo "$1" ;;
     esac
 }
@@ -40,6 +42,7 @@ packages_of() {
             rt) ;;
             awk) echo mawk ;;
             cc) printf '%s\n' gcc libc6-dev ;;
+            pyyaml) echo python3-yaml ;;
             *) echo "$name" ;;
         esac
     done
@@ -57,6 +60,7 @@ left_out_without() {
             "(tests/tables/run, tests/files/run)" ;;
         curl) echo "curl: its long request (tests/listener/run), and docs/API.md's session" \
             "(tests/client/run)" ;;
+        pyyaml) echo "pyyaml: manifests in YAML beside what PyYAML reads (tests/yaml/run)" ;;
     esac
 }
 
