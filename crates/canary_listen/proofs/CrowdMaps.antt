@@ -1,12 +1,11 @@
 -- A map of clients that changes at one number.
-use Rattle.std.proofs.Common.{◌≡◌, ◌≢◌, ℕ, inl, inr, true, false, refl, sym, ap, ◌∙◌, subst, arith}
-use Rattle.std.specs.Prelude.{Option, None, Some, option_map, unwrap_or, IsSome, IfSome, List, [], ◌∷◌, length}
+use Rattle.std.proofs.Common.{◌≡◌, ◌≢◌, ℕ, inl, inr, true, false, refl, sym, ap, ◌∙◌, subst}
+use Rattle.std.specs.Prelude.{Option, None, Some, option_map, unwrap_or, IsSome, IfSome, length}
 use Rattle.std.specs.Ordering.{nat_cmp}
-use Rattle.std.specs.BTreeMap.{BTreeMap, is_at, get, btree_map_len, Updates, WritesThrough}
+use Rattle.std.specs.BTreeMap.{BTreeMap, is_at, get, Updates, WritesThrough}
 use Rattle.std.specs.Cmp.{unsigned_tied}
 use Rattle.std.specs.Map.{lookup}
 use Rattle.std.proofs.lemmas.Bool.Decides.{eqb_tells}
-use Rattle.std.proofs.lemmas.Option.{none-some}
 use Rattle.canary_wire.specs.Conversing.{Talk, begun}
 use Rattle.canary_wire.specs.Crowds.{Crowd, Becomes}
 use Rattle.canary_listen.specs.declared.client.Client.{Client}
@@ -73,17 +72,6 @@ none_reported m k gone =
 
 -- ---- what is owed
 
--- a client that is there is owed what its conversation owes, and one that is not, nothing
+-- a client that is there is owed what its conversation owes
 pub owed_there : (crowd : Crowd) (k : ℕ) (t : Talk) → crowd k ≡ Some t → length t.owed ≡ owed_to crowd k
 owed_there crowd k t e = ap (λ (o : Option Talk). unwrap_or (option_map (λ (x : Talk). length x.owed) o) 0) (sym e)
-
-pub owed_nowhere : (m : Map) (k : ℕ) → get nat_cmp m k ≡ None → owed_to (crowd_in m) k ≡ 0
-owed_nowhere m k e = ap (λ (o : Option Client). unwrap_or (option_map (λ (x : Talk). length x.owed) (option_map client_talk o)) 0) e
-
-none_found : (es : List (ℕ × Client)) (k : ℕ) (c : Client) → Some c ≡ lookup (is_at (nat_cmp k)) es → length es ≡ 0 → ⊥
-none_found [] k c e none = none-some c (sym e)
-none_found (x ∷ es) k c e none = omega (arith, none)
-
--- where a client is, somebody is
-pub somebody : (m : Map) (k : ℕ) (c : Client) → Some c ≡ get nat_cmp m k → btree_map_len m ≡ 0 → ⊥
-somebody m k c e none = none_found m.entries k c e none

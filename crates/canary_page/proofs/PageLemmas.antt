@@ -1,5 +1,5 @@
 -- A service's measurements, read page by page.
-use Rattle.std.proofs.Common.{◌≡◌, ℕ, ◌+◌, ◌-◌, ◌≤◌, List, length, take, drop, sym, ◌∙◌, ap, subst, arith}
+use Rattle.std.proofs.Common.{◌≡◌, ℕ, ◌+◌, ◌-◌, ◌≤◌, List, length, take, drop, ◌∙◌, ap, arith}
 use Rattle.std.specs.Prelude.{min}
 use Rattle.std.proofs.lemmas.List.{length-take, length-drop}
 use Rattle.canary_release.specs.declared.effect.Recorded.{Recorded}
@@ -29,9 +29,3 @@ module _ (a b c : BookState) (name : List ℕ) (from count : ℕ) (x : Stays a b
       let l : from ≤ all = least (y.honest honest) in
       let n : count ≡ min 256 (all - from) = counted honest in
       omega (arith, small, l, n)
-
-  pub page_last : count ≡ 0 → c.is_honest → from ≡ all
-  page_last none honest =
-      let l : from ≤ all = least (y.honest honest) in
-      let n : count ≡ min 256 (all - from) = counted honest in
-      omega (arith, none, l, n)
