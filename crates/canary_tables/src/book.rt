@@ -128,7 +128,10 @@ impl<S: Alter> Book for TableBook<S> {
         self.notes = Notes::none();
         match known::commit(&mut self.conn, self.alloc, &mut self.kept, settlement) {
             Ok(()) => Ok(()),
-            Err(fault) => Err(book_fault(fault)),
+            Err(fault) => {
+                self.kept.forget(self.alloc);
+                Err(book_fault(fault))
+            }
         }
     }
 }

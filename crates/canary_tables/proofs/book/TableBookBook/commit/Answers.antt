@@ -20,4 +20,4 @@ returns-in-Err g c =
 
 pub invariant_of-self-in-Err : goal.invariant_of-self-in-Err
 invariant_of-self-in-Err g c =
-    failed_book g.S.Store c.self.inside.conn c.commit.new.conn c.self.inside.notes c.none-self-inside.result c.self.inside.kept c.commit.new.kept c.none-self-inside.ensures c.self.invariant c.commit.ensures.mode c.commit.ensures.held c.in-Err.ensures.failed c.commit.ensures.kept
+    failed_book g.S.Store c.self.inside.conn c.commit.new.conn c.self.inside.notes c.none-self-inside.result c.self.inside.kept c.forget.new.self c.none-self-inside.ensures c.self.invariant c.commit.ensures.mode c.commit.ensures.held c.in-Err.ensures.failed (λ usable. c.forget.ensures.kept _)
