@@ -1,14 +1,15 @@
 -- Decimals whose number fits an i64.
-use Rattle.std.proofs.Common.{◌≡◌, ℕ, ◌+◌, ◌-◌, ◌*◌, ◌^◌, ◌<◌, min, ℤ, pos, negsuc, Bool, refl, sym, ap, ◌∙◌, arith}
-use Rattle.std.specs.Prelude.{int_lt}
+use Rattle.std.proofs.Common.{Option, Some, None, ◌≡◌, ℕ, ◌+◌, ◌-◌, ◌*◌, ◌^◌, ◌<◌, min, ℤ, pos, negsuc, Bool, refl, sym, ap, ◌∙◌, arith}
+use Rattle.std.specs.Prelude.{int_lt, nat_lt, ◌*ℤ◌}
+use Rattle.std.proofs.lemmas.Option.{cond_some}
+use Rattle.std.proofs.lemmas.Bool.{ltb-true, le-ltb}
 use Rattle.std.specs.Int.RustNames.{unsigned_abs}
-use Rattle.std.proofs.lemmas.Bool.{le-ltb}
 use Rattle.std.proofs.lemmas.Nat.{pow-add}
 use Rattle.std.proofs.Math.Nat.{mul_assoc}
 use Rattle.canary_decimal.specs.declared.decimal.ShortDecimal.{ShortDecimal}
 use Rattle.canary_decimal.specs.Exactness.{Fraction, signed, IsConstant}
-use Rattle.canary_decimal.specs.Short.{fraction_of}
-use Rattle.canary_decimal.proofs.Signs.{constant_found}
+use Rattle.canary_decimal.specs.Short.{fraction_of, short_constant}
+use Rattle.canary_decimal.proofs.Signs.{constant_found, signed_times}
 
 -- a number is its size with its sign
 pub with_its_sign : (z : ℤ) → signed (int_lt z (pos 0)) (unsigned_abs z) ≡ z
@@ -30,3 +31,11 @@ constant_holds d n size t more e h is =
     let seen : ◌≡◌ {A = Fraction} (record { whole = signed s (a * 10 ^ 0); places = d.places }) (fraction_of d) =
     ap (λ (k : ℕ). let f : Fraction = record { whole = signed s k; places = d.places } in f) one ∙ ap (λ (z : ℤ). let f : Fraction = record { whole = z; places = d.places } in f) (with_its_sign d.whole) in
     constant_found t (fraction_of d) s tens a 0 d.places n (omega arith) (is ∙ ap (signed s) size_is) seen (omega arith, back ∙ ap (λ (k : ℕ). a * k) (sym up))
+
+pub short_constants : (d : ShortDecimal) (n : ℕ) (t : ℤ) → d.places < n → short_constant d n ≡ Some t → IsConstant t (fraction_of d) n
+short_constants d n t more e =
+    let size : ℕ = unsigned_abs d.whole * 10 ^ (n - d.places) in
+    let found = cond_some (nat_lt size (2 ^ 63)) (d.whole *ℤ pos (10 ^ (n - d.places))) t e in
+    let small : size < 2 ^ 63 = ltb-true size (2 ^ 63) found.0 in
+    let number : t ≡ signed (int_lt d.whole (pos 0)) size = sym found.1 ∙ ap (λ (z : ℤ). z *ℤ pos (10 ^ (n - d.places))) (sym (with_its_sign d.whole)) ∙ signed_times (int_lt d.whole (pos 0)) (unsigned_abs d.whole) (10 ^ (n - d.places)) in
+    constant_holds d n size t more (omega arith) small number

@@ -1,0 +1,83 @@
+//! The desk's comparison for one of Argo's.
+ghost use Rattle.std.specs.Prelude.{◌≡◌};
+ghost use Rattle.canary_argo.specs.Translating.{desk_place, turned, in_turn, constant_of, made};
+ghost use Rattle.canary_argo.specs.Translating.{desk_test};
+
+use crate::condition::{Place, Test};
+use crate::form::{Form, Shape};
+use canary_condition::condition::{Comparison, Operand};
+use canary_decimal::decimal::{MOST_PLACES, ShortDecimal};
+
+// A comparison of a value that is reported with a constant.
+#[derive(Clone, Copy)]
+pub(crate) struct DeskTest {
+    pub(crate) operand: Operand,
+    pub(crate) comparison: Comparison,
+    pub(crate) constant: i64,
+}
+
+// The most values of a list.
+const MOST_VALUES: u64 = 16;
+
+// The operand for a place, if the shape has it.
+fn desk_place(shape: Shape, place: Place) -> Option<Operand>
+    ensures { result ≡ desk_place shape place }
+{
+    match (shape, place) {
+        (Shape::One, Place::Whole) => Some(Operand::Whole),
+        (Shape::First, Place::Item(0)) => Some(Operand::Whole),
+        (Shape::Several(most), Place::Item(place)) if place < most && most <= MOST_VALUES => {
+            Some(Operand::Item(place))
+        }
+        _ => None,
+    }
+}
+
+// The comparison with its sides changed.
+fn turned(comparison: Comparison) -> Comparison
+    ensures { result ≡ turned comparison }
+{
+    match comparison {
+        Comparison::Equal => Comparison::Equal,
+        Comparison::NotEqual => Comparison::NotEqual,
+        Comparison::Less => Comparison::Greater,
+        Comparison::AtMost => Comparison::AtLeast,
+        Comparison::Greater => Comparison::Less,
+        Comparison::AtLeast => Comparison::AtMost,
+    }
+}
+
+// The comparison with the value first.
+fn in_turn(is_turned: bool, comparison: Comparison) -> Comparison
+    ensures { result ≡ in_turn is_turned comparison }
+{
+    if is_turned {
+        turned(comparison)
+    } else {
+        comparison
+    }
+}
+
+// The constant of a number, if it has fewer places than are reported.
+fn constant_of(number: ShortDecimal, places: usize) -> Option<i64>
+    ensures { result ≡ constant_of number places }
+{
+    if number.places < places && places <= MOST_PLACES {
+        number.to_constant(places)
+    } else {
+        None
+    }
+}
+
+// The desk's comparison for one of Argo's, with the value first.
+pub(crate) fn desk_test(form: Form, test: Test) -> Option<DeskTest>
+    ensures { result ≡ desk_test form test }
+{
+    let operand = desk_place(form.shape, test.place)?;
+    let constant = constant_of(test.number, form.places)?;
+    Some(DeskTest {
+        operand,
+        comparison: in_turn(test.turned, test.comparison),
+        constant,
+    })
+}
