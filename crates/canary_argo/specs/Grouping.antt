@@ -60,7 +60,8 @@ with_value None = None
 with_value (Some v) = with_number v.0 v.1
 
 -- the comparison of a number with the value that follows it
-abbrev pub turned_test : Comparison → ShortDecimal → Option ((Bool × Place) × List Token) → Option (Test × List Token)
+abbrev pub turned_test : Comparison → ShortDecimal → Option ((Bool × Place) × List Token)
+    → Option (Test × List Token)
 turned_test c d None = None
 turned_test c d (Some v) = Some (made true v.0 c d, v.1)
 

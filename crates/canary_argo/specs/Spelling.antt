@@ -5,8 +5,8 @@
 --     atom    := "(" or ")" | value compare number | number compare value
 --     value   := place | "asFloat" "(" place ")"
 --     place   := "result" | "result" "[" digits "]"
--- Argo negates the operand that follows a `not`, and not a comparison. The relation splits the whole
--- text at each level.
+-- Argo negates the operand that follows a `not`, and not a comparison. The relation splits the
+-- whole text at each level.
 use Rattle.std.specs.Prelude.{◌≡◌, List, [], ◌∷◌, ◌++◌, Bool, true, false, IsTrue, pos, if◌then◌else◌}
 use Rattle.canary_condition.specs.Spelling.{Level, has_or, has_and, has_not}
 use Rattle.canary_condition.specs.Spelling.Level.{AtOr, AtAnd, AtNot}

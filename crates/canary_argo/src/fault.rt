@@ -1,4 +1,4 @@
-//! Why a condition of Argo Rollouts is not translated.
+//! Why a condition of Argo Rollouts is not translated, and what to write.
 use canary_base::error::Memory;
 use canary_condition::condition::ConditionFault;
 use std::alloc::AllocFailed;
@@ -8,8 +8,7 @@ use std::alloc::AllocFailed;
 pub enum Refusal {
     /// A byte that begins nothing of a condition.
     Byte,
-    /// A number that is not digits, or digits, a point and digits, of at most 15 digits, 17 of them
-    /// after the point.
+    /// A number in another form, or with more than 15 digits, or with more than 17 after the point.
     Number,
     /// `+`, `-`, `*`, `/`, `%` or `^`.
     Arithmetic,
@@ -29,9 +28,9 @@ pub enum Refusal {
     Matching,
     /// `true`, `false`, or a result alone.
     Truth,
-    /// `nil`.
+    /// `nil` or `null`.
     Nil,
-    /// A function of Argo's that a desk's condition does not have.
+    /// A function.
     Function,
     /// A name.
     Name,
@@ -43,18 +42,57 @@ pub enum Refusal {
     Chain,
     /// `!` before a comparison.
     NotBeforeComparison,
-    /// A place of a list that is no plain number.
+    /// A place of a list that is no plain number, or lies behind the 16th value.
     Place,
-    /// A comparison is wanted there.
+    /// Something else where a comparison must stand.
     Comparison,
-    /// `&&`, `||` and brackets that do not fit together.
+    /// Signs and brackets that do not fit together.
     Brackets,
-    /// `result` beside `result[0]`, or a place that the form of the metric does not have.
+    /// `result` beside `result[0]`.
     Shape,
-    /// A number that does not fit, times a power of ten.
+    /// A number that does not fit, times the power of ten of the metric's places.
     Range,
-    /// The condition is too long, or has too many brackets.
+    /// More than 1,024 bytes once it is translated, or more than 32 brackets open at one place.
     Length,
+}
+
+impl Refusal {
+    /// What it is, and what to write.
+    pub fn text(self) -> &'static str {
+        match self {
+            Refusal::Byte => "no condition of Argo has that here",
+            Refusal::Number => "this number: write 15 digits at most, as 0.95",
+            Refusal::Arithmetic => "arithmetic: do it in the query",
+            Refusal::Text => "a text: have the query give 1 or 0, and compare with 1",
+            Refusal::Member => "a member: put the path into the provider's jsonPath",
+            Refusal::Pipe => "a pipe: do it in the query",
+            Refusal::Choice => "a choice: write a condition without ? : and ??",
+            Refusal::Argument => "an argument without a value: give it one in the Rollout's args",
+            Refusal::In => "in: write result == 1 || result == 2, and so on",
+            Refusal::Matching => "a text: have the query give 1 or 0, and compare with 1",
+            Refusal::Truth => "a truth: have the query give 1 or 0, and write == 1",
+            Refusal::Nil => "nil: leave it out, since no value is an Error",
+            Refusal::Function => "this function: do it in the query",
+            Refusal::Name => "a name: a condition knows result alone",
+            Refusal::TwoResults => "two results: put their quotient or difference into the query",
+            Refusal::TwoNumbers => "two numbers: leave the comparison out",
+            Refusal::Chain => "a chain: write 1 < result && result < 5",
+            Refusal::NotBeforeComparison => "! before a comparison: write !(result > 5)",
+            Refusal::Place => "this place of a list: write result[0], up to result[15]",
+            Refusal::Comparison => "a comparison is wanted here, as result[0] >= 0.95",
+            Refusal::Brackets => "signs or brackets that do not fit together",
+            Refusal::Shape => "result beside result[0]: write one of the two",
+            Refusal::Range => "this number is too large for the digits after the points",
+            Refusal::Length => "this condition is too long: write it shorter",
+        }
+    }
+}
+
+/// What is not translated, and at which byte of the condition.
+#[derive(Clone, Copy, Debug, PartialEq, Eq)]
+pub struct Finding {
+    pub why: Refusal,
+    pub at: usize,
 }
 
 /// Why a condition is not translated.
@@ -63,15 +101,22 @@ pub enum Fault {
     /// An allocation was refused.
     Memory,
     /// It has this.
-    Refused(Refusal),
+    Refused(Finding),
+}
+
+impl Fault {
+    // It has this, at that place.
+    pub(crate) fn refused(why: Refusal, at: usize) -> Fault {
+        Fault::Refused(Finding { why, at })
+    }
 }
 
 impl From<ConditionFault> for Fault {
     fn from(fault: ConditionFault) -> Fault {
         match fault {
             ConditionFault::Memory => Fault::Memory,
-            ConditionFault::Syntax => Fault::Refused(Refusal::Brackets),
-            _ => Fault::Refused(Refusal::Length),
+            ConditionFault::Syntax => Fault::refused(Refusal::Brackets, 0),
+            _ => Fault::refused(Refusal::Length, 0),
         }
     }
 }

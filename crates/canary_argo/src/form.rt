@@ -1,4 +1,15 @@
 //! How the values of a metric are reported.
+use crate::condition::{Item, Place, Test};
+use crate::fault::{Fault, Refusal};
+use crate::{items, lexer};
+use canary_base::error::Memory;
+use std::alloc::Global;
+
+/// The least places of a form.
+pub const LEAST_PLACES: usize = 6;
+
+/// The most values of a list.
+pub const MOST_VALUES: u64 = 16;
 
 /// Which of the values that were measured are reported.
 #[derive(Clone, Copy, Debug, PartialEq, Eq)]
@@ -16,4 +27,98 @@ pub enum Shape {
 pub struct Form {
     pub places: usize,
     pub shape: Shape,
+}
+
+/// What the conditions of a metric look at.
+#[derive(Clone, Copy, Debug, PartialEq, Eq)]
+pub struct Needs {
+    // One place more than the most digits after a point, and six at least.
+    places: usize,
+    // Whether one value is looked at, by `result`.
+    whole: bool,
+    // One more than the last place of a list that is looked at.
+    most: u64,
+}
+
+impl Needs {
+    /// What a metric without conditions looks at.
+    pub fn none() -> Needs {
+        Needs {
+            places: LEAST_PLACES,
+            whole: false,
+            most: 0,
+        }
+    }
+
+    // With one more comparison.
+    fn with(self, test: Test) -> Needs {
+        let places = self.places.max(test.number.places.saturating_add(1));
+        match test.place {
+            Place::Whole => Needs {
+                places,
+                whole: true,
+                most: self.most,
+            },
+            Place::Item(place) => Needs {
+                places,
+                whole: self.whole,
+                most: self.most.max(place.saturating_add(1)),
+            },
+        }
+    }
+
+    // With all comparisons of these groups.
+    fn with_items(self, items: &[Item]) -> Needs {
+        let mut needs = self;
+        for item in items {
+            if let Item::Compare(test) = *item {
+                needs = needs.with(test);
+            }
+        }
+        needs
+    }
+
+    /// With one more condition of Argo Rollouts.
+    ///
+    /// # Errors
+    /// As of `translate`.
+    pub fn with_condition(self, alloc: Global, text: &str) -> Result<Needs, Fault> {
+        let text = text.as_bytes();
+        let tokens = lexer::tokens_of(alloc, text)?;
+        let items = items::items_of_text(alloc, text, tokens.as_slice())?;
+        Ok(self.with_items(items.as_slice()))
+    }
+
+    /// The form in which the values are reported. `Shape` if `result` stands beside `result[i]`,
+    /// and `Place` if a place lies behind the 16th value.
+    pub fn form(self) -> Result<Form, Refusal> {
+        if self.whole && self.most > 0 {
+            return Err(Refusal::Shape);
+        }
+        if self.most > MOST_VALUES {
+            return Err(Refusal::Place);
+        }
+        let shape = match self.most {
+            0 => Shape::One,
+            1 => Shape::First,
+            most => Shape::Several(most),
+        };
+        Ok(Form {
+            places: self.places,
+            shape,
+        })
+    }
+}
+
+impl Form {
+    /// Appends what a label of a metric ends in whose values are reported in this form: `.e6` for
+    /// one number in millionths, `.e6f` for the first value of a list, and `.e6p2` for two of them.
+    pub fn suffix(self, out: &mut String) -> Result<(), Memory> {
+        match self.shape {
+            Shape::One => write!(out, ".e{}", self.places)?,
+            Shape::First => write!(out, ".e{}f", self.places)?,
+            Shape::Several(most) => write!(out, ".e{}p{most}", self.places)?,
+        }
+        Ok(())
+    }
 }

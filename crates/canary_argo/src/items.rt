@@ -5,7 +5,8 @@ ghost use Rattle.canary_argo.specs.Grouping.{with_number, turned_test, front_tes
 ghost use Rattle.canary_argo.specs.Grouping.{all_tokens, is_not, is_test, are_closed};
 
 use crate::condition::{Item, Place, Test, Token};
-use crate::fault::{Fault, Refusal};
+use crate::fault::{Fault, Finding};
+use crate::{lexer, naming};
 use canary_condition::condition::Comparison;
 use canary_decimal::decimal::ShortDecimal;
 use std::alloc::Global;
@@ -22,7 +23,7 @@ fn index_of(number: ShortDecimal) -> Option<u64>
 }
 
 // The place that `result` begins, and what follows it.
-fn after_result(tokens: &[Token]) -> (Place, &[Token])
+pub(crate) fn after_result(tokens: &[Token]) -> (Place, &[Token])
     ensures { (result.0, result.1.now) ≡ after_result tokens.now }
 {
     if let [
@@ -143,20 +144,45 @@ fn front_item(tokens: &[Token]) -> Option<(Item, &[Token])>
     }
 }
 
-// The groups of tokens.
-pub(crate) fn items_of(alloc: Global, tokens: &[Token]) -> Result<Vec<Item>, Fault>
+// The groups of tokens. The place of a fault is that of a token.
+fn items_of(alloc: Global, tokens: &[Token]) -> Result<Vec<Item>, Fault>
     ensures { IfOk result (λ items. tokens.now ≡ all_tokens items.items) }
 {
     let mut items = Vec::new(alloc);
     let mut rest = tokens;
     while !rest.is_empty() {
         let Some((item, behind)) = front_item(rest) else {
-            return Err(Fault::Refused(Refusal::Comparison));
+            let at = tokens.len().saturating_sub(rest.len());
+            return Err(Fault::refused(naming::of_tokens(rest, at), at));
         };
         items.push(item)?;
         rest = behind;
     }
     Ok(items)
+}
+
+// The groups of a text's tokens.
+pub(crate) fn items_of_text(
+    alloc: Global,
+    text: &[u8],
+    tokens: &[Token],
+) -> Result<Vec<Item>, Fault>
+    ensures { IfOk result (λ items. tokens.now ≡ all_tokens items.items) }
+{
+    match items_of(alloc, tokens) {
+        Ok(items) => Ok(items),
+        Err(fault) => Err(at_token(alloc, text, fault)),
+    }
+}
+
+// The fault at the byte of its token.
+fn at_token(alloc: Global, text: &[u8], fault: Fault) -> Fault {
+    match fault {
+        Fault::Memory => Fault::Memory,
+        Fault::Refused(Finding { why, at }) => {
+            Fault::refused(why, lexer::place_of(alloc, text, at))
+        }
+    }
 }
 
 fn is_not(item: Item) -> bool

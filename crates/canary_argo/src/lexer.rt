@@ -2,13 +2,16 @@
 ghost use Rattle.std.specs.Prelude.{◌≡◌, ◌≤◌, ◌<◌, IfOk, IfSome, length, option_map, position};
 ghost use Rattle.std.specs.List.{position_or_len};
 ghost use Rattle.std.specs.Str.{bytes_eq};
-ghost use Rattle.canary_argo.specs.Tokens.{is_blank, unblanked, is_word_byte, ends_word, front_word};
+ghost use Rattle.canary_argo.specs.Tokens.{is_blank, unblanked};
+ghost use Rattle.canary_argo.specs.Tokens.{is_word_byte, ends_word, front_word};
 ghost use Rattle.canary_argo.specs.Tokens.{after_word, is_held, held, number_of, number_token};
 ghost use Rattle.canary_argo.specs.Tokens.{keyword_token, long_symbol, short_symbol, front_symbol};
-ghost use Rattle.canary_argo.specs.Tokens.{before, front_token, IsFront, IsMadeOf, signed_word, after_signed};
+ghost use Rattle.canary_argo.specs.Tokens.{before, front_token, IsFront};
+ghost use Rattle.canary_argo.specs.Tokens.{IsMadeOf, signed_word, after_signed};
 
 use crate::condition::Token;
-use crate::fault::{Fault, Refusal};
+use crate::fault::Fault;
+use crate::naming;
 use canary_base::error::Memory;
 use canary_condition::condition::Comparison;
 use canary_decimal::decimal::ShortDecimal;
@@ -226,14 +229,33 @@ fn front_token(alloc: Global, text: &[u8]) -> Result<Option<(Token, &[u8])>, Mem
     Ok(front_symbol(text))
 }
 
-// The token at the front, and what follows it; otherwise what stands there.
-fn next_token<'a>(alloc: Global, text: &'a [u8]) -> Result<(Token, &'a [u8]), Fault>
-    ensures { IfOk result (λ found. IsFront text.now found.0 found.1.now) }
+// The token at the front of what is left of a text, and what follows it; otherwise what stands
+// there.
+fn next_token<'a>(alloc: Global, text: &[u8], rest: &'a [u8]) -> Result<(Token, &'a [u8]), Fault>
+    ensures { IfOk result (λ found. IsFront rest.now found.0 found.1.now) }
 {
-    match front_token(alloc, text)? {
+    match front_token(alloc, rest)? {
         Some(found) => Ok(found),
-        None => Err(Fault::Refused(Refusal::Byte)),
+        None => Err(fault_at(text, rest)),
     }
+}
+
+// What stands at the front of what is left of a text, and is no token.
+fn fault_at(text: &[u8], rest: &[u8]) -> Fault {
+    let (word, behind) = split_word(rest);
+    let at = text.len().saturating_sub(rest.len());
+    Fault::refused(naming::of_text(rest, word, behind), at)
+}
+
+// The byte where a token begins, of which so many stand before it.
+pub(crate) fn place_of(alloc: Global, text: &[u8], tokens: usize) -> usize {
+    let mut rest = unblanked(text);
+    for _ in 0..tokens {
+        if let Ok((_, behind)) = next_token(alloc, text, rest) {
+            rest = unblanked(behind);
+        }
+    }
+    text.len().saturating_sub(rest.len())
 }
 
 // The tokens of a text.
@@ -243,7 +265,7 @@ pub(crate) fn tokens_of(alloc: Global, text: &[u8]) -> Result<Vec<Token>, Fault>
     let mut tokens = Vec::new(alloc);
     let mut rest = unblanked(text);
     while !rest.is_empty() {
-        let (token, behind) = next_token(alloc, rest)?;
+        let (token, behind) = next_token(alloc, text, rest)?;
         tokens.push(token)?;
         rest = unblanked(behind);
     }

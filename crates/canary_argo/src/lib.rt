@@ -1,4 +1,11 @@
 //! Argo Rollouts' conditions, translated to a desk's.
+//!
+//! Callers may rest on this: what `translate` answers is a condition of the desk; on each result
+//! that is reported in the form, it says what Argo's condition says of what was measured.
+//!
+//! In use (this crate, src/rows.rt):
+//!
+//!     let needs = Needs::none().with_condition(alloc, condition)?;
 #![tactic(auto)]
 
 pub mod condition;
@@ -6,6 +13,9 @@ pub mod fault;
 pub mod form;
 mod items;
 mod lexer;
+mod naming;
 mod printing;
+#[cfg(test)]
+mod rows;
 mod translating;
 pub mod translation;

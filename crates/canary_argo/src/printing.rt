@@ -2,13 +2,15 @@
 ghost use Rattle.std.specs.Prelude.{◌≡◌, ◌++◌, OnOk, IfOk, is_some, true, string_bytes};
 ghost use Rattle.std.specs.List.{list_all};
 ghost use Rattle.std.specs.Fmt.{signed_decimal};
-ghost use Rattle.canary_argo.specs.Translating.{operand_text, sign_text, test_text, item_text, sign_words};
-ghost use Rattle.canary_argo.specs.Translating.{text_of, fits, skeleton_text, skeleton_of, desk_test};
+ghost use Rattle.canary_argo.specs.Translating.{operand_text, sign_text};
+ghost use Rattle.canary_argo.specs.Translating.{test_text, item_text, sign_words};
+ghost use Rattle.canary_argo.specs.Translating.{text_of, fits};
+ghost use Rattle.canary_argo.specs.Translating.{skeleton_text, skeleton_of, desk_test};
 
 use crate::condition::{Item, Test};
-use crate::fault::{Fault, Refusal};
+use crate::fault::Fault;
 use crate::form::Form;
-use crate::translating::{DeskTest, desk_test};
+use crate::translating::{DeskTest, desk_test, why_not};
 use canary_base::error::Memory;
 use canary_condition::condition::{Comparison, Operand};
 use canary_condition::outcome::Value;
@@ -71,7 +73,7 @@ fn push_compare(out: &mut String, form: Form, test: Test) -> Result<(), Fault>
     ensures fits { OnOk result (is_some (desk_test form test) ≡ true) }
 {
     let Some(desk) = desk_test(form, test) else {
-        return Err(Fault::Refused(Refusal::Shape));
+        return Err(Fault::refused(why_not(form, test), 0));
     };
     push_test(out, desk)?;
     Ok(())

@@ -3,7 +3,8 @@ ghost use Rattle.std.specs.Prelude.{◌≡◌};
 ghost use Rattle.canary_argo.specs.Translating.{desk_place, turned, in_turn, constant_of, made};
 ghost use Rattle.canary_argo.specs.Translating.{desk_test};
 
-use crate::condition::{Place, Test};
+use crate::condition::{Item, Place, Test};
+use crate::fault::Refusal;
 use crate::form::{Form, Shape};
 use canary_condition::condition::{Comparison, Operand};
 use canary_decimal::decimal::{MOST_PLACES, ShortDecimal};
@@ -80,4 +81,24 @@ pub(crate) fn desk_test(form: Form, test: Test) -> Option<DeskTest>
         comparison: in_turn(test.turned, test.comparison),
         constant,
     })
+}
+
+// Why the desk has no comparison for one of Argo's.
+pub(crate) fn why_not(form: Form, test: Test) -> Refusal {
+    match desk_place(form.shape, test.place) {
+        Some(_) => Refusal::Range,
+        None => Refusal::Shape,
+    }
+}
+
+// The place of the first comparison that has none of the desk's, or the end.
+pub(crate) fn place_of_unfit(form: Form, items: &[Item]) -> usize {
+    for (at, item) in items.iter().enumerate() {
+        if let Item::Compare(test) = *item {
+            if desk_test(form, test).is_none() {
+                return at;
+            }
+        }
+    }
+    items.len()
 }

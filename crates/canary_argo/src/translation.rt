@@ -16,9 +16,9 @@ ghost use Rattle.canary_condition.specs.Trees.{Tree};
 ghost use Rattle.canary_argo.specs.Translating.{IsTranslated, IsTranslation, skeleton_of};
 
 use crate::condition::Item;
-use crate::fault::{Fault, Refusal};
+use crate::fault::{Fault, Finding, Refusal};
 use crate::form::Form;
-use crate::{items, lexer, printing};
+use crate::{items, lexer, naming, printing, translating};
 use canary_condition::condition::Condition;
 use canary_decimal::laws;
 use std::alloc::Global;
@@ -39,14 +39,15 @@ fn check_signs(alloc: Global, items: &[Item]) -> Result<(), Fault>
     check(alloc, signs.as_str())
 }
 
-// The desk's condition for these groups.
+// The desk's condition for these groups. The place of a fault is that of a group.
 fn translated(alloc: Global, form: Form, items: &[Item]) -> Result<String, Fault>
     ensures { IfOk result (λ text. IsTranslated items.now form (string_bytes text)) }
 {
     laws::compares_as_decimals();
     laws::short_constants();
     if !items::are_closed(items) {
-        return Err(Fault::Refused(Refusal::NotBeforeComparison));
+        let at = naming::place_of_not(items);
+        return Err(Fault::refused(Refusal::NotBeforeComparison, at));
     }
     check_signs(alloc, items)?;
     let text = printing::text_of(alloc, form, items)?;
@@ -54,16 +55,48 @@ fn translated(alloc: Global, form: Form, items: &[Item]) -> Result<String, Fault
     Ok(text)
 }
 
+// The group that a fault is about.
+fn place_of(form: Form, items: &[Item], finding: Finding) -> usize {
+    match finding.why {
+        Refusal::Brackets => naming::place_of_misfit(items),
+        Refusal::Shape | Refusal::Range => translating::place_of_unfit(form, items),
+        _ => finding.at,
+    }
+}
+
+// The fault at the byte of its group.
+fn at_item(alloc: Global, text: &[u8], form: Form, items: &[Item], fault: Fault) -> Fault {
+    match fault {
+        Fault::Memory => Fault::Memory,
+        Fault::Refused(finding) => {
+            let tokens = naming::tokens_before(items, place_of(form, items, finding));
+            Fault::refused(finding.why, lexer::place_of(alloc, text, tokens))
+        }
+    }
+}
+
+// The desk's condition for the groups of a text. The place of a fault is that of a byte.
+fn placed(alloc: Global, text: &[u8], form: Form, items: &[Item]) -> Result<String, Fault>
+    ensures { IfOk result (λ translated. IsTranslated items.now form (string_bytes translated)) }
+{
+    match translated(alloc, form, items) {
+        Ok(translated) => Ok(translated),
+        Err(fault) => Err(at_item(alloc, text, form, items, fault)),
+    }
+}
+
 /// The desk's condition for one of Argo Rollouts, of a metric whose values are reported in this
 /// form: on each result that is reported, the desk's condition says what Argo's says of what was
 /// measured.
 ///
 /// # Errors
-/// `Memory` if an allocation was refused; otherwise what the condition has that is not translated.
+/// `Memory` if an allocation was refused; otherwise what the condition has that is not translated,
+/// and at which byte.
 pub fn translate(alloc: Global, text: &str, form: Form) -> Result<String, Fault>
     ensures { IfOk result (λ translated. IsTranslation text.now form (string_bytes translated)) }
 {
-    let tokens = lexer::tokens_of(alloc, text.as_bytes())?;
-    let items = items::items_of(alloc, tokens.as_slice())?;
-    translated(alloc, form, items.as_slice())
+    let text = text.as_bytes();
+    let tokens = lexer::tokens_of(alloc, text)?;
+    let items = items::items_of_text(alloc, text, tokens.as_slice())?;
+    placed(alloc, text, form, items.as_slice())
 }

@@ -11,6 +11,6 @@ pub returns : goal.returns
 returns c =
     let tokens = c.in_ok-tokens.tokens.items in
     let items = c.in_ok-items.items.items in
-    let made = subst (λ (r : List ℕ). IsMadeOf r tokens) c.as_bytes.ensures.value c.in_ok-tokens.ensures in
+    let made = subst (λ (r : List ℕ). IsMadeOf r tokens) c.as_bytes-text.ensures.value c.in_ok-tokens.ensures in
     let own = sym c.as_slice.ensures.value ∙ c.in_ok-items.ensures in
-    IfOk-weaker c.translated.result _ _ (λ out h. is_translation c.args.text.now c.args.form tokens items (string_bytes out) made own (subst (λ (r : List Item). IsTranslated r c.args.form (string_bytes out)) c.as_slice-2.ensures.value h)) c.translated.ensures
+    IfOk-weaker c.placed.result _ _ (λ out h. is_translation c.args.text.now c.args.form tokens items (string_bytes out) made own (subst (λ (r : List Item). IsTranslated r c.args.form (string_bytes out)) c.as_slice-2.ensures.value h)) c.placed.ensures
