@@ -11,10 +11,10 @@ use Rattle.canary_decimal.specs.declared.decimal.ShortDecimal.{ShortDecimal}
 use Rattle.canary_argo.specs.declared.condition.Item.{Item}
 use Rattle.canary_argo.specs.declared.condition.Item.TheVariants.{Or as OrItem, And as AndItem, Not as NotItem, Open as OpenGroup, Close as CloseGroup, Compare as CompareItem}
 use Rattle.canary_argo.specs.declared.condition.Place.{Place}
-use Rattle.canary_argo.specs.declared.condition.Place.TheVariants.{Whole, Item as ItemPlace}
+use Rattle.canary_argo.specs.declared.condition.Place.TheVariants.{Whole, Item as ItemPlace, Length}
 use Rattle.canary_argo.specs.declared.condition.Test.{Test}
 use Rattle.canary_argo.specs.declared.condition.Token.{Token}
-use Rattle.canary_argo.specs.declared.condition.Token.TheVariants.{Compares, OrSign, AndSign, NotSign, Open, Close, OpenItem, CloseItem, ResultWord, AsFloatWord, Number}
+use Rattle.canary_argo.specs.declared.condition.Token.TheVariants.{Compares, OrSign, AndSign, NotSign, Open, Close, OpenItem, CloseItem, ResultWord, AsFloatWord, LenWord, Number}
 use Rattle.canary_argo.specs.Spelling.{place_tokens, value_tokens, test_tokens, Spells}
 use Rattle.canary_argo.specs.Grouping.{natural, index_of, place_at, after_result, closed, front_value, with_number, with_value, turned_test, front_test, front_item, item_tokens, all_tokens, SpellsItems}
 use Rattle.canary_argo.specs.Trees.{Tree}
@@ -60,6 +60,7 @@ closed_holds place ts rest e = tt
 value_holds : (ts : List Token) → ValueAt ts (front_value ts)
 value_holds (ResultWord ∷ ts) = after_holds ts
 value_holds (AsFloatWord ∷ Open ∷ ResultWord ∷ ts) = closed_holds (after_result ts).0 ts (after_result ts).1 (after_holds ts)
+value_holds (LenWord ∷ Open ∷ ResultWord ∷ Close ∷ ts) = refl
 value_holds ts = tt
 
 -- ---- comparisons
@@ -108,6 +109,7 @@ item_is ts rest item e = subst (ItemAt ts) (sym e) (item_holds ts)
 some_place : (p : Place) → 1 ≤ length (place_tokens p)
 some_place Whole = omega arith
 some_place (ItemPlace i) = omega arith
+some_place Length = omega arith
 
 some_value : (b : Bool) (p : Place) (rest : List Token) → 1 ≤ length (value_tokens b p ++ rest)
 some_value false p rest = omega (arith, length-append (place_tokens p) rest, some_place p)

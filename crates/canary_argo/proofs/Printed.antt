@@ -4,8 +4,9 @@ use Rattle.std.specs.Prelude.{◌&&◌, ◌==◌, nat_lt, nat_le, if◌then◌el
 use Rattle.std.specs.Char.{is_ascii_digit}
 use Rattle.std.specs.List.{flat_map, list_all, prefix_len}
 use Rattle.std.specs.Fmt.{decimal, signed_decimal}
+use Rattle.std.specs.Int.RustNames.{unsigned_abs}
 use Rattle.std.specs.Str.Parse.{digits_value}
-use Rattle.std.proofs.lemmas.Bool.{false≢true, and_parts, and_from, le-leb, lt-ltb, ltb-true}
+use Rattle.std.proofs.lemmas.Bool.{false≢true, and_parts, and_from, le-leb, lt-ltb, ltb-true, eqb-true}
 use Rattle.std.proofs.lemmas.Bool.Decides.{nat_tests}
 use Rattle.std.proofs.lemmas.Fmt.{digits_decimal, digits_value-decimal, decimal_nonempty}
 use Rattle.std.proofs.lemmas.List.{take_at, drop_at}
@@ -29,14 +30,14 @@ use Rattle.canary_decimal.specs.Short.{fraction_of, short_constant, ShortConstan
 use Rattle.canary_argo.specs.declared.condition.Item.{Item}
 use Rattle.canary_argo.specs.declared.condition.Item.TheVariants.{Or as OrItem, And as AndItem, Not as NotItem, Open as OpenGroup, Close as CloseGroup, Compare as CompareItem}
 use Rattle.canary_argo.specs.declared.condition.Place.{Place}
-use Rattle.canary_argo.specs.declared.condition.Place.TheVariants.{Whole, Item as ItemPlace}
+use Rattle.canary_argo.specs.declared.condition.Place.TheVariants.{Whole, Item as ItemPlace, Length as LengthPlace}
 use Rattle.canary_argo.specs.declared.condition.Test.{Test}
 use Rattle.canary_argo.specs.declared.form.Form.{Form}
 use Rattle.canary_argo.specs.declared.form.Shape.{Shape}
-use Rattle.canary_argo.specs.declared.form.Shape.TheVariants.{One, First, Several}
+use Rattle.canary_argo.specs.declared.form.Shape.TheVariants.{One, First, Several, Length as LengthShape}
 use Rattle.canary_argo.specs.declared.translating.DeskTest.{DeskTest}
 use Rattle.canary_argo.specs.Grouping.{SpellsItems}
-use Rattle.canary_argo.specs.Translating.{desk_place, in_turn, constant_of, made, desk_test, operand_text, sign_text, test_text, item_text, fits, text_of}
+use Rattle.canary_argo.specs.Translating.{desk_place, in_turn, constant_of, length_of, constant_at, made, desk_test, operand_text, sign_text, test_text, item_text, fits, text_of}
 use Rattle.canary_argo.specs.Trees.{Tree}
 use Rattle.canary_argo.specs.Trees.Tree.{Or, And, Not, Bracket, Compare}
 
@@ -221,8 +222,8 @@ made_is c (Some o) (Some k) d e =
     let same = same_Some (record { operand = o; comparison = c; constant = k }) d e in
     (ap (λ (t : DeskTest). Some t.operand) same, (ap (λ (t : DeskTest). t.comparison) same, ap (λ (t : DeskTest). Some t.constant) same))
 
-pub desk_is : (form : Form) (t : Test) (d : DeskTest) → desk_test form t ≡ Some d → (desk_place form.shape t.place ≡ Some d.operand) × ((in_turn t.turned t.comparison ≡ d.comparison) × (constant_of t.number form.places ≡ Some d.constant))
-desk_is form t d e = made_is (in_turn t.turned t.comparison) (desk_place form.shape t.place) (constant_of t.number form.places) d e
+pub desk_is : (form : Form) (t : Test) (d : DeskTest) → desk_test form t ≡ Some d → (desk_place form.shape t.place ≡ Some d.operand) × ((in_turn t.turned t.comparison ≡ d.comparison) × (constant_at t.place t.number form.places ≡ Some d.constant))
+desk_is form t d e = made_is (in_turn t.turned t.comparison) (desk_place form.shape t.place) (constant_at t.place t.number form.places) d e
 
 guarded : (b : Bool) (o : Option ℤ) (z : ℤ) → (if b then o else None) ≡ Some z → (b ≡ true) × (o ≡ Some z)
 guarded true o z e = (refl, e)
@@ -242,8 +243,39 @@ small_signed false n h = h
 constant_small : (z : ℤ) (y : Fraction) (n : ℕ) → IsConstant z y n → Small z
 constant_small z y n (minus, tens, e, fits, exact) = subst Small (sym e) (small_signed minus _ fits)
 
+-- the constant of a length
+pub length_is : (n : ShortDecimal) (z : ℤ) → length_of n ≡ Some z → (n.places ≡ 0) × ((n.whole ≡ z) × (unsigned_abs n.whole < 10 ^ 15))
+length_is n z e =
+    let found = cond_some (n.places == 0 && nat_lt (unsigned_abs n.whole) (10 ^ 15)) n.whole z e in
+    let parts = and_parts (n.places == 0) (nat_lt (unsigned_abs n.whole) (10 ^ 15)) found.0 in
+    let none : n.places ≡ 0 = eqb-true n.places 0 parts.0 in
+    (none, (found.1, ltb-true (unsigned_abs n.whole) (10 ^ 15) parts.1))
+
+small_size : (z : ℤ) → unsigned_abs z < 10 ^ 15 → Small z
+small_size (pos n) h = omega arith
+small_size (negsuc n) h = omega arith
+
+small_at : ShortConstants → (p : Place) (n : ShortDecimal) (places : ℕ) (z : ℤ) → constant_at p n places ≡ Some z → Small z
+small_at law Whole n places z e = constant_small z (fraction_of n) places (constant_is law n places z e)
+small_at law (ItemPlace i) n places z e = constant_small z (fraction_of n) places (constant_is law n places z e)
+small_at law LengthPlace n places z e = let parts = length_is n z e in subst Small parts.1.0 (small_size n.whole parts.1.1)
+
 place_small : (shape : Shape) (p : Place) (o : Operand) → desk_place shape p ≡ Some o → SmallOperand o
 place_small One Whole o e = subst SmallOperand (same_Some WholeOperand o e) tt
+place_small One LengthPlace o e = absurd (none-some o e)
+place_small First LengthPlace o e = absurd (none-some o e)
+place_small (Several most) LengthPlace o e = absurd (none-some o e)
+place_small (LengthShape most) Whole o e = absurd (none-some o e)
+place_small (LengthShape most) LengthPlace o e =
+    let small : SmallOperand (ItemOperand 0) = omega arith in
+    subst SmallOperand (same_Some (ItemOperand 0) o e) small
+place_small (LengthShape most) (ItemPlace i) o e =
+    let found = cond_some (nat_lt i most && nat_lt most 16) (ItemOperand (suc i)) o e in
+    let parts = and_parts (nat_lt i most) (nat_lt most 16) found.0 in
+    let less = ltb-true i most parts.0 in
+    let few = ltb-true most 16 parts.1 in
+    let small : SmallOperand (ItemOperand (suc i)) = omega arith in
+    subst SmallOperand found.1 small
 place_small One (ItemPlace i) o e = absurd (none-some o e)
 place_small First Whole o e = absurd (none-some o e)
 place_small First (ItemPlace i) o e = subst SmallOperand (cond_some (i == 0) WholeOperand o e).1 tt
@@ -259,7 +291,7 @@ place_small (Several most) (ItemPlace i) o e =
 desk_small : ShortConstants → (form : Form) (t : Test) (d : DeskTest) → desk_test form t ≡ Some d → IsSmall d
 desk_small law form t d e =
     let parts = desk_is form t d e in
-    (place_small form.shape t.place d.operand parts.0, constant_small d.constant (fraction_of t.number) form.places (constant_is law t.number form.places d.constant parts.1.1))
+    (place_small form.shape t.place d.operand parts.0, small_at law t.place t.number form.places d.constant parts.1.1)
 
 -- ---- groups
 

@@ -9,10 +9,10 @@ use Rattle.canary_decimal.specs.declared.decimal.ShortDecimal.{ShortDecimal}
 use Rattle.canary_argo.specs.declared.condition.Item.{Item}
 use Rattle.canary_argo.specs.declared.condition.Item.TheVariants.{Or as OrItem, And as AndItem, Not as NotItem, Open as OpenGroup, Close as CloseGroup, Compare as CompareItem}
 use Rattle.canary_argo.specs.declared.condition.Place.{Place}
-use Rattle.canary_argo.specs.declared.condition.Place.TheVariants.{Whole, Item as ItemPlace}
+use Rattle.canary_argo.specs.declared.condition.Place.TheVariants.{Whole, Item as ItemPlace, Length}
 use Rattle.canary_argo.specs.declared.condition.Test.{Test}
 use Rattle.canary_argo.specs.declared.condition.Token.{Token}
-use Rattle.canary_argo.specs.declared.condition.Token.TheVariants.{Compares, OrSign, AndSign, NotSign, Open, Close, OpenItem, CloseItem, ResultWord, AsFloatWord, Number}
+use Rattle.canary_argo.specs.declared.condition.Token.TheVariants.{Compares, OrSign, AndSign, NotSign, Open, Close, OpenItem, CloseItem, ResultWord, AsFloatWord, LenWord, Number}
 use Rattle.canary_argo.specs.Spelling.{test_tokens, IsClosed}
 use Rattle.canary_argo.specs.Trees.{Tree}
 use Rattle.canary_argo.specs.Trees.Tree.{Or, And, Not, Bracket, Compare}
@@ -44,6 +44,7 @@ abbrev pub front_value : List Token → Option ((Bool × Place) × List Token)
 front_value (ResultWord ∷ ts) = Some ((false, (after_result ts).0), (after_result ts).1)
 front_value (AsFloatWord ∷ Open ∷ ResultWord ∷ ts) =
     closed (after_result ts).0 (after_result ts).1
+front_value (LenWord ∷ Open ∷ ResultWord ∷ Close ∷ ts) = Some ((false, Length), ts)
 front_value ts = None
 
 abbrev pub made : Bool → Bool × Place → Comparison → ShortDecimal → Test

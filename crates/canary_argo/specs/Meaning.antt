@@ -1,5 +1,5 @@
 -- What a condition of Argo Rollouts says of what was measured.
-use Rattle.std.specs.Prelude.{pos, Bool, true, false, Option, Some, None, List, slice_get}
+use Rattle.std.specs.Prelude.{pos, Bool, true, false, Option, Some, None, List, length, slice_get}
 use Rattle.canary_condition.specs.declared.condition.Comparison.{Comparison}
 use Rattle.canary_condition.specs.declared.condition.Comparison.TheVariants.{NotEqual}
 use Rattle.canary_condition.specs.declared.condition.Verdict3.{Verdict3}
@@ -8,7 +8,7 @@ use Rattle.canary_condition.specs.Meaning.{compares, verdict_of_test, or_of, and
 use Rattle.canary_decimal.specs.Exactness.{Fraction, compares_exactly}
 use Rattle.canary_decimal.specs.Short.{fraction_of}
 use Rattle.canary_argo.specs.declared.condition.Place.{Place}
-use Rattle.canary_argo.specs.declared.condition.Place.TheVariants.{Whole, Item}
+use Rattle.canary_argo.specs.declared.condition.Place.TheVariants.{Whole, Item, Length}
 use Rattle.canary_argo.specs.declared.condition.Test.{Test}
 use Rattle.canary_argo.specs.Trees.{Tree}
 use Rattle.canary_argo.specs.Trees.Tree.{Or, And, Not, Bracket, Compare}
@@ -26,12 +26,14 @@ pub data Measured : Type 0 where
   One : (value : Given) → Measured
   Several : (values : List Given) → Measured
 
--- the value at a place, or none
+-- the value at a place, or the length of a list, or none
 abbrev pub given_at : Place → Measured → Option Given
 given_at Whole (One g) = Some g
 given_at Whole (Several gs) = None
 given_at (Item i) (One g) = None
 given_at (Item i) (Several gs) = slice_get gs i
+given_at Length (One g) = None
+given_at Length (Several gs) = Some (Decimal (record { whole = pos (length gs); places = 0 }))
 
 -- whether a comparison of NaN with a number holds
 abbrev pub compares_nan : Comparison → Bool

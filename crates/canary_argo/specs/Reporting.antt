@@ -1,11 +1,11 @@
 -- What is reported of what was measured.
-use Rattle.std.specs.Prelude.{ℕ, ℤ, List, [], ◌∷◌, take}
+use Rattle.std.specs.Prelude.{◌≡◌, ℕ, ℤ, pos, List, [], ◌∷◌, length, take}
 use Rattle.canary_condition.specs.declared.outcome.Value.{Value}
 use Rattle.canary_condition.specs.declared.outcome.Value.TheVariants.{Whole as WholeResult, List as ListResult}
 use Rattle.canary_decimal.specs.Exactness.{StandsFor}
 use Rattle.canary_argo.specs.declared.form.Form.{Form}
 use Rattle.canary_argo.specs.declared.form.Shape.{Shape}
-use Rattle.canary_argo.specs.declared.form.Shape.TheVariants.{One as OneShape, First, Several as SeveralShape}
+use Rattle.canary_argo.specs.declared.form.Shape.TheVariants.{One as OneShape, First, Several as SeveralShape, Length as LengthShape}
 use Rattle.canary_argo.specs.Meaning.{Given, Measured}
 use Rattle.canary_argo.specs.Meaning.Given.{Decimal, NotANumber, Infinite, MinusInfinite, Nothing}
 use Rattle.canary_argo.specs.Meaning.Measured.{One, Several}
@@ -29,6 +29,8 @@ abbrev pub IsReportedAs : ℕ → Shape → Measured → Value → Type 0
 IsReportedAs n OneShape (One g) (WholeResult z) = Stands n g z
 IsReportedAs n First (Several (g ∷ gs)) (WholeResult z) = Stands n g z
 IsReportedAs n (SeveralShape most) (Several gs) (ListResult zs) = AllStand n (take most gs) zs
+IsReportedAs n (LengthShape most) (Several gs) (ListResult (z ∷ zs)) =
+    (z ≡ pos (length gs)) × AllStand n (take most gs) zs
 IsReportedAs n shape m v = ⊥
 
 -- in this form the value is what is reported of what was measured

@@ -4,17 +4,17 @@
 --     not     := ("!" | "not") (not, but no comparison) | atom
 --     atom    := "(" or ")" | value compare number | number compare value
 --     value   := place | "asFloat" "(" place ")"
---     place   := "result" | "result" "[" digits "]"
+--     place   := "result" | "result" "[" digits "]" | "len" "(" "result" ")"
 -- Argo negates the operand that follows a `not`, and not a comparison. The relation splits the
 -- whole text at each level.
 use Rattle.std.specs.Prelude.{◌≡◌, List, [], ◌∷◌, ◌++◌, Bool, true, false, IsTrue, pos, if◌then◌else◌}
 use Rattle.canary_condition.specs.Spelling.{Level, has_or, has_and, has_not}
 use Rattle.canary_condition.specs.Spelling.Level.{AtOr, AtAnd, AtNot}
 use Rattle.canary_argo.specs.declared.condition.Place.{Place}
-use Rattle.canary_argo.specs.declared.condition.Place.TheVariants.{Whole, Item}
+use Rattle.canary_argo.specs.declared.condition.Place.TheVariants.{Whole, Item, Length}
 use Rattle.canary_argo.specs.declared.condition.Test.{Test}
 use Rattle.canary_argo.specs.declared.condition.Token.{Token}
-use Rattle.canary_argo.specs.declared.condition.Token.TheVariants.{Compares, OrSign, AndSign, NotSign, Open, Close, OpenItem, CloseItem, ResultWord, AsFloatWord, Number}
+use Rattle.canary_argo.specs.declared.condition.Token.TheVariants.{Compares, OrSign, AndSign, NotSign, Open, Close, OpenItem, CloseItem, ResultWord, AsFloatWord, LenWord, Number}
 use Rattle.canary_argo.specs.Trees.{Tree}
 use Rattle.canary_argo.specs.Trees.Tree.{Or, And, Not, Bracket, Compare}
 
@@ -22,6 +22,7 @@ abbrev pub place_tokens : Place → List Token
 place_tokens Whole = ResultWord ∷ []
 place_tokens (Item i) =
     ResultWord ∷ OpenItem ∷ Number (record { whole = pos i; places = 0 }) ∷ CloseItem ∷ []
+place_tokens Length = LenWord ∷ Open ∷ ResultWord ∷ Close ∷ []
 
 abbrev pub value_tokens : Bool → Place → List Token
 value_tokens false place = place_tokens place

@@ -1,5 +1,6 @@
 -- The desk's condition for one of Argo Rollouts.
-use Rattle.std.specs.Prelude.{◌≡◌, ◌==◌, nat_lt, nat_le, ◌&&◌, ℕ, ℤ, Bool, true, false, if◌then◌else◌, List, [], ◌++◌, Option, Some, None, is_some, codes}
+use Rattle.std.specs.Prelude.{◌≡◌, ◌==◌, nat_lt, nat_le, ◌&&◌, ◌^◌, ℕ, suc, ℤ, Bool, true, false, if◌then◌else◌, List, [], ◌++◌, Option, Some, None, is_some, codes}
+use Rattle.std.specs.Int.RustNames.{unsigned_abs}
 use Rattle.std.specs.List.{flat_map}
 use Rattle.std.specs.Fmt.{signed_decimal, decimal}
 use Rattle.canary_condition.specs.declared.condition.Comparison.{Comparison}
@@ -15,11 +16,11 @@ use Rattle.canary_decimal.specs.Short.{short_constant}
 use Rattle.canary_argo.specs.declared.condition.Item.{Item}
 use Rattle.canary_argo.specs.declared.condition.Item.TheVariants.{Or, And, Not, Open, Close, Compare}
 use Rattle.canary_argo.specs.declared.condition.Place.{Place}
-use Rattle.canary_argo.specs.declared.condition.Place.TheVariants.{Whole, Item as ItemPlace}
+use Rattle.canary_argo.specs.declared.condition.Place.TheVariants.{Whole, Item as ItemPlace, Length as LengthPlace}
 use Rattle.canary_argo.specs.declared.condition.Test.{Test}
 use Rattle.canary_argo.specs.declared.form.Form.{Form}
 use Rattle.canary_argo.specs.declared.form.Shape.{Shape}
-use Rattle.canary_argo.specs.declared.form.Shape.TheVariants.{One, First, Several}
+use Rattle.canary_argo.specs.declared.form.Shape.TheVariants.{One, First, Several, Length as LengthShape}
 use Rattle.canary_argo.specs.declared.translating.DeskTest.{DeskTest}
 use Rattle.canary_argo.specs.Grouping.{SpellsItems}
 use Rattle.canary_condition.specs.Spelling.Level.{AtOr}
@@ -36,6 +37,9 @@ desk_place One Whole = Some WholeOperand
 desk_place First (ItemPlace i) = if i == 0 then Some WholeOperand else None
 desk_place (Several most) (ItemPlace i) =
     if nat_lt i most && nat_lt most 17 then Some (ItemOperand i) else None
+desk_place (LengthShape most) LengthPlace = Some (ItemOperand 0)
+desk_place (LengthShape most) (ItemPlace i) =
+    if nat_lt i most && nat_lt most 16 then Some (ItemOperand (suc i)) else None
 desk_place shape place = None
 
 -- the comparison with its sides changed
@@ -56,6 +60,16 @@ abbrev pub constant_of : ShortDecimal → ℕ → Option ℤ
 constant_of d places =
     if nat_lt d.places places && nat_le places 18 then short_constant d places else None
 
+-- the constant of a length, which is a whole number
+abbrev pub length_of : ShortDecimal → Option ℤ
+length_of d =
+    if d.places == 0 && nat_lt (unsigned_abs d.whole) (10 ^ 15) then Some d.whole else None
+
+-- the constant that a place is compared with
+abbrev pub constant_at : Place → ShortDecimal → ℕ → Option ℤ
+constant_at LengthPlace d places = length_of d
+constant_at place d places = constant_of d places
+
 abbrev pub made : Comparison → Option Operand → Option ℤ → Option DeskTest
 made c None constant = None
 made c (Some operand) None = None
@@ -66,7 +80,7 @@ made c (Some operand) (Some constant) =
 abbrev pub desk_test : Form → Test → Option DeskTest
 desk_test form t =
     made (in_turn t.turned t.comparison) (desk_place form.shape t.place)
-    (constant_of t.number form.places)
+    (constant_at t.place t.number form.places)
 
 -- ---- the text
 

@@ -9,6 +9,8 @@ pub enum Place {
     Whole,
     /// `result[i]`: the value at that place, from 0, of a list.
     Item(u64),
+    /// `len(result)`: how many values a list has.
+    Length,
 }
 
 /// A comparison of a value that was measured with a number.
@@ -46,6 +48,8 @@ pub enum Token {
     ResultWord,
     /// `asFloat`.
     AsFloatWord,
+    /// `len`.
+    LenWord,
     /// A number of at most 15 digits, with its sign.
     Number(ShortDecimal),
 }

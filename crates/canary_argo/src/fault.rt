@@ -52,6 +52,8 @@ pub enum Refusal {
     Shape,
     /// A number that does not fit, times the power of ten of the metric's places.
     Range,
+    /// A length compared with a number that is not whole, or has more than 15 digits.
+    Fraction,
     /// More than 1,024 bytes once it is translated, or more than 32 brackets open at one place.
     Length,
 }
@@ -83,6 +85,7 @@ impl Refusal {
             Refusal::Brackets => "signs or brackets that do not fit together",
             Refusal::Shape => "result beside result[0]: write one of the two",
             Refusal::Range => "this number is too large for the digits after the points",
+            Refusal::Fraction => "a length is whole: write a whole number",
             Refusal::Length => "this condition is too long: write it shorter",
         }
     }

@@ -20,6 +20,8 @@ pub enum Shape {
     First,
     /// The first values of a list, so many at most, as a list.
     Several(u64),
+    /// The length of a list, as it is, and then its first values, so many at most, as a list.
+    Length(u64),
 }
 
 /// How the values of a metric are reported: in units of 10^-places, in this shape.
@@ -38,6 +40,8 @@ pub struct Needs {
     whole: bool,
     // One more than the last place of a list that is looked at.
     most: u64,
+    // Whether the length of a list is looked at.
+    length: bool,
 }
 
 impl Needs {
@@ -47,6 +51,7 @@ impl Needs {
             places: LEAST_PLACES,
             whole: false,
             most: 0,
+            length: false,
         }
     }
 
@@ -57,12 +62,16 @@ impl Needs {
             Place::Whole => Needs {
                 places,
                 whole: true,
-                most: self.most,
+                ..self
             },
             Place::Item(place) => Needs {
                 places,
-                whole: self.whole,
                 most: self.most.max(place.saturating_add(1)),
+                ..self
+            },
+            Place::Length => Needs {
+                length: true,
+                ..self
             },
         }
     }
@@ -89,16 +98,22 @@ impl Needs {
         Ok(self.with_items(items.as_slice()))
     }
 
-    /// The form in which the values are reported. `Shape` if `result` stands beside `result[i]`,
-    /// and `Place` if a place lies behind the 16th value.
+    /// The form in which the values are reported. `Shape` if `result` stands beside `result[i]` or
+    /// `len(result)`, and `Place` if there is no room for a place in a list of 16 values.
     pub fn form(self) -> Result<Form, Refusal> {
-        if self.whole && self.most > 0 {
+        if self.whole && (self.length || self.most > 0) {
             return Err(Refusal::Shape);
         }
-        if self.most > MOST_VALUES {
+        let room = if self.length {
+            MOST_VALUES - 1
+        } else {
+            MOST_VALUES
+        };
+        if self.most > room {
             return Err(Refusal::Place);
         }
         let shape = match self.most {
+            most if self.length => Shape::Length(most),
             0 => Shape::One,
             1 => Shape::First,
             most => Shape::Several(most),
@@ -112,12 +127,14 @@ impl Needs {
 
 impl Form {
     /// Appends what a label of a metric ends in whose values are reported in this form: `.e6` for
-    /// one number in millionths, `.e6f` for the first value of a list, and `.e6p2` for two of them.
+    /// one number in millionths, `.e6f` for the first value of a list, `.e6p2` for two of them, and
+    /// `.e6l1` for its length and the first.
     pub fn suffix(self, out: &mut String) -> Result<(), Memory> {
         match self.shape {
             Shape::One => write!(out, ".e{}", self.places)?,
             Shape::First => write!(out, ".e{}f", self.places)?,
             Shape::Several(most) => write!(out, ".e{}p{most}", self.places)?,
+            Shape::Length(most) => write!(out, ".e{}l{most}", self.places)?,
         }
         Ok(())
     }

@@ -68,6 +68,13 @@ fn front_value(tokens: &[Token]) -> Option<((bool, Place), &[Token])>
             let (place, rest) = after_result(rest);
             closed(place, rest)
         }
+        [
+            Token::LenWord,
+            Token::Open,
+            Token::ResultWord,
+            Token::Close,
+            rest @ ..,
+        ] => { Some(((false, Place::Length), rest)) }
         _ => None,
     }
 }

@@ -18,8 +18,8 @@ use canary_decimal::decimal::ShortDecimal;
 use canary_decimal::reading::decimal;
 use std::alloc::Global;
 
-// A number of at most 15 digits.
-const LEAST_TOO_LONG: u64 = 1_000_000_000_000_000;
+// The least number of more than 15 digits.
+pub(crate) const LEAST_TOO_LONG: u64 = 1_000_000_000_000_000;
 
 // The most digits after the point of a number.
 const MOST_PLACES: usize = 17;
@@ -137,6 +137,8 @@ fn keyword_token(word: &[u8]) -> Option<Token>
         Some(Token::NotSign)
     } else if is_same(word, "asFloat") {
         Some(Token::AsFloatWord)
+    } else if is_same(word, "len") {
+        Some(Token::LenWord)
     } else {
         None
     }

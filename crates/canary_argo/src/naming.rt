@@ -59,7 +59,10 @@ pub(crate) fn of_text(text: &[u8], word: &[u8], rest: &[u8]) -> Refusal {
 
 // Whether a token begins a value.
 fn begins_value(token: Token) -> bool {
-    matches!(token, Token::ResultWord | Token::AsFloatWord)
+    matches!(
+        token,
+        Token::ResultWord | Token::AsFloatWord | Token::LenWord
+    )
 }
 
 // What follows the first comparison sign of some tokens, unless `&&`, `||` or `!` comes first.
@@ -103,10 +106,9 @@ fn of_value(behind: Option<&[Token]>) -> Refusal {
 fn tokens_in(item: Item) -> usize {
     match item {
         Item::Compare(test) => {
-            let place = if matches!(test.place, Place::Whole) {
-                3
-            } else {
-                6
+            let place = match test.place {
+                Place::Whole => 3,
+                Place::Item(_) | Place::Length => 6,
             };
             if test.as_float { place + 3 } else { place }
         }

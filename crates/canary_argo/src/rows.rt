@@ -21,6 +21,10 @@ not (result > 5) and result >= -100~.e6~not (result > 5000000) && result >= -100
 !(result[0] > 5) && !(!(result[0] < 2))~.e6f~not (result > 5000000) && not (not (result < 2000000))
 result > 1 && (result < 5 || result == 2)~.e6~result > 1000000 && (result < 5000000 || result == 2000000)
 result[3] >= 922337203685~.e6p4~result[3] >= 922337203685000000
+len(result) == 0 || result[0] >= 0.95~.e6l1~result[0] == 0 || result[1] >= 950000
+len(result) > 2~.e6l0~result[0] > 2
+len( result )<16 && result[14] < 0.5~.e6l15~result[0] < 16 && result[15] < 500000
+0 == len(result)~.e6l0~result[0] == 0
 -41.25 < result~.e6~result > -41250000
 result[0]>=0.95&&result[0]<=1~.e6f~result >= 950000 && result <= 1000000
 result  >=\t0.123456789012~.e13~result >= 1234567890120
@@ -60,6 +64,10 @@ result > 0x1F~9~this number
 result > 0.1234567890123456~9~this number
 result[0] > 1 || result[0] > 99999999999999~17~this number is too large
 result[16] > 5~0~this place
+len(result) > 0 && result[15] > 1~0~this place
+len(result) > 0 && result > 1~0~result beside
+len(result) > 0.5~0~a length is whole
+len(result[0]) > 1~0~a comparison
 result > 5 && result[0] > 1~0~result beside
 !(result > 5) # x~14~no condition
 ~0~signs

@@ -1,11 +1,12 @@
 //! The desk's comparison for one of Argo's.
 ghost use Rattle.std.specs.Prelude.{◌≡◌};
 ghost use Rattle.canary_argo.specs.Translating.{desk_place, turned, in_turn, constant_of, made};
-ghost use Rattle.canary_argo.specs.Translating.{desk_test};
+ghost use Rattle.canary_argo.specs.Translating.{length_of, constant_at, desk_test};
 
 use crate::condition::{Item, Place, Test};
 use crate::fault::Refusal;
-use crate::form::{Form, Shape};
+use crate::form::{Form, MOST_VALUES, Shape};
+use crate::lexer::LEAST_TOO_LONG;
 use canary_condition::condition::{Comparison, Operand};
 use canary_decimal::decimal::{MOST_PLACES, ShortDecimal};
 
@@ -17,9 +18,6 @@ pub(crate) struct DeskTest {
     pub(crate) constant: i64,
 }
 
-// The most values of a list.
-const MOST_VALUES: u64 = 16;
-
 // The operand for a place, if the shape has it.
 fn desk_place(shape: Shape, place: Place) -> Option<Operand>
     ensures { result ≡ desk_place shape place }
@@ -29,6 +27,10 @@ fn desk_place(shape: Shape, place: Place) -> Option<Operand>
         (Shape::First, Place::Item(0)) => Some(Operand::Whole),
         (Shape::Several(most), Place::Item(place)) if place < most && most <= MOST_VALUES => {
             Some(Operand::Item(place))
+        }
+        (Shape::Length(_), Place::Length) => Some(Operand::Item(0)),
+        (Shape::Length(most), Place::Item(place)) if place < most && most < MOST_VALUES => {
+            Some(Operand::Item(place + 1))
         }
         _ => None,
     }
@@ -70,12 +72,33 @@ fn constant_of(number: ShortDecimal, places: usize) -> Option<i64>
     }
 }
 
+// The constant of a length, which is a whole number.
+fn length_of(number: ShortDecimal) -> Option<i64>
+    ensures { result ≡ length_of number }
+{
+    if number.places == 0 && number.whole.unsigned_abs() < LEAST_TOO_LONG {
+        Some(number.whole)
+    } else {
+        None
+    }
+}
+
+// The constant that a place is compared with.
+fn constant_at(place: Place, number: ShortDecimal, places: usize) -> Option<i64>
+    ensures { result ≡ constant_at place number places }
+{
+    match place {
+        Place::Length => length_of(number),
+        _ => constant_of(number, places),
+    }
+}
+
 // The desk's comparison for one of Argo's, with the value first.
 pub(crate) fn desk_test(form: Form, test: Test) -> Option<DeskTest>
     ensures { result ≡ desk_test form test }
 {
     let operand = desk_place(form.shape, test.place)?;
-    let constant = constant_of(test.number, form.places)?;
+    let constant = constant_at(test.place, test.number, form.places)?;
     Some(DeskTest {
         operand,
         comparison: in_turn(test.turned, test.comparison),
@@ -86,8 +109,9 @@ pub(crate) fn desk_test(form: Form, test: Test) -> Option<DeskTest>
 // Why the desk has no comparison for one of Argo's.
 pub(crate) fn why_not(form: Form, test: Test) -> Refusal {
     match desk_place(form.shape, test.place) {
-        Some(_) => Refusal::Range,
         None => Refusal::Shape,
+        Some(_) if matches!(test.place, Place::Length) => Refusal::Fraction,
+        Some(_) => Refusal::Range,
     }
 }
 

@@ -6,7 +6,7 @@
 //! not     := ("!" | "not") (not, but no comparison) | atom
 //! atom    := "(" or ")" | value compare number | number compare value
 //! value   := place | "asFloat" "(" place ")"
-//! place   := "result" | "result" "[" digits "]"
+//! place   := "result" | "result" "[" digits "]" | "len" "(" "result" ")"
 //! ```
 //!
 //! A number is a decimal of at most 15 digits, at most 17 of them after the point.
@@ -59,7 +59,9 @@ fn translated(alloc: Global, form: Form, items: &[Item]) -> Result<String, Fault
 fn place_of(form: Form, items: &[Item], finding: Finding) -> usize {
     match finding.why {
         Refusal::Brackets => naming::place_of_misfit(items),
-        Refusal::Shape | Refusal::Range => translating::place_of_unfit(form, items),
+        Refusal::Shape | Refusal::Range | Refusal::Fraction => translating::place_of_unfit(
+            form, items,
+        ),
         _ => finding.at,
     }
 }
