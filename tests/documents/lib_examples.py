@@ -7,9 +7,10 @@ import itertools
 import re
 
 # The crates of tests, that of figures, and the program: no caller rests on them. Nor does any yet
-# rest on the laws over all senders, or on those over all books over tables.
+# rest on the laws over all senders, on those over all books over tables, or on the translation of
+# Argo's conditions.
 NO_LIBRARIES = {
-    "canary_bench", "canary_desk", "canary_desk_tests", "canary_senders", "canary_tables_laws",
+    "canary_argo", "canary_bench", "canary_desk", "canary_desk_tests", "canary_senders", "canary_tables_laws",
     "canary_testing", "canary_tests",
 }
 EXAMPLE = re.compile(r"^In use \((\w+), (\S+)\):\n\n((?:    .*\n)+)", re.MULTILINE)

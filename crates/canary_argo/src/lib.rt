@@ -2,10 +2,6 @@
 //!
 //! Callers may rest on this: what `translate` answers is a condition of the desk; on each result
 //! that is reported in the form, it says what Argo's condition says of what was measured.
-//!
-//! In use (this crate, src/rows.rt):
-//!
-//!     let needs = Needs::none().with_condition(alloc, condition)?;
 #![tactic(auto)]
 
 pub mod condition;

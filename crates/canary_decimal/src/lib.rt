@@ -4,12 +4,12 @@
 //! spells, and no other; what `to_multiple` gives compares to what `to_constant` gives as the
 //! decimals do that they were made of, whichever stands first (`laws::compares_as_decimals`).
 //!
-//! In use (this crate, src/rows.rt):
+//! In use (canary_argo, src/lexer.rt):
 //!
-//!     Some(Reading::Number(decimal)) => Ok((
-//!         Some(decimal.to_multiple(6)),
-//!         decimal.to_constant(6),
-//!     )),
+//!     match decimal(alloc, word)? {
+//!         Some(number) => Ok(held(number.short())),
+//!         None => Ok(None),
+//!     }
 #![tactic(auto)]
 
 pub mod decimal;
