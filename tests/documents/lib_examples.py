@@ -10,8 +10,8 @@ import re
 # rest on the laws over all senders, on those over all books over tables, or on the translation of
 # Argo's conditions.
 NO_LIBRARIES = {
-    "canary_argo", "canary_bench", "canary_desk", "canary_desk_tests", "canary_senders", "canary_tables_laws",
-    "canary_testing", "canary_tests",
+    "canary_argo", "canary_bench", "canary_desk", "canary_desk_tests", "canary_senders",
+    "canary_tables_laws", "canary_testing", "canary_tests",
 }
 EXAMPLE = re.compile(r"^In use \((\w+), (\S+)\):\n\n((?:    .*\n)+)", re.MULTILINE)
 CODE = re.compile(r"^    ", re.MULTILINE)
