@@ -9,16 +9,16 @@ use Rattle.canary_condition.specs.declared.condition.Comparison.{Comparison}
 use Rattle.canary_condition.specs.Spelling.{Level}
 use Rattle.canary_decimal.specs.declared.decimal.ShortDecimal.{ShortDecimal}
 use Rattle.canary_argo.specs.declared.condition.Item.{Item}
-use Rattle.canary_argo.specs.declared.condition.Item.TheVariants.{Or as OrItem, And as AndItem, Not as NotItem, Open as OpenGroup, Close as CloseGroup, Compare as CompareItem}
+use Rattle.canary_argo.specs.declared.condition.Item.TheVariants.{Or as OrItem, And as AndItem, Not as NotItem, Open as OpenGroup, Close as CloseGroup, Compare as CompareItem, NaN as NaNItem}
 use Rattle.canary_argo.specs.declared.condition.Place.{Place}
 use Rattle.canary_argo.specs.declared.condition.Place.TheVariants.{Whole, Item as ItemPlace, Length}
 use Rattle.canary_argo.specs.declared.condition.Test.{Test}
 use Rattle.canary_argo.specs.declared.condition.Token.{Token}
-use Rattle.canary_argo.specs.declared.condition.Token.TheVariants.{Compares, OrSign, AndSign, NotSign, Open, Close, OpenItem, CloseItem, ResultWord, AsFloatWord, LenWord, Number}
-use Rattle.canary_argo.specs.Spelling.{place_tokens, value_tokens, test_tokens, Spells}
-use Rattle.canary_argo.specs.Grouping.{natural, index_of, place_at, after_result, closed, front_value, with_number, with_value, turned_test, front_test, front_item, item_tokens, all_tokens, SpellsItems}
+use Rattle.canary_argo.specs.declared.condition.Token.TheVariants.{Compares, OrSign, AndSign, NotSign, Open, Close, OpenItem, CloseItem, ResultWord, AsFloatWord, LenWord, NaNWord, Number}
+use Rattle.canary_argo.specs.Spelling.{place_tokens, value_tokens, test_tokens, nan_tokens, Spells}
+use Rattle.canary_argo.specs.Grouping.{natural, index_of, place_at, after_result, closed, front_value, with_number, with_value, turned_test, front_test, nan_item, front_item, item_tokens, all_tokens, SpellsItems}
 use Rattle.canary_argo.specs.Trees.{Tree}
-use Rattle.canary_argo.specs.Trees.Tree.{Or, And, Not, Bracket, Compare}
+use Rattle.canary_argo.specs.Trees.Tree.{Or, And, Not, Bracket, Compare, IsNaN}
 
 -- ---- places
 
@@ -95,12 +95,18 @@ as_item : (ts : List Token) (t : Option (Test × List Token)) → TestAt ts t �
 as_item ts None h = tt
 as_item ts (Some t) h = h
 
+nan_holds : (place : Place) (ts rest : List Token) → ResultWord ∷ ts ≡ place_tokens place ++ rest → ItemAt (NaNWord ∷ Open ∷ ResultWord ∷ ts) (nan_item place rest)
+nan_holds place ts (Close ∷ rest) e =
+    ap (λ (r : List Token). NaNWord ∷ Open ∷ r) (e ∙ sym (append_assoc (place_tokens place) (Close ∷ []) rest))
+nan_holds place ts rest e = tt
+
 item_holds : (ts : List Token) → ItemAt ts (front_item ts)
 item_holds (OrSign ∷ ts) = refl
 item_holds (AndSign ∷ ts) = refl
 item_holds (NotSign ∷ ts) = refl
 item_holds (Open ∷ ts) = refl
 item_holds (Close ∷ ts) = refl
+item_holds (NaNWord ∷ Open ∷ ResultWord ∷ ts) = nan_holds (after_result ts).0 ts (after_result ts).1 (after_holds ts)
 item_holds ts = as_item ts (front_test ts) (test_holds ts)
 
 pub item_is : (ts rest : List Token) (item : Item) → Some (item, rest) ≡ front_item ts → ts ≡ item_tokens item ++ rest
@@ -125,6 +131,7 @@ some_tokens AndItem = omega arith
 some_tokens NotItem = omega arith
 some_tokens OpenGroup = omega arith
 some_tokens CloseGroup = omega arith
+some_tokens (NaNItem place) = omega arith
 some_tokens (CompareItem t) = some_test t.turned t.as_float t.place t.comparison t.number
 
 -- a group takes a token at least
@@ -150,3 +157,4 @@ spelled_tokens (Not a) level items (h, rest, e, closed, ha) =
 spelled_tokens (Bracket a) level items (inside, e, ha) =
     (all_tokens inside, ap all_tokens e ∙ ap (λ (r : List Token). Open ∷ r) (flat_map-append item_tokens inside (CloseGroup ∷ [])), spelled_tokens a _ inside ha)
 spelled_tokens (Compare test) level items e = ap all_tokens e ∙ append-nil (test_tokens test)
+spelled_tokens (IsNaN place) level items e = ap all_tokens e ∙ append-nil (nan_tokens place)

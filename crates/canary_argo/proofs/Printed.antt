@@ -22,24 +22,27 @@ use Rattle.canary_condition.specs.declared.token.Token.{Token}
 use Rattle.canary_condition.specs.declared.token.Token.TheVariants.{Compares, OrSign, AndSign, NotSign, Open, Close, OpenItem, CloseItem, ResultWord, Digits, Minus, OutOfRange}
 use Rattle.canary_condition.specs.Tokens.{is_blank, is_word_byte, front_word, is_number, digits_token, minus_token, keyword_token, word_token, negative_token, with_bytes, front_token, front_symbol, tokens_after, tokens_of}
 use Rattle.canary_condition.specs.Spelling.{Level, IsOperand, Spells}
+use Rattle.canary_condition.specs.Spelling.Level.{AtAnd, AtNot}
 use Rattle.canary_condition.specs.Trees.{Tree as DeskTree}
 use Rattle.canary_condition.specs.Trees.Tree.{Or as DeskOr, And as DeskAnd, Not as DeskNot, Bracket as DeskBracket, Compare as DeskCompare}
 use Rattle.canary_decimal.specs.declared.decimal.ShortDecimal.{ShortDecimal}
 use Rattle.canary_decimal.specs.Exactness.{signed, Fraction, IsConstant}
 use Rattle.canary_decimal.specs.Short.{fraction_of, short_constant, ShortConstants}
 use Rattle.canary_argo.specs.declared.condition.Item.{Item}
-use Rattle.canary_argo.specs.declared.condition.Item.TheVariants.{Or as OrItem, And as AndItem, Not as NotItem, Open as OpenGroup, Close as CloseGroup, Compare as CompareItem}
+use Rattle.canary_argo.specs.declared.condition.Item.TheVariants.{Or as OrItem, And as AndItem, Not as NotItem, Open as OpenGroup, Close as CloseGroup, Compare as CompareItem, NaN as NaNItem}
 use Rattle.canary_argo.specs.declared.condition.Place.{Place}
 use Rattle.canary_argo.specs.declared.condition.Place.TheVariants.{Whole, Item as ItemPlace, Length as LengthPlace}
 use Rattle.canary_argo.specs.declared.condition.Test.{Test}
 use Rattle.canary_argo.specs.declared.form.Form.{Form}
 use Rattle.canary_argo.specs.declared.form.Shape.{Shape}
 use Rattle.canary_argo.specs.declared.form.Shape.TheVariants.{One, First, Several, Length as LengthShape}
+use Rattle.canary_argo.specs.declared.translating.DeskAtom.{DeskAtom}
 use Rattle.canary_argo.specs.declared.translating.DeskTest.{DeskTest}
+use Rattle.canary_argo.specs.Reporting.{nan}
 use Rattle.canary_argo.specs.Grouping.{SpellsItems}
-use Rattle.canary_argo.specs.Translating.{desk_place, in_turn, constant_of, length_of, constant_at, made, desk_test, operand_text, sign_text, test_text, item_text, fits, text_of}
+use Rattle.canary_argo.specs.Translating.{desk_place, in_turn, constant_of, length_of, constant_at, made, desk_test, operand_text, sign_text, test_text, item_text, fits, text_of, guard, is_below, guarded, compare_atom, desk_value, nan_at, nan_atom, atom_words, atom_text}
 use Rattle.canary_argo.specs.Trees.{Tree}
-use Rattle.canary_argo.specs.Trees.Tree.{Or, And, Not, Bracket, Compare}
+use Rattle.canary_argo.specs.Trees.Tree.{Or, And, Not, Bracket, Compare, IsNaN}
 
 -- ---- one token after the other
 
@@ -225,13 +228,13 @@ made_is c (Some o) (Some k) d e =
 pub desk_is : (form : Form) (t : Test) (d : DeskTest) → desk_test form t ≡ Some d → (desk_place form.shape t.place ≡ Some d.operand) × ((in_turn t.turned t.comparison ≡ d.comparison) × (constant_at t.place t.number form.places ≡ Some d.constant))
 desk_is form t d e = made_is (in_turn t.turned t.comparison) (desk_place form.shape t.place) (constant_at t.place t.number form.places) d e
 
-guarded : (b : Bool) (o : Option ℤ) (z : ℤ) → (if b then o else None) ≡ Some z → (b ≡ true) × (o ≡ Some z)
-guarded true o z e = (refl, e)
-guarded false o z e = absurd (none-some z e)
+option_guarded : (b : Bool) (o : Option ℤ) (z : ℤ) → (if b then o else None) ≡ Some z → (b ≡ true) × (o ≡ Some z)
+option_guarded true o z e = (refl, e)
+option_guarded false o z e = absurd (none-some z e)
 
 pub constant_is : ShortConstants → (n : ShortDecimal) (places : ℕ) (z : ℤ) → constant_of n places ≡ Some z → IsConstant z (fraction_of n) places
 constant_is law n places z e =
-    let found = guarded (nat_lt n.places places && nat_le places 18) (short_constant n places) z e in
+    let found = option_guarded (nat_lt n.places places && nat_le places 18) (short_constant n places) z e in
     let more = (and_parts (nat_lt n.places places) (nat_le places 18) found.0).0 in
     law n places z (ltb-true n.places places more) found.1
 
@@ -293,6 +296,73 @@ desk_small law form t d e =
     let parts = desk_is form t d e in
     (place_small form.shape t.place d.operand parts.0, small_at law t.place t.number form.places d.constant parts.1.1)
 
+-- ---- what the desk asks
+
+abbrev pub atom_signs : Bool → DeskTest → List Token
+atom_signs false t = test_tokens (Some t)
+atom_signs true t = Open ∷ (test_tokens (Some t) ++ AndSign ∷ (test_tokens (Some (guard t)) ++ Close ∷ []))
+
+abbrev pub atom_tokens : Option DeskAtom → List Token
+atom_tokens None = []
+atom_tokens (Some a) = atom_signs a.guarded a.test
+
+guard_small : (t : DeskTest) → IsSmall t → IsSmall (guard t)
+guard_small t h = let small : Small nan = omega arith in (h.0, small)
+
+and_lexed : (rest : List ℕ) (us : List Token) → IsLexed rest us → IsLexed (codes " && " ++ rest) (AndSign ∷ us)
+and_lexed rest us h = ap (option_map (λ (ts : List Token). AndSign ∷ ts)) h
+
+atom_lexed : (b : Bool) (t : DeskTest) (rest : List ℕ) (us : List Token) → IsSmall t → EndsWord rest → IsLexed rest us → IsLexed (atom_words b t ++ rest) (atom_signs b t ++ us)
+atom_lexed false t rest us small ends h = test_lexed t rest us small ends h
+atom_lexed true t rest us small ends h =
+    let first : List ℕ = test_text (Some t) in
+    let second : List ℕ = test_text (Some (guard t)) in
+    let last : IsLexed (second ++ (41 ∷ rest)) (test_tokens (Some (guard t)) ++ Close ∷ us) = test_lexed (guard t) (41 ∷ rest) (Close ∷ us) (guard_small t small) refl (close_lexed rest us h) in
+    let joined : IsLexed ((second ++ codes ")") ++ rest) (test_tokens (Some (guard t)) ++ Close ∷ us) = ap (tokens_after 0) (append_assoc second (codes ")") rest) ∙ last in
+    let sign : IsLexed (codes " && " ++ ((second ++ codes ")") ++ rest)) (AndSign ∷ (test_tokens (Some (guard t)) ++ Close ∷ us)) = and_lexed ((second ++ codes ")") ++ rest) (test_tokens (Some (guard t)) ++ Close ∷ us) joined in
+    let both = test_lexed t (codes " && " ++ ((second ++ codes ")") ++ rest)) (AndSign ∷ (test_tokens (Some (guard t)) ++ Close ∷ us)) small refl sign in
+    let inside : IsLexed ((first ++ (codes " && " ++ (second ++ codes ")"))) ++ rest) (test_tokens (Some t) ++ AndSign ∷ (test_tokens (Some (guard t)) ++ Close ∷ us)) =
+    ap (tokens_after 0) (append_assoc first (codes " && " ++ (second ++ codes ")")) rest) ∙ both in
+    let tokens : test_tokens (Some t) ++ AndSign ∷ (test_tokens (Some (guard t)) ++ Close ∷ us) ≡ (test_tokens (Some t) ++ AndSign ∷ (test_tokens (Some (guard t)) ++ Close ∷ [])) ++ us =
+    ap (λ (r : List Token). test_tokens (Some t) ++ AndSign ∷ r) (sym (append_assoc (test_tokens (Some (guard t))) (Close ∷ []) us)) ∙ sym (append_assoc (test_tokens (Some t)) (AndSign ∷ (test_tokens (Some (guard t)) ++ Close ∷ [])) us) in
+    open_lexed ((first ++ (codes " && " ++ (second ++ codes ")"))) ++ rest) ((test_tokens (Some t) ++ AndSign ∷ (test_tokens (Some (guard t)) ++ Close ∷ [])) ++ us) (inside ∙ ap (λ (r : List Token). Some r) tokens)
+
+guarded_is : (b : Bool) (o : Option DeskTest) (a : DeskAtom) → guarded b o ≡ Some a → (o ≡ Some a.test) × (a.guarded ≡ (b && is_below a.test.comparison))
+guarded_is b None a e = absurd (none-some a e)
+guarded_is b (Some t) a e =
+    let same = same_Some (record { test = t; guarded = b && is_below t.comparison }) a e in
+    (ap (λ (x : DeskAtom). Some x.test) same, ap (λ (x : DeskAtom). x.guarded) (sym same) ∙ ap (λ (x : DeskAtom). b && is_below x.test.comparison) same)
+
+-- what the desk asks for a comparison of Argo's
+pub compare_is : (form : Form) (t : Test) (a : DeskAtom) → compare_atom form t ≡ Some a → (desk_test form t ≡ Some a.test) × (a.guarded ≡ (form.nan && is_below a.test.comparison))
+compare_is form t a e = guarded_is form.nan (desk_test form t) a e
+
+nan_made : (o : Option Operand) (a : DeskAtom) → nan_at o ≡ Some a → (x : Operand) × ((o ≡ Some x) × (a ≡ record { test = record { operand = x; comparison = Equal; constant = nan }; guarded = false }))
+nan_made None a e = absurd (none-some a e)
+nan_made (Some x) a e = (x, (refl, sym (same_Some (record { test = record { operand = x; comparison = Equal; constant = nan }; guarded = false }) a e)))
+
+nan_by : (b : Bool) (o : Option DeskAtom) (a : DeskAtom) → (if b then o else None) ≡ Some a → (b ≡ true) × (o ≡ Some a)
+nan_by true o a e = (refl, e)
+nan_by false o a e = absurd (none-some a e)
+
+-- and for `isNaN`
+pub nan_is : (form : Form) (p : Place) (a : DeskAtom) → nan_atom form p ≡ Some a → (form.nan ≡ true) × ((x : Operand) × ((desk_value form.shape p ≡ Some x) × (a ≡ record { test = record { operand = x; comparison = Equal; constant = nan }; guarded = false })))
+nan_is form p a e = let found = nan_by form.nan (nan_at (desk_value form.shape p)) a e in (found.0, nan_made (desk_value form.shape p) a found.1)
+
+value_small : (shape : Shape) (p : Place) (o : Operand) → desk_value shape p ≡ Some o → SmallOperand o
+value_small shape LengthPlace o e = absurd (none-some o e)
+value_small shape Whole o e = place_small shape Whole o e
+value_small shape (ItemPlace i) o e = place_small shape (ItemPlace i) o e
+
+compare_small : ShortConstants → (form : Form) (t : Test) (a : DeskAtom) → compare_atom form t ≡ Some a → IsSmall a.test
+compare_small law form t a e = desk_small law form t a.test (compare_is form t a e).0
+
+nan_small : (form : Form) (p : Place) (a : DeskAtom) → nan_atom form p ≡ Some a → IsSmall a.test
+nan_small form p a e =
+    let it = nan_is form p a e in
+    let small : Small nan = omega arith in
+    subst (λ (y : DeskAtom). IsSmall y.test) (sym it.1.1.1) (value_small form.shape p it.1.0 it.1.1.0, small)
+
 -- ---- groups
 
 abbrev sign_tokens : Item → List Token
@@ -302,9 +372,11 @@ sign_tokens NotItem = NotSign ∷ []
 sign_tokens OpenGroup = Open ∷ []
 sign_tokens CloseGroup = Close ∷ []
 sign_tokens (CompareItem t) = []
+sign_tokens (NaNItem p) = []
 
 abbrev item_tokens : Form → Item → List Token
-item_tokens form (CompareItem t) = test_tokens (desk_test form t)
+item_tokens form (CompareItem t) = atom_tokens (compare_atom form t)
+item_tokens form (NaNItem p) = atom_tokens (nan_atom form p)
 item_tokens form item = sign_tokens item
 
 abbrev pub desk_tokens : Form → List Item → List Token
@@ -354,21 +426,32 @@ fit_parts form front rest h = and_parts (list_all (fits form) front) (list_all (
 fit_after : (form : Form) (x : Item) (rest : List Item) → Fit form (x ∷ rest) → Fit form rest
 fit_after form x rest h = (and_parts (fits form x) (list_all (fits form) rest) h).1
 
-some_is : (o : Option DeskTest) → is_some o ≡ true → (d : DeskTest) × (o ≡ Some d)
+some_is : (o : Option DeskAtom) → is_some o ≡ true → (a : DeskAtom) × (o ≡ Some a)
 some_is None h = absurd (false≢true h)
-some_is (Some d) h = (d, refl)
+some_is (Some a) h = (a, refl)
 
-pub fit_is : (form : Form) (t : Test) → Fit form (CompareItem t ∷ []) → (d : DeskTest) × (desk_test form t ≡ Some d)
-fit_is form t h = some_is (desk_test form t) (and_parts (is_some (desk_test form t)) true h).0
+pub fit_is : (form : Form) (t : Test) → Fit form (CompareItem t ∷ []) → (a : DeskAtom) × (compare_atom form t ≡ Some a)
+fit_is form t h = some_is (compare_atom form t) (and_parts (is_some (compare_atom form t)) true h).0
+
+pub nan_fit : (form : Form) (p : Place) → Fit form (NaNItem p ∷ []) → (a : DeskAtom) × (nan_atom form p ≡ Some a)
+nan_fit form p h = some_is (nan_atom form p) (and_parts (is_some (nan_atom form p)) true h).0
+
+abbrev AtomPrints : Option DeskAtom → Type 0
+AtomPrints o = (rest : List ℕ) (us : List Token) → EndsWord rest → IsLexed rest us → IsLexed ((atom_text o ++ []) ++ rest) ((atom_tokens o ++ []) ++ us)
+
+atom_prints : (o : Option DeskAtom) (a : DeskAtom) → o ≡ Some a → IsSmall a.test → AtomPrints o
+atom_prints o a e small rest us ends h =
+    let all = atom_lexed a.guarded a.test rest us small ends h in
+    ap (λ (x : Option DeskAtom). tokens_after 0 ((atom_text x ++ []) ++ rest)) e
+    ∙ ap (λ (r : List ℕ). tokens_after 0 (r ++ rest)) (append-nil (atom_text (Some a))) ∙ all
+    ∙ ap (λ (r : List Token). Some (r ++ us)) (sym (append-nil (atom_tokens (Some a))))
+    ∙ ap (λ (x : Option DeskAtom). Some ((atom_tokens x ++ []) ++ us)) (sym e)
 
 test_prints : ShortConstants → (form : Form) (t : Test) → Fit form (CompareItem t ∷ []) → Prints form (CompareItem t ∷ [])
-test_prints law form t fit rest us ends h =
-    let (d, e) = fit_is form t fit in
-    let all = test_lexed d rest us (desk_small law form t d e) ends h in
-    ap (λ (o : Option DeskTest). tokens_after 0 ((test_text o ++ []) ++ rest)) e
-    ∙ ap (λ (r : List ℕ). tokens_after 0 (r ++ rest)) (append-nil (test_text (Some d))) ∙ all
-    ∙ ap (λ (r : List Token). Some (r ++ us)) (sym (append-nil (test_tokens (Some d))))
-    ∙ ap (λ (o : Option DeskTest). Some ((test_tokens o ++ []) ++ us)) (sym e)
+test_prints law form t fit = let (a, e) = fit_is form t fit in atom_prints (compare_atom form t) a e (compare_small law form t a e)
+
+nan_prints : (form : Form) (p : Place) → Fit form (NaNItem p ∷ []) → Prints form (NaNItem p ∷ [])
+nan_prints form p fit = let (a, e) = nan_fit form p fit in atom_prints (nan_atom form p) a e (nan_small form p a e)
 
 prints : ShortConstants → (form : Form) (T : Tree) (level : Level) (items : List Item) → SpellsItems T level items → Fit form items → Prints form items
 prints law form (Or a b) level items (h, front, rest, e, ha, hb) fit =
@@ -385,6 +468,8 @@ prints law form (Bracket a) level items (inside, e, ha) fit =
     let parts = fit_parts form inside (CloseGroup ∷ []) after in
     let most = joined_prints form inside CloseGroup [] (λ _. refl) (prints law form a _ inside ha parts.0) (λ rest us h. close_lexed rest us h) (nothing_prints form) in
     subst (Prints form) (sym e) (first_prints form OpenGroup (inside ++ CloseGroup ∷ []) (λ rest us h. open_lexed rest us h) most)
+prints law form (IsNaN p) level items e fit =
+    subst (Prints form) (sym e) (nan_prints form p (ap (list_all (fits form)) (sym e) ∙ fit))
 prints law form (Compare t) level items e fit =
     subst (Prints form) (sym e) (test_prints law form t (ap (list_all (fits form)) (sym e) ∙ fit))
 
@@ -399,12 +484,21 @@ abbrev pub compare_of : Option DeskTest → DeskTree
 compare_of None = DeskCompare WholeOperand Equal WholeOperand
 compare_of (Some d) = DeskCompare d.operand d.comparison (NumberOperand d.constant)
 
+abbrev pub atom_shape : Bool → DeskTest → DeskTree
+atom_shape false t = compare_of (Some t)
+atom_shape true t = DeskBracket (DeskAnd (compare_of (Some t)) (compare_of (Some (guard t))))
+
+abbrev pub atom_tree : Option DeskAtom → DeskTree
+atom_tree None = compare_of None
+atom_tree (Some a) = atom_shape a.guarded a.test
+
 abbrev pub desk_tree : Form → Tree → DeskTree
 desk_tree form (Or a b) = DeskOr (desk_tree form a) (desk_tree form b)
 desk_tree form (And a b) = DeskAnd (desk_tree form a) (desk_tree form b)
 desk_tree form (Not a) = DeskNot (desk_tree form a)
 desk_tree form (Bracket a) = DeskBracket (desk_tree form a)
-desk_tree form (Compare t) = compare_of (desk_test form t)
+desk_tree form (Compare t) = atom_tree (compare_atom form t)
+desk_tree form (IsNaN p) = atom_tree (nan_atom form p)
 
 number_spelled : (z : ℤ) → IsOperand (NumberOperand z) (number_token z ∷ [])
 number_spelled (pos n) = inl refl
@@ -415,8 +509,20 @@ operand_spelled WholeOperand = refl
 operand_spelled (ItemOperand i) = refl
 operand_spelled (NumberOperand z) = number_spelled z
 
-test_spelled : (level : Level) (d : DeskTest) → Spells (compare_of (Some d)) level (test_tokens (Some d) ++ [])
-test_spelled level d = (operand_tokens d.operand, number_token d.constant ∷ [], append-nil (test_tokens (Some d)), operand_spelled d.operand, number_spelled d.constant)
+test_spelled : (level : Level) (d : DeskTest) → Spells (compare_of (Some d)) level (test_tokens (Some d))
+test_spelled level d = (operand_tokens d.operand, number_token d.constant ∷ [], refl, operand_spelled d.operand, number_spelled d.constant)
+
+shape_spelled : (level : Level) (b : Bool) (t : DeskTest) → Spells (atom_shape b t) level (atom_signs b t)
+shape_spelled level false t = test_spelled level t
+shape_spelled level true t =
+    let first : List Token = test_tokens (Some t) in
+    let second : List Token = test_tokens (Some (guard t)) in
+    (first ++ AndSign ∷ second, ap (λ (r : List Token). Open ∷ r) (sym (append_assoc first (AndSign ∷ second) (Close ∷ []))), (refl, first, second, refl, test_spelled AtAnd t, test_spelled AtNot (guard t)))
+
+atom_spelled : (level : Level) (o : Option DeskAtom) (a : DeskAtom) → o ≡ Some a → Spells (atom_tree o) level (atom_tokens o ++ [])
+atom_spelled level o a e =
+    subst (λ (x : Option DeskAtom). Spells (atom_tree x) level (atom_tokens x ++ [])) (sym e)
+    (subst (Spells (atom_tree (Some a)) level) (sym (append-nil (atom_tokens (Some a)))) (shape_spelled level a.guarded a.test))
 
 pub desk_spelled : (form : Form) (T : Tree) (level : Level) (items : List Item) → SpellsItems T level items → Fit form items → Spells (desk_tree form T) level (desk_tokens form items)
 desk_spelled form (Or a b) level items (h, front, rest, e, ha, hb) fit =
@@ -433,6 +539,8 @@ desk_spelled form (Bracket a) level items (inside, e, ha) fit =
     let parts = fit_parts form inside (CloseGroup ∷ []) after in
     (desk_tokens form inside, ap (desk_tokens form) e ∙ ap (λ (r : List Token). Open ∷ r) (flat_map-append (item_tokens form) inside (CloseGroup ∷ [])), desk_spelled form a _ inside ha parts.0)
 desk_spelled form (Compare t) level items e fit =
-    let (d, is) = fit_is form t (ap (list_all (fits form)) (sym e) ∙ fit) in
-    subst (λ (r : List Item). Spells (compare_of (desk_test form t)) level (desk_tokens form r)) (sym e)
-    (subst (λ (o : Option DeskTest). Spells (compare_of o) level (test_tokens o ++ [])) (sym is) (test_spelled level d))
+    let (a, is) = fit_is form t (ap (list_all (fits form)) (sym e) ∙ fit) in
+    subst (λ (r : List Item). Spells (atom_tree (compare_atom form t)) level (desk_tokens form r)) (sym e) (atom_spelled level (compare_atom form t) a is)
+desk_spelled form (IsNaN p) level items e fit =
+    let (a, is) = nan_fit form p (ap (list_all (fits form)) (sym e) ∙ fit) in
+    subst (λ (r : List Item). Spells (atom_tree (nan_atom form p)) level (desk_tokens form r)) (sym e) (atom_spelled level (nan_atom form p) a is)

@@ -7,15 +7,15 @@ use Rattle.canary_condition.specs.Spelling.{Level, has_or, has_and, has_not}
 use Rattle.canary_condition.specs.Spelling.Level.{AtOr, AtAnd, AtNot}
 use Rattle.canary_decimal.specs.declared.decimal.ShortDecimal.{ShortDecimal}
 use Rattle.canary_argo.specs.declared.condition.Item.{Item}
-use Rattle.canary_argo.specs.declared.condition.Item.TheVariants.{Or as OrItem, And as AndItem, Not as NotItem, Open as OpenGroup, Close as CloseGroup, Compare as CompareItem}
+use Rattle.canary_argo.specs.declared.condition.Item.TheVariants.{Or as OrItem, And as AndItem, Not as NotItem, Open as OpenGroup, Close as CloseGroup, Compare as CompareItem, NaN as NaNItem}
 use Rattle.canary_argo.specs.declared.condition.Place.{Place}
 use Rattle.canary_argo.specs.declared.condition.Place.TheVariants.{Whole, Item as ItemPlace, Length}
 use Rattle.canary_argo.specs.declared.condition.Test.{Test}
 use Rattle.canary_argo.specs.declared.condition.Token.{Token}
-use Rattle.canary_argo.specs.declared.condition.Token.TheVariants.{Compares, OrSign, AndSign, NotSign, Open, Close, OpenItem, CloseItem, ResultWord, AsFloatWord, LenWord, Number}
-use Rattle.canary_argo.specs.Spelling.{test_tokens, IsClosed}
+use Rattle.canary_argo.specs.declared.condition.Token.TheVariants.{Compares, OrSign, AndSign, NotSign, Open, Close, OpenItem, CloseItem, ResultWord, AsFloatWord, LenWord, NaNWord, Number}
+use Rattle.canary_argo.specs.Spelling.{test_tokens, nan_tokens, IsClosed}
 use Rattle.canary_argo.specs.Trees.{Tree}
-use Rattle.canary_argo.specs.Trees.Tree.{Or, And, Not, Bracket, Compare}
+use Rattle.canary_argo.specs.Trees.Tree.{Or, And, Not, Bracket, Compare, IsNaN}
 
 abbrev pub natural : ℤ → Option ℕ
 natural (pos n) = Some n
@@ -70,6 +70,11 @@ abbrev pub front_test : List Token → Option (Test × List Token)
 front_test (Number d ∷ Compares c ∷ ts) = turned_test c d (front_value ts)
 front_test ts = with_value (front_value ts)
 
+-- `isNaN` of a place, and what follows it
+abbrev pub nan_item : Place → List Token → Option (Item × List Token)
+nan_item place (Close ∷ ts) = Some (NaNItem place, ts)
+nan_item place ts = None
+
 -- the group at the front, and what follows it
 abbrev pub front_item : List Token → Option (Item × List Token)
 front_item (OrSign ∷ ts) = Some (OrItem, ts)
@@ -77,6 +82,7 @@ front_item (AndSign ∷ ts) = Some (AndItem, ts)
 front_item (NotSign ∷ ts) = Some (NotItem, ts)
 front_item (Open ∷ ts) = Some (OpenGroup, ts)
 front_item (Close ∷ ts) = Some (CloseGroup, ts)
+front_item (NaNWord ∷ Open ∷ ResultWord ∷ ts) = nan_item (after_result ts).0 (after_result ts).1
 front_item ts = option_map (λ (r : Test × List Token). (CompareItem r.0, r.1)) (front_test ts)
 
 abbrev pub item_tokens : Item → List Token
@@ -86,6 +92,7 @@ item_tokens NotItem = NotSign ∷ []
 item_tokens OpenGroup = Open ∷ []
 item_tokens CloseGroup = Close ∷ []
 item_tokens (CompareItem test) = test_tokens test
+item_tokens (NaNItem place) = nan_tokens place
 
 abbrev pub all_tokens : List Item → List Token
 all_tokens items = flat_map item_tokens items
@@ -119,3 +126,4 @@ SpellsItems (Bracket a) level items =
     (inside : List Item) × (items ≡ OpenGroup ∷ inside ++ CloseGroup ∷ [])
     × SpellsItems a AtOr inside
 SpellsItems (Compare test) level items = items ≡ CompareItem test ∷ []
+SpellsItems (IsNaN place) level items = items ≡ NaNItem place ∷ []

@@ -3,7 +3,7 @@ use Rattle.std.specs.Prelude.{pos, Bool, true, false, Option, Some, None, List, 
 use Rattle.canary_condition.specs.declared.condition.Comparison.{Comparison}
 use Rattle.canary_condition.specs.declared.condition.Comparison.TheVariants.{NotEqual}
 use Rattle.canary_condition.specs.declared.condition.Verdict3.{Verdict3}
-use Rattle.canary_condition.specs.declared.condition.Verdict3.TheVariants.{Fault}
+use Rattle.canary_condition.specs.declared.condition.Verdict3.TheVariants.{True, False, Fault}
 use Rattle.canary_condition.specs.Meaning.{compares, verdict_of_test, or_of, and_of, not_of}
 use Rattle.canary_decimal.specs.Exactness.{Fraction, compares_exactly}
 use Rattle.canary_decimal.specs.Short.{fraction_of}
@@ -11,7 +11,7 @@ use Rattle.canary_argo.specs.declared.condition.Place.{Place}
 use Rattle.canary_argo.specs.declared.condition.Place.TheVariants.{Whole, Item, Length}
 use Rattle.canary_argo.specs.declared.condition.Test.{Test}
 use Rattle.canary_argo.specs.Trees.{Tree}
-use Rattle.canary_argo.specs.Trees.Tree.{Or, And, Not, Bracket, Compare}
+use Rattle.canary_argo.specs.Trees.Tree.{Or, And, Not, Bracket, Compare, IsNaN}
 
 -- a value that a provider gives
 pub data Given : Type 0 where
@@ -58,6 +58,13 @@ test_value t (Some MinusInfinite) =
 test_value t (Some Nothing) = Fault
 test_value t None = Fault
 
+-- what `isNaN` says of a value
+abbrev pub nan_value : Option Given → Verdict3
+nan_value (Some NotANumber) = True
+nan_value (Some Nothing) = Fault
+nan_value (Some given) = False
+nan_value None = Fault
+
 -- the value of a tree at what was measured; `asFloat` of a number is that number
 abbrev pub argo_value : Tree → Measured → Verdict3
 argo_value (Or a b) m = or_of (argo_value a m) (argo_value b m)
@@ -65,3 +72,4 @@ argo_value (And a b) m = and_of (argo_value a m) (argo_value b m)
 argo_value (Not a) m = not_of (argo_value a m)
 argo_value (Bracket a) m = argo_value a m
 argo_value (Compare test) m = test_value test (given_at test.place m)
+argo_value (IsNaN place) m = nan_value (given_at place m)

@@ -2,7 +2,7 @@
 --     or      := and  { ("||" | "or") and }
 --     and     := not  { ("&&" | "and") not }
 --     not     := ("!" | "not") (not, but no comparison) | atom
---     atom    := "(" or ")" | value compare number | number compare value
+--     atom    := "(" or ")" | value compare number | number compare value | "isNaN" "(" place ")"
 --     value   := place | "asFloat" "(" place ")"
 --     place   := "result" | "result" "[" digits "]" | "len" "(" "result" ")"
 -- Argo negates the operand that follows a `not`, and not a comparison. The relation splits the
@@ -14,9 +14,9 @@ use Rattle.canary_argo.specs.declared.condition.Place.{Place}
 use Rattle.canary_argo.specs.declared.condition.Place.TheVariants.{Whole, Item, Length}
 use Rattle.canary_argo.specs.declared.condition.Test.{Test}
 use Rattle.canary_argo.specs.declared.condition.Token.{Token}
-use Rattle.canary_argo.specs.declared.condition.Token.TheVariants.{Compares, OrSign, AndSign, NotSign, Open, Close, OpenItem, CloseItem, ResultWord, AsFloatWord, LenWord, Number}
+use Rattle.canary_argo.specs.declared.condition.Token.TheVariants.{Compares, OrSign, AndSign, NotSign, Open, Close, OpenItem, CloseItem, ResultWord, AsFloatWord, LenWord, NaNWord, Number}
 use Rattle.canary_argo.specs.Trees.{Tree}
-use Rattle.canary_argo.specs.Trees.Tree.{Or, And, Not, Bracket, Compare}
+use Rattle.canary_argo.specs.Trees.Tree.{Or, And, Not, Bracket, Compare, IsNaN}
 
 abbrev pub place_tokens : Place → List Token
 place_tokens Whole = ResultWord ∷ []
@@ -33,6 +33,9 @@ test_tokens t =
     let value = value_tokens t.as_float t.place in
     if t.turned then Number t.number ∷ Compares t.comparison ∷ value
     else value ++ Compares t.comparison ∷ Number t.number ∷ []
+
+abbrev pub nan_tokens : Place → List Token
+nan_tokens place = NaNWord ∷ Open ∷ place_tokens place ++ Close ∷ []
 
 -- not a comparison
 abbrev pub IsClosed : Tree → Type 0
@@ -53,6 +56,7 @@ Spells (Not a) level ts =
 Spells (Bracket a) level ts =
     (inside : List Token) × (ts ≡ Open ∷ inside ++ Close ∷ []) × Spells a AtOr inside
 Spells (Compare test) level ts = ts ≡ test_tokens test
+Spells (IsNaN place) level ts = ts ≡ nan_tokens place
 
 -- the text is this condition
 abbrev pub IsArgo : List Token → Tree → Type 0

@@ -10,7 +10,7 @@ use Rattle.canary_decimal.specs.Exactness.{Fraction}
 use Rattle.canary_decimal.specs.Short.{short_of}
 use Rattle.canary_decimal.specs.Reader.{spelled}
 use Rattle.canary_argo.specs.declared.condition.Token.{Token}
-use Rattle.canary_argo.specs.declared.condition.Token.TheVariants.{Compares, OrSign, AndSign, NotSign, Open, Close, OpenItem, CloseItem, ResultWord, AsFloatWord, LenWord, Number}
+use Rattle.canary_argo.specs.declared.condition.Token.TheVariants.{Compares, OrSign, AndSign, NotSign, Open, Close, OpenItem, CloseItem, ResultWord, AsFloatWord, LenWord, NaNWord, Number}
 
 -- a space, a tab, LF or CR
 abbrev pub is_blank : ℕ → Bool
@@ -71,7 +71,8 @@ keyword_token word =
     else (if bytes_eq word (codes "or") then Some OrSign
     else (if bytes_eq word (codes "not") then Some NotSign
     else (if bytes_eq word (codes "asFloat") then Some AsFloatWord
-    else (if bytes_eq word (codes "len") then Some LenWord else None)))))
+    else (if bytes_eq word (codes "len") then Some LenWord
+    else (if bytes_eq word (codes "isNaN") then Some NaNWord else None))))))
 
 -- the symbol of two bytes
 abbrev pub long_symbol : ℕ → ℕ → Option Token

@@ -14,18 +14,19 @@ use Rattle.canary_condition.specs.Reading.{IsConditionText}
 use Rattle.canary_decimal.specs.declared.decimal.ShortDecimal.{ShortDecimal}
 use Rattle.canary_decimal.specs.Short.{short_constant}
 use Rattle.canary_argo.specs.declared.condition.Item.{Item}
-use Rattle.canary_argo.specs.declared.condition.Item.TheVariants.{Or, And, Not, Open, Close, Compare}
+use Rattle.canary_argo.specs.declared.condition.Item.TheVariants.{Or, And, Not, Open, Close, Compare, NaN}
 use Rattle.canary_argo.specs.declared.condition.Place.{Place}
 use Rattle.canary_argo.specs.declared.condition.Place.TheVariants.{Whole, Item as ItemPlace, Length as LengthPlace}
 use Rattle.canary_argo.specs.declared.condition.Test.{Test}
 use Rattle.canary_argo.specs.declared.form.Form.{Form}
 use Rattle.canary_argo.specs.declared.form.Shape.{Shape}
 use Rattle.canary_argo.specs.declared.form.Shape.TheVariants.{One, First, Several, Length as LengthShape}
+use Rattle.canary_argo.specs.declared.translating.DeskAtom.{DeskAtom}
 use Rattle.canary_argo.specs.declared.translating.DeskTest.{DeskTest}
 use Rattle.canary_argo.specs.Grouping.{SpellsItems}
 use Rattle.canary_condition.specs.Spelling.Level.{AtOr}
 use Rattle.canary_argo.specs.Meaning.{Measured, argo_value}
-use Rattle.canary_argo.specs.Reporting.{IsReported}
+use Rattle.canary_argo.specs.Reporting.{nan, IsReported}
 use Rattle.canary_argo.specs.Tokens.{IsMadeOf}
 use Rattle.canary_argo.specs.Spelling.{IsArgo}
 use Rattle.canary_argo.specs.Trees.{Tree}
@@ -82,6 +83,42 @@ desk_test form t =
     made (in_turn t.turned t.comparison) (desk_place form.shape t.place)
     (constant_at t.place t.number form.places)
 
+-- the comparison that keeps NaN from being below a constant
+abbrev pub guard : DeskTest → DeskTest
+guard t = record { operand = t.operand; comparison = NotEqual; constant = nan }
+
+abbrev pub is_below : Comparison → Bool
+is_below Less = true
+is_below AtMost = true
+is_below c = false
+
+-- the desk's comparison, guarded if NaN would be below its constant
+abbrev pub guarded : Bool → Option DeskTest → Option DeskAtom
+guarded with_nan None = None
+guarded with_nan (Some t) =
+    Some (record { test = t; guarded = with_nan && is_below t.comparison })
+
+-- what the desk asks for one of Argo's comparisons
+abbrev pub compare_atom : Form → Test → Option DeskAtom
+compare_atom form t = guarded form.nan (desk_test form t)
+
+-- the operand for a place that is no length
+abbrev pub desk_value : Shape → Place → Option Operand
+desk_value shape LengthPlace = None
+desk_value shape place = desk_place shape place
+
+abbrev pub nan_at : Option Operand → Option DeskAtom
+nan_at None = None
+nan_at (Some o) =
+    Some (record {
+      test = record { operand = o; comparison = Equal; constant = nan };
+      guarded = false;
+    })
+
+-- what the desk asks for `isNaN` of a place
+abbrev pub nan_atom : Form → Place → Option DeskAtom
+nan_atom form place = if form.nan then nan_at (desk_value form.shape place) else None
+
 -- ---- the text
 
 abbrev pub operand_text : Operand → List ℕ
@@ -101,6 +138,16 @@ abbrev pub test_text : Option DeskTest → List ℕ
 test_text None = []
 test_text (Some t) = operand_text t.operand ++ (sign_text t.comparison ++ signed_decimal t.constant)
 
+abbrev pub atom_words : Bool → DeskTest → List ℕ
+atom_words false t = test_text (Some t)
+atom_words true t =
+    codes "(" ++ (test_text (Some t)
+    ++ (codes " && " ++ (test_text (Some (guard t)) ++ codes ")")))
+
+abbrev pub atom_text : Option DeskAtom → List ℕ
+atom_text None = []
+atom_text (Some a) = atom_words a.guarded a.test
+
 abbrev pub sign_words : Item → List ℕ
 sign_words Or = codes " || "
 sign_words And = codes " && "
@@ -108,13 +155,16 @@ sign_words Not = codes "not "
 sign_words Open = codes "("
 sign_words Close = codes ")"
 sign_words (Compare t) = []
+sign_words (NaN place) = []
 
 abbrev pub item_text : Form → Item → List ℕ
-item_text form (Compare t) = test_text (desk_test form t)
+item_text form (Compare t) = atom_text (compare_atom form t)
+item_text form (NaN place) = atom_text (nan_atom form place)
 item_text form item = sign_words item
 
 abbrev pub fits : Form → Item → Bool
-fits form (Compare t) = is_some (desk_test form t)
+fits form (Compare t) = is_some (compare_atom form t)
+fits form (NaN place) = is_some (nan_atom form place)
 fits form item = true
 
 abbrev pub text_of : Form → List Item → List ℕ
@@ -129,6 +179,7 @@ skeleton_text Not = codes "not "
 skeleton_text Open = codes "( "
 skeleton_text Close = codes ") "
 skeleton_text (Compare t) = codes "1<1 "
+skeleton_text (NaN place) = codes "1<1 "
 
 abbrev pub skeleton_of : List Item → List ℕ
 skeleton_of items = flat_map skeleton_text items

@@ -50,6 +50,8 @@ pub enum Token {
     AsFloatWord,
     /// `len`.
     LenWord,
+    /// `isNaN`.
+    NaNWord,
     /// A number of at most 15 digits, with its sign.
     Number(ShortDecimal),
 }
@@ -63,4 +65,6 @@ pub enum Item {
     Open,
     Close,
     Compare(Test),
+    /// `isNaN(..)`.
+    NaN(Place),
 }

@@ -8,6 +8,9 @@ use std::alloc::Global;
 /// The least places of a form.
 pub const LEAST_PLACES: usize = 6;
 
+/// What is reported of NaN. No multiple lies there.
+pub const NAN: i64 = i64::MIN;
+
 /// The most values of a list.
 pub const MOST_VALUES: u64 = 16;
 
@@ -29,6 +32,8 @@ pub enum Shape {
 pub struct Form {
     pub places: usize,
     pub shape: Shape,
+    /// Whether NaN is reported, as `NAN`; otherwise it is a failure.
+    pub nan: bool,
 }
 
 /// What the conditions of a metric look at.
@@ -42,6 +47,8 @@ pub struct Needs {
     most: u64,
     // Whether the length of a list is looked at.
     length: bool,
+    // Whether NaN is asked for.
+    nan: bool,
 }
 
 impl Needs {
@@ -52,20 +59,30 @@ impl Needs {
             whole: false,
             most: 0,
             length: false,
+            nan: false,
         }
     }
 
     // With one more comparison.
     fn with(self, test: Test) -> Needs {
-        let places = self.places.max(test.number.places.saturating_add(1));
-        match test.place {
+        let needs = self.with_place(test.place);
+        if matches!(test.place, Place::Length) {
+            return needs;
+        }
+        Needs {
+            places: self.places.max(test.number.places.saturating_add(1)),
+            ..needs
+        }
+    }
+
+    // With one more place.
+    fn with_place(self, place: Place) -> Needs {
+        match place {
             Place::Whole => Needs {
-                places,
                 whole: true,
                 ..self
             },
             Place::Item(place) => Needs {
-                places,
                 most: self.most.max(place.saturating_add(1)),
                 ..self
             },
@@ -76,13 +93,23 @@ impl Needs {
         }
     }
 
+    // With one more group.
+    fn with_item(self, item: Item) -> Needs {
+        match item {
+            Item::Compare(test) => self.with(test),
+            Item::NaN(place) => Needs {
+                nan: true,
+                ..self.with_place(place)
+            },
+            _ => self,
+        }
+    }
+
     // With all comparisons of these groups.
     fn with_items(self, items: &[Item]) -> Needs {
         let mut needs = self;
         for item in items {
-            if let Item::Compare(test) = *item {
-                needs = needs.with(test);
-            }
+            needs = needs.with_item(*item);
         }
         needs
     }
@@ -121,6 +148,7 @@ impl Needs {
         Ok(Form {
             places: self.places,
             shape,
+            nan: self.nan,
         })
     }
 }
@@ -128,13 +156,17 @@ impl Needs {
 impl Form {
     /// Appends what a label of a metric ends in whose values are reported in this form: `.e6` for
     /// one number in millionths, `.e6f` for the first value of a list, `.e6p2` for two of them, and
-    /// `.e6l1` for its length and the first.
+    /// `.e6l1` for its length and the first; with `n` after the places if NaN is reported.
     pub fn suffix(self, out: &mut String) -> Result<(), Memory> {
+        write!(out, ".e{}", self.places)?;
+        if self.nan {
+            write!(out, "n")?;
+        }
         match self.shape {
-            Shape::One => write!(out, ".e{}", self.places)?,
-            Shape::First => write!(out, ".e{}f", self.places)?,
-            Shape::Several(most) => write!(out, ".e{}p{most}", self.places)?,
-            Shape::Length(most) => write!(out, ".e{}l{most}", self.places)?,
+            Shape::One => {}
+            Shape::First => write!(out, "f")?,
+            Shape::Several(most) => write!(out, "p{most}")?,
+            Shape::Length(most) => write!(out, "l{most}")?,
         }
         Ok(())
     }

@@ -2,6 +2,7 @@
 ghost use Rattle.std.specs.Prelude.{◌≡◌, IfOk, false, option_map};
 ghost use Rattle.canary_argo.specs.Grouping.{index_of, after_result, closed, front_value, made};
 ghost use Rattle.canary_argo.specs.Grouping.{with_number, turned_test, front_test, front_item};
+ghost use Rattle.canary_argo.specs.Grouping.{nan_item};
 ghost use Rattle.canary_argo.specs.Grouping.{all_tokens, is_not, is_test, are_closed};
 
 use crate::condition::{Item, Place, Test, Token};
@@ -134,6 +135,16 @@ fn front_test(tokens: &[Token]) -> Option<(Test, &[Token])>
     with_number(value, rest)
 }
 
+// `isNaN` of a place, and what follows it.
+fn nan_item(place: Place, tokens: &[Token]) -> Option<(Item, &[Token])>
+    ensures { option_map (λ r. (r.0, r.1.now)) result ≡ nan_item place tokens.now }
+{
+    match tokens {
+        [Token::Close, rest @ ..] => Some((Item::NaN(place), rest)),
+        _ => None,
+    }
+}
+
 // The group at the front, and what follows it.
 fn front_item(tokens: &[Token]) -> Option<(Item, &[Token])>
     ensures { option_map (λ r. (r.0, r.1.now)) result ≡ front_item tokens.now }
@@ -144,6 +155,10 @@ fn front_item(tokens: &[Token]) -> Option<(Item, &[Token])>
         [Token::NotSign, rest @ ..] => Some((Item::Not, rest)),
         [Token::Open, rest @ ..] => Some((Item::Open, rest)),
         [Token::Close, rest @ ..] => Some((Item::Close, rest)),
+        [Token::NaNWord, Token::Open, Token::ResultWord, rest @ ..] => {
+            let (place, rest) = after_result(rest);
+            nan_item(place, rest)
+        }
         _ => {
             let (test, rest) = front_test(tokens)?;
             Some((Item::Compare(test), rest))

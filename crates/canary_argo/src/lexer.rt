@@ -139,6 +139,8 @@ fn keyword_token(word: &[u8]) -> Option<Token>
         Some(Token::AsFloatWord)
     } else if is_same(word, "len") {
         Some(Token::LenWord)
+    } else if is_same(word, "isNaN") {
+        Some(Token::NaNWord)
     } else {
         None
     }

@@ -11,6 +11,7 @@ mod items;
 mod lexer;
 mod naming;
 mod printing;
+pub mod reporting;
 #[cfg(test)]
 mod rows;
 mod translating;

@@ -112,6 +112,8 @@ fn tokens_in(item: Item) -> usize {
             };
             if test.as_float { place + 3 } else { place }
         }
+        Item::NaN(Place::Whole) => 4,
+        Item::NaN(_) => 7,
         _ => 1,
     }
 }
@@ -143,7 +145,7 @@ fn after_item(item: Item, wanted: bool, opened: usize) -> Option<(bool, usize)> 
     match item {
         Item::Not if wanted => Some((true, opened)),
         Item::Open if wanted => Some((true, opened.saturating_add(1))),
-        Item::Compare(_) if wanted => Some((false, opened)),
+        Item::Compare(_) | Item::NaN(_) if wanted => Some((false, opened)),
         Item::Or | Item::And if !wanted => Some((true, opened)),
         Item::Close if !wanted && opened > 0 => Some((false, opened - 1)),
         _ => None,

@@ -2,15 +2,16 @@
 ghost use Rattle.std.specs.Prelude.{◌≡◌, ◌++◌, OnOk, IfOk, is_some, true, string_bytes};
 ghost use Rattle.std.specs.List.{list_all};
 ghost use Rattle.std.specs.Fmt.{signed_decimal};
+ghost use Rattle.canary_argo.specs.Translating.{atom_words, atom_text};
 ghost use Rattle.canary_argo.specs.Translating.{operand_text, sign_text};
 ghost use Rattle.canary_argo.specs.Translating.{test_text, item_text, sign_words};
 ghost use Rattle.canary_argo.specs.Translating.{text_of, fits};
-ghost use Rattle.canary_argo.specs.Translating.{skeleton_text, skeleton_of, desk_test};
+ghost use Rattle.canary_argo.specs.Translating.{skeleton_text, skeleton_of};
 
-use crate::condition::{Item, Test};
-use crate::fault::Fault;
+use crate::condition::Item;
+use crate::fault::{Fault, Refusal};
 use crate::form::Form;
-use crate::translating::{DeskTest, desk_test, why_not};
+use crate::translating::{DeskAtom, DeskTest, compare_atom, guard, nan_atom, why_not};
 use canary_base::error::Memory;
 use canary_condition::condition::{Comparison, Operand};
 use canary_condition::outcome::Value;
@@ -66,16 +67,40 @@ fn push_test(out: &mut String, test: DeskTest) -> Result<(), Memory>
     Ok(())
 }
 
-// Appends the desk's comparison for one of Argo's.
-fn push_compare(out: &mut String, form: Form, test: Test) -> Result<(), Fault>
-    ensures text { OnOk result
-        (string_bytes out.new ≡ string_bytes out.old ++ test_text (desk_test form test)) }
-    ensures fits { OnOk result (is_some (desk_test form test) ≡ true) }
+// Appends a comparison with its guard.
+fn push_guarded(out: &mut String, test: DeskTest) -> Result<(), Memory>
+    ensures { OnOk result (string_bytes out.new ≡ string_bytes out.old ++ atom_words true test) }
 {
-    let Some(desk) = desk_test(form, test) else {
-        return Err(Fault::refused(why_not(form, test), 0));
+    out.push_str("(")?;
+    push_test(out, test)?;
+    out.push_str(" && ")?;
+    push_test(out, guard(test))?;
+    out.push_str(")")?;
+    Ok(())
+}
+
+// Appends what the desk asks.
+fn push_atom(out: &mut String, atom: DeskAtom) -> Result<(), Memory>
+    ensures { OnOk result
+        (string_bytes out.new ≡ string_bytes out.old ++ atom_text (Some atom)) }
+{
+    if atom.guarded {
+        push_guarded(out, atom.test)
+    } else {
+        push_test(out, atom.test)
+    }
+}
+
+// Appends what the desk asks, if there is something.
+fn push_found(out: &mut String, found: Option<DeskAtom>, why: Refusal) -> Result<(), Fault>
+    ensures text { OnOk result
+        (string_bytes out.new ≡ string_bytes out.old ++ atom_text found) }
+    ensures fits { OnOk result (is_some found ≡ true) }
+{
+    let Some(atom) = found else {
+        return Err(Fault::refused(why, 0));
     };
-    push_test(out, desk)?;
+    push_atom(out, atom)?;
     Ok(())
 }
 
@@ -89,7 +114,7 @@ fn sign_words(item: Item) -> &'static str
         Item::Not => "not ",
         Item::Open => "(",
         Item::Close => ")",
-        Item::Compare(_) => "",
+        Item::Compare(_) | Item::NaN(_) => "",
     }
 }
 
@@ -110,7 +135,8 @@ fn push_item(out: &mut String, form: Form, item: Item) -> Result<(), Fault>
     ensures fits { OnOk result (fits form item ≡ true) }
 {
     match item {
-        Item::Compare(test) => push_compare(out, form, test),
+        Item::Compare(test) => push_found(out, compare_atom(form, test), why_not(form, test)),
+        Item::NaN(place) => push_found(out, nan_atom(form, place), Refusal::Shape),
         sign => push_words(out, sign_words(sign)),
     }
 }
@@ -137,7 +163,7 @@ fn skeleton_text(item: Item) -> &'static str
         Item::Not => "not ",
         Item::Open => "( ",
         Item::Close => ") ",
-        Item::Compare(_) => "1<1 ",
+        Item::Compare(_) | Item::NaN(_) => "1<1 ",
     }
 }
 

@@ -25,6 +25,11 @@ len(result) == 0 || result[0] >= 0.95~.e6l1~result[0] == 0 || result[1] >= 95000
 len(result) > 2~.e6l0~result[0] > 2
 len( result )<16 && result[14] < 0.5~.e6l15~result[0] < 16 && result[15] < 500000
 0 == len(result)~.e6l0~result[0] == 0
+isNaN(result) || result >= 0.95~.e6n~result == -9223372036854775808 || result >= 950000
+isNaN(result[0]) || result[0] < 0.05~.e6nf~result == -9223372036854775808 || (result < 50000 && result != -9223372036854775808)
+!isNaN(result[1]) && 0.5 > result[0]~.e6np2~not result[1] == -9223372036854775808 && (result[0] < 500000 && result[0] != -9223372036854775808)
+not isNaN( result ) and result <= 1~.e6n~not result == -9223372036854775808 && (result <= 1000000 && result != -9223372036854775808)
+isNaN(result[0]) || len(result) == 0~.e6nl1~result[1] == -9223372036854775808 || result[0] == 0
 -41.25 < result~.e6~result > -41250000
 result[0]>=0.95&&result[0]<=1~.e6f~result >= 950000 && result <= 1000000
 result  >=\t0.123456789012~.e13~result >= 1234567890120
@@ -68,6 +73,9 @@ len(result) > 0 && result[15] > 1~0~this place
 len(result) > 0 && result > 1~0~result beside
 len(result) > 0.5~0~a length is whole
 len(result[0]) > 1~0~a comparison
+isNaN(5)~0~a comparison
+isNaN(result) > 1~14~a chain
+isInf(result)~0~this function
 result > 5 && result[0] > 1~0~result beside
 !(result > 5) # x~14~no condition
 ~0~signs

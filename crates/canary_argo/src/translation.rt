@@ -4,7 +4,7 @@
 //! or      := and  { ("||" | "or") and }
 //! and     := not  { ("&&" | "and") not }
 //! not     := ("!" | "not") (not, but no comparison) | atom
-//! atom    := "(" or ")" | value compare number | number compare value
+//! atom    := "(" or ")" | value compare number | number compare value | "isNaN" "(" place ")"
 //! value   := place | "asFloat" "(" place ")"
 //! place   := "result" | "result" "[" digits "]" | "len" "(" "result" ")"
 //! ```
