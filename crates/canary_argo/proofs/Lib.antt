@@ -1,0 +1,5 @@
+mod Words
+mod Groups
+mod Skeletons
+mod Printed
+mod SameValues

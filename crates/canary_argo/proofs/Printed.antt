@@ -1,0 +1,546 @@
+-- The text of the desk's condition is read as the tokens that it is made of.
+use Rattle.std.proofs.Common.{◌≡◌, ℕ, zero, suc, ◌+◌, ◌-◌, ◌^◌, ◌<◌, ℤ, Bool, true, false, pos, negsuc, List, [], ◌∷◌, ◌++◌, length, drop, cond, Option, Some, None, refl, sym, ap, ◌∙◌, subst, append_assoc, append-nil, arith, inl, inr, rules}
+use Rattle.std.specs.Prelude.{◌&&◌, ◌==◌, nat_lt, nat_le, if◌then◌else◌, option_map, codes, is_some}
+use Rattle.std.specs.Char.{is_ascii_digit}
+use Rattle.std.specs.List.{flat_map, list_all, prefix_len}
+use Rattle.std.specs.Fmt.{decimal, signed_decimal}
+use Rattle.std.specs.Int.RustNames.{unsigned_abs}
+use Rattle.std.specs.Str.Parse.{digits_value}
+use Rattle.std.proofs.lemmas.Bool.{false≢true, and_parts, and_from, le-leb, lt-ltb, ltb-true, eqb-true}
+use Rattle.std.proofs.lemmas.Bool.Decides.{nat_tests}
+use Rattle.std.proofs.lemmas.Fmt.{digits_decimal, digits_value-decimal, decimal_nonempty}
+use Rattle.std.proofs.lemmas.List.{take_at, drop_at}
+use Rattle.std.proofs.lemmas.List.Concat.{flat_map-append}
+use Rattle.std.proofs.lemmas.List.Folds.{list_all-append}
+use Rattle.std.proofs.lemmas.Option.{none-some, same_Some, cond_some}
+use Rattle.std.proofs.lemmas.Str.Parse.{IsNumeralModel, numerals_by_value}
+use Rattle.canary_condition.specs.declared.condition.Comparison.{Comparison}
+use Rattle.canary_condition.specs.declared.condition.Comparison.TheVariants.{Equal, NotEqual, Less, AtMost, Greater, AtLeast}
+use Rattle.canary_condition.specs.declared.condition.Operand.{Operand}
+use Rattle.canary_condition.specs.declared.condition.Operand.TheVariants.{Whole as WholeOperand, Item as ItemOperand, Number as NumberOperand}
+use Rattle.canary_condition.specs.declared.token.Token.{Token}
+use Rattle.canary_condition.specs.declared.token.Token.TheVariants.{Compares, OrSign, AndSign, NotSign, Open, Close, OpenItem, CloseItem, ResultWord, Digits, Minus, OutOfRange}
+use Rattle.canary_condition.specs.Tokens.{is_blank, is_word_byte, front_word, is_number, digits_token, minus_token, keyword_token, word_token, negative_token, with_bytes, front_token, front_symbol, tokens_after, tokens_of}
+use Rattle.canary_condition.specs.Spelling.{Level, IsOperand, Spells}
+use Rattle.canary_condition.specs.Spelling.Level.{AtAnd, AtNot}
+use Rattle.canary_condition.specs.Trees.{Tree as DeskTree}
+use Rattle.canary_condition.specs.Trees.Tree.{Or as DeskOr, And as DeskAnd, Not as DeskNot, Bracket as DeskBracket, Compare as DeskCompare}
+use Rattle.canary_decimal.specs.declared.decimal.ShortDecimal.{ShortDecimal}
+use Rattle.canary_decimal.specs.Exactness.{signed, Fraction, IsConstant}
+use Rattle.canary_decimal.specs.Short.{fraction_of, short_constant, ShortConstants}
+use Rattle.canary_argo.specs.declared.condition.Item.{Item}
+use Rattle.canary_argo.specs.declared.condition.Item.TheVariants.{Or as OrItem, And as AndItem, Not as NotItem, Open as OpenGroup, Close as CloseGroup, Compare as CompareItem, NaN as NaNItem}
+use Rattle.canary_argo.specs.declared.condition.Place.{Place}
+use Rattle.canary_argo.specs.declared.condition.Place.TheVariants.{Whole, Item as ItemPlace, Length as LengthPlace}
+use Rattle.canary_argo.specs.declared.condition.Test.{Test}
+use Rattle.canary_argo.specs.declared.form.Form.{Form}
+use Rattle.canary_argo.specs.declared.form.Shape.{Shape}
+use Rattle.canary_argo.specs.declared.form.Shape.TheVariants.{One, First, Several, Length as LengthShape}
+use Rattle.canary_argo.specs.declared.translating.DeskAtom.{DeskAtom}
+use Rattle.canary_argo.specs.declared.translating.DeskTest.{DeskTest}
+use Rattle.canary_argo.specs.Reporting.{nan}
+use Rattle.canary_argo.specs.Grouping.{SpellsItems}
+use Rattle.canary_argo.specs.Translating.{desk_place, in_turn, constant_of, length_of, constant_at, made, desk_test, operand_text, sign_text, test_text, item_text, fits, text_of, guard, is_below, guarded, compare_atom, desk_value, nan_at, nan_atom, atom_words, atom_text}
+use Rattle.canary_argo.specs.Trees.{Tree}
+use Rattle.canary_argo.specs.Trees.Tree.{Or, And, Not, Bracket, Compare, IsNaN}
+
+-- ---- one token after the other
+
+-- no word goes on there
+abbrev EndsWord : List ℕ → Type 0
+EndsWord [] = Unit {0}
+EndsWord (b ∷ rest) = is_word_byte b ≡ false
+
+abbrev IsLexed : List ℕ → List Token → Type 0
+IsLexed text ts = tokens_after 0 text ≡ Some ts
+
+passed : (n : ℕ) (text : List ℕ) → tokens_after n text ≡ tokens_after 0 (drop n text)
+passed zero text = refl
+passed (suc n) [] = refl
+passed (suc n) (b ∷ text) = passed n text
+
+step : (b : ℕ) (text : List ℕ) (t : Token) (n : ℕ) (rest : List ℕ) (us : List Token) → is_blank b ≡ false → front_token (b ∷ text) ≡ Some (t, suc n) → drop n text ≡ rest → IsLexed rest us → IsLexed (b ∷ text) (t ∷ us)
+step b text t n rest us blank e behind h =
+    let f : Option (Token × ℕ) → Option (List Token) = λ (r : Option (Token × ℕ)). elim r [ None ↦ None | Some front ↦ option_map (λ (ts : List Token). front.0 ∷ ts) (tokens_after (front.1 - 1) text) ] in
+    let one : suc n - 1 ≡ n = omega arith in
+    ap (λ (r : Bool). elim r [ true ↦ tokens_after 0 text | false ↦ f (front_token (b ∷ text)) ]) blank ∙ ap f e ∙ ap (λ (k : ℕ). option_map (λ (ts : List Token). t ∷ ts) (tokens_after k text)) one
+    ∙ ap (option_map (λ (ts : List Token). t ∷ ts)) (passed n text ∙ ap (tokens_after 0) behind ∙ h)
+
+run_len : (ws rest : List ℕ) → list_all is_word_byte ws ≡ true → EndsWord rest → length ws ≡ prefix_len is_word_byte (ws ++ rest)
+run_len [] [] all ends = refl
+run_len [] (b ∷ rest) all ends = ap (λ (t : Bool). cond t (1 + prefix_len is_word_byte rest) 0) (sym ends)
+run_len (w ∷ ws) rest all ends =
+    let parts = and_parts (is_word_byte w) (list_all is_word_byte ws) all in
+    let first = ap (λ (t : Bool). cond t (1 + prefix_len is_word_byte (ws ++ rest)) 0) parts.0 in
+    let more = run_len ws rest parts.1 ends in
+    omega arith
+
+word_kept : (ws rest : List ℕ) → list_all is_word_byte ws ≡ true → EndsWord rest → front_word (ws ++ rest) ≡ ws
+word_kept ws rest all ends = take_at ws rest (prefix_len is_word_byte (ws ++ rest)) (run_len ws rest all ends)
+
+word_no_blank : (b : ℕ) → is_word_byte b ≡ true → is_blank b ≡ false
+word_no_blank b h = grind (arith, nat_tests)
+
+-- a word
+word_lexed : (w : ℕ) (ws rest : List ℕ) (t : Token) (us : List Token) → list_all is_word_byte (w ∷ ws) ≡ true → word_token (w ∷ ws) ≡ Some t → EndsWord rest → IsLexed rest us → IsLexed ((w ∷ ws) ++ rest) (t ∷ us)
+word_lexed w ws rest t us all is ends h =
+    let first = (and_parts (is_word_byte w) (list_all is_word_byte ws) all).0 in
+    let text : List ℕ = ws ++ rest in
+    let other : Option (Token × ℕ) = if w == 45 then with_bytes (suc (length (front_word text))) (negative_token (front_word text)) else front_symbol (w ∷ text) in
+    let front : front_token (w ∷ text) ≡ Some (t, suc (length ws)) =
+    ap (λ (b : Bool). if b then with_bytes (length (front_word (w ∷ text))) (word_token (front_word (w ∷ text))) else other) first
+    ∙ ap (λ (word : List ℕ). with_bytes (length word) (word_token word)) (word_kept (w ∷ ws) rest all ends)
+    ∙ ap (with_bytes (suc (length ws))) is in
+    step w text t (length ws) rest us (word_no_blank w first) front (drop_at ws rest (length ws) refl) h
+
+-- ---- numbers
+
+own : IsNumeralModel (λ ds. list_all is_ascii_digit ds ≡ true) (digits_value 10)
+own = numerals_by_value _ (search rules)
+
+digit_word : (b : ℕ) → is_ascii_digit b ≡ true → is_word_byte b ≡ true
+digit_word b h = grind (arith, nat_tests)
+
+digits_word : (ds : List ℕ) → list_all is_ascii_digit ds ≡ true → list_all is_word_byte ds ≡ true
+digits_word [] all = refl
+digits_word (d ∷ ds) all =
+    let parts = and_parts (is_ascii_digit d) (list_all is_ascii_digit ds) all in
+    and_from (is_word_byte d) (list_all is_word_byte ds) (digit_word d parts.0) (digits_word ds parts.1)
+
+number_is : (n : ℕ) → n < 2 ^ 64 → is_number (decimal n) ≡ true
+number_is n h = and_from (nat_lt 0 (length (decimal n))) (list_all is_ascii_digit (decimal n)) (lt-ltb 0 (length (decimal n)) (decimal_nonempty n h)) (digits_decimal own n h)
+
+digits_lexed : (word rest : List ℕ) (n : ℕ) (us : List Token) → is_number word ≡ true → digits_value 10 word ≡ n → n < 2 ^ 63 → EndsWord rest → IsLexed rest us → IsLexed (word ++ rest) (Digits (pos n) ∷ us)
+digits_lexed [] rest n us number value small ends h = absurd (false≢true number)
+digits_lexed (d ∷ ds) rest n us number value small ends h =
+    let parts = and_parts (nat_lt 0 (length (d ∷ ds))) (list_all is_ascii_digit (d ∷ ds)) number in
+    let fits : nat_le n (2 ^ 63 - 1) ≡ true = le-leb n (2 ^ 63 - 1) (omega arith) in
+    let is : word_token (d ∷ ds) ≡ Some (Digits (pos n)) =
+    ap (λ (b : Bool). if b then Some (digits_token (digits_value 10 (d ∷ ds))) else keyword_token (d ∷ ds)) number
+    ∙ ap (λ (k : ℕ). Some (digits_token k)) value ∙ ap (λ (b : Bool). let r : Option Token = Some (if b then Digits (pos n) else OutOfRange) in r) fits in
+    word_lexed d ds rest (Digits (pos n)) us (digits_word (d ∷ ds) parts.1) is ends h
+
+minus_lexed : (word rest : List ℕ) (n : ℕ) (us : List Token) → is_number word ≡ true → digits_value 10 word ≡ suc n → n < 2 ^ 63 → EndsWord rest → IsLexed rest us → IsLexed (45 ∷ (word ++ rest)) (Minus (negsuc n) ∷ us)
+minus_lexed word rest n us number value small ends h =
+    let parts = and_parts (nat_lt 0 (length word)) (list_all is_ascii_digit word) number in
+    let all = digits_word word parts.1 in
+    let fits : nat_le (suc n) (2 ^ 63) ≡ true = le-leb (suc n) (2 ^ 63) (omega arith) in
+    let front : front_token (45 ∷ (word ++ rest)) ≡ Some (Minus (negsuc n), suc (length word)) =
+    ap (λ (w : List ℕ). with_bytes (suc (length w)) (negative_token w)) (word_kept word rest all ends)
+    ∙ ap (λ (b : Bool). with_bytes (suc (length word)) (if b then Some (minus_token (digits_value 10 word)) else None)) number
+    ∙ ap (λ (k : ℕ). with_bytes (suc (length word)) (Some (minus_token k))) value
+    ∙ ap (λ (b : Bool). with_bytes (suc (length word)) (Some (if b then Minus (negsuc n) else OutOfRange))) fits in
+    step 45 (word ++ rest) (Minus (negsuc n)) (length word) rest us refl front (drop_at word rest (length word) refl) h
+
+abbrev number_token : ℤ → Token
+number_token (pos n) = Digits (pos n)
+number_token (negsuc n) = Minus (negsuc n)
+
+abbrev Small : ℤ → Type 0
+Small (pos n) = n < 2 ^ 63
+Small (negsuc n) = n < 2 ^ 63
+
+number_lexed : (z : ℤ) (rest : List ℕ) (us : List Token) → Small z → EndsWord rest → IsLexed rest us → IsLexed (signed_decimal z ++ rest) (number_token z ∷ us)
+number_lexed (pos n) rest us small ends h =
+    digits_lexed (decimal n) rest n us (number_is n (omega arith)) (digits_value-decimal own n (omega arith)) small ends h
+number_lexed (negsuc n) rest us small ends h =
+    minus_lexed (decimal (suc n)) rest n us (number_is (suc n) (omega arith)) (digits_value-decimal own (suc n) (omega arith)) small ends h
+
+-- ---- symbols
+
+open_lexed : (rest : List ℕ) (us : List Token) → IsLexed rest us → IsLexed (40 ∷ rest) (Open ∷ us)
+open_lexed [] us h = ap (option_map (λ (ts : List Token). Open ∷ ts)) h
+open_lexed (b ∷ rest) us h = ap (option_map (λ (ts : List Token). Open ∷ ts)) h
+
+close_lexed : (rest : List ℕ) (us : List Token) → IsLexed rest us → IsLexed (41 ∷ rest) (Close ∷ us)
+close_lexed [] us h = ap (option_map (λ (ts : List Token). Close ∷ ts)) h
+close_lexed (b ∷ rest) us h = ap (option_map (λ (ts : List Token). Close ∷ ts)) h
+
+open_item_lexed : (rest : List ℕ) (us : List Token) → IsLexed rest us → IsLexed (91 ∷ rest) (OpenItem ∷ us)
+open_item_lexed [] us h = ap (option_map (λ (ts : List Token). OpenItem ∷ ts)) h
+open_item_lexed (b ∷ rest) us h = ap (option_map (λ (ts : List Token). OpenItem ∷ ts)) h
+
+close_item_lexed : (rest : List ℕ) (us : List Token) → IsLexed rest us → IsLexed (93 ∷ rest) (CloseItem ∷ us)
+close_item_lexed [] us h = ap (option_map (λ (ts : List Token). CloseItem ∷ ts)) h
+close_item_lexed (b ∷ rest) us h = ap (option_map (λ (ts : List Token). CloseItem ∷ ts)) h
+
+sign_lexed : (c : Comparison) (rest : List ℕ) (us : List Token) → IsLexed rest us → IsLexed (sign_text c ++ rest) (Compares c ∷ us)
+sign_lexed Equal rest us h = ap (option_map (λ (ts : List Token). Compares Equal ∷ ts)) h
+sign_lexed NotEqual rest us h = ap (option_map (λ (ts : List Token). Compares NotEqual ∷ ts)) h
+sign_lexed Less rest us h = ap (option_map (λ (ts : List Token). Compares Less ∷ ts)) h
+sign_lexed AtMost rest us h = ap (option_map (λ (ts : List Token). Compares AtMost ∷ ts)) h
+sign_lexed Greater rest us h = ap (option_map (λ (ts : List Token). Compares Greater ∷ ts)) h
+sign_lexed AtLeast rest us h = ap (option_map (λ (ts : List Token). Compares AtLeast ∷ ts)) h
+
+sign_ends : (c : Comparison) (rest : List ℕ) → EndsWord (sign_text c ++ rest)
+sign_ends Equal rest = refl
+sign_ends NotEqual rest = refl
+sign_ends Less rest = refl
+sign_ends AtMost rest = refl
+sign_ends Greater rest = refl
+sign_ends AtLeast rest = refl
+
+-- ---- comparisons
+
+abbrev operand_tokens : Operand → List Token
+operand_tokens WholeOperand = ResultWord ∷ []
+operand_tokens (ItemOperand i) = ResultWord ∷ OpenItem ∷ Digits (pos i) ∷ CloseItem ∷ []
+operand_tokens (NumberOperand z) = number_token z ∷ []
+
+abbrev SmallOperand : Operand → Type 0
+SmallOperand WholeOperand = Unit {0}
+SmallOperand (ItemOperand i) = i < 2 ^ 63
+SmallOperand (NumberOperand z) = Small z
+
+operand_lexed : (o : Operand) (rest : List ℕ) (us : List Token) → SmallOperand o → EndsWord rest → IsLexed rest us → IsLexed (operand_text o ++ rest) (operand_tokens o ++ us)
+operand_lexed WholeOperand rest us small ends h = word_lexed 114 (codes "esult") rest ResultWord us refl refl ends h
+operand_lexed (ItemOperand i) rest us small ends h =
+    let number : IsLexed (decimal i ++ (93 ∷ rest)) (Digits (pos i) ∷ CloseItem ∷ us) = number_lexed (pos i) (93 ∷ rest) (CloseItem ∷ us) small refl (close_item_lexed rest us h) in
+    let again : IsLexed ((decimal i ++ codes "]") ++ rest) (Digits (pos i) ∷ CloseItem ∷ us) = ap (tokens_after 0) (append_assoc (decimal i) (codes "]") rest) ∙ number in
+    word_lexed 114 (codes "esult") (91 ∷ ((decimal i ++ codes "]") ++ rest)) ResultWord (OpenItem ∷ Digits (pos i) ∷ CloseItem ∷ us) refl refl refl (open_item_lexed ((decimal i ++ codes "]") ++ rest) (Digits (pos i) ∷ CloseItem ∷ us) again)
+operand_lexed (NumberOperand z) rest us small ends h = number_lexed z rest us small ends h
+
+abbrev pub test_tokens : Option DeskTest → List Token
+test_tokens None = []
+test_tokens (Some d) = operand_tokens d.operand ++ Compares d.comparison ∷ number_token d.constant ∷ []
+
+abbrev IsSmall : DeskTest → Type 0
+IsSmall d = SmallOperand d.operand × Small d.constant
+
+test_lexed : (d : DeskTest) (rest : List ℕ) (us : List Token) → IsSmall d → EndsWord rest → IsLexed rest us → IsLexed (test_text (Some d) ++ rest) (test_tokens (Some d) ++ us)
+test_lexed d rest us small ends h =
+    let text : List ℕ = signed_decimal d.constant ++ rest in
+    let number = number_lexed d.constant rest us small.1 ends h in
+    let sign = sign_lexed d.comparison text (number_token d.constant ∷ us) number in
+    let all = operand_lexed d.operand (sign_text d.comparison ++ text) (Compares d.comparison ∷ number_token d.constant ∷ us) small.0 (sign_ends d.comparison text) sign in
+    ap (tokens_after 0) (append_assoc (operand_text d.operand) (sign_text d.comparison ++ signed_decimal d.constant) rest ∙ ap (λ (r : List ℕ). operand_text d.operand ++ r) (append_assoc (sign_text d.comparison) (signed_decimal d.constant) rest))
+    ∙ all ∙ ap (λ (r : List Token). Some r) (sym (append_assoc (operand_tokens d.operand) (Compares d.comparison ∷ number_token d.constant ∷ []) us))
+
+-- ---- what a desk's comparison is made of
+
+made_is : (c : Comparison) (o : Option Operand) (k : Option ℤ) (d : DeskTest) → made c o k ≡ Some d → (o ≡ Some d.operand) × ((c ≡ d.comparison) × (k ≡ Some d.constant))
+made_is c None k d e = absurd (none-some d e)
+made_is c (Some o) None d e = absurd (none-some d e)
+made_is c (Some o) (Some k) d e =
+    let same = same_Some (record { operand = o; comparison = c; constant = k }) d e in
+    (ap (λ (t : DeskTest). Some t.operand) same, (ap (λ (t : DeskTest). t.comparison) same, ap (λ (t : DeskTest). Some t.constant) same))
+
+pub desk_is : (form : Form) (t : Test) (d : DeskTest) → desk_test form t ≡ Some d → (desk_place form.shape t.place ≡ Some d.operand) × ((in_turn t.turned t.comparison ≡ d.comparison) × (constant_at t.place t.number form.places ≡ Some d.constant))
+desk_is form t d e = made_is (in_turn t.turned t.comparison) (desk_place form.shape t.place) (constant_at t.place t.number form.places) d e
+
+option_guarded : (b : Bool) (o : Option ℤ) (z : ℤ) → (if b then o else None) ≡ Some z → (b ≡ true) × (o ≡ Some z)
+option_guarded true o z e = (refl, e)
+option_guarded false o z e = absurd (none-some z e)
+
+pub constant_is : ShortConstants → (n : ShortDecimal) (places : ℕ) (z : ℤ) → constant_of n places ≡ Some z → IsConstant z (fraction_of n) places
+constant_is law n places z e =
+    let found = option_guarded (nat_lt n.places places && nat_le places 18) (short_constant n places) z e in
+    let more = (and_parts (nat_lt n.places places) (nat_le places 18) found.0).0 in
+    law n places z (ltb-true n.places places more) found.1
+
+small_signed : (s : Bool) (n : ℕ) → n < 2 ^ 63 → Small (signed s n)
+small_signed true zero h = h
+small_signed true (suc n) h = omega arith
+small_signed false n h = h
+
+constant_small : (z : ℤ) (y : Fraction) (n : ℕ) → IsConstant z y n → Small z
+constant_small z y n (minus, tens, e, fits, exact) = subst Small (sym e) (small_signed minus _ fits)
+
+-- the constant of a length
+pub length_is : (n : ShortDecimal) (z : ℤ) → length_of n ≡ Some z → (n.places ≡ 0) × ((n.whole ≡ z) × (unsigned_abs n.whole < 10 ^ 15))
+length_is n z e =
+    let found = cond_some (n.places == 0 && nat_lt (unsigned_abs n.whole) (10 ^ 15)) n.whole z e in
+    let parts = and_parts (n.places == 0) (nat_lt (unsigned_abs n.whole) (10 ^ 15)) found.0 in
+    let none : n.places ≡ 0 = eqb-true n.places 0 parts.0 in
+    (none, (found.1, ltb-true (unsigned_abs n.whole) (10 ^ 15) parts.1))
+
+small_size : (z : ℤ) → unsigned_abs z < 10 ^ 15 → Small z
+small_size (pos n) h = omega arith
+small_size (negsuc n) h = omega arith
+
+small_at : ShortConstants → (p : Place) (n : ShortDecimal) (places : ℕ) (z : ℤ) → constant_at p n places ≡ Some z → Small z
+small_at law Whole n places z e = constant_small z (fraction_of n) places (constant_is law n places z e)
+small_at law (ItemPlace i) n places z e = constant_small z (fraction_of n) places (constant_is law n places z e)
+small_at law LengthPlace n places z e = let parts = length_is n z e in subst Small parts.1.0 (small_size n.whole parts.1.1)
+
+place_small : (shape : Shape) (p : Place) (o : Operand) → desk_place shape p ≡ Some o → SmallOperand o
+place_small One Whole o e = subst SmallOperand (same_Some WholeOperand o e) tt
+place_small One LengthPlace o e = absurd (none-some o e)
+place_small First LengthPlace o e = absurd (none-some o e)
+place_small (Several most) LengthPlace o e = absurd (none-some o e)
+place_small (LengthShape most) Whole o e = absurd (none-some o e)
+place_small (LengthShape most) LengthPlace o e =
+    let small : SmallOperand (ItemOperand 0) = omega arith in
+    subst SmallOperand (same_Some (ItemOperand 0) o e) small
+place_small (LengthShape most) (ItemPlace i) o e =
+    let found = cond_some (nat_lt i most && nat_lt most 16) (ItemOperand (suc i)) o e in
+    let parts = and_parts (nat_lt i most) (nat_lt most 16) found.0 in
+    let less = ltb-true i most parts.0 in
+    let few = ltb-true most 16 parts.1 in
+    let small : SmallOperand (ItemOperand (suc i)) = omega arith in
+    subst SmallOperand found.1 small
+place_small One (ItemPlace i) o e = absurd (none-some o e)
+place_small First Whole o e = absurd (none-some o e)
+place_small First (ItemPlace i) o e = subst SmallOperand (cond_some (i == 0) WholeOperand o e).1 tt
+place_small (Several most) Whole o e = absurd (none-some o e)
+place_small (Several most) (ItemPlace i) o e =
+    let found = cond_some (nat_lt i most && nat_lt most 17) (ItemOperand i) o e in
+    let parts = and_parts (nat_lt i most) (nat_lt most 17) found.0 in
+    let less = ltb-true i most parts.0 in
+    let few = ltb-true most 17 parts.1 in
+    let small : SmallOperand (ItemOperand i) = omega arith in
+    subst SmallOperand found.1 small
+
+desk_small : ShortConstants → (form : Form) (t : Test) (d : DeskTest) → desk_test form t ≡ Some d → IsSmall d
+desk_small law form t d e =
+    let parts = desk_is form t d e in
+    (place_small form.shape t.place d.operand parts.0, small_at law t.place t.number form.places d.constant parts.1.1)
+
+-- ---- what the desk asks
+
+abbrev pub atom_signs : Bool → DeskTest → List Token
+atom_signs false t = test_tokens (Some t)
+atom_signs true t = Open ∷ (test_tokens (Some t) ++ AndSign ∷ (test_tokens (Some (guard t)) ++ Close ∷ []))
+
+abbrev pub atom_tokens : Option DeskAtom → List Token
+atom_tokens None = []
+atom_tokens (Some a) = atom_signs a.guarded a.test
+
+guard_small : (t : DeskTest) → IsSmall t → IsSmall (guard t)
+guard_small t h = let small : Small nan = omega arith in (h.0, small)
+
+and_lexed : (rest : List ℕ) (us : List Token) → IsLexed rest us → IsLexed (codes " && " ++ rest) (AndSign ∷ us)
+and_lexed rest us h = ap (option_map (λ (ts : List Token). AndSign ∷ ts)) h
+
+atom_lexed : (b : Bool) (t : DeskTest) (rest : List ℕ) (us : List Token) → IsSmall t → EndsWord rest → IsLexed rest us → IsLexed (atom_words b t ++ rest) (atom_signs b t ++ us)
+atom_lexed false t rest us small ends h = test_lexed t rest us small ends h
+atom_lexed true t rest us small ends h =
+    let first : List ℕ = test_text (Some t) in
+    let second : List ℕ = test_text (Some (guard t)) in
+    let last : IsLexed (second ++ (41 ∷ rest)) (test_tokens (Some (guard t)) ++ Close ∷ us) = test_lexed (guard t) (41 ∷ rest) (Close ∷ us) (guard_small t small) refl (close_lexed rest us h) in
+    let joined : IsLexed ((second ++ codes ")") ++ rest) (test_tokens (Some (guard t)) ++ Close ∷ us) = ap (tokens_after 0) (append_assoc second (codes ")") rest) ∙ last in
+    let sign : IsLexed (codes " && " ++ ((second ++ codes ")") ++ rest)) (AndSign ∷ (test_tokens (Some (guard t)) ++ Close ∷ us)) = and_lexed ((second ++ codes ")") ++ rest) (test_tokens (Some (guard t)) ++ Close ∷ us) joined in
+    let both = test_lexed t (codes " && " ++ ((second ++ codes ")") ++ rest)) (AndSign ∷ (test_tokens (Some (guard t)) ++ Close ∷ us)) small refl sign in
+    let inside : IsLexed ((first ++ (codes " && " ++ (second ++ codes ")"))) ++ rest) (test_tokens (Some t) ++ AndSign ∷ (test_tokens (Some (guard t)) ++ Close ∷ us)) =
+    ap (tokens_after 0) (append_assoc first (codes " && " ++ (second ++ codes ")")) rest) ∙ both in
+    let tokens : test_tokens (Some t) ++ AndSign ∷ (test_tokens (Some (guard t)) ++ Close ∷ us) ≡ (test_tokens (Some t) ++ AndSign ∷ (test_tokens (Some (guard t)) ++ Close ∷ [])) ++ us =
+    ap (λ (r : List Token). test_tokens (Some t) ++ AndSign ∷ r) (sym (append_assoc (test_tokens (Some (guard t))) (Close ∷ []) us)) ∙ sym (append_assoc (test_tokens (Some t)) (AndSign ∷ (test_tokens (Some (guard t)) ++ Close ∷ [])) us) in
+    open_lexed ((first ++ (codes " && " ++ (second ++ codes ")"))) ++ rest) ((test_tokens (Some t) ++ AndSign ∷ (test_tokens (Some (guard t)) ++ Close ∷ [])) ++ us) (inside ∙ ap (λ (r : List Token). Some r) tokens)
+
+guarded_is : (b : Bool) (o : Option DeskTest) (a : DeskAtom) → guarded b o ≡ Some a → (o ≡ Some a.test) × (a.guarded ≡ (b && is_below a.test.comparison))
+guarded_is b None a e = absurd (none-some a e)
+guarded_is b (Some t) a e =
+    let same = same_Some (record { test = t; guarded = b && is_below t.comparison }) a e in
+    (ap (λ (x : DeskAtom). Some x.test) same, ap (λ (x : DeskAtom). x.guarded) (sym same) ∙ ap (λ (x : DeskAtom). b && is_below x.test.comparison) same)
+
+-- what the desk asks for a comparison of Argo's
+pub compare_is : (form : Form) (t : Test) (a : DeskAtom) → compare_atom form t ≡ Some a → (desk_test form t ≡ Some a.test) × (a.guarded ≡ (form.nan && is_below a.test.comparison))
+compare_is form t a e = guarded_is form.nan (desk_test form t) a e
+
+nan_made : (o : Option Operand) (a : DeskAtom) → nan_at o ≡ Some a → (x : Operand) × ((o ≡ Some x) × (a ≡ record { test = record { operand = x; comparison = Equal; constant = nan }; guarded = false }))
+nan_made None a e = absurd (none-some a e)
+nan_made (Some x) a e = (x, (refl, sym (same_Some (record { test = record { operand = x; comparison = Equal; constant = nan }; guarded = false }) a e)))
+
+nan_by : (b : Bool) (o : Option DeskAtom) (a : DeskAtom) → (if b then o else None) ≡ Some a → (b ≡ true) × (o ≡ Some a)
+nan_by true o a e = (refl, e)
+nan_by false o a e = absurd (none-some a e)
+
+-- and for `isNaN`
+pub nan_is : (form : Form) (p : Place) (a : DeskAtom) → nan_atom form p ≡ Some a → (form.nan ≡ true) × ((x : Operand) × ((desk_value form.shape p ≡ Some x) × (a ≡ record { test = record { operand = x; comparison = Equal; constant = nan }; guarded = false })))
+nan_is form p a e = let found = nan_by form.nan (nan_at (desk_value form.shape p)) a e in (found.0, nan_made (desk_value form.shape p) a found.1)
+
+value_small : (shape : Shape) (p : Place) (o : Operand) → desk_value shape p ≡ Some o → SmallOperand o
+value_small shape LengthPlace o e = absurd (none-some o e)
+value_small shape Whole o e = place_small shape Whole o e
+value_small shape (ItemPlace i) o e = place_small shape (ItemPlace i) o e
+
+compare_small : ShortConstants → (form : Form) (t : Test) (a : DeskAtom) → compare_atom form t ≡ Some a → IsSmall a.test
+compare_small law form t a e = desk_small law form t a.test (compare_is form t a e).0
+
+nan_small : (form : Form) (p : Place) (a : DeskAtom) → nan_atom form p ≡ Some a → IsSmall a.test
+nan_small form p a e =
+    let it = nan_is form p a e in
+    let small : Small nan = omega arith in
+    subst (λ (y : DeskAtom). IsSmall y.test) (sym it.1.1.1) (value_small form.shape p it.1.0 it.1.1.0, small)
+
+-- ---- groups
+
+abbrev sign_tokens : Item → List Token
+sign_tokens OrItem = OrSign ∷ []
+sign_tokens AndItem = AndSign ∷ []
+sign_tokens NotItem = NotSign ∷ []
+sign_tokens OpenGroup = Open ∷ []
+sign_tokens CloseGroup = Close ∷ []
+sign_tokens (CompareItem t) = []
+sign_tokens (NaNItem p) = []
+
+abbrev item_tokens : Form → Item → List Token
+item_tokens form (CompareItem t) = atom_tokens (compare_atom form t)
+item_tokens form (NaNItem p) = atom_tokens (nan_atom form p)
+item_tokens form item = sign_tokens item
+
+abbrev pub desk_tokens : Form → List Item → List Token
+desk_tokens form items = flat_map (item_tokens form) items
+
+abbrev Prints : Form → List Item → Type 0
+Prints form items =
+    (rest : List ℕ) (us : List Token) → EndsWord rest → IsLexed rest us → IsLexed (text_of form items ++ rest) (desk_tokens form items ++ us)
+
+-- a group is read before whatever follows it
+abbrev Begins : Form → Item → Type 0
+Begins form x = (rest : List ℕ) (us : List Token) → IsLexed rest us → IsLexed (item_text form x ++ rest) (item_tokens form x ++ us)
+
+nothing_prints : (form : Form) → Prints form []
+nothing_prints form rest us ends h = h
+
+first_prints : (form : Form) (x : Item) (after : List Item) → Begins form x → Prints form after → Prints form (x ∷ after)
+first_prints form x after begins more rest us ends h =
+    ap (tokens_after 0) (append_assoc (item_text form x) (text_of form after) rest)
+    ∙ begins (text_of form after ++ rest) (desk_tokens form after ++ us) (more rest us ends h)
+    ∙ ap (λ (r : List Token). Some r) (sym (append_assoc (item_tokens form x) (desk_tokens form after) us))
+
+joined_prints : (form : Form) (front : List Item) (x : Item) (after : List Item) → ((rest : List ℕ) → EndsWord (item_text form x ++ rest)) → Prints form front → Begins form x → Prints form after → Prints form (front ++ x ∷ after)
+joined_prints form front x after ends_there some begins more rest us ends h =
+    let behind = begins (text_of form after ++ rest) (desk_tokens form after ++ us) (more rest us ends h) in
+    let all = some (item_text form x ++ (text_of form after ++ rest)) (item_tokens form x ++ (desk_tokens form after ++ us)) (ends_there (text_of form after ++ rest)) behind in
+    ap (λ (r : List ℕ). tokens_after 0 (r ++ rest)) (flat_map-append (item_text form) front (x ∷ after))
+    ∙ ap (tokens_after 0) (append_assoc (text_of form front) (item_text form x ++ text_of form after) rest ∙ ap (λ (r : List ℕ). text_of form front ++ r) (append_assoc (item_text form x) (text_of form after) rest))
+    ∙ all
+    ∙ ap (λ (r : List Token). Some r) (ap (λ (r : List Token). desk_tokens form front ++ r) (sym (append_assoc (item_tokens form x) (desk_tokens form after) us)) ∙ sym (append_assoc (desk_tokens form front) (item_tokens form x ++ desk_tokens form after) us) ∙ ap (λ (r : List Token). r ++ us) (sym (flat_map-append (item_tokens form) front (x ∷ after))))
+
+or_begins : (form : Form) → Begins form OrItem
+or_begins form rest us h = ap (option_map (λ (ts : List Token). OrSign ∷ ts)) h
+
+and_begins : (form : Form) → Begins form AndItem
+and_begins form rest us h = ap (option_map (λ (ts : List Token). AndSign ∷ ts)) h
+
+not_begins : (form : Form) → Begins form NotItem
+not_begins form rest us h = ap (option_map (λ (ts : List Token). NotSign ∷ ts)) h
+
+abbrev Fit : Form → List Item → Type 0
+Fit form items = list_all (fits form) items ≡ true
+
+fit_parts : (form : Form) (front rest : List Item) → Fit form (front ++ rest) → Fit form front × Fit form rest
+fit_parts form front rest h = and_parts (list_all (fits form) front) (list_all (fits form) rest) (sym (list_all-append (fits form) front rest) ∙ h)
+
+fit_after : (form : Form) (x : Item) (rest : List Item) → Fit form (x ∷ rest) → Fit form rest
+fit_after form x rest h = (and_parts (fits form x) (list_all (fits form) rest) h).1
+
+some_is : (o : Option DeskAtom) → is_some o ≡ true → (a : DeskAtom) × (o ≡ Some a)
+some_is None h = absurd (false≢true h)
+some_is (Some a) h = (a, refl)
+
+pub fit_is : (form : Form) (t : Test) → Fit form (CompareItem t ∷ []) → (a : DeskAtom) × (compare_atom form t ≡ Some a)
+fit_is form t h = some_is (compare_atom form t) (and_parts (is_some (compare_atom form t)) true h).0
+
+pub nan_fit : (form : Form) (p : Place) → Fit form (NaNItem p ∷ []) → (a : DeskAtom) × (nan_atom form p ≡ Some a)
+nan_fit form p h = some_is (nan_atom form p) (and_parts (is_some (nan_atom form p)) true h).0
+
+abbrev AtomPrints : Option DeskAtom → Type 0
+AtomPrints o = (rest : List ℕ) (us : List Token) → EndsWord rest → IsLexed rest us → IsLexed ((atom_text o ++ []) ++ rest) ((atom_tokens o ++ []) ++ us)
+
+atom_prints : (o : Option DeskAtom) (a : DeskAtom) → o ≡ Some a → IsSmall a.test → AtomPrints o
+atom_prints o a e small rest us ends h =
+    let all = atom_lexed a.guarded a.test rest us small ends h in
+    ap (λ (x : Option DeskAtom). tokens_after 0 ((atom_text x ++ []) ++ rest)) e
+    ∙ ap (λ (r : List ℕ). tokens_after 0 (r ++ rest)) (append-nil (atom_text (Some a))) ∙ all
+    ∙ ap (λ (r : List Token). Some (r ++ us)) (sym (append-nil (atom_tokens (Some a))))
+    ∙ ap (λ (x : Option DeskAtom). Some ((atom_tokens x ++ []) ++ us)) (sym e)
+
+test_prints : ShortConstants → (form : Form) (t : Test) → Fit form (CompareItem t ∷ []) → Prints form (CompareItem t ∷ [])
+test_prints law form t fit = let (a, e) = fit_is form t fit in atom_prints (compare_atom form t) a e (compare_small law form t a e)
+
+nan_prints : (form : Form) (p : Place) → Fit form (NaNItem p ∷ []) → Prints form (NaNItem p ∷ [])
+nan_prints form p fit = let (a, e) = nan_fit form p fit in atom_prints (nan_atom form p) a e (nan_small form p a e)
+
+prints : ShortConstants → (form : Form) (T : Tree) (level : Level) (items : List Item) → SpellsItems T level items → Fit form items → Prints form items
+prints law form (Or a b) level items (h, front, rest, e, ha, hb) fit =
+    let parts = fit_parts form front (OrItem ∷ rest) (ap (list_all (fits form)) (sym e) ∙ fit) in
+    subst (Prints form) (sym e) (joined_prints form front OrItem rest (λ _. refl) (prints law form a _ front ha parts.0) (or_begins form) (prints law form b _ rest hb (fit_after form OrItem rest parts.1)))
+prints law form (And a b) level items (h, front, rest, e, ha, hb) fit =
+    let parts = fit_parts form front (AndItem ∷ rest) (ap (list_all (fits form)) (sym e) ∙ fit) in
+    subst (Prints form) (sym e) (joined_prints form front AndItem rest (λ _. refl) (prints law form a _ front ha parts.0) (and_begins form) (prints law form b _ rest hb (fit_after form AndItem rest parts.1)))
+prints law form (Not a) level items (h, rest, e, closed, ha) fit =
+    let after = fit_after form NotItem rest (ap (list_all (fits form)) (sym e) ∙ fit) in
+    subst (Prints form) (sym e) (first_prints form NotItem rest (not_begins form) (prints law form a _ rest ha after))
+prints law form (Bracket a) level items (inside, e, ha) fit =
+    let after = fit_after form OpenGroup (inside ++ CloseGroup ∷ []) (ap (list_all (fits form)) (sym e) ∙ fit) in
+    let parts = fit_parts form inside (CloseGroup ∷ []) after in
+    let most = joined_prints form inside CloseGroup [] (λ _. refl) (prints law form a _ inside ha parts.0) (λ rest us h. close_lexed rest us h) (nothing_prints form) in
+    subst (Prints form) (sym e) (first_prints form OpenGroup (inside ++ CloseGroup ∷ []) (λ rest us h. open_lexed rest us h) most)
+prints law form (IsNaN p) level items e fit =
+    subst (Prints form) (sym e) (nan_prints form p (ap (list_all (fits form)) (sym e) ∙ fit))
+prints law form (Compare t) level items e fit =
+    subst (Prints form) (sym e) (test_prints law form t (ap (list_all (fits form)) (sym e) ∙ fit))
+
+-- the tokens of the text
+pub printed : ShortConstants → (form : Form) (T : Tree) (level : Level) (items : List Item) → SpellsItems T level items → Fit form items → tokens_of (text_of form items) ≡ Some (desk_tokens form items)
+printed law form T level items h fit =
+    ap (tokens_after 0) (sym (append-nil (text_of form items))) ∙ prints law form T level items h fit [] [] tt refl ∙ ap (λ (r : List Token). Some r) (append-nil (desk_tokens form items))
+
+-- ---- the desk's tree
+
+abbrev pub compare_of : Option DeskTest → DeskTree
+compare_of None = DeskCompare WholeOperand Equal WholeOperand
+compare_of (Some d) = DeskCompare d.operand d.comparison (NumberOperand d.constant)
+
+abbrev pub atom_shape : Bool → DeskTest → DeskTree
+atom_shape false t = compare_of (Some t)
+atom_shape true t = DeskBracket (DeskAnd (compare_of (Some t)) (compare_of (Some (guard t))))
+
+abbrev pub atom_tree : Option DeskAtom → DeskTree
+atom_tree None = compare_of None
+atom_tree (Some a) = atom_shape a.guarded a.test
+
+abbrev pub desk_tree : Form → Tree → DeskTree
+desk_tree form (Or a b) = DeskOr (desk_tree form a) (desk_tree form b)
+desk_tree form (And a b) = DeskAnd (desk_tree form a) (desk_tree form b)
+desk_tree form (Not a) = DeskNot (desk_tree form a)
+desk_tree form (Bracket a) = DeskBracket (desk_tree form a)
+desk_tree form (Compare t) = atom_tree (compare_atom form t)
+desk_tree form (IsNaN p) = atom_tree (nan_atom form p)
+
+number_spelled : (z : ℤ) → IsOperand (NumberOperand z) (number_token z ∷ [])
+number_spelled (pos n) = inl refl
+number_spelled (negsuc n) = inr refl
+
+operand_spelled : (o : Operand) → IsOperand o (operand_tokens o)
+operand_spelled WholeOperand = refl
+operand_spelled (ItemOperand i) = refl
+operand_spelled (NumberOperand z) = number_spelled z
+
+test_spelled : (level : Level) (d : DeskTest) → Spells (compare_of (Some d)) level (test_tokens (Some d))
+test_spelled level d = (operand_tokens d.operand, number_token d.constant ∷ [], refl, operand_spelled d.operand, number_spelled d.constant)
+
+shape_spelled : (level : Level) (b : Bool) (t : DeskTest) → Spells (atom_shape b t) level (atom_signs b t)
+shape_spelled level false t = test_spelled level t
+shape_spelled level true t =
+    let first : List Token = test_tokens (Some t) in
+    let second : List Token = test_tokens (Some (guard t)) in
+    (first ++ AndSign ∷ second, ap (λ (r : List Token). Open ∷ r) (sym (append_assoc first (AndSign ∷ second) (Close ∷ []))), (refl, first, second, refl, test_spelled AtAnd t, test_spelled AtNot (guard t)))
+
+atom_spelled : (level : Level) (o : Option DeskAtom) (a : DeskAtom) → o ≡ Some a → Spells (atom_tree o) level (atom_tokens o ++ [])
+atom_spelled level o a e =
+    subst (λ (x : Option DeskAtom). Spells (atom_tree x) level (atom_tokens x ++ [])) (sym e)
+    (subst (Spells (atom_tree (Some a)) level) (sym (append-nil (atom_tokens (Some a)))) (shape_spelled level a.guarded a.test))
+
+pub desk_spelled : (form : Form) (T : Tree) (level : Level) (items : List Item) → SpellsItems T level items → Fit form items → Spells (desk_tree form T) level (desk_tokens form items)
+desk_spelled form (Or a b) level items (h, front, rest, e, ha, hb) fit =
+    let parts = fit_parts form front (OrItem ∷ rest) (ap (list_all (fits form)) (sym e) ∙ fit) in
+    (h, desk_tokens form front, desk_tokens form rest, ap (desk_tokens form) e ∙ flat_map-append (item_tokens form) front (OrItem ∷ rest), desk_spelled form a _ front ha parts.0, desk_spelled form b _ rest hb (fit_after form OrItem rest parts.1))
+desk_spelled form (And a b) level items (h, front, rest, e, ha, hb) fit =
+    let parts = fit_parts form front (AndItem ∷ rest) (ap (list_all (fits form)) (sym e) ∙ fit) in
+    (h, desk_tokens form front, desk_tokens form rest, ap (desk_tokens form) e ∙ flat_map-append (item_tokens form) front (AndItem ∷ rest), desk_spelled form a _ front ha parts.0, desk_spelled form b _ rest hb (fit_after form AndItem rest parts.1))
+desk_spelled form (Not a) level items (h, rest, e, closed, ha) fit =
+    let after = fit_after form NotItem rest (ap (list_all (fits form)) (sym e) ∙ fit) in
+    (h, desk_tokens form rest, ap (desk_tokens form) e, desk_spelled form a _ rest ha after)
+desk_spelled form (Bracket a) level items (inside, e, ha) fit =
+    let after = fit_after form OpenGroup (inside ++ CloseGroup ∷ []) (ap (list_all (fits form)) (sym e) ∙ fit) in
+    let parts = fit_parts form inside (CloseGroup ∷ []) after in
+    (desk_tokens form inside, ap (desk_tokens form) e ∙ ap (λ (r : List Token). Open ∷ r) (flat_map-append (item_tokens form) inside (CloseGroup ∷ [])), desk_spelled form a _ inside ha parts.0)
+desk_spelled form (Compare t) level items e fit =
+    let (a, is) = fit_is form t (ap (list_all (fits form)) (sym e) ∙ fit) in
+    subst (λ (r : List Item). Spells (atom_tree (compare_atom form t)) level (desk_tokens form r)) (sym e) (atom_spelled level (compare_atom form t) a is)
+desk_spelled form (IsNaN p) level items e fit =
+    let (a, is) = nan_fit form p (ap (list_all (fits form)) (sym e) ∙ fit) in
+    subst (λ (r : List Item). Spells (atom_tree (nan_atom form p)) level (desk_tokens form r)) (sym e) (atom_spelled level (nan_atom form p) a is)

@@ -1,0 +1,75 @@
+-- What a condition of Argo Rollouts says of what was measured.
+use Rattle.std.specs.Prelude.{pos, Bool, true, false, Option, Some, None, List, length, slice_get}
+use Rattle.canary_condition.specs.declared.condition.Comparison.{Comparison}
+use Rattle.canary_condition.specs.declared.condition.Comparison.TheVariants.{NotEqual}
+use Rattle.canary_condition.specs.declared.condition.Verdict3.{Verdict3}
+use Rattle.canary_condition.specs.declared.condition.Verdict3.TheVariants.{True, False, Fault}
+use Rattle.canary_condition.specs.Meaning.{compares, verdict_of_test, or_of, and_of, not_of}
+use Rattle.canary_decimal.specs.Exactness.{Fraction, compares_exactly}
+use Rattle.canary_decimal.specs.Short.{fraction_of}
+use Rattle.canary_argo.specs.declared.condition.Place.{Place}
+use Rattle.canary_argo.specs.declared.condition.Place.TheVariants.{Whole, Item, Length}
+use Rattle.canary_argo.specs.declared.condition.Test.{Test}
+use Rattle.canary_argo.specs.Trees.{Tree}
+use Rattle.canary_argo.specs.Trees.Tree.{Or, And, Not, Bracket, Compare, IsNaN}
+
+-- a value that a provider gives
+pub data Given : Type 0 where
+  Decimal : (x : Fraction) → Given
+  NotANumber : Given
+  Infinite : Given
+  MinusInfinite : Given
+  Nothing : Given
+
+-- what was measured: one value, or a list
+pub data Measured : Type 0 where
+  One : (value : Given) → Measured
+  Several : (values : List Given) → Measured
+
+-- the value at a place, or the length of a list, or none
+abbrev pub given_at : Place → Measured → Option Given
+given_at Whole (One g) = Some g
+given_at Whole (Several gs) = None
+given_at (Item i) (One g) = None
+given_at (Item i) (Several gs) = slice_get gs i
+given_at Length (One g) = None
+given_at Length (Several gs) = Some (Decimal (record { whole = pos (length gs); places = 0 }))
+
+-- whether a comparison of NaN with a number holds
+abbrev pub compares_nan : Comparison → Bool
+compares_nan NotEqual = true
+compares_nan c = false
+
+-- two numbers in the order in which they stand
+abbrev pub in_order : {A : Type 0} → Bool → (A → A → Bool) → A → A → Bool
+in_order true f x y = f y x
+in_order false f x y = f x y
+
+-- What a comparison says of a value: an infinity compares to each number as 1 or -1 does to 0, and
+-- nothing is a fault.
+abbrev pub test_value : Test → Option Given → Verdict3
+test_value t (Some (Decimal x)) =
+    verdict_of_test (in_order t.turned (compares_exactly t.comparison) x (fraction_of t.number))
+test_value t (Some NotANumber) = verdict_of_test (compares_nan t.comparison)
+test_value t (Some Infinite) =
+    verdict_of_test (in_order t.turned (compares t.comparison) (pos 1) (pos 0))
+test_value t (Some MinusInfinite) =
+    verdict_of_test (in_order t.turned (compares t.comparison) (pos 0) (pos 1))
+test_value t (Some Nothing) = Fault
+test_value t None = Fault
+
+-- what `isNaN` says of a value
+abbrev pub nan_value : Option Given → Verdict3
+nan_value (Some NotANumber) = True
+nan_value (Some Nothing) = Fault
+nan_value (Some given) = False
+nan_value None = Fault
+
+-- the value of a tree at what was measured; `asFloat` of a number is that number
+abbrev pub argo_value : Tree → Measured → Verdict3
+argo_value (Or a b) m = or_of (argo_value a m) (argo_value b m)
+argo_value (And a b) m = and_of (argo_value a m) (argo_value b m)
+argo_value (Not a) m = not_of (argo_value a m)
+argo_value (Bracket a) m = argo_value a m
+argo_value (Compare test) m = test_value test (given_at test.place m)
+argo_value (IsNaN place) m = nan_value (given_at place m)

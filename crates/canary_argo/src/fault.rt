@@ -1,0 +1,137 @@
+//! Why a condition of Argo Rollouts is not translated, and what to write.
+use canary_base::error::Memory;
+use canary_condition::condition::ConditionFault;
+use std::alloc::AllocFailed;
+
+/// What a condition has that is not translated.
+#[derive(Clone, Copy, Debug, PartialEq, Eq)]
+pub enum Refusal {
+    /// A byte that begins nothing of a condition.
+    Byte,
+    /// A number in another form, or with more than 15 digits, or with more than 17 after the point.
+    Number,
+    /// `+`, `-`, `*`, `/`, `%` or `^`.
+    Arithmetic,
+    /// A text.
+    Text,
+    /// A member, as `result.value`.
+    Member,
+    /// `|`.
+    Pipe,
+    /// `? :` or `??`.
+    Choice,
+    /// `{{args.NAME}}` that has no value.
+    Argument,
+    /// `in`.
+    In,
+    /// `matches`, `contains`, `startsWith` or `endsWith`.
+    Matching,
+    /// `true`, `false`, or a result alone.
+    Truth,
+    /// `nil` or `null`.
+    Nil,
+    /// A function.
+    Function,
+    /// A name.
+    Name,
+    /// Two results compared with each other.
+    TwoResults,
+    /// Two numbers compared with each other.
+    TwoNumbers,
+    /// A chain of comparisons, as `1 < result < 5`.
+    Chain,
+    /// `!` before a comparison.
+    NotBeforeComparison,
+    /// A place of a list that is no plain number, or lies behind the 16th value.
+    Place,
+    /// Something else where a comparison must stand.
+    Comparison,
+    /// Signs and brackets that do not fit together.
+    Brackets,
+    /// `result` beside `result[0]`.
+    Shape,
+    /// A number that does not fit, times the power of ten of the metric's places.
+    Range,
+    /// A length compared with a number that is not whole, or has more than 15 digits.
+    Fraction,
+    /// More than 1,024 bytes once it is translated, or more than 32 brackets open at one place.
+    Length,
+}
+
+impl Refusal {
+    /// What it is, and what to write.
+    pub fn text(self) -> &'static str {
+        match self {
+            Refusal::Byte => "no condition of Argo has that here",
+            Refusal::Number => "this number: write 15 digits at most, as 0.95",
+            Refusal::Arithmetic => "arithmetic: do it in the query",
+            Refusal::Text => "a text: have the query give 1 or 0, and compare with 1",
+            Refusal::Member => "a member: put the path into the provider's jsonPath",
+            Refusal::Pipe => "a pipe: do it in the query",
+            Refusal::Choice => "a choice: write a condition without ? : and ??",
+            Refusal::Argument => "an argument without a value: give it one in the Rollout's args",
+            Refusal::In => "in: write result == 1 || result == 2, and so on",
+            Refusal::Matching => "a text: have the query give 1 or 0, and compare with 1",
+            Refusal::Truth => "a truth: have the query give 1 or 0, and write == 1",
+            Refusal::Nil => "nil: leave it out, since no value is an Error",
+            Refusal::Function => "this function: do it in the query",
+            Refusal::Name => "a name: a condition knows result alone",
+            Refusal::TwoResults => "two results: put their quotient or difference into the query",
+            Refusal::TwoNumbers => "two numbers: leave the comparison out",
+            Refusal::Chain => "a chain: write 1 < result && result < 5",
+            Refusal::NotBeforeComparison => "! before a comparison: write !(result > 5)",
+            Refusal::Place => "this place of a list: write result[0], up to result[15]",
+            Refusal::Comparison => "a comparison is wanted here, as result[0] >= 0.95",
+            Refusal::Brackets => "signs or brackets that do not fit together",
+            Refusal::Shape => "result beside result[0]: write one of the two",
+            Refusal::Range => "this number is too large for the digits after the points",
+            Refusal::Fraction => "a length is whole: write a whole number",
+            Refusal::Length => "this condition is too long: write it shorter",
+        }
+    }
+}
+
+/// What is not translated, and at which byte of the condition.
+#[derive(Clone, Copy, Debug, PartialEq, Eq)]
+pub struct Finding {
+    pub why: Refusal,
+    pub at: usize,
+}
+
+/// Why a condition is not translated.
+#[derive(Clone, Copy, Debug, PartialEq, Eq)]
+pub enum Fault {
+    /// An allocation was refused.
+    Memory,
+    /// It has this.
+    Refused(Finding),
+}
+
+impl Fault {
+    // It has this, at that place.
+    pub(crate) fn refused(why: Refusal, at: usize) -> Fault {
+        Fault::Refused(Finding { why, at })
+    }
+}
+
+impl From<ConditionFault> for Fault {
+    fn from(fault: ConditionFault) -> Fault {
+        match fault {
+            ConditionFault::Memory => Fault::Memory,
+            ConditionFault::Syntax => Fault::refused(Refusal::Brackets, 0),
+            _ => Fault::refused(Refusal::Length, 0),
+        }
+    }
+}
+
+impl From<Memory> for Fault {
+    fn from(_: Memory) -> Fault {
+        Fault::Memory
+    }
+}
+
+impl<T: Drop> From<AllocFailed<T>> for Fault {
+    fn from(_: AllocFailed<T>) -> Fault {
+        Fault::Memory
+    }
+}

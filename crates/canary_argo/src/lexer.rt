@@ -1,0 +1,277 @@
+//! From a text to its tokens.
+ghost use Rattle.std.specs.Prelude.{◌≡◌, ◌≤◌, ◌<◌, IfOk, IfSome, length, option_map, position};
+ghost use Rattle.std.specs.List.{position_or_len};
+ghost use Rattle.std.specs.Str.{bytes_eq};
+ghost use Rattle.canary_argo.specs.Tokens.{is_blank, unblanked};
+ghost use Rattle.canary_argo.specs.Tokens.{is_word_byte, ends_word, front_word};
+ghost use Rattle.canary_argo.specs.Tokens.{after_word, is_held, held, number_of, number_token};
+ghost use Rattle.canary_argo.specs.Tokens.{keyword_token, long_symbol, short_symbol, front_symbol};
+ghost use Rattle.canary_argo.specs.Tokens.{before, front_token, IsFront};
+ghost use Rattle.canary_argo.specs.Tokens.{IsMadeOf, signed_word, after_signed};
+
+use crate::condition::Token;
+use crate::fault::Fault;
+use crate::naming;
+use canary_base::error::Memory;
+use canary_condition::condition::Comparison;
+use canary_decimal::decimal::ShortDecimal;
+use canary_decimal::reading::decimal;
+use std::alloc::Global;
+
+// The least number of more than 15 digits.
+pub(crate) const LEAST_TOO_LONG: u64 = 1_000_000_000_000_000;
+
+// The most digits after the point of a number.
+const MOST_PLACES: usize = 17;
+
+fn is_blank(byte: u8) -> bool
+    ensures { result ≡ is_blank byte }
+{
+    byte == b' ' || byte == b'\t' || byte == b'\n' || byte == b'\r'
+}
+
+// The text from its first byte on that is no blank.
+fn unblanked(text: &[u8]) -> &[u8]
+    ensures { result.now ≡ unblanked text.now }
+{
+    let mut rest = text;
+    while let [first, behind @ ..] = rest {
+        if !is_blank(*first) {
+            return rest;
+        }
+        rest = behind;
+    }
+    rest
+}
+
+fn is_word_byte(byte: u8) -> bool
+    ensures { result ≡ is_word_byte byte }
+{
+    byte.is_ascii_alphanumeric() || byte == b'_' || byte == b'.'
+}
+
+// The place of the first byte that ends a word.
+fn end_of_word(text: &[u8]) -> Option<usize>
+    ensures { result ≡ position ends_word text.now }
+{
+    text.iter().position(|byte| !is_word_byte(*byte))
+}
+
+// The length of the word that a text begins with.
+fn word_len(text: &[u8]) -> usize
+    ensures place { result ≡ position_or_len ends_word text.now }
+    ensures within { result ≤ length text.now }
+{
+    end_of_word(text).unwrap_or(text.len())
+}
+
+// The word that a text begins with, and what follows it.
+fn split_word(text: &[u8]) -> (&[u8], &[u8])
+    ensures word { result.0.now ≡ front_word text.now }
+    ensures after { result.1.now ≡ after_word text.now }
+{
+    text.split_at(word_len(text))
+}
+
+// The same of a text that begins with a sign.
+fn split_signed(text: &[u8]) -> (&[u8], &[u8])
+    ensures word { result.0.now ≡ signed_word text.now }
+    ensures after { result.1.now ≡ after_signed text.now }
+{
+    match text {
+        [] => (text, text),
+        [_, rest @ ..] => text.split_at(1 + word_len(rest)),
+    }
+}
+
+// Whether a number has few enough digits.
+fn is_held(number: ShortDecimal) -> bool
+    ensures { result ≡ is_held number }
+{
+    number.whole.unsigned_abs() < LEAST_TOO_LONG && number.places <= MOST_PLACES
+}
+
+fn held(number: Option<ShortDecimal>) -> Option<ShortDecimal>
+    ensures { result ≡ held number }
+{
+    match number {
+        Some(number) if is_held(number) => Some(number),
+        _ => None,
+    }
+}
+
+// The number that a word spells.
+fn number_of(alloc: Global, word: &[u8]) -> Result<Option<ShortDecimal>, Memory>
+    ensures { IfOk result (λ found. found ≡ number_of word.now) }
+{
+    match decimal(alloc, word)? {
+        Some(number) => Ok(held(number.short())),
+        None => Ok(None),
+    }
+}
+
+// The token of a number.
+fn token_of(number: Option<ShortDecimal>) -> Option<Token>
+    ensures { result ≡ option_map (λ d. Token.Number d) number }
+{
+    Some(Token::Number(number?))
+}
+
+fn is_same(word: &[u8], keyword: &str) -> bool
+    ensures { result ≡ bytes_eq word.now keyword.now }
+{
+    word == keyword.as_bytes()
+}
+
+// The token of a word that is no number.
+fn keyword_token(word: &[u8]) -> Option<Token>
+    ensures { result ≡ keyword_token word.now }
+{
+    if is_same(word, "result") {
+        Some(Token::ResultWord)
+    } else if is_same(word, "and") {
+        Some(Token::AndSign)
+    } else if is_same(word, "or") {
+        Some(Token::OrSign)
+    } else if is_same(word, "not") {
+        Some(Token::NotSign)
+    } else if is_same(word, "asFloat") {
+        Some(Token::AsFloatWord)
+    } else if is_same(word, "len") {
+        Some(Token::LenWord)
+    } else if is_same(word, "isNaN") {
+        Some(Token::NaNWord)
+    } else {
+        None
+    }
+}
+
+fn long_symbol(first: u8, second: u8) -> Option<Token>
+    ensures { result ≡ long_symbol first second }
+{
+    match (first, second) {
+        (b'=', b'=') => Some(Token::Compares(Comparison::Equal)),
+        (b'!', b'=') => Some(Token::Compares(Comparison::NotEqual)),
+        (b'<', b'=') => Some(Token::Compares(Comparison::AtMost)),
+        (b'>', b'=') => Some(Token::Compares(Comparison::AtLeast)),
+        (b'&', b'&') => Some(Token::AndSign),
+        (b'|', b'|') => Some(Token::OrSign),
+        _ => None,
+    }
+}
+
+fn short_symbol(byte: u8) -> Option<Token>
+    ensures { result ≡ short_symbol byte }
+{
+    match byte {
+        b'<' => Some(Token::Compares(Comparison::Less)),
+        b'>' => Some(Token::Compares(Comparison::Greater)),
+        b'!' => Some(Token::NotSign),
+        b'(' => Some(Token::Open),
+        b')' => Some(Token::Close),
+        b'[' => Some(Token::OpenItem),
+        b']' => Some(Token::CloseItem),
+        _ => None,
+    }
+}
+
+// The symbol at the front, the longest first, and what follows it.
+fn front_symbol(text: &[u8]) -> Option<(Token, &[u8])>
+    ensures { option_map (λ r. (r.0, r.1.now)) result ≡ front_symbol text.now }
+{
+    if let [first, second, rest @ ..] = text {
+        if let Some(token) = long_symbol(*first, *second) {
+            return Some((token, rest));
+        }
+    }
+    let [first, rest @ ..] = text else {
+        return None;
+    };
+    Some((short_symbol(*first)?, rest))
+}
+
+// A token, and what follows it.
+fn before(rest: &[u8], token: Option<Token>) -> Option<(Token, &[u8])>
+    ensures { option_map (λ r. (r.0, r.1.now)) result ≡ before rest.now token }
+{
+    Some((token?, rest))
+}
+
+// The token of a number at the front, which begins with a `-` or a digit, and what follows it.
+fn front_number<'a>(
+    alloc: Global,
+    text: &[u8],
+    rest: &'a [u8],
+) -> Result<Option<(Token, &'a [u8])>, Memory>
+    ensures { IfOk result (λ found. option_map (λ r. (r.0, r.1.now)) found
+        ≡ before rest.now (number_token text.now)) }
+{
+    let number = number_of(alloc, text)?;
+    Ok(before(rest, token_of(number)))
+}
+
+// The token at the front of a text that begins with no blank, and what follows it.
+fn front_token(alloc: Global, text: &[u8]) -> Result<Option<(Token, &[u8])>, Memory>
+    ensures { IfOk result (λ found. option_map (λ r. (r.0, r.1.now)) found
+        ≡ front_token text.now) }
+{
+    let [first, ..] = text else {
+        return Ok(None);
+    };
+    if first.is_ascii_digit() {
+        let (word, rest) = split_word(text);
+        return front_number(alloc, word, rest);
+    }
+    if *first == b'-' {
+        let (word, rest) = split_signed(text);
+        return front_number(alloc, word, rest);
+    }
+    if is_word_byte(*first) {
+        let (word, rest) = split_word(text);
+        return Ok(before(rest, keyword_token(word)));
+    }
+    Ok(front_symbol(text))
+}
+
+// The token at the front of what is left of a text, and what follows it; otherwise what stands
+// there.
+fn next_token<'a>(alloc: Global, text: &[u8], rest: &'a [u8]) -> Result<(Token, &'a [u8]), Fault>
+    ensures { IfOk result (λ found. IsFront rest.now found.0 found.1.now) }
+{
+    match front_token(alloc, rest)? {
+        Some(found) => Ok(found),
+        None => Err(fault_at(text, rest)),
+    }
+}
+
+// What stands at the front of what is left of a text, and is no token.
+fn fault_at(text: &[u8], rest: &[u8]) -> Fault {
+    let (word, behind) = split_word(rest);
+    let at = text.len().saturating_sub(rest.len());
+    Fault::refused(naming::of_text(rest, word, behind), at)
+}
+
+// The byte where a token begins, of which so many stand before it.
+pub(crate) fn place_of(alloc: Global, text: &[u8], tokens: usize) -> usize {
+    let mut rest = unblanked(text);
+    for _ in 0..tokens {
+        if let Ok((_, behind)) = next_token(alloc, text, rest) {
+            rest = unblanked(behind);
+        }
+    }
+    text.len().saturating_sub(rest.len())
+}
+
+// The tokens of a text.
+pub(crate) fn tokens_of(alloc: Global, text: &[u8]) -> Result<Vec<Token>, Fault>
+    ensures { IfOk result (λ tokens. IsMadeOf text.now tokens.items) }
+{
+    let mut tokens = Vec::new(alloc);
+    let mut rest = unblanked(text);
+    while !rest.is_empty() {
+        let (token, behind) = next_token(alloc, text, rest)?;
+        tokens.push(token)?;
+        rest = unblanked(behind);
+    }
+    Ok(tokens)
+}

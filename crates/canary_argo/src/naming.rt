@@ -1,0 +1,165 @@
+//! What stands where a condition of Argo Rollouts is not translated. No clause says which refusal
+//! it is; the tests do.
+use crate::condition::{Item, Place, Token};
+use crate::fault::Refusal;
+use crate::items::after_result;
+
+fn is_same(word: &[u8], other: &str) -> bool {
+    word == other.as_bytes()
+}
+
+// What a word is, with the byte that follows it.
+fn of_word(word: &[u8], next: Option<u8>) -> Refusal {
+    if word.contains(&b'.') {
+        Refusal::Member
+    } else if is_same(word, "in") {
+        Refusal::In
+    } else if is_matching(word) {
+        Refusal::Matching
+    } else if is_same(word, "true") || is_same(word, "false") {
+        Refusal::Truth
+    } else if is_same(word, "nil") || is_same(word, "null") {
+        Refusal::Nil
+    } else if next == Some(b'(') {
+        Refusal::Function
+    } else {
+        Refusal::Name
+    }
+}
+
+// Whether the word compares texts.
+fn is_matching(word: &[u8]) -> bool {
+    is_same(word, "matches")
+        || is_same(word, "contains")
+        || is_same(word, "startsWith")
+        || is_same(word, "endsWith")
+}
+
+// What a sign is.
+fn of_sign(sign: u8) -> Refusal {
+    match sign {
+        b'+' | b'-' | b'*' | b'/' | b'%' | b'^' => Refusal::Arithmetic,
+        b'"' | b'\'' | b'`' => Refusal::Text,
+        b'|' => Refusal::Pipe,
+        b'?' | b':' => Refusal::Choice,
+        b'{' => Refusal::Argument,
+        _ => Refusal::Byte,
+    }
+}
+
+// What stands at the front of a text, of which this word and what follows it are a part.
+pub(crate) fn of_text(text: &[u8], word: &[u8], rest: &[u8]) -> Refusal {
+    match text {
+        [b'.' | b'-', b'0'..=b'9', ..] => Refusal::Number,
+        [b'0'..=b'9', ..] => Refusal::Number,
+        [sign, ..] if word.is_empty() => of_sign(*sign),
+        _ => of_word(word, rest.first().copied()),
+    }
+}
+
+// Whether a token begins a value.
+fn begins_value(token: Token) -> bool {
+    matches!(
+        token,
+        Token::ResultWord | Token::AsFloatWord | Token::LenWord
+    )
+}
+
+// What follows the first comparison sign of some tokens, unless `&&`, `||` or `!` comes first.
+fn behind_sign(tokens: &[Token]) -> Option<&[Token]> {
+    for (at, token) in tokens.iter().enumerate() {
+        match *token {
+            Token::Compares(_) => return tokens.get(at.saturating_add(1)..),
+            Token::OrSign | Token::AndSign | Token::NotSign => return None,
+            _ => {}
+        }
+    }
+    None
+}
+
+// Whether a place of a list follows `result`.
+fn has_place(tokens: &[Token]) -> bool {
+    matches!(after_result(tokens).0, Place::Item(_))
+}
+
+// What stands at the front of tokens where a group must begin, after so many others.
+pub(crate) fn of_tokens(tokens: &[Token], others: usize) -> Refusal {
+    match tokens {
+        [Token::Compares(_), ..] if others > 0 => Refusal::Chain,
+        [Token::Number(_), Token::Compares(_), Token::Number(_), ..] => Refusal::TwoNumbers,
+        [Token::ResultWord, Token::OpenItem, ..] if !has_place(&tokens[1..]) => Refusal::Place,
+        [first, ..] if begins_value(*first) => of_value(behind_sign(tokens)),
+        _ => Refusal::Comparison,
+    }
+}
+
+// What follows a value and a comparison sign.
+fn of_value(behind: Option<&[Token]>) -> Refusal {
+    match behind {
+        None => Refusal::Truth,
+        Some([first, ..]) if begins_value(*first) => Refusal::TwoResults,
+        Some(_) => Refusal::Comparison,
+    }
+}
+
+// The number of the tokens of a group.
+fn tokens_in(item: Item) -> usize {
+    match item {
+        Item::Compare(test) => {
+            let place = match test.place {
+                Place::Whole => 3,
+                Place::Item(_) | Place::Length => 6,
+            };
+            if test.as_float { place + 3 } else { place }
+        }
+        Item::NaN(Place::Whole) => 4,
+        Item::NaN(_) => 7,
+        _ => 1,
+    }
+}
+
+// The number of the tokens of some groups.
+pub(crate) fn tokens_before(items: &[Item], at: usize) -> usize {
+    let mut count: usize = 0;
+    for item in items.iter().take(at) {
+        count = count.saturating_add(tokens_in(*item));
+    }
+    count
+}
+
+// The place of the first `not` before a comparison.
+pub(crate) fn place_of_not(items: &[Item]) -> usize {
+    let mut after_not = false;
+    for (at, item) in items.iter().enumerate() {
+        if after_not && matches!(*item, Item::Compare(_)) {
+            return at.saturating_sub(1);
+        }
+        after_not = matches!(*item, Item::Not);
+    }
+    items.len()
+}
+
+// Whether something must begin after an item, with the brackets that are open then; none if it may
+// not stand there.
+fn after_item(item: Item, wanted: bool, opened: usize) -> Option<(bool, usize)> {
+    match item {
+        Item::Not if wanted => Some((true, opened)),
+        Item::Open if wanted => Some((true, opened.saturating_add(1))),
+        Item::Compare(_) | Item::NaN(_) if wanted => Some((false, opened)),
+        Item::Or | Item::And if !wanted => Some((true, opened)),
+        Item::Close if !wanted && opened > 0 => Some((false, opened - 1)),
+        _ => None,
+    }
+}
+
+// The place of the first group that may not stand where it does, or the end.
+pub(crate) fn place_of_misfit(items: &[Item]) -> usize {
+    let (mut wanted, mut opened) = (true, 0);
+    for (at, item) in items.iter().enumerate() {
+        let Some(after) = after_item(*item, wanted, opened) else {
+            return at;
+        };
+        (wanted, opened) = after;
+    }
+    items.len()
+}

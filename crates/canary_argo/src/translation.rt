@@ -1,0 +1,104 @@
+//! The translation of a condition of Argo Rollouts to one of a desk.
+//!
+//! ```text
+//! or      := and  { ("||" | "or") and }
+//! and     := not  { ("&&" | "and") not }
+//! not     := ("!" | "not") (not, but no comparison) | atom
+//! atom    := "(" or ")" | value compare number | number compare value | "isNaN" "(" place ")"
+//! value   := place | "asFloat" "(" place ")"
+//! place   := "result" | "result" "[" digits "]" | "len" "(" "result" ")"
+//! ```
+//!
+//! A number is a decimal of at most 15 digits, at most 17 of them after the point.
+ghost use Rattle.std.specs.Prelude.{◌≡◌, IfOk, OnOk, string_bytes};
+ghost use Rattle.canary_condition.specs.Reading.{IsConditionText};
+ghost use Rattle.canary_condition.specs.Trees.{Tree};
+ghost use Rattle.canary_argo.specs.Translating.{IsTranslated, IsTranslation, skeleton_of};
+
+use crate::condition::Item;
+use crate::fault::{Fault, Finding, Refusal};
+use crate::form::Form;
+use crate::{items, lexer, naming, printing, translating};
+use canary_condition::condition::Condition;
+use canary_decimal::laws;
+use std::alloc::Global;
+
+// Nothing, if the text is a condition of the desk.
+fn check(alloc: Global, text: &str) -> Result<(), Fault>
+    ensures { OnOk result ((desk : Tree) × IsConditionText text.now desk) }
+{
+    let _condition = Condition::parse(alloc, text)?;
+    Ok(())
+}
+
+// Nothing, if the signs and brackets fit together.
+fn check_signs(alloc: Global, items: &[Item]) -> Result<(), Fault>
+    ensures { OnOk result ((desk : Tree) × IsConditionText (skeleton_of items.now) desk) }
+{
+    let signs = printing::skeleton_of(alloc, items)?;
+    check(alloc, signs.as_str())
+}
+
+// The desk's condition for these groups. The place of a fault is that of a group.
+fn translated(alloc: Global, form: Form, items: &[Item]) -> Result<String, Fault>
+    ensures { IfOk result (λ text. IsTranslated items.now form (string_bytes text)) }
+{
+    laws::compares_as_decimals();
+    laws::short_constants();
+    if !items::are_closed(items) {
+        let at = naming::place_of_not(items);
+        return Err(Fault::refused(Refusal::NotBeforeComparison, at));
+    }
+    check_signs(alloc, items)?;
+    let text = printing::text_of(alloc, form, items)?;
+    check(alloc, text.as_str())?;
+    Ok(text)
+}
+
+// The group that a fault is about.
+fn place_of(form: Form, items: &[Item], finding: Finding) -> usize {
+    match finding.why {
+        Refusal::Brackets => naming::place_of_misfit(items),
+        Refusal::Shape | Refusal::Range | Refusal::Fraction => translating::place_of_unfit(
+            form, items,
+        ),
+        _ => finding.at,
+    }
+}
+
+// The fault at the byte of its group.
+fn at_item(alloc: Global, text: &[u8], form: Form, items: &[Item], fault: Fault) -> Fault {
+    match fault {
+        Fault::Memory => Fault::Memory,
+        Fault::Refused(finding) => {
+            let tokens = naming::tokens_before(items, place_of(form, items, finding));
+            Fault::refused(finding.why, lexer::place_of(alloc, text, tokens))
+        }
+    }
+}
+
+// The desk's condition for the groups of a text. The place of a fault is that of a byte.
+fn placed(alloc: Global, text: &[u8], form: Form, items: &[Item]) -> Result<String, Fault>
+    ensures { IfOk result (λ translated. IsTranslated items.now form (string_bytes translated)) }
+{
+    match translated(alloc, form, items) {
+        Ok(translated) => Ok(translated),
+        Err(fault) => Err(at_item(alloc, text, form, items, fault)),
+    }
+}
+
+/// The desk's condition for one of Argo Rollouts, of a metric whose values are reported in this
+/// form: on each result that is reported, the desk's condition says what Argo's says of what was
+/// measured.
+///
+/// # Errors
+/// `Memory` if an allocation was refused; otherwise what the condition has that is not translated,
+/// and at which byte.
+pub fn translate(alloc: Global, text: &str, form: Form) -> Result<String, Fault>
+    ensures { IfOk result (λ translated. IsTranslation text.now form (string_bytes translated)) }
+{
+    let text = text.as_bytes();
+    let tokens = lexer::tokens_of(alloc, text)?;
+    let items = items::items_of_text(alloc, text, tokens.as_slice())?;
+    placed(alloc, text, form, items.as_slice())
+}

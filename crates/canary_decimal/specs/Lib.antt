@@ -1,0 +1,4 @@
+pub mod Exactness
+pub mod Spelling
+pub mod Reader
+pub mod Short
