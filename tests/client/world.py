@@ -330,10 +330,17 @@ def answering(answer):
         server.close()
 
 
+# The sockets of free ports. The system gives such a port to no other part that asks for any port.
+HELD = []
+
+
 def free_port():
-    """A port on which nobody listens."""
-    with socket.create_server(("127.0.0.1", 0)) as server:
-        return server.getsockname()[1]
+    """A port on which nobody listens, until a desk of the caller's does."""
+    held = socket.socket()
+    held.setsockopt(socket.SOL_SOCKET, socket.SO_REUSEADDR, 1)
+    held.bind(("127.0.0.1", 0))
+    HELD.append(held)
+    return held.getsockname()[1]
 
 
 def wait_until(row, is_so, seconds=60):
