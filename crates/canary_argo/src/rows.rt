@@ -18,24 +18,31 @@ asFloat(result[2]) <= 0.0000125~.e8p3~result[2] <= 1250
 result > 1 || result < -1~.e6~result > 1000000 || result < -1000000
 result > 1 or result < -1~.e6~result > 1000000 || result < -1000000
 not (result > 5) and result >= -100~.e6~not (result > 5000000) && result >= -100000000
-!(result[0] > 5) && !(!(result[0] < 2))~.e6f~not (result > 5000000) && not (not (result < 2000000))
-result > 1 && (result < 5 || result == 2)~.e6~result > 1000000 && (result < 5000000 || result == 2000000)
+!(result[0] > 5) && !(!(result[0] < 2))~.e6f~\
+    not (result > 5000000) && not (not (result < 2000000))
+result > 1 && (result < 5 || result == 2)~.e6~\
+    result > 1000000 && (result < 5000000 || result == 2000000)
 result[3] >= 922337203685~.e6p4~result[3] >= 922337203685000000
 len(result) == 0 || result[0] >= 0.95~.e6l1~result[0] == 0 || result[1] >= 950000
 len(result) > 2~.e6l0~result[0] > 2
 len( result )<16 && result[14] < 0.5~.e6l15~result[0] < 16 && result[15] < 500000
 0 == len(result)~.e6l0~result[0] == 0
 isNaN(result) || result >= 0.95~.e6n~result == -9223372036854775808 || result >= 950000
-isNaN(result[0]) || result[0] < 0.05~.e6nf~result == -9223372036854775808 || (result < 50000 && result != -9223372036854775808)
-!isNaN(result[1]) && 0.5 > result[0]~.e6np2~not result[1] == -9223372036854775808 && (result[0] < 500000 && result[0] != -9223372036854775808)
-not isNaN( result ) and result <= 1~.e6n~not result == -9223372036854775808 && (result <= 1000000 && result != -9223372036854775808)
+isNaN(result[0]) || result[0] < 0.05~.e6nf~\
+    result == -9223372036854775808 || (result < 50000 && result != -9223372036854775808)
+!isNaN(result[1]) && 0.5 > result[0]~.e6np2~\
+    not result[1] == -9223372036854775808 \
+    && (result[0] < 500000 && result[0] != -9223372036854775808)
+not isNaN( result ) and result <= 1~.e6n~\
+    not result == -9223372036854775808 \
+    && (result <= 1000000 && result != -9223372036854775808)
 isNaN(result[0]) || len(result) == 0~.e6nl1~result[1] == -9223372036854775808 || result[0] == 0
 -41.25 < result~.e6~result > -41250000
 result[0]>=0.95&&result[0]<=1~.e6f~result >= 950000 && result <= 1000000
 result  >=\t0.123456789012~.e13~result >= 1234567890120
 ";
 
-// A condition, the byte, and the first words of what is said.
+// A condition, the byte at which it is refused, and the first words of the refusal.
 const REFUSED: &str = "\
 result + 1 > 5~7~arithmetic
 result[\"a\"] > 5~7~a text
@@ -82,7 +89,8 @@ result > 5 && result[0] > 1~0~result beside
 asFloat(1) > 5~0~a comparison
 ()~1~signs
 result > 5 and not~18~signs
-(((((((((((((((((((((((((((((((((result>1)))))))))))))))))))))))))))))))))~0~this condition is too long
+(((((((((((((((((((((((((((((((((result>1)))))))))))))))))))))))))))))))))~0~\
+    this condition is too long
 ";
 
 // What a label ends in, and the desk's condition.

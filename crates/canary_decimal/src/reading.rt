@@ -218,7 +218,7 @@ fn reading_of(alloc: Global, text: &[u8]) -> Result<Option<Reading>, Memory>
     }
 }
 
-/// What a text says: a decimal, `NaN`, or an infinity. None if it is none of these; `Memory` if an
+/// What a text says: a decimal, `NaN`, or an infinity. None for any other text; `Memory` if an
 /// allocation is refused.
 pub fn read(alloc: Global, text: &str) -> Result<Option<Reading>, Memory>
     // What is read is what the text says.

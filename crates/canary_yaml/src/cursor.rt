@@ -54,7 +54,8 @@ impl<'a> Cursor<'a> {
         }
     }
 
-    /// The fault of a number here that kubectl reads as this one; `Range` if 64 bits do not hold it.
+    /// The fault of a number here that kubectl reads as this one; `Range` if it has more than 64
+    /// bits.
     pub(crate) fn fault_of(&self, reads: Option<i64>) -> Fault {
         match (self.fault(Why::Range), reads) {
             (Fault::Refused { line, column, .. }, Some(reads)) => Fault::Number {

@@ -16,8 +16,8 @@ pub enum Fault {
         column: usize,
         why: Why,
     },
-    /// A plain scalar at this line and column is this number to kubectl, and another one or a text to
-    /// YAML 1.1 or 1.2: 0644, 0o644 or 0b101.
+    /// A plain scalar at this line and column is this number to kubectl, and another one or a text
+    /// to YAML 1.1 or 1.2: 0644, 0o644 or 0b101.
     #[error("line {line}, column {column}: kubectl reads {reads}: write that, or put it in quotes")]
     Number {
         line: usize,
