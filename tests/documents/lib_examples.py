@@ -11,7 +11,7 @@ import re
 # on the translation of Argo's conditions.
 NO_LIBRARIES = {
     "canary_argo", "canary_bench", "canary_desk", "canary_desk_tests", "canary_senders",
-    "canary_tables_laws", "canary_testing", "canary_tests", "canary_yaml", "canary_yaml_tests",
+    "canary_tables_laws", "canary_testing", "canary_tests", "canary_yaml", "canary_yaml_reader",
 }
 EXAMPLE = re.compile(r"^In use \((\w+), (\S+)\):\n\n((?:    .*\n)+)", re.MULTILINE)
 CODE = re.compile(r"^    ", re.MULTILINE)

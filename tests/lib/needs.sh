@@ -3,7 +3,7 @@
 
 # The tools without which nothing here runs, and those that `./check --without` may name.
 required=(rt bash python3 awk)
-optional=(cc strace sqlite3 curl)
+optional=(cc strace sqlite3 curl pyyaml)
 
 # The tool $1 is here, and does what the scripts ask of it; or the machine has IPv6.
 has() {

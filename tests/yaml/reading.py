@@ -29,11 +29,19 @@ class Stopped(Exception):
     """The program neither read nor refused a text."""
 
 
+def asked(text):
+    """The line by which the program is asked for the documents of a text in bytes."""
+    try:
+        return json.dumps(text.decode()).encode() + b"\n"
+    except UnicodeDecodeError:
+        return json.dumps({"bytes": text.hex()}).encode() + b"\n"
+
+
 def read_by_program(text):
     """("read", documents) or ("refused", line): what the program makes of a text in bytes."""
     try:
-        done = subprocess.run([PROGRAM], input=text.hex().encode() + b"\n", capture_output=True,
-                              timeout=LIMIT, check=False)
+        done = subprocess.run([PROGRAM], input=asked(text), capture_output=True, timeout=LIMIT,
+                              check=False)
     except subprocess.TimeoutExpired as error:
         raise Stopped(f"more than {LIMIT} seconds") from error
     answer = done.stdout.decode()
@@ -41,7 +49,7 @@ def read_by_program(text):
         raise Stopped(f"status {done.returncode}: {done.stderr[:300]}")
     if answer.startswith("!"):
         return "refused", answer[1:-1]
-    return "read", json.loads(answer)
+    return "read", [value for _line, value in json.loads(answer)]
 
 
 def shown(value):

@@ -90,10 +90,13 @@ fn read_entries(alloc: Global, c: &mut Cursor<'_>, depth: usize) -> Result<Vec<V
     Ok(items)
 }
 
-// The value after the `-` of an entry at that column.
+/// The value after the `-` of an entry at that column.
+///
+/// # Errors
+/// As `read_block`.
 #[cycle(block)]
 #[tactic(auto, using(crate::proofs::Nesting::nests))]
-fn read_entry(
+pub(crate) fn read_entry(
     alloc: Global,
     c: &mut Cursor<'_>,
     column: usize,
@@ -149,10 +152,13 @@ fn why_no_key(c: &Cursor<'_>) -> Why {
     }
 }
 
-// The value after the colon of a key at that column.
+/// The value after the colon of a key at that column.
+///
+/// # Errors
+/// As `read_block`.
 #[cycle(block)]
 #[tactic(auto, using(crate::proofs::Nesting::nests))]
-fn read_member(
+pub(crate) fn read_member(
     alloc: Global,
     c: &mut Cursor<'_>,
     column: usize,
@@ -172,8 +178,11 @@ fn read_member(
     read_block(alloc, c, least, depth)
 }
 
-// Goes to what stands next. Returns whether it is in this column, and not before it.
-fn is_next(c: &mut Cursor<'_>, column: usize) -> Result<bool, Fault> {
+/// Goes to what stands next. Returns whether it is in this column, and not before it.
+///
+/// # Errors
+/// `Indentation`, if it is after this column; `Tab`.
+pub(crate) fn is_next(c: &mut Cursor<'_>, column: usize) -> Result<bool, Fault> {
     c.skip_to_token()?;
     if c.is_over() || c.column() < column {
         return Ok(false);

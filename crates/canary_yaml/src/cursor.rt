@@ -2,6 +2,7 @@
 //!
 //! LF stands between the lines of the text, and no byte is 0: 0 stands for the end of the text.
 use crate::fault::{Fault, Why};
+use crate::places::Place;
 
 /// A place in a text.
 #[derive(Clone, Copy)]
@@ -46,11 +47,16 @@ impl<'a> Cursor<'a> {
 
     /// The fault here.
     pub(crate) fn fault(&self, why: Why) -> Fault {
+        let Place { line, column } = self.place();
+        Fault::Refused { line, column, why }
+    }
+
+    /// The line and the column here.
+    pub(crate) fn place(&self) -> Place {
         let before = self.text.get(self.start..self.at).unwrap_or(&[]);
-        Fault::Refused {
+        Place {
             line: self.line,
             column: characters(before).saturating_add(1),
-            why,
         }
     }
 

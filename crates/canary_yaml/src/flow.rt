@@ -111,8 +111,11 @@ fn read_members(
     Err(begin.fault(Why::Unclosed))
 }
 
-// The key that begins here.
-fn read_flow_key(alloc: Global, c: &mut Cursor<'_>) -> Result<String, Fault> {
+/// The key that begins here.
+///
+/// # Errors
+/// `ComplexKey`; what `why_not` says, if none begins here; as `read_key`.
+pub(crate) fn read_flow_key(alloc: Global, c: &mut Cursor<'_>) -> Result<String, Fault> {
     match c.peek() {
         b'"' | b'\'' => {}
         b'[' | b'{' => return Err(c.fault(Why::ComplexKey)),
@@ -122,9 +125,16 @@ fn read_flow_key(alloc: Global, c: &mut Cursor<'_>) -> Result<String, Fault> {
     read_key(alloc, c, Style::Flow)
 }
 
-// The value of a key that ends here: null, unless a colon and a value stand here.
+/// The value of a key that ends here: null, unless a colon and a value stand here.
+///
+/// # Errors
+/// As `read_flow`; `Unclosed`.
 #[cycle(flow)]
-fn read_flow_member(alloc: Global, c: &mut Cursor<'_>, depth: usize) -> Result<Value, Fault>
+pub(crate) fn read_flow_member(
+    alloc: Global,
+    c: &mut Cursor<'_>,
+    depth: usize,
+) -> Result<Value, Fault>
     ensures { IfOk result (λ v. nesting (view v) ≤ depth) }
 {
     skip_between(c)?;
@@ -139,8 +149,11 @@ fn read_flow_member(alloc: Global, c: &mut Cursor<'_>, depth: usize) -> Result<V
     read_flow(alloc, c, depth)
 }
 
-// Goes past a comma, or stays at the closing bracket.
-fn end_item(c: &mut Cursor<'_>, closing: u8) -> Result<(), Fault> {
+/// Goes past a comma, or stays at the closing bracket.
+///
+/// # Errors
+/// `Colon`, `Unclosed` or `NoComma`, if neither stands here.
+pub(crate) fn end_item(c: &mut Cursor<'_>, closing: u8) -> Result<(), Fault> {
     skip_between(c)?;
     match c.peek() {
         b',' => c.skip(1),
@@ -152,8 +165,11 @@ fn end_item(c: &mut Cursor<'_>, closing: u8) -> Result<(), Fault> {
     Ok(())
 }
 
-// Goes past white space, ends of lines and comments.
-fn skip_between(c: &mut Cursor<'_>) -> Result<(), Fault> {
+/// Goes past white space, ends of lines and comments.
+///
+/// # Errors
+/// `Unclosed`, if the document ends before.
+pub(crate) fn skip_between(c: &mut Cursor<'_>) -> Result<(), Fault> {
     for _ in 0..c.turns() {
         if c.is_at_end() || !c.is_line_over() {
             break;

@@ -19,6 +19,7 @@ mod folded;
 mod key;
 mod literal;
 mod number;
+pub mod places;
 mod plain;
 mod quoted;
 pub mod read;

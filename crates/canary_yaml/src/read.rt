@@ -1,5 +1,6 @@
 //! Documents.
-ghost use Rattle.std.specs.Prelude.{◌≡◌, ◌≢◌, ◌≤◌, Some, None, IfOk, IfErr, IfSome, IsUtf8};
+ghost use Rattle.std.specs.Prelude.{◌≡◌, ◌≢◌, ◌≤◌, Some, None, IfOk, IfErr, IfSome, IsSome};
+ghost use Rattle.std.specs.Prelude.{IsUtf8, MatchOption, string_bytes};
 ghost use Rattle.serde_json.specs.Data.{Data, depth as nesting};
 ghost use Rattle.serde_json.specs.Read.{max_depth, read};
 ghost use Rattle.canary_yaml.specs.declared.fault.Fault.TheVariants as faults;
@@ -12,8 +13,8 @@ use crate::text::text_of;
 use serde_json::Value;
 use std::alloc::Global;
 
-// How deep mappings and sequences may be nested: as deep as serde_json reads them.
-const MOST_DEPTH: usize = 127;
+/// How deep mappings and sequences may be nested: as deep as serde_json reads them.
+pub(crate) const MOST_DEPTH: usize = 127;
 
 /// A document of a text.
 #[derive(Drop)]
@@ -87,6 +88,33 @@ pub fn read_json_or_yaml(alloc: Global, bytes: &[u8]) -> Result<Value, Fault>
         Err(fault) if fault.is_memory() => Err(Fault::Memory),
         Err(_) => read_one(alloc, bytes),
     }
+}
+
+/// Nothing, if a text is JSON (RFC 8259) as `serde_json` reads it; or else the JSON of the one
+/// document of a text in YAML.
+///
+/// # Errors
+/// As `read_one`, if the text is not JSON.
+pub fn json_of(alloc: Global, bytes: &[u8]) -> Result<Option<String>, Fault>
+    ensures json { IfOk result (λ found. MatchOption found
+        (IsUtf8 bytes.now → IsSome (read bytes.now))
+        (λ text. (IsUtf8 bytes.now → read bytes.now ≡ None) × IsSome (read (string_bytes text)))) }
+    ensures reads_json { IfErr result (λ e. e ≢ faults.Memory → IsUtf8 bytes.now
+        → read bytes.now ≡ None) }
+{
+    match Value::from_slice(alloc, bytes) {
+        Ok(_) => Ok(None),
+        Err(fault) if fault.is_memory() => Err(Fault::Memory),
+        Err(_) => Ok(Some(json_of_one(alloc, bytes)?)),
+    }
+}
+
+// The JSON of the one document of a text in YAML.
+fn json_of_one(alloc: Global, bytes: &[u8]) -> Result<String, Fault>
+    ensures { IfOk result (λ text. IsSome (read (string_bytes text))) }
+{
+    let value = read_one(alloc, bytes)?;
+    Ok(value.to_string(alloc)?)
 }
 
 // The document that begins here, or None if it has nothing in it.
