@@ -6,10 +6,12 @@ ghost use Rattle.canary_check.specs.Waiting.{is_attended, is_request_attended};
 ghost use Rattle.canary_cli.specs.Performed.{IsCheckShown, IsNoClient};
 
 use crate::perform::Outcome;
+use crate::yaml::{self, Reading};
 use canary_base::lists::Text;
 use canary_check::check::Findings;
 use canary_programs::fault::Fault;
 use canary_programs::show::show;
+use canary_yaml::read::Document;
 use std::alloc::Global;
 use std::fs::{File, Files};
 use std::io::{self, ErrorKind, Read, Write};
@@ -45,8 +47,8 @@ pub(crate) fn check<P: Files + AllocGlobal, W: Write, F: Write>(
     }
 }
 
-// Writes `ok` if the desk takes the manifest in the file of this name, and otherwise what it would
-// refuse of it.
+// Writes `ok` if the desk takes the manifests in the file of this name, and otherwise what it would
+// refuse of them: of one in JSON, or of each document in YAML.
 fn check_manifest<P: Files + AllocGlobal, W: Write, F: Write>(
     rt: &P,
     file: &str,
@@ -59,7 +61,77 @@ fn check_manifest<P: Files + AllocGlobal, W: Write, F: Write>(
     ensures client { IsNoClient result }
 {
     let manifest = read_file(rt, file)?;
-    check_bytes(rt.alloc(), manifest.as_slice(), strict, output, errors)
+    match yaml::documents_of(rt.alloc(), manifest.as_slice())? {
+        Reading::Documents(documents) => {
+            check_documents(rt.alloc(), documents.as_slice(), strict, output, errors)
+        }
+        Reading::Refused(why) => {
+            show(why.as_str(), output)?;
+            Ok(Outcome::Findings)
+        }
+        Reading::Json => check_bytes(rt.alloc(), manifest.as_slice(), strict, output, errors),
+    }
+}
+
+// Writes `ok` if the desk takes each of these manifests, and otherwise what it would refuse of
+// them.
+fn check_documents<W: Write, F: Write>(
+    alloc: Global,
+    documents: &[Document],
+    strict: bool,
+    output: &mut W,
+    errors: &mut F,
+) -> Result<Outcome, Fault>
+    ensures shown { result ≡ Ok Outcome.Done
+        → Appends (W.contents output.old) (W.contents output.new) (codes "ok\n") }
+    ensures client { IsNoClient result }
+{
+    let mut found = String::new(alloc);
+    let is_one = documents.len() == 1;
+    for document in documents {
+        let line = if is_one { 0 } else { document.line };
+        add_found(alloc, &mut found, document, line, strict, errors)?;
+    }
+    if found.is_empty() {
+        show("ok\n", output)?;
+        return Ok(Outcome::Done);
+    }
+    show(found.as_str(), output)?;
+    Ok(Outcome::Findings)
+}
+
+// Adds what the desk would refuse of a document, with the line in which it begins, unless that is
+// 0; and warns of it.
+fn add_found<F: Write>(
+    alloc: Global,
+    found: &mut String,
+    document: &Document,
+    line: usize,
+    strict: bool,
+    errors: &mut F,
+) -> Result<(), Fault> {
+    let findings = counted(alloc, found_in(alloc, document)?, strict)?;
+    warn(&findings, errors);
+    if findings.is_ok() {
+        return Ok(());
+    }
+    match yaml::add_lines(found, findings.text(), line) {
+        Ok(()) => Ok(()),
+        Err(_) => Err(Fault::Memory),
+    }
+}
+
+// What is found in a document, as JSON.
+fn found_in(alloc: Global, document: &Document) -> Result<Findings, Fault>
+    ensures memory { IfErr result (λ fault. fault ≡ Fault.Memory) }
+{
+    let Ok(json) = document.value.to_string(alloc) else {
+        return Err(Fault::Memory);
+    };
+    match canary_check::check::check(alloc, json.as_bytes()) {
+        Ok(findings) => Ok(findings),
+        Err(_) => Err(Fault::Memory),
+    }
 }
 
 // The same of the request's body in the file of this name.

@@ -20,3 +20,4 @@
 mod check;
 pub mod perform;
 mod place;
+mod yaml;

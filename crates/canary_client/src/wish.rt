@@ -12,6 +12,8 @@ use canary_canonical::writing;
 use canary_manifest::command::{WireFault, command_from_json};
 use canary_plan::command::Command;
 use canary_words::words::AskedCommand;
+use canary_yaml::fault as yaml;
+use canary_yaml::read::json_of;
 use std::alloc::Global;
 use std::fs::{File, Files};
 use std::io::{ErrorKind, Read};
@@ -171,17 +173,27 @@ fn service<P: Files + AllocGlobal>(rt: &P, words: &AskedCommand) -> Result<Askin
     )
 }
 
-// The text of the file of a manifest.
+// The JSON of the file of a manifest, which may be in YAML.
 fn manifest<P: Files + AllocGlobal>(rt: &P, file: &str) -> Result<String, Stop> {
     let Ok(file) = File::open(rt, file) else {
         return Err(Stop::File);
     };
     let mut text = String::new(rt.alloc());
     match file.take(MOST_BYTES + 1).read_to_string(&mut text) {
-        Ok(_) if text.len() as u64 <= MOST_BYTES => Ok(text),
+        Ok(_) if text.len() as u64 <= MOST_BYTES => json(rt.alloc(), text),
         Ok(_) => Err(Stop::Manifest),
         Err(error) if error.kind() == ErrorKind::OutOfMemory => Err(Stop::Memory),
         Err(_) => Err(Stop::File),
+    }
+}
+
+// The text, if it is JSON; or else the JSON of its one document in YAML.
+fn json(alloc: Global, text: String) -> Result<String, Stop> {
+    match json_of(alloc, text.as_bytes()) {
+        Ok(None) => Ok(text),
+        Ok(Some(json)) => Ok(json),
+        Err(yaml::Fault::Memory) => Err(Stop::Memory),
+        Err(_) => Err(Stop::Manifest),
     }
 }
 

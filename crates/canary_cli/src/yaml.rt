@@ -1,0 +1,67 @@
+//! Files of manifests in YAML.
+use canary_base::error::Memory;
+use canary_programs::fault::Fault;
+use canary_yaml::fault::Fault as Refusal;
+use canary_yaml::read::{Document, read_documents};
+use serde_json::Value;
+use std::alloc::Global;
+
+/// What a file of manifests holds.
+#[derive(Drop)]
+pub(crate) enum Reading {
+    /// A text in JSON, or one that is meant to be JSON: `{` begins it. kubectl takes such a text for
+    /// JSON, too.
+    Json,
+    /// Documents in YAML.
+    Documents(Vec<Document>),
+    /// None of them. This says why, and where; a line feed ends it.
+    Refused(String),
+}
+
+/// What a file of these bytes holds.
+pub(crate) fn documents_of(alloc: Global, bytes: &[u8]) -> Result<Reading, Fault> {
+    if is_json(alloc, bytes)? {
+        return Ok(Reading::Json);
+    }
+    match read_documents(alloc, bytes) {
+        Ok(documents) if documents.is_empty() => Ok(Reading::Json),
+        Ok(documents) => Ok(Reading::Documents(documents)),
+        Err(_) if begins_as_json(bytes) => Ok(Reading::Json),
+        Err(why) => refused(alloc, why),
+    }
+}
+
+fn is_json(alloc: Global, bytes: &[u8]) -> Result<bool, Fault> {
+    match Value::from_slice(alloc, bytes) {
+        Ok(_) => Ok(true),
+        Err(fault) if fault.is_memory() => Err(Fault::Memory),
+        Err(_) => Ok(false),
+    }
+}
+
+fn begins_as_json(bytes: &[u8]) -> bool {
+    bytes.trim_ascii_start().starts_with(b"{") || str::from_utf8(bytes).is_err()
+}
+
+fn refused(alloc: Global, why: Refusal) -> Result<Reading, Fault> {
+    match why {
+        Refusal::Memory => Err(Fault::Memory),
+        _ => match format!(in alloc; "{why}\n") {
+            Ok(text) => Ok(Reading::Refused(text)),
+            Err(_) => Err(Fault::Memory),
+        },
+    }
+}
+
+/// Adds lines, each with the line in which its document begins, unless that is 0. A line that begins
+/// with four spaces belongs to the one before it.
+pub(crate) fn add_lines(found: &mut String, lines: &str, line: usize) -> Result<(), Memory> {
+    for text in lines.lines() {
+        if line > 0 && !text.starts_with("    ") {
+            write!(found, "document of line {line}: ")?;
+        }
+        found.push_str(text)?;
+        found.push_str("\n")?;
+    }
+    Ok(())
+}
