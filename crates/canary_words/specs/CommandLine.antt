@@ -1,5 +1,5 @@
 -- The command lines that the desk takes, by clap's definition of a simple command.
-use Rattle.std.specs.Prelude.{◌≡◌, ◌≢◌, ◌⊎◌, ℕ, Bool, true, false, List, Option, Some, None, codes}
+use Rattle.std.specs.Prelude.{◌≡◌, ◌≢◌, ◌⊎◌, ℕ, Bool, true, false, List, [], ◌∷◌, Option, Some, None, codes}
 use Rattle.std.specs.Prelude.{option_map, option_and_then, IfSome, if◌then◌else◌}
 use Rattle.std.specs.Option.{option_map_or}
 use Rattle.std.specs.Str.{bytes_eq}
@@ -14,6 +14,8 @@ use Rattle.clap.specs.declared.builder.action.ArgAction.TheVariants.{Set, SetTru
 use Rattle.clap.specs.declared.builder.value_parser.ValueParser.TheVariants.{Unsigned}
 use Rattle.clap.specs.declared.error.kind.ErrorKind.{ErrorKind}
 use Rattle.clap.specs.declared.error.kind.ErrorKind.TheVariants.{DisplayHelp, DisplayVersion}
+use Rattle.canary_words.specs.declared.commands.Part.{Part}
+use Rattle.canary_words.specs.declared.commands.Part.TheVariants as part
 use Rattle.canary_words.specs.declared.words.Asked.TheVariants.{Do, Get, Watch, Send, Due}
 use Rattle.canary_words.specs.declared.words.AskedCommand.{AskedCommand}
 use Rattle.canary_words.specs.declared.words.AskedDesk.{AskedDesk}
@@ -73,6 +75,22 @@ flag name = record (new_rule name) {
   long = Some name;
   action = Some SetTrue;
 }
+
+-- what the code has for an option or a word
+abbrev pub rule_for : Part → Rule
+rule_for (part.Moment name _) = moment_option name.now
+rule_for (part.Number name _ most _) = number_option name.now most
+rule_for (part.Flag name _) = flag name.now
+rule_for (part.Needed name _ _) = text_option name.now true
+rule_for (part.Optional name _ _) = text_option name.now false
+rule_for (part.Word name _ _) = text_word name.now
+rule_for (part.OptionalWord name _ _) = optional_word name.now
+rule_for (part.SomeWords name _ _) = text_words name.now
+
+-- with these, in turn
+abbrev pub with_parts : App → List Part → App
+with_parts a [] = a
+with_parts a (p ∷ ps) = with_parts (with_rule a (rule_for p)) ps
 
 -- `--db FILE`, which has to be given
 abbrev pub db_option : Rule

@@ -14,7 +14,9 @@
 //!     }
 #![tactic(auto)]
 
+mod client;
 mod commands;
 mod help;
 pub mod process;
+mod values;
 pub mod words;

@@ -1,21 +1,20 @@
 //! The words of a command line.
-ghost use Rattle.std.specs.Prelude.{◌≡◌, ℕ, Some, [], map, IfOk, IfErr, IsSome, string_bytes};
+ghost use Rattle.std.specs.Prelude.{◌≡◌, Some, [], map, IfOk, IfErr, IsSome, string_bytes};
 ghost use Rattle.std.specs.Prelude.{option_and_then, codes};
-ghost use Rattle.clap.specs.Words.{found_of, kind_of, rows_of, subcommand_rows_of};
-ghost use Rattle.clap.specs.Words.{HasKind, Kinds};
-ghost use Rattle.canary_words.specs.CommandLine.{faults_of, program_of, program_in, number_given};
-ghost use Rattle.canary_words.specs.CommandLine.{text_given, texts_given, limits_of, pipe_of};
-ghost use Rattle.canary_words.specs.CommandLine.{serve_of, import_of, history_of, export_of};
-ghost use Rattle.canary_words.specs.CommandLine.{status_of, page_of, backup_of, migrate_of, check_of};
-ghost use Rattle.canary_words.specs.CommandLine.{flag_given, MayHaveFlag, HasPage, HasMigrate};
-ghost use Rattle.canary_words.specs.CommandLine.{IsFor, HasProgram, HasMoment, HasText};
-ghost use Rattle.canary_words.specs.CommandLine.{MayHaveNumber, HasPipe, HasListener, HasLimits};
-ghost use Rattle.canary_words.specs.CommandLine.{HasTexts, HasExport, HasStatus, do_of, get_of};
-ghost use Rattle.canary_words.specs.CommandLine.{watch_of, send_of, due_of, desk_of, command_of};
-ghost use Rattle.canary_words.specs.CommandLine.{HasClientProgram, HasDesk, HasAsked, HasDo};
-ghost use Rattle.canary_words.specs.CommandLine.{HasDue, HasImport, HasWatch, HasCheck};
+ghost use Rattle.clap.specs.Words.{found_of, rows_of, subcommand_rows_of, HasKind, Kinds};
+ghost use Rattle.canary_words.specs.CommandLine.{faults_of, program_of, program_in, limits_of};
+ghost use Rattle.canary_words.specs.CommandLine.{pipe_of, serve_of, import_of, history_of};
+ghost use Rattle.canary_words.specs.CommandLine.{export_of, status_of, page_of, backup_of};
+ghost use Rattle.canary_words.specs.CommandLine.{migrate_of, check_of, HasPage, HasMigrate, IsFor};
+ghost use Rattle.canary_words.specs.CommandLine.{HasProgram, HasPipe, HasListener, HasLimits};
+ghost use Rattle.canary_words.specs.CommandLine.{HasTexts, HasExport, HasStatus, HasImport};
+ghost use Rattle.canary_words.specs.CommandLine.{HasCheck};
 
+use crate::client::client_program_of;
 use crate::commands::desk_command;
+use crate::values::{
+    flag_given, moment_given, number_given, optional_text, text_given, two_given, two_optional,
+};
 use canary_base::lists::{Listed, Text};
 use canary_base::moments::Moment;
 use clap::error::ErrorKind;
@@ -270,27 +269,6 @@ fn program_of(alloc: Global, matches: &ArgMatches<'_>) -> Result<Program, AllocE
     client_program_of(alloc, matches)
 }
 
-// The program that the matches name, where it asks a desk.
-fn client_program_of(alloc: Global, matches: &ArgMatches<'_>) -> Result<Program, AllocError>
-    requires { HasClientProgram (subcommand_rows_of matches.now) }
-    ensures { IfOk result (λ p.
-        option_and_then program_in (subcommand_rows_of matches.now) ≡ Some p) }
-{
-    if let Some(asked) = matches.subcommand_matches("do") {
-        return do_of(alloc, asked);
-    }
-    if let Some(get) = matches.subcommand_matches("get") {
-        return get_of(alloc, get);
-    }
-    if let Some(watch) = matches.subcommand_matches("watch") {
-        return watch_of(alloc, watch);
-    }
-    if let Some(send) = matches.subcommand_matches("send") {
-        return send_of(alloc, send);
-    }
-    due_of(alloc, matches.subcommand_matches("due").unwrap())
-}
-
 // The program of `pipe` with these matches.
 fn pipe_of(alloc: Global, pipe: &ArgMatches<'_>) -> Result<Program, AllocError>
     requires { HasPipe (rows_of (found_of pipe.now)) }
@@ -323,10 +301,11 @@ fn import_of(alloc: Global, import: &ArgMatches<'_>) -> Result<Program, AllocErr
     requires { HasImport (rows_of (found_of import.now)) }
     ensures { IfOk result (λ p. import_of (rows_of (found_of import.now)) ≡ Some p) }
 {
+    let (db, csv) = two_given(alloc, import, "db", "csv")?;
     Ok(Program::Import {
-        db: text_given(alloc, import, "db")?,
+        db,
         cache: number_given(import, "cache"),
-        csv: text_given(alloc, import, "csv")?,
+        csv,
     })
 }
 
@@ -335,10 +314,8 @@ fn history_of(alloc: Global, history: &ArgMatches<'_>) -> Result<Program, AllocE
     requires { HasTexts (codes "service") (rows_of (found_of history.now)) }
     ensures { IfOk result (λ p. history_of (rows_of (found_of history.now)) ≡ Some p) }
 {
-    Ok(Program::History {
-        db: text_given(alloc, history, "db")?,
-        service: text_given(alloc, history, "service")?,
-    })
+    let (db, service) = two_given(alloc, history, "db", "service")?;
+    Ok(Program::History { db, service })
 }
 
 // The program of `export` with these matches.
@@ -346,10 +323,13 @@ fn export_of(alloc: Global, export: &ArgMatches<'_>) -> Result<Program, AllocErr
     requires { HasExport (rows_of (found_of export.now)) }
     ensures { IfOk result (λ p. export_of (rows_of (found_of export.now)) ≡ Some p) }
 {
+    let records = two_given(alloc, export, "db", "caller")?;
+    let service = text_given(alloc, export, "service")?;
+    let (db, caller) = records;
     Ok(Program::Export {
-        db: text_given(alloc, export, "db")?,
-        caller: text_given(alloc, export, "caller")?,
-        service: text_given(alloc, export, "service")?,
+        db,
+        caller,
+        service,
     })
 }
 
@@ -370,9 +350,10 @@ fn page_of(alloc: Global, page: &ArgMatches<'_>) -> Result<Program, AllocError>
     requires { HasPage (rows_of (found_of page.now)) }
     ensures { IfOk result (λ p. page_of (rows_of (found_of page.now)) ≡ Some p) }
 {
+    let (db, out) = two_given(alloc, page, "db", "out")?;
     Ok(Program::Page {
-        db: text_given(alloc, page, "db")?,
-        out: text_given(alloc, page, "out")?,
+        db,
+        out,
         watch: number_given(page, "watch"),
     })
 }
@@ -382,10 +363,8 @@ fn backup_of(alloc: Global, backup: &ArgMatches<'_>) -> Result<Program, AllocErr
     requires { HasTexts (codes "copy") (rows_of (found_of backup.now)) }
     ensures { IfOk result (λ p. backup_of (rows_of (found_of backup.now)) ≡ Some p) }
 {
-    Ok(Program::Backup {
-        db: text_given(alloc, backup, "db")?,
-        copy: text_given(alloc, backup, "copy")?,
-    })
+    let (db, copy) = two_given(alloc, backup, "db", "copy")?;
+    Ok(Program::Backup { db, copy })
 }
 
 // The program of `migrate` with these matches.
@@ -404,102 +383,11 @@ fn check_of(alloc: Global, check: &ArgMatches<'_>) -> Result<Program, AllocError
     requires { HasCheck (rows_of (found_of check.now)) }
     ensures { IfOk result (λ p. check_of (rows_of (found_of check.now)) ≡ Some p) }
 {
+    let (file, request) = two_optional(alloc, check, "file", "request")?;
     Ok(Program::Check {
-        file: optional_text(alloc, check, "file")?,
-        request: optional_text(alloc, check, "request")?,
+        file,
+        request,
         strict: flag_given(check, "strict"),
-    })
-}
-
-// The program of `do` with these matches.
-fn do_of(alloc: Global, asked: &ArgMatches<'_>) -> Result<Program, AllocError>
-    requires { HasDo (rows_of (found_of asked.now)) }
-    ensures { IfOk result (λ p. do_of (rows_of (found_of asked.now)) ≡ Some p) }
-{
-    Ok(Program::Ask(Asked::Do(Call {
-        desk: desk_of(alloc, asked)?,
-        caller: optional_text(alloc, asked, "as")?,
-        journal: optional_text(alloc, asked, "journal")?,
-        key: optional_text(alloc, asked, "once")?,
-        is_instead: flag_given(asked, "instead"),
-        command: command_of(alloc, asked)?,
-    })))
-}
-
-// The program of `get` with these matches.
-fn get_of(alloc: Global, get: &ArgMatches<'_>) -> Result<Program, AllocError>
-    requires { HasAsked (codes "service") (rows_of (found_of get.now)) }
-    ensures { IfOk result (λ p. get_of (rows_of (found_of get.now)) ≡ Some p) }
-{
-    Ok(Program::Ask(Asked::Get {
-        desk: desk_of(alloc, get)?,
-        service: text_given(alloc, get, "service")?,
-        part: optional_text(alloc, get, "part")?,
-    }))
-}
-
-// The program of `watch` with these matches.
-fn watch_of(alloc: Global, watch: &ArgMatches<'_>) -> Result<Program, AllocError>
-    requires { HasWatch (rows_of (found_of watch.now)) }
-    ensures { IfOk result (λ p. watch_of (rows_of (found_of watch.now)) ≡ Some p) }
-{
-    Ok(Program::Ask(Asked::Watch {
-        desk: desk_of(alloc, watch)?,
-        until: optional_text(alloc, watch, "until")?,
-        json: flag_given(watch, "json"),
-        forever: flag_given(watch, "forever"),
-        service: text_given(alloc, watch, "service")?,
-    }))
-}
-
-// The program of `send` with these matches.
-fn send_of(alloc: Global, send: &ArgMatches<'_>) -> Result<Program, AllocError>
-    requires { HasAsked (codes "csv") (rows_of (found_of send.now)) }
-    ensures { IfOk result (λ p. send_of (rows_of (found_of send.now)) ≡ Some p) }
-{
-    Ok(Program::Ask(Asked::Send {
-        desk: desk_of(alloc, send)?,
-        csv: text_given(alloc, send, "csv")?,
-    }))
-}
-
-// The program of `due` with these matches.
-fn due_of(alloc: Global, due: &ArgMatches<'_>) -> Result<Program, AllocError>
-    requires { HasDue (rows_of (found_of due.now)) }
-    ensures { IfOk result (λ p. due_of (rows_of (found_of due.now)) ≡ Some p) }
-{
-    Ok(Program::Ask(Asked::Due {
-        desk: desk_of(alloc, due)?,
-        wait: flag_given(due, "wait"),
-        late: number_given(due, "late"),
-        services: texts_given(alloc, due, "service")?,
-    }))
-}
-
-// Where the desk is, and how patiently it is asked, as far as it was given.
-fn desk_of(alloc: Global, client: &ArgMatches<'_>) -> Result<AskedDesk, AllocError>
-    requires { HasDesk (rows_of (found_of client.now)) }
-    ensures { IfOk result (λ d. d ≡ desk_of (rows_of (found_of client.now))) }
-{
-    Ok(AskedDesk {
-        desk: optional_text(alloc, client, "desk")?,
-        tries: number_given(client, "tries"),
-        timeout: number_given(client, "timeout"),
-    })
-}
-
-// The command that was given, word by word.
-fn command_of(alloc: Global, asked: &ArgMatches<'_>) -> Result<AskedCommand, AllocError>
-    requires { HasText (codes "command") (rows_of (found_of asked.now)) }
-    ensures { IfOk result (λ c. command_of (rows_of (found_of asked.now)) ≡ Some c) }
-{
-    Ok(AskedCommand {
-        kind: text_given(alloc, asked, "command")?,
-        first: optional_text(alloc, asked, "first")?,
-        second: optional_text(alloc, asked, "second")?,
-        third: optional_text(alloc, asked, "third")?,
-        fourth: optional_text(alloc, asked, "fourth")?,
-        failure: optional_text(alloc, asked, "failure")?,
     })
 }
 
@@ -515,77 +403,6 @@ fn limits_of(serve: &ArgMatches<'_>) -> AskedLimits
         max_unsent: number_given(serve, "max-unsent"),
         max_unsent_total: number_given(serve, "max-unsent-total"),
     }
-}
-
-// The number that was given to the option of this name, if one was.
-fn number_given(matches: &ArgMatches<'_>, name: &str) -> Option<u64>
-    requires { (most : ℕ) × MayHaveNumber name.now most (rows_of (found_of matches.now)) }
-    ensures { result ≡ number_given name.now (rows_of (found_of matches.now)) }
-{
-    matches.get_one::<u64>(name)
-}
-
-// Whether the flag of this name was given.
-fn flag_given(matches: &ArgMatches<'_>, name: &str) -> bool
-    requires { MayHaveFlag name.now (rows_of (found_of matches.now)) }
-    ensures { result ≡ flag_given name.now (rows_of (found_of matches.now)) }
-{
-    matches.get_flag(name)
-}
-
-// The text that was given under this name.
-fn text_given(alloc: Global, matches: &ArgMatches<'_>, name: &str) -> Result<Text, AllocError>
-    requires { HasText name.now (rows_of (found_of matches.now)) }
-    ensures { IfOk result (λ t. text_given name.now (rows_of (found_of matches.now)) ≡ Some t) }
-{
-    let text = matches.get_str(name).unwrap();
-    Ok(Text::of(String::from_str(alloc, text)?))
-}
-
-// The texts that were given under this name.
-fn texts_given(
-    alloc: Global,
-    matches: &ArgMatches<'_>,
-    name: &str,
-) -> Result<Listed<Text>, AllocError>
-    requires { HasText name.now (rows_of (found_of matches.now)) }
-    ensures { IfOk result (λ ts. texts_given name.now (rows_of (found_of matches.now)) ≡ Some ts) }
-{
-    copies(alloc, matches.get_strs(name).unwrap())
-}
-
-// Copies of texts.
-fn copies(alloc: Global, given: &[&str]) -> Result<Listed<Text>, AllocError>
-    ensures { IfOk result (λ ts. ts ≡ map (λ t. t.now) given.now) }
-{
-    let mut texts = Vec::new(alloc);
-    for text in given {
-        texts.push(Text::of(String::from_str(alloc, text)?))?;
-    }
-    Ok(Listed::of(texts))
-}
-
-// The text that was given to the option of this name, if one was.
-fn optional_text(
-    alloc: Global,
-    matches: &ArgMatches<'_>,
-    name: &str,
-) -> Result<Option<Text>, AllocError>
-    ensures { IfOk result (λ t. t ≡ text_given name.now (rows_of (found_of matches.now))) }
-{
-    match matches.get_str(name) {
-        Some(text) => Ok(Some(Text::of(String::from_str(alloc, text)?))),
-        None => Ok(None),
-    }
-}
-
-// The moment that was given to the option of this name.
-fn moment_given(matches: &ArgMatches<'_>, name: &str) -> Moment
-    requires { HasMoment name.now (rows_of (found_of matches.now)) }
-    ensures { number_given name.now (rows_of (found_of matches.now)) ≡ Some result }
-{
-    let seconds = matches.get_one::<u64>(name).unwrap();
-    Moment::new(seconds).unwrap()
 }
 
 impl fmt::Display for WordsFault {

@@ -3,7 +3,7 @@ use Rattle.std.specs.Prelude.{IsSome, map, unwrap_or}
 use Rattle.clap.specs.Words.{found_of}
 use Rattle.canary_words.proofs.Chains.{ok_then}
 use Rattle.canary_words.proofs.Getting.{texts_met}
-use Rattle.canary_words.proofs.words.texts_given.Goals as goal
+use Rattle.canary_words.proofs.values.texts_given.Goals as goal
 
 pub unwrap-requires : goal.unwrap-requires
 unwrap-requires c =

@@ -1,6 +1,6 @@
 use Rattle.std.proofs.Common.{◌≡◌, take}
 use Rattle.std.specs.Prelude.{map}
-use Rattle.canary_words.proofs.words.copies.Given as goal
+use Rattle.canary_words.proofs.values.copies.Given as goal
 
 -- those so far are copied
 abbrev pub invariant-loop-text : goal.invariant-loop-text

@@ -1,7 +1,7 @@
 use Rattle.std.proofs.Common.{codes}
 use Rattle.clap.specs.Words.{found_of, rows_of, subcommand_rows_of}
 use Rattle.canary_words.proofs.Spelled.{client_given_for, met_by, program_so}
-use Rattle.canary_words.proofs.words.client_program_of.Goals as goal
+use Rattle.canary_words.proofs.client.client_program_of.Goals as goal
 
 pub do_of-requires : goal.do_of-requires
 do_of-requires c =

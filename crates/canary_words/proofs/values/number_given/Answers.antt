@@ -1,7 +1,7 @@
 use Rattle.std.specs.Str.Parse.{ExplainsUnsignedError, HasUnsignedDigitsIfOk, ParsesUnsigned}
 use Rattle.clap.specs.Words.{found_of}
 use Rattle.canary_words.proofs.Getting.{optional_read}
-use Rattle.canary_words.proofs.words.number_given.Goals as goal
+use Rattle.canary_words.proofs.values.number_given.Goals as goal
 
 pub returns : goal.returns
 returns c =

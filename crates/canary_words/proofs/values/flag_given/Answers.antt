@@ -1,6 +1,6 @@
 use Rattle.clap.specs.Words.{found_of}
 use Rattle.canary_words.proofs.Getting.{flag_read}
-use Rattle.canary_words.proofs.words.flag_given.Goals as goal
+use Rattle.canary_words.proofs.values.flag_given.Goals as goal
 
 pub returns : goal.returns
 returns c =

@@ -2,7 +2,7 @@ use Rattle.std.proofs.Common.{◌∙◌, Some, ap, refl, subst, sym}
 use Rattle.std.specs.Prelude.{IsSome, unwrap_or}
 use Rattle.clap.specs.Words.{found_of}
 use Rattle.canary_words.proofs.Getting.{text_met}
-use Rattle.canary_words.proofs.words.text_given.Goals as goal
+use Rattle.canary_words.proofs.values.text_given.Goals as goal
 
 pub unwrap-text-requires : goal.unwrap-text-requires
 unwrap-text-requires c =

@@ -3,7 +3,7 @@ use Rattle.std.specs.Prelude.{IsSome, unwrap_or}
 use Rattle.std.specs.Str.Parse.{ExplainsUnsignedError, HasUnsignedDigitsIfOk, ParsesUnsigned}
 use Rattle.clap.specs.Words.{found_of}
 use Rattle.canary_words.proofs.Getting.{moment_made, moment_read}
-use Rattle.canary_words.proofs.words.moment_given.Goals as goal
+use Rattle.canary_words.proofs.values.moment_given.Goals as goal
 
 pub unwrap-seconds-requires : goal.unwrap-seconds-requires
 unwrap-seconds-requires c =
