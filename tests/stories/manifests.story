@@ -250,50 +250,44 @@ begins
 {"kind":"AnalysisTemplate","metadata":{"name":"t"},"spec":{"metrics":[{"name":"m"}]}},
     "template":{"metadata":{"name":"t"},"spec":{"metrics":[{"name":"m"}]}} => near line 1, column 8
 
-# Texts in another form, or with a byte order mark.
+# Texts in YAML, which are read as kubectl reads them, each document in turn, also with a byte order
+# mark; what a brace begins is JSON.
 between ...
-apiVersion: argoproj.io/v1alpha1 => near line 1, column 1: expected JSON in UTF-8,
-     with arrays and objects nested at most 127 deep
-     |     instead: make JSON of YAML, by yq -o=json FILE (yq 4), or with
-     Debian's python3-yaml by python3 -c 'import json, sys, yaml;
-     print(json.dumps(yaml.safe_load(sys.stdin), default=str))' < FILE
-<<x:0a>>kind: Rollout => near line 2, column 1: expected JSON in UTF-8,
-     with arrays and objects nested at most 127 deep
-     |     instead: make JSON of YAML, by yq -o=json FILE (yq 4), or with
-     Debian's python3-yaml by python3 -c 'import json, sys, yaml;
-     print(json.dumps(yaml.safe_load(sys.stdin), default=str))' < FILE
+apiVersion: argoproj.io/v1alpha1 => kind: expected AnalysisTemplate or Rollout
+<<x:0a>>kind: Rollout => metadata.name: missing;
+     expected 1 to 63 bytes of a-z 0-9 -, the first and the last no -
+     | spec.strategy.canary: expected an object
 <<x:efbbbf>>{"kind":"Rollout"} => near line 1, column 1: expected JSON in UTF-8,
      with arrays and objects nested at most 127 deep
      |     instead: save the file in UTF-8 without a byte order mark
+<<x:efbbbf>>kind: Rollout => metadata.name: missing;
+     expected 1 to 63 bytes of a-z 0-9 -, the first and the last no -
+     | spec.strategy.canary: expected an object
+---<<x:0a>>kind: Rollout => metadata.name: missing;
+     expected 1 to 63 bytes of a-z 0-9 -, the first and the last no -
+     | spec.strategy.canary: expected an object
+<<x:23>> Two<<x:0a0a>>---<<x:0a>>kind: Rollout<<x:0a>>---<<x:0a>> => metadata.name: missing;
+     expected 1 to 63 bytes of a-z 0-9 -, the first and the last no -
+     | spec.strategy.canary: expected an object
+kind: Rollout<<x:0a>>---<<x:0a>>kind: Service =>
+     document of line 1: metadata.name: missing;
+     expected 1 to 63 bytes of a-z 0-9 -, the first and the last no -
+     | document of line 1: spec.strategy.canary: expected an object
+     | document of line 2: kind: expected AnalysisTemplate or Rollout
+---<<x:0a>>kind: Rollout<<x:0a>>---<<x:0a>>kind: Rollout<<x:0a>> =>
+     document of line 1: metadata.name: missing;
+     expected 1 to 63 bytes of a-z 0-9 -, the first and the last no -
+     | document of line 1: spec.strategy.canary: expected an object
+     | document of line 3: metadata.name: missing;
+     expected 1 to 63 bytes of a-z 0-9 -, the first and the last no -
+     | document of line 3: spec.strategy.canary: expected an object
+kind: Rollout<<x:0a>>spec:<<x:0a09>>a: b => line 3, column 1:
+     a tab in an indentation: write spaces
+kind: Rollout<<x:0a>>a: [on] => line 2, column 5: YAML 1.1 reads true here:
+     write true, or put it in quotes
+mode: 0644 => line 1, column 7: kubectl reads 420: write that, or put it in quotes
 
 ends ...
----<<x:0a>>kind: Rollout =>  |
-         instead: make JSON of YAML, by yq -o=json FILE (yq 4), or with
-     Debian's python3-yaml by python3 -c 'import json, sys, yaml;
-     print(json.dumps(yaml.safe_load(sys.stdin), default=str))' < FILE
-<<x:23>> A template<<x:0a>>kind: AnalysisTemplate =>  |
-         instead: make JSON of YAML, by yq -o=json FILE (yq 4), or with
-     Debian's python3-yaml by python3 -c 'import json, sys, yaml;
-     print(json.dumps(yaml.safe_load(sys.stdin), default=str))' < FILE
----<<x:0a>>kind: Rollout<<x:0a>>---<<x:0a>>kind: Rollout<<x:0a>> =>  |
-         instead: make JSON of one document at a time, as of the first by
-     yq -o=json 'select(di == 0)' FILE (yq 4), or with Debian's python3-yaml by
-     python3 -c 'import json, sys, yaml;
-     print(json.dumps(list(yaml.safe_load_all(sys.stdin))[0], default=str))' < FILE
-kind: Rollout<<x:0a>>---<<x:0a>>kind: Service =>  |
-         instead: make JSON of one document at a time, as of the first by
-     yq -o=json 'select(di == 0)' FILE (yq 4), or with Debian's python3-yaml by
-     python3 -c 'import json, sys, yaml;
-     print(json.dumps(list(yaml.safe_load_all(sys.stdin))[0], default=str))' < FILE
-<<x:23>> Two<<x:0a0a>>---<<x:0a>>kind: Rollout<<x:0a>>---<<x:0a>> =>  |
-         instead: make JSON of one document at a time, as of the first by
-     yq -o=json 'select(di == 0)' FILE (yq 4), or with Debian's python3-yaml by
-     python3 -c 'import json, sys, yaml;
-     print(json.dumps(list(yaml.safe_load_all(sys.stdin))[0], default=str))' < FILE
-kind: Rollout<<x:0a>>spec:<<x:0a>>  note: a --- b<<x:0a>> =>  |
-         instead: make JSON of YAML, by yq -o=json FILE (yq 4), or with
-     Debian's python3-yaml by python3 -c 'import json, sys, yaml;
-     print(json.dumps(yaml.safe_load(sys.stdin), default=str))' < FILE
 {"kind":"Rollout"}<<x:0a>>{"kind":"Rollout"} =>  |     instead: check one document at a time:
      each manifest is a file of its own
 {<<x:0a>>}<<x:0a>>---<<x:0a>>{<<x:0a>>} =>  |     instead: check one document at a time:

@@ -22,7 +22,7 @@ use Rattle.canary_words.specs.declared.words.Asked.{Asked as AskedOf}
 use Rattle.canary_words.specs.declared.words.Asked.TheVariants.{Do, Get, Watch, Send, Due}
 use Rattle.canary_words.specs.declared.words.AskedLimits.{AskedLimits}
 use Rattle.canary_words.specs.declared.words.Program.{Program}
-use Rattle.canary_words.specs.declared.words.Program.TheVariants.{Pipe, Serve, Import, History, Export, Status, Page, Backup, Migrate, Check, Ask}
+use Rattle.canary_words.specs.declared.words.Program.TheVariants.{Pipe, Serve, Import, History, Export, Status, Page, Backup, Migrate, Check, Argo, Ask}
 use Rattle.canary_words.specs.declared.words.WordsFault.{WordsFault}
 use Rattle.canary_words.specs.declared.words.WordsFault.TheVariants.{Help, Usage, Memory as NoMemory}
 use Rattle.canary_words.specs.CommandLine.{IsFor, faults_of, program_of}
@@ -120,7 +120,7 @@ IsAsked r new_r (Watch desk until json forever service) = new_r ≡ r
 IsAsked r new_r (Send desk csv) = Unit {0}
 IsAsked r new_r (Due desk wait late services) = new_r ≡ r
 
--- the program was run so; `pipe`, `import` and `send` alone read the input
+-- the program was run so; `pipe`, `import`, `argo` and `send` alone read the input
 abbrev pub IsRun : Known → Known → Known → Known → Program → Result Outcome Fault → Type 0
 IsRun r new_r w new_w (Pipe at step None cache) done =
     (piped : Result (Unit {0}) Fault) × (done ≡ outcome_of piped)
@@ -136,6 +136,7 @@ IsRun r new_r w new_w (Backup db copy) done = new_r ≡ r
 IsRun r new_r w new_w (Migrate db dry_run) done = new_r ≡ r
 IsRun r new_r w new_w (Check file request strict) done =
     (new_r ≡ r) × IsChecked w new_w done × IsNoClient done
+IsRun r new_r w new_w (Argo files out json) done = IsNoClient done
 IsRun r new_r w new_w (Ask asked) done = IsAsked r new_r asked
 
 -- the program was run so, and ended with this exit status

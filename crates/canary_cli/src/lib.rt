@@ -17,6 +17,7 @@
 //!     ),
 #![tactic(auto)]
 
+mod argo;
 mod check;
 pub mod perform;
 mod place;

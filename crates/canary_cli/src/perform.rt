@@ -9,6 +9,7 @@ ghost use Rattle.canary_cli.specs.Performed.{IsPiped, IsPipedTo, IsRun, IsRunTo,
 ghost use Rattle.canary_cli.specs.Performed.{IsTurnedAway, IsGivenUp, unopened_status};
 ghost use Rattle.canary_cli.specs.Performed.{MayTell, AsksForOneThatTells, IsAsked, limits_of};
 
+use crate::argo::argo;
 use crate::check::check;
 use crate::place::Place;
 use canary_base::lists::Text;
@@ -254,6 +255,9 @@ fn run<R: Read, W: Write, F: Write>(
             request,
             strict,
         } => check(rt, &file, &request, strict, output, errors),
+        Program::Argo { files, out, json } => {
+            argo(rt, &files, &out, json, input, output, errors)
+        }
         Program::Backup { db, copy } => done(backup(rt, db.as_str(), copy.as_str())),
         Program::Migrate { db, dry_run } => {
             done(migrate(rt, db.as_str(), dry_run, output, errors, shows))

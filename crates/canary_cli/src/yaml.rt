@@ -2,7 +2,7 @@
 use canary_base::error::Memory;
 use canary_programs::fault::Fault;
 use canary_yaml::fault::Fault as Refusal;
-use canary_yaml::read::{Document, read_documents};
+use canary_yaml::read::{Document, is_meant_as_json, read_documents};
 use serde_json::Value;
 use std::alloc::Global;
 
@@ -20,13 +20,12 @@ pub(crate) enum Reading {
 
 /// What a file of these bytes holds.
 pub(crate) fn documents_of(alloc: Global, bytes: &[u8]) -> Result<Reading, Fault> {
-    if is_json(alloc, bytes)? {
+    if is_meant_as_json(bytes) || is_json(alloc, bytes)? {
         return Ok(Reading::Json);
     }
     match read_documents(alloc, bytes) {
         Ok(documents) if documents.is_empty() => Ok(Reading::Json),
         Ok(documents) => Ok(Reading::Documents(documents)),
-        Err(_) if begins_as_json(bytes) => Ok(Reading::Json),
         Err(why) => refused(alloc, why),
     }
 }
@@ -37,10 +36,6 @@ fn is_json(alloc: Global, bytes: &[u8]) -> Result<bool, Fault> {
         Err(fault) if fault.is_memory() => Err(Fault::Memory),
         Err(_) => Ok(false),
     }
-}
-
-fn begins_as_json(bytes: &[u8]) -> bool {
-    bytes.trim_ascii_start().starts_with(b"{") || str::from_utf8(bytes).is_err()
 }
 
 fn refused(alloc: Global, why: Refusal) -> Result<Reading, Fault> {

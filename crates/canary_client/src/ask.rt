@@ -16,14 +16,16 @@ ghost use Rattle.canary_client.specs.Beginning.{IsSettledSo};
 ghost use Rattle.canary_client.specs.Promises.{intent_of, IsFor, IsSettledAt};
 ghost use Rattle.canary_client.specs.Promises.{IsQuery, IsSentFor, reply_line};
 
+use crate::each::{Named, commands_of};
 use crate::journals::{asked, asked_instead, journal_on, settled};
 use crate::outcome::{Outcome, Stop, say, say_of, show};
-use crate::place::{caller_of, journal_of, place_of};
+use crate::place::{Place as DeskPlace, caller_of, journal_of, place_of};
 use crate::plain::{json_of, line_of};
 use crate::report::{next_ordinal, report_body};
 use crate::tcp::Tcp;
 use crate::wish::{Asking, has_intent, read_asking};
 use canary_base::lists::Text;
+use canary_base::names::Name;
 use canary_journal::entry::{Kept, Place, Reply, Wish};
 use canary_journal::journal::Journal;
 use canary_records::device::Device;
@@ -84,19 +86,91 @@ fn try_ask<W: Write, F: Write>(
     }
     let place = place_of(rt, &call.desk)?;
     let caller = caller_of(rt, &call.caller)?;
+    if call.is_argo {
+        return ask_each(rt, &call, &place, caller, output, errors, is_terminal);
+    }
     let asking = read_asking(rt, &call.command)?;
+    let key = key_of(rt.alloc(), &call.key, "")?;
+    ask_one(
+        rt,
+        &call,
+        &place,
+        caller,
+        asking,
+        key,
+        output,
+        errors,
+        is_terminal,
+    )
+}
+
+// Asks the commands that manifests of Argo Rollouts become, one after another, up to one that is
+// not done. The key of each is that of the call, and the name of what it registers.
+fn ask_each<W: Write, F: Write>(
+    rt: &HostRuntime,
+    call: &Call,
+    place: &DeskPlace,
+    caller: Name,
+    output: &mut W,
+    errors: &mut F,
+    is_terminal: bool,
+) -> Result<Outcome, Stop> {
+    for Named { name, asking } in commands_of(rt, &call.command, errors)? {
+        let key = key_of(rt.alloc(), &call.key, name.as_str())?;
+        let outcome = ask_one(
+            rt,
+            call,
+            place,
+            caller,
+            asking,
+            key,
+            output,
+            errors,
+            is_terminal,
+        )?;
+        if outcome != Outcome::Done {
+            return Ok(outcome);
+        }
+    }
+    Ok(Outcome::Done)
+}
+
+// The key of what is registered under this name; that of the call, if there is no name.
+fn key_of(alloc: Global, key: &Option<Text>, name: &str) -> Result<Option<Text>, Stop> {
+    let Some(key) = key else {
+        return Ok(None);
+    };
+    let mut text = String::from_str(alloc, key.as_str())?;
+    if !name.is_empty() {
+        text.push_str(" ")?;
+        text.push_str(name)?;
+    }
+    Ok(Some(Text::of(text)))
+}
+
+// Asks a command in the name of the call's caller.
+fn ask_one<W: Write, F: Write>(
+    rt: &HostRuntime,
+    call: &Call,
+    place: &DeskPlace,
+    caller: Name,
+    asking: Asking,
+    key: Option<Text>,
+    output: &mut W,
+    errors: &mut F,
+    is_terminal: bool,
+) -> Result<Outcome, Stop> {
     let device = device_of(rt, &call.journal)?;
-    let mut network = Tcp::new(rt, &place);
+    let mut network = Tcp::new(rt, place);
     let (is_in_doubt, tries) = (device.is_in_doubt(), place.tries);
     let mut kept = journal_on(rt.alloc(), &mut network, device, is_in_doubt, caller, tries)?;
-    let is_instead = call.is_instead;
     ask_kept(
         rt,
         &mut network,
         &mut kept,
         asking,
-        call.key,
-        is_instead,
+        key,
+        call.is_instead,
         tries,
         output,
         errors,

@@ -12,6 +12,7 @@
 pub mod ask;
 mod clock;
 pub mod due;
+mod each;
 pub mod get;
 mod http;
 mod journals;

@@ -92,6 +92,10 @@ pub enum Stop {
     ForeverUntil,
     /// The desk would not take the manifest.
     Manifest,
+    /// Something was found in manifests of Argo Rollouts.
+    Argo,
+    /// What is translated is neither a template nor a service.
+    ArgoCommand,
     /// The first record of a measurement file is another.
     Header,
     /// The journal is another caller's.
@@ -174,6 +178,7 @@ impl Stop {
             Stop::NoVersion | Stop::BadVersion | Stop::BadMetric => Outcome::Words,
             Stop::BadService | Stop::Part | Stop::ForeverUntil => Outcome::Words,
             Stop::Status | Stop::Manifest | Stop::Header => Outcome::Words,
+            Stop::Argo | Stop::ArgoCommand => Outcome::Words,
             Stop::OtherCaller | Stop::ReportInstead | Stop::KeyInstead => Outcome::Words,
             Stop::NoService | Stop::NoRun | Stop::NoMetric | Stop::Query => Outcome::Refused,
             Stop::NotBegun | Stop::NoDesk | Stop::Unanswered => Outcome::Pending,
@@ -236,6 +241,8 @@ impl Stop {
             }
             Stop::ForeverUntil => "--forever and --until cannot both be given",
             Stop::Manifest => "the desk would not take this manifest: 'canary check' says why",
+            Stop::Argo => "nothing was sent: these manifests are not translated",
+            Stop::ArgoCommand => "--argo takes template FILE.. or service FILE.. VERSION",
             Stop::Header => "the first record of the file is not the header of a measurement file",
             Stop::OtherCaller => "this journal is another caller's",
             Stop::ReportInstead => "a report cannot be asked in the place of another command",
@@ -338,6 +345,13 @@ pub fn say<F: Write>(errors: &mut F, sentence: &str) {
     let _ = errors.write_all(b"canary: ");
     let _ = errors.write_all(sentence.as_bytes());
     let _ = errors.write_all(b"\n");
+}
+
+/// Writes each of these lines on `errors`, as `say` does.
+pub fn say_lines<F: Write>(errors: &mut F, lines: &str) {
+    for line in lines.lines() {
+        say(errors, line);
+    }
 }
 
 /// Writes a sentence on `errors`, as `say` does, and the path of the file that it speaks of.

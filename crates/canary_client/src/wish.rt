@@ -114,7 +114,11 @@ fn name_of(word: &Option<Text>) -> Result<Name, Stop> {
     }
 }
 
-fn version_of(word: &Option<Text>) -> Result<Label, Stop> {
+/// The version that a word spells.
+///
+/// # Errors
+/// `NoVersion`, `BadVersion`.
+pub(crate) fn version_of(word: &Option<Text>) -> Result<Label, Stop> {
     let Some(word) = word else {
         return Err(Stop::NoVersion);
     };
@@ -148,11 +152,15 @@ fn template<P: Files + AllocGlobal>(rt: &P, words: &AskedCommand) -> Result<Aski
         return Err(Stop::Command);
     }
     let manifest = manifest(rt, file.as_str())?;
-    let manifest = manifest.as_str();
-    of_body(
-        rt.alloc(),
-        format!(in rt.alloc(); "{{\"template\":{manifest}}}")?,
-    )
+    template_asking(rt.alloc(), manifest.as_str())
+}
+
+/// What asks for a template of this manifest in JSON.
+///
+/// # Errors
+/// `Manifest` if the desk would not take it; `Memory`.
+pub(crate) fn template_asking(alloc: Global, manifest: &str) -> Result<Asking, Stop> {
+    of_body(alloc, format!(in alloc; "{{\"template\":{manifest}}}")?)
 }
 
 fn service<P: Files + AllocGlobal>(rt: &P, words: &AskedCommand) -> Result<Asking, Stop> {
@@ -164,12 +172,17 @@ fn service<P: Files + AllocGlobal>(rt: &P, words: &AskedCommand) -> Result<Askin
     }
     let version = version_of(&words.second)?;
     let manifest = manifest(rt, file.as_str())?;
-    let (manifest, version) = (manifest.as_str(), version.as_str());
+    service_asking(rt.alloc(), manifest.as_str(), version.as_str())
+}
+
+/// What asks for a service of this manifest in JSON, at this version.
+///
+/// # Errors
+/// `Manifest` if the desk would not take it; `Memory`.
+pub(crate) fn service_asking(alloc: Global, manifest: &str, version: &str) -> Result<Asking, Stop> {
     of_body(
-        rt.alloc(),
-        format!(in rt.alloc();
-            "{{\"service\":{{\"manifest\":{manifest},\"version\":\"{version}\"}}}}"
-        )?,
+        alloc,
+        format!(in alloc; "{{\"service\":{{\"manifest\":{manifest},\"version\":\"{version}\"}}}}")?,
     )
 }
 

@@ -59,6 +59,7 @@ pub enum Why {
     Trailing,
     Empty,
     Second,
+    Json,
 }
 
 impl Why {
@@ -97,6 +98,7 @@ impl Why {
             Why::Trailing => "more text after a value",
             Why::Empty => "the text has no document",
             Why::Second => "a second document: keep each in a file of its own",
+            Why::Json => "JSON, as { before it says, ends here: correct it",
         }
     }
 }

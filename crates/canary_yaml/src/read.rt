@@ -9,8 +9,8 @@ ghost use Rattle.serde_json.specs.View.{view};
 use crate::block::{read_block, read_scalar};
 use crate::cursor::Cursor;
 use crate::fault::{Fault, Why};
-use crate::text::text_of;
-use serde_json::Value;
+use crate::text::{text_of, without_mark};
+use serde_json::{Error, Value};
 use std::alloc::Global;
 
 /// How deep mappings and sequences may be nested: as deep as serde_json reads them.
@@ -72,10 +72,10 @@ pub fn read_one(alloc: Global, bytes: &[u8]) -> Result<Value, Fault>
 
 /// The value of a text in JSON (RFC 8259), or else that of the one document of a text in YAML. JSON
 /// is read as `serde_json` reads it, of any length: of a key that stands twice the last value
-/// counts.
+/// counts. What `{` begins is meant to be JSON, as kubectl takes it.
 ///
 /// # Errors
-/// As `read_one`, if the text is not JSON.
+/// `Json` if the text is meant to be JSON, and is not; as `read_one`, if it is not JSON.
 pub fn read_json_or_yaml(alloc: Global, bytes: &[u8]) -> Result<Value, Fault>
     ensures json { IfOk result (λ v. (d : Data) → IsUtf8 bytes.now → read bytes.now ≡ Some d
         → view v ≡ d) }
@@ -86,7 +86,24 @@ pub fn read_json_or_yaml(alloc: Global, bytes: &[u8]) -> Result<Value, Fault>
     match Value::from_slice(alloc, bytes) {
         Ok(value) => Ok(value),
         Err(fault) if fault.is_memory() => Err(Fault::Memory),
+        Err(fault) if is_meant_as_json(bytes) => Err(no_json(&fault)),
         Err(_) => read_one(alloc, bytes),
+    }
+}
+
+/// Whether a text is meant to be JSON: `{` begins it, after white space and a byte order mark.
+pub fn is_meant_as_json(bytes: &[u8]) -> bool {
+    without_mark(bytes).trim_ascii_start().starts_with(b"{")
+}
+
+// The fault of a text that is meant to be JSON.
+fn no_json(fault: &Error) -> Fault
+    ensures { result ≢ faults.Memory }
+{
+    Fault::Refused {
+        line: fault.line(),
+        column: fault.column(),
+        why: Why::Json,
     }
 }
 
@@ -94,7 +111,7 @@ pub fn read_json_or_yaml(alloc: Global, bytes: &[u8]) -> Result<Value, Fault>
 /// document of a text in YAML.
 ///
 /// # Errors
-/// As `read_one`, if the text is not JSON.
+/// As `read_json_or_yaml`.
 pub fn json_of(alloc: Global, bytes: &[u8]) -> Result<Option<String>, Fault>
     ensures json { IfOk result (λ found. MatchOption found
         (IsUtf8 bytes.now → IsSome (read bytes.now))
@@ -105,6 +122,7 @@ pub fn json_of(alloc: Global, bytes: &[u8]) -> Result<Option<String>, Fault>
     match Value::from_slice(alloc, bytes) {
         Ok(_) => Ok(None),
         Err(fault) if fault.is_memory() => Err(Fault::Memory),
+        Err(fault) if is_meant_as_json(bytes) => Err(no_json(&fault)),
         Err(_) => Ok(Some(json_of_one(alloc, bytes)?)),
     }
 }

@@ -23,7 +23,7 @@ fn checked(bytes: &[u8]) -> Result<&[u8], Fault> {
     if bytes.len() > MOST_BYTES {
         return Err(fault_at(&[], 0, Why::Length));
     }
-    let bytes = bytes.strip_prefix(BYTE_ORDER_MARK).unwrap_or(bytes);
+    let bytes = without_mark(bytes);
     if let Err(fault) = std::str::from_utf8(bytes) {
         return Err(fault_at(bytes, fault.valid_up_to(), Why::Utf8));
     }
@@ -31,6 +31,11 @@ fn checked(bytes: &[u8]) -> Result<&[u8], Fault> {
         Some(at) => Err(fault_at(bytes, at, Why::Control)),
         None => Ok(bytes),
     }
+}
+
+/// The bytes without a byte order mark at their front.
+pub(crate) fn without_mark(bytes: &[u8]) -> &[u8] {
+    bytes.strip_prefix(BYTE_ORDER_MARK).unwrap_or(bytes)
 }
 
 // Adds the bytes, with LF for CR LF. No other CR is read.

@@ -3,7 +3,8 @@
 //!
 //! - of a text: its documents, each as `[LINE, VALUE]`
 //! - of `{"bytes": HEXADECIMAL}`: the same of these bytes
-//! - of `{"one": TEXT}`: the value of a text of one document, or of one in JSON
+//! - of `{"one": TEXT}`: the value of a text of one document
+//! - of `{"either": TEXT}`: the value of a text in JSON, or else of one document
 //! - of `[TEXT, LINE, STEP..]`: as `LINE:COLUMN` where that part of the document of that line
 //!   stands; a step is a key, or a place of a sequence
 //!
@@ -12,7 +13,7 @@
 
 use canary_yaml::fault::Fault;
 use canary_yaml::places::{Place, Step, place_of};
-use canary_yaml::read::{Document, json_of, read_documents, read_json_or_yaml};
+use canary_yaml::read::{Document, json_of, read_documents, read_json_or_yaml, read_one};
 use serde_json::Value;
 use std::alloc::Global;
 use std::io::{self, BufRead, BufReader};
@@ -45,7 +46,10 @@ fn shown(alloc: Global, asked: &Value) -> Result<String, Fault> {
         return place(alloc, list.as_slice());
     }
     if let Some(text) = asked.get("one").and_then(|text| text.as_str()) {
-        return one(alloc, text.as_bytes());
+        return Ok(read_one(alloc, text.as_bytes())?.to_string(alloc)?);
+    }
+    if let Some(text) = asked.get("either").and_then(|text| text.as_str()) {
+        return either(alloc, text.as_bytes());
     }
     let hexadecimal = asked.get("bytes").and_then(|text| text.as_str());
     let bytes = bytes_of(alloc, hexadecimal.unwrap_or("").as_bytes())?;
@@ -73,7 +77,7 @@ fn push_document(alloc: Global, text: &mut String, document: &Document) -> Resul
 }
 
 // The value of a text. The two calls that read it agree on it.
-fn one(alloc: Global, bytes: &[u8]) -> Result<String, Fault> {
+fn either(alloc: Global, bytes: &[u8]) -> Result<String, Fault> {
     let value = read_json_or_yaml(alloc, bytes)?.to_string(alloc)?;
     match json_of(alloc, bytes)? {
         Some(json) if json != value => Ok(String::from_str(alloc, "!two values")?),

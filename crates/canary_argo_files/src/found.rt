@@ -1,0 +1,169 @@
+//! What is found in files of manifests.
+use crate::reading::{ArgoFile, Manifests};
+use canary_base::error::Memory;
+use canary_markup::shown::{Form, shown};
+use serde_json::Value;
+use std::alloc::Global;
+
+/// What keeps a file from being translated, or what has to be known of its translation.
+#[derive(Drop)]
+pub struct Found {
+    /// The file, by its place among those that were read.
+    pub file: usize,
+    /// Where it is, each from 1. A column is a character.
+    pub line: usize,
+    pub column: usize,
+    /// The keys that lead to it, as `spec.metrics[0].interval`; empty for a whole document.
+    pub path: String,
+    /// What it is, and what to write. Further lines begin with four spaces.
+    pub text: String,
+}
+
+impl Found {
+    fn copy(&self, alloc: Global) -> Result<Found, Memory> {
+        Ok(Found {
+            file: self.file,
+            line: self.line,
+            column: self.column,
+            path: String::from_str(alloc, self.path.as_str())?,
+            text: String::from_str(alloc, self.text.as_str())?,
+        })
+    }
+
+    fn add_line(&mut self, line: &str) -> Result<(), Memory> {
+        self.text.push_str("\n")?;
+        self.text.push_str(line)?;
+        Ok(())
+    }
+}
+
+/// What was found, in turn: 100 findings at most. The others are counted.
+#[derive(Drop)]
+pub struct Findings {
+    pub list: Vec<Found>,
+    pub more: usize,
+}
+
+// The most findings that are kept.
+const MOST: usize = 100;
+
+impl Findings {
+    /// Nothing.
+    pub fn new(alloc: Global) -> Findings {
+        Findings {
+            list: Vec::new(alloc),
+            more: 0,
+        }
+    }
+
+    /// Whether there is none.
+    pub fn is_empty(&self) -> bool {
+        self.list.is_empty()
+    }
+
+    /// Adds one, or counts it; or `Memory`.
+    pub fn add(&mut self, found: Found) -> Result<(), Memory> {
+        if self.list.len() < MOST {
+            self.list.push(found)?;
+        } else {
+            self.more = self.more.saturating_add(1);
+        }
+        Ok(())
+    }
+
+    /// Adds all of them, or `Memory`.
+    pub(crate) fn add_all(&mut self, alloc: Global, others: &Findings) -> Result<(), Memory> {
+        for found in &others.list {
+            self.add(found.copy(alloc)?)?;
+        }
+        Ok(())
+    }
+
+    /// Adds a line to the last finding, unless that is counted alone; or `Memory`.
+    pub(crate) fn add_to_last(&mut self, line: &str) -> Result<(), Memory> {
+        if self.more > 0 {
+            return Ok(());
+        }
+        match self.list.last_mut() {
+            Some(last) => last.add_line(line),
+            None => Ok(()),
+        }
+    }
+
+    /// A line for each, `FILE:LINE:COLUMN: PATH: TEXT`, and those that are counted; or `Memory`.
+    pub fn lines(&self, alloc: Global, manifests: &Manifests) -> Result<String, Memory> {
+        let mut text = String::new(alloc);
+        for found in &self.list {
+            push_line(alloc, &mut text, found, manifests.files.as_slice())?;
+        }
+        if self.more > 0 {
+            write!(text, "and {} more\n", self.more)?;
+        }
+        Ok(text)
+    }
+
+    /// Appends a list in JSON of objects with `column`, `file`, `line`, `path` and `text`; or
+    /// `Memory`.
+    pub fn push_json(
+        &self,
+        alloc: Global,
+        out: &mut String,
+        manifests: &Manifests,
+    ) -> Result<(), Memory> {
+        out.push_str("[")?;
+        for (index, found) in self.list.iter().enumerate() {
+            if index > 0 {
+                out.push_str(",")?;
+            }
+            push_object(alloc, out, found, manifests.files.as_slice())?;
+        }
+        out.push_str("]")?;
+        Ok(())
+    }
+}
+
+fn push_line(
+    alloc: Global,
+    out: &mut String,
+    found: &Found,
+    files: &[ArgoFile],
+) -> Result<(), Memory> {
+    let name = shown(alloc, name_of(files, found.file), Form::Line)?;
+    write!(out, "{name}:{}:{}: ", found.line, found.column)?;
+    if !found.path.is_empty() {
+        write!(out, "{}: ", found.path.as_str())?;
+    }
+    out.push_str(found.text.as_str())?;
+    out.push_str("\n")?;
+    Ok(())
+}
+
+fn push_object(
+    alloc: Global,
+    out: &mut String,
+    found: &Found,
+    files: &[ArgoFile],
+) -> Result<(), Memory> {
+    write!(out, "{{\"column\":{},\"file\":", found.column)?;
+    push_text(alloc, out, name_of(files, found.file))?;
+    write!(out, ",\"line\":{},\"path\":", found.line)?;
+    push_text(alloc, out, found.path.as_str())?;
+    out.push_str(",\"text\":")?;
+    push_text(alloc, out, found.text.as_str())?;
+    out.push_str("}")?;
+    Ok(())
+}
+
+/// Appends a text in JSON, or `Memory`.
+pub(crate) fn push_text(alloc: Global, out: &mut String, text: &str) -> Result<(), Memory> {
+    let text = Value::try_from_str(alloc, text)?.to_string(alloc)?;
+    out.push_str(text.as_str())?;
+    Ok(())
+}
+
+fn name_of(files: &[ArgoFile], file: usize) -> &str {
+    match files.get(file) {
+        Some(file) => file.name.as_str(),
+        None => "",
+    }
+}

@@ -1,0 +1,12 @@
+//! Files of Argo Rollouts' manifests, read and translated: what a desk takes in their place, what
+//! an agent has to measure, and what is not translated, with file, line and column.
+//!
+//! Callers may rest on this: nothing is translated if anything is found; and of each manifest that
+//! is made canary_check finds nothing, so a desk takes it.
+#![tactic(auto)]
+
+pub mod found;
+mod placing;
+pub mod reading;
+pub mod shown;
+pub mod translated;

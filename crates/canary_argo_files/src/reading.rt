@@ -1,0 +1,190 @@
+//! Reading files of manifests.
+use crate::found::{Findings, Found};
+use canary_base::error::Memory;
+use canary_base::lists::Text;
+use canary_convert::source::Source;
+use canary_yaml::fault::{Fault as Refusal, Why};
+use canary_yaml::read::{Document, is_meant_as_json, read_documents};
+use serde_json::Value;
+use std::alloc::Global;
+use std::fs::{File, Files};
+use std::io::{self, ErrorKind, Read};
+
+/// The name of standard input among files.
+pub const STANDARD_INPUT: &str = "-";
+
+// The most bytes of a file: 16 MiB. One in YAML has 1 MiB at most.
+const MOST_BYTES: usize = 16_777_216;
+
+/// A file that was read.
+#[derive(Drop)]
+pub struct ArgoFile {
+    pub name: Text,
+    pub bytes: Vec<u8>,
+}
+
+/// Files, and the documents in them.
+#[derive(Drop)]
+pub struct Manifests {
+    pub files: Vec<ArgoFile>,
+    pub sources: Vec<Source>,
+    /// Why a file was not read to its end.
+    pub found: Findings,
+}
+
+/// Why no files were read.
+#[derive(Clone, Copy, Debug, PartialEq, Eq)]
+pub enum ReadFault {
+    /// An allocation was refused.
+    Memory,
+    /// The file of this place cannot be opened or read, or has more than 16 MiB.
+    File(usize),
+}
+
+/// The documents of the files of these names; `-` is standard input. A file is one manifest in JSON
+/// (RFC 8259), or documents in YAML (yaml.org/spec/1.2.2).
+///
+/// # Errors
+/// `Memory`; `File` with the first file that cannot be read.
+pub fn read_files<P: Files + AllocGlobal, R: Read>(
+    rt: &P,
+    names: &[Text],
+    input: &mut R,
+) -> Result<Manifests, ReadFault> {
+    let mut manifests = Manifests {
+        files: Vec::new(rt.alloc()),
+        sources: Vec::new(rt.alloc()),
+        found: Findings::new(rt.alloc()),
+    };
+    for (index, name) in names.iter().enumerate() {
+        let bytes = bytes_of(rt, name.as_str(), input, index)?;
+        manifests.add(rt.alloc(), name, bytes)?;
+    }
+    Ok(manifests)
+}
+
+fn bytes_of<P: Files + AllocGlobal, R: Read>(
+    rt: &P,
+    name: &str,
+    input: &mut R,
+    index: usize,
+) -> Result<Vec<u8>, ReadFault> {
+    let mut bytes = Vec::new(rt.alloc());
+    match fill(rt, name, input, &mut bytes) {
+        Ok(()) if bytes.len() <= MOST_BYTES => Ok(bytes),
+        Err(error) if error.kind() == ErrorKind::OutOfMemory => Err(ReadFault::Memory),
+        _ => Err(ReadFault::File(index)),
+    }
+}
+
+// Reads a file, as far as its length shows whether it is too long.
+fn fill<P: Files, R: Read>(
+    files: &P,
+    name: &str,
+    input: &mut R,
+    bytes: &mut Vec<u8>,
+) -> io::Result<()> {
+    let most = MOST_BYTES as u64 + 1;
+    if name == STANDARD_INPUT {
+        input.by_ref().take(most).read_to_end(bytes)?;
+        return Ok(());
+    }
+    File::open(files, name)?.take(most).read_to_end(bytes)?;
+    Ok(())
+}
+
+impl Manifests {
+    // Adds a file with its documents.
+    fn add(&mut self, alloc: Global, name: &Text, bytes: Vec<u8>) -> Result<(), Memory> {
+        let file = self.files.len();
+        match documents_of(alloc, bytes.as_slice())? {
+            Reading::Json(value) => self.sources.push(source(file, 1, value))?,
+            Reading::Documents(documents) => self.add_documents(file, documents)?,
+            Reading::Refused(found) => self.found.add(Found { file, ..found })?,
+        }
+        let name = name.copy(alloc)?;
+        self.files.push(ArgoFile { name, bytes })?;
+        Ok(())
+    }
+
+    fn add_documents(&mut self, file: usize, documents: Vec<Document>) -> Result<(), Memory> {
+        for Document { line, value, .. } in documents {
+            self.sources.push(source(file, line, value))?;
+        }
+        Ok(())
+    }
+}
+
+fn source(file: usize, line: usize, value: Value) -> Source {
+    Source {
+        file: file as u32,
+        line,
+        value,
+    }
+}
+
+// What a file holds.
+#[derive(Drop)]
+enum Reading {
+    Json(Value),
+    Documents(Vec<Document>),
+    // Neither, for this reason.
+    Refused(Found),
+}
+
+fn documents_of(alloc: Global, bytes: &[u8]) -> Result<Reading, Memory> {
+    match Value::from_slice(alloc, bytes) {
+        Ok(value) => return Ok(Reading::Json(value)),
+        Err(fault) if fault.is_memory() => return Err(Memory),
+        Err(fault) if is_meant_as_json(bytes) => {
+            return Ok(Reading::Refused(no_json(alloc, fault.line(), fault.column())?));
+        }
+        Err(_) => {}
+    }
+    match read_documents(alloc, bytes) {
+        Ok(documents) => Ok(Reading::Documents(documents)),
+        Err(why) => Ok(Reading::Refused(refused(alloc, why)?)),
+    }
+}
+
+// Why a text is not read, in a file that is not known yet.
+fn refused(alloc: Global, why: Refusal) -> Result<Found, Memory> {
+    let (line, column) = place_of(why)?;
+    Ok(Found {
+        file: 0,
+        line,
+        column,
+        path: String::new(alloc),
+        text: reason(alloc, why)?,
+    })
+}
+
+fn place_of(why: Refusal) -> Result<(usize, usize), Memory> {
+    match why {
+        Refusal::Memory => Err(Memory),
+        Refusal::Refused { line, column, .. } => Ok((line, column)),
+        Refusal::Number { line, column, .. } => Ok((line, column)),
+    }
+}
+
+// That what is meant to be JSON is not, at or just before this place.
+fn no_json(alloc: Global, line: usize, column: usize) -> Result<Found, Memory> {
+    Ok(Found {
+        file: 0,
+        line,
+        column,
+        path: String::new(alloc),
+        text: String::from_str(alloc, Why::Json.text())?,
+    })
+}
+
+// Why it is not read, without its place.
+fn reason(alloc: Global, why: Refusal) -> Result<String, Memory> {
+    match why {
+        Refusal::Memory => Err(Memory),
+        Refusal::Refused { why, .. } => Ok(String::from_str(alloc, why.text())?),
+        Refusal::Number { reads, .. } => {
+            Ok(format!(in alloc; "kubectl reads {reads}: write that, or put it in quotes")?)
+        }
+    }
+}

@@ -1,0 +1,148 @@
+//! What files of manifests become, as people and programs read it.
+use crate::found::push_text;
+use crate::reading::Manifests;
+use crate::translated::Translated;
+use canary_base::error::Memory;
+use canary_convert::work::{Made, Planned};
+use canary_markup::shown::{Form, shown};
+use serde_json::Value;
+use std::alloc::Global;
+
+/// What is found, in lines; or if nothing is, what is made: each template with its metrics and their
+/// conditions, each service, and how its metrics are measured. Or `Memory`.
+pub fn text_of(
+    alloc: Global,
+    manifests: &Manifests,
+    translated: &Translated,
+) -> Result<String, Memory> {
+    if translated.is_found() {
+        return translated.found.lines(alloc, manifests);
+    }
+    let mut text = String::new(alloc);
+    for template in &translated.made.templates {
+        push_template(alloc, &mut text, template)?;
+    }
+    for service in &translated.made.services {
+        write!(text, "service {}\n", service.name.as_str())?;
+    }
+    for planned in &translated.made.plan {
+        push_planned(alloc, &mut text, planned)?;
+    }
+    Ok(text)
+}
+
+// A template, and a line for each of its metrics.
+fn push_template(alloc: Global, text: &mut String, made: &Made) -> Result<(), Memory> {
+    write!(text, "template {}\n", made.name.as_str())?;
+    let manifest = Value::from_str(alloc, made.json.as_str()).unwrap_or(Value::Null);
+    let metrics = manifest
+        .pointer("/spec/metrics")
+        .and_then(|list| list.as_array());
+    let Some(metrics) = metrics else {
+        return Ok(());
+    };
+    for metric in metrics {
+        push_metric(alloc, text, metric)?;
+    }
+    Ok(())
+}
+
+fn push_metric(alloc: Global, text: &mut String, metric: &Value) -> Result<(), Memory> {
+    let name = metric.get("name").and_then(|name| name.as_str());
+    write!(text, "  {}\n", name.unwrap_or(""))?;
+    push_condition(alloc, text, "success", metric.get("successCondition"))?;
+    push_condition(alloc, text, "failure", metric.get("failureCondition"))
+}
+
+fn push_condition(
+    alloc: Global,
+    text: &mut String,
+    when: &str,
+    condition: Option<&Value>,
+) -> Result<(), Memory> {
+    let Some(condition) = condition.and_then(|condition| condition.as_str()) else {
+        return Ok(());
+    };
+    let condition = shown(alloc, condition, Form::Line)?;
+    write!(text, "    {when}: {condition}\n")?;
+    Ok(())
+}
+
+// Who asks whom for a metric.
+fn push_planned(alloc: Global, text: &mut String, planned: &Planned) -> Result<(), Memory> {
+    let kind = shown(alloc, planned.kind.as_str(), Form::Line)?;
+    let (service, label) = (planned.service.as_str(), planned.label.as_str());
+    write!(text, "measure {label} of {service} by {kind}\n")?;
+    Ok(())
+}
+
+/// All in one value in JSON, with `findings`, `notes`, `plan`, `services` and `templates`; or
+/// `Memory`.
+pub fn json_of(
+    alloc: Global,
+    manifests: &Manifests,
+    translated: &Translated,
+) -> Result<String, Memory> {
+    let mut out = String::from_str(alloc, "{\"findings\":")?;
+    translated.found.push_json(alloc, &mut out, manifests)?;
+    out.push_str(",\"notes\":")?;
+    translated.notes.push_json(alloc, &mut out, manifests)?;
+    out.push_str(",\"plan\":")?;
+    push_plan(alloc, &mut out, translated.made.plan.as_slice())?;
+    out.push_str(",\"services\":")?;
+    push_manifests(&mut out, translated.made.services.as_slice())?;
+    out.push_str(",\"templates\":")?;
+    push_manifests(&mut out, translated.made.templates.as_slice())?;
+    out.push_str("}\n")?;
+    Ok(out)
+}
+
+fn push_manifests(out: &mut String, made: &[Made]) -> Result<(), Memory> {
+    out.push_str("[")?;
+    for (index, manifest) in made.iter().enumerate() {
+        if index > 0 {
+            out.push_str(",")?;
+        }
+        out.push_str(manifest.json.as_str())?;
+    }
+    out.push_str("]")?;
+    Ok(())
+}
+
+/// The plan as a list in JSON, or `Memory`.
+pub fn plan_of(alloc: Global, translated: &Translated) -> Result<String, Memory> {
+    let mut out = String::new(alloc);
+    push_plan(alloc, &mut out, translated.made.plan.as_slice())?;
+    Ok(out)
+}
+
+fn push_plan(alloc: Global, out: &mut String, plan: &[Planned]) -> Result<(), Memory> {
+    out.push_str("[")?;
+    for (index, planned) in plan.iter().enumerate() {
+        if index > 0 {
+            out.push_str(",")?;
+        }
+        push_entry(alloc, out, planned)?;
+    }
+    out.push_str("]")?;
+    Ok(())
+}
+
+fn push_entry(alloc: Global, out: &mut String, planned: &Planned) -> Result<(), Memory> {
+    out.push_str("{\"kind\":")?;
+    push_text(alloc, out, planned.kind.as_str())?;
+    out.push_str(",\"label\":")?;
+    push_text(alloc, out, planned.label.as_str())?;
+    write!(out, ",\"late\":{},\"metric\":", planned.late.as_str())?;
+    push_text(alloc, out, planned.metric.as_str())?;
+    write!(
+        out,
+        ",\"provider\":{},\"service\":",
+        planned.provider.as_str()
+    )?;
+    push_text(alloc, out, planned.service.as_str())?;
+    out.push_str(",\"template\":")?;
+    push_text(alloc, out, planned.template.as_str())?;
+    out.push_str("}")?;
+    Ok(())
+}

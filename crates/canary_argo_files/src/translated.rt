@@ -1,0 +1,136 @@
+//! What files of manifests become.
+use crate::found::Findings;
+use crate::placing::found_at;
+use crate::reading::Manifests;
+use canary_base::error::Memory;
+use canary_check::check::check;
+use canary_convert::conversion::{Converted, convert};
+use canary_convert::finding::Finding;
+use canary_convert::source::Source;
+use canary_convert::work::Made;
+use std::alloc::Global;
+
+const NOTHING: &str = "no AnalysisTemplate and no Rollout is here";
+
+/// What files of manifests become.
+#[derive(Drop)]
+pub struct Translated {
+    /// What a desk takes, and what is measured. It counts only if nothing is found.
+    pub made: Converted,
+    /// What keeps them from being translated.
+    pub found: Findings,
+    /// What has to be known of the translation.
+    pub notes: Findings,
+}
+
+impl Translated {
+    /// Whether anything keeps them from being translated.
+    pub fn is_found(&self) -> bool {
+        !self.found.is_empty()
+    }
+}
+
+/// What these files become, and what is found in them; or `Memory`. If nothing is found, the check
+/// of a manifest finds nothing in what is made, so a desk takes it.
+pub fn translate(alloc: Global, manifests: &Manifests) -> Result<Translated, Memory> {
+    let made = convert(alloc, sources_of(manifests))?;
+    let mut found = Findings::new(alloc);
+    found.add_all(alloc, &manifests.found)?;
+    add_placed(alloc, &mut found, manifests, made.findings.as_slice())?;
+    add_checked(alloc, &mut found, manifests, made.templates.as_slice())?;
+    add_checked(alloc, &mut found, manifests, made.services.as_slice())?;
+    if is_empty(&made) && found.is_empty() {
+        let nothing = String::from_str(alloc, NOTHING)?;
+        found.add(found_at(alloc, manifests, 0, "", nothing)?)?;
+    }
+    let mut notes = Findings::new(alloc);
+    add_placed(alloc, &mut notes, manifests, made.notes.as_slice())?;
+    Ok(Translated { made, found, notes })
+}
+
+// The documents: none if a file was not read to its end, since others may need what it has.
+fn sources_of(manifests: &Manifests) -> &[Source] {
+    if manifests.found.is_empty() {
+        manifests.sources.as_slice()
+    } else {
+        &[]
+    }
+}
+
+// Whether nothing was made.
+fn is_empty(made: &Converted) -> bool {
+    made.templates.is_empty() && made.services.is_empty()
+}
+
+// Adds what was found in the documents, with its places.
+fn add_placed(
+    alloc: Global,
+    list: &mut Findings,
+    manifests: &Manifests,
+    findings: &[Finding],
+) -> Result<(), Memory> {
+    for finding in findings {
+        let text = text_of(alloc, finding)?;
+        let source = finding.source as usize;
+        list.add(found_at(alloc, manifests, source, finding.path.as_str(), text)?)?;
+    }
+    Ok(())
+}
+
+// What it is, with the byte of a condition, from 1.
+fn text_of(alloc: Global, finding: &Finding) -> Result<String, Memory> {
+    let text = finding.text.as_str();
+    match finding.at {
+        Some(at) => Ok(format!(in alloc; "byte {}: {text}", at.saturating_add(1))?),
+        None => Ok(String::from_str(alloc, text)?),
+    }
+}
+
+// Adds what the check of each of these manifests finds. Its parts have the places of those of the
+// document that it was made of.
+fn add_checked(
+    alloc: Global,
+    list: &mut Findings,
+    manifests: &Manifests,
+    made: &[Made],
+) -> Result<(), Memory> {
+    for manifest in made {
+        let findings = check(alloc, manifest.json.as_bytes())?;
+        if !findings.is_ok() {
+            add_lines(alloc, list, manifests, manifest, findings.text())?;
+        }
+    }
+    Ok(())
+}
+
+// Adds the findings of these lines. A line that begins with four spaces belongs to the one before.
+fn add_lines(
+    alloc: Global,
+    list: &mut Findings,
+    manifests: &Manifests,
+    made: &Made,
+    lines: &str,
+) -> Result<(), Memory> {
+    for line in lines.lines() {
+        if line.starts_with("    ") {
+            list.add_to_last(line)?;
+        } else {
+            let (path, text) = split(line);
+            let text = String::from_str(alloc, text)?;
+            list.add(found_at(alloc, manifests, made.source as usize, path, text)?)?;
+        }
+    }
+    Ok(())
+}
+
+// The path that a line of a check begins with, and what follows it.
+fn split(line: &str) -> (&str, &str) {
+    let end = line.find(|c: char| c == ':' || c == ' ' || c == ',');
+    match end {
+        Some(end) => {
+            let (path, rest) = line.split_at(end);
+            (path, rest.strip_prefix(": ").unwrap_or(rest))
+        }
+        None => ("", line),
+    }
+}

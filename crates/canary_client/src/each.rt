@@ -1,0 +1,133 @@
+//! What `do --argo` asks: the commands that manifests of Argo Rollouts become.
+use crate::outcome::{Stop, say_lines};
+use crate::wish::{Asking, service_asking, template_asking, version_of};
+use canary_argo_files::reading::{Manifests, ReadFault, read_files};
+use canary_argo_files::translated::{Translated, translate};
+use canary_base::lists::Text;
+use canary_convert::conversion::Converted;
+use canary_convert::work::Made;
+use canary_words::words::AskedCommand;
+use std::alloc::Global;
+use std::fs::Files;
+use std::io::Write;
+
+/// A command, and the name of what it registers.
+#[derive(Drop)]
+pub(crate) struct Named {
+    pub(crate) name: String,
+    pub(crate) asking: Asking,
+}
+
+/// The commands of `template FILE..` or `service FILE.. VERSION`: one for each template, or each
+/// Rollout, of Argo's manifests in these files. What is found in them, and what has to be known of
+/// them, goes to `errors`.
+///
+/// # Errors
+/// `Argo` if the words are no such command, or anything is found; `NoVersion`, `BadVersion`; `File`
+/// if a file cannot be read; `Manifest` if the desk takes no body of that length; `Memory`.
+pub(crate) fn commands_of<P: Files + AllocGlobal, F: Write>(
+    rt: &P,
+    words: &AskedCommand,
+    errors: &mut F,
+) -> Result<Vec<Named>, Stop> {
+    let files = files_of(rt.alloc(), words)?;
+    match words.kind.as_str() {
+        "template" => templates(rt, files.as_slice(), errors),
+        "service" => services(rt, files, errors),
+        _ => Err(Stop::ArgoCommand),
+    }
+}
+
+// The words that follow the kind of the command.
+fn files_of(alloc: Global, words: &AskedCommand) -> Result<Vec<Text>, Stop> {
+    if words.failure.is_some() {
+        return Err(Stop::ArgoCommand);
+    }
+    let mut files = Vec::new(alloc);
+    push_given(alloc, &mut files, &words.first)?;
+    push_given(alloc, &mut files, &words.second)?;
+    push_given(alloc, &mut files, &words.third)?;
+    push_given(alloc, &mut files, &words.fourth)?;
+    for word in words.more.as_slice() {
+        files.push(word.copy(alloc)?)?;
+    }
+    Ok(files)
+}
+
+fn push_given(alloc: Global, files: &mut Vec<Text>, word: &Option<Text>) -> Result<(), Stop> {
+    if let Some(word) = word {
+        files.push(word.copy(alloc)?)?;
+    }
+    Ok(())
+}
+
+fn templates<P: Files + AllocGlobal, F: Write>(
+    rt: &P,
+    files: &[Text],
+    errors: &mut F,
+) -> Result<Vec<Named>, Stop> {
+    let alloc = rt.alloc();
+    let made = made_of(rt, files, errors)?;
+    let mut commands = Vec::new(alloc);
+    for template in &made.templates {
+        let asking = template_asking(alloc, template.json.as_str())?;
+        commands.push(named(alloc, template, asking)?)?;
+    }
+    Ok(commands)
+}
+
+// The last word is the version.
+fn services<P: Files + AllocGlobal, F: Write>(
+    rt: &P,
+    files: Vec<Text>,
+    errors: &mut F,
+) -> Result<Vec<Named>, Stop> {
+    let alloc = rt.alloc();
+    let mut files = files;
+    let version = version_of(&files.pop())?;
+    let made = made_of(rt, files.as_slice(), errors)?;
+    let mut commands = Vec::new(alloc);
+    for service in &made.services {
+        let asking = service_asking(alloc, service.json.as_str(), version.as_str())?;
+        commands.push(named(alloc, service, asking)?)?;
+    }
+    Ok(commands)
+}
+
+// What the files become, if nothing is found in them.
+fn made_of<P: Files + AllocGlobal, F: Write>(
+    rt: &P,
+    files: &[Text],
+    errors: &mut F,
+) -> Result<Converted, Stop> {
+    let mut nothing: &[u8] = &[];
+    let manifests = match read_files(rt, files, &mut nothing) {
+        Ok(manifests) => manifests,
+        Err(ReadFault::Memory) => return Err(Stop::Memory),
+        Err(ReadFault::File(_)) => return Err(Stop::File),
+    };
+    let translated = translate(rt.alloc(), &manifests)?;
+    tell(rt.alloc(), &manifests, &translated, errors)?;
+    if translated.is_found() {
+        return Err(Stop::Argo);
+    }
+    let Translated { made, .. } = translated;
+    Ok(made)
+}
+
+// Says what was found, and what has to be known.
+fn tell<F: Write>(
+    alloc: Global,
+    manifests: &Manifests,
+    translated: &Translated,
+    errors: &mut F,
+) -> Result<(), Stop> {
+    say_lines(errors, translated.found.lines(alloc, manifests)?.as_str());
+    say_lines(errors, translated.notes.lines(alloc, manifests)?.as_str());
+    Ok(())
+}
+
+fn named(alloc: Global, made: &Made, asking: Asking) -> Result<Named, Stop> {
+    let name = String::from_str(alloc, made.name.as_str())?;
+    Ok(Named { name, asking })
+}
