@@ -61,7 +61,7 @@ impl<'a> Given<'a> {
 }
 
 /// What the argument of that name is given: by the analysis, or else by the template.
-pub(crate) fn given<'a>(case: &Case<'a>, name: &str) -> Given<'a> {
+pub(crate) fn given_to<'a>(case: &Case<'a>, name: &str) -> Given<'a> {
     let Some(own) = named(case.template.in_spec("args"), name) else {
         return Given::Unlisted;
     };
@@ -220,7 +220,7 @@ pub(crate) fn push_late(
     };
     for argument in arguments {
         let name = text_at(argument, "name");
-        match given(case, name) {
+        match given_to(case, name) {
             Given::Late(source) if has_place_of(provider, name) => {
                 push_key(out, name)?;
                 push_value(alloc, out, source)?;

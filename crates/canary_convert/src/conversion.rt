@@ -70,7 +70,7 @@ const REFUSED: [Refused; 4] = [
 pub fn convert(alloc: Global, sources: &[Source]) -> Result<Converted, Memory> {
     let mut work = Work::new(alloc);
     convert_sources(alloc, &mut work, sources)?;
-    Ok(converted(alloc, work))
+    Ok(outcome_of(alloc, work))
 }
 
 fn convert_sources(alloc: Global, work: &mut Work, sources: &[Source]) -> Result<(), Memory> {
@@ -97,7 +97,7 @@ fn convert_documents(alloc: Global, work: &mut Work, documents: &[Document]) -> 
 }
 
 // What was made, or else what was found.
-fn converted(alloc: Global, work: Work) -> Converted {
+fn outcome_of(alloc: Global, work: Work) -> Converted {
     let Work {
         findings,
         notes,

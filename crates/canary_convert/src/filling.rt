@@ -1,7 +1,7 @@
 //! Places to be filled in: `{{args.NAME}}`, with spaces inside the brackets or without.
 //!
 //! A place in a text of JSON stands within a text, since two brackets in a row open nowhere else.
-use crate::arguments::{Case, Given, given};
+use crate::arguments::{Case, Given, given_to};
 use crate::json::{push_escaped, push_value};
 use crate::place::Place;
 use crate::work::Work;
@@ -104,7 +104,7 @@ fn push_argument(
     name: &str,
     out: &mut String,
 ) -> Result<bool, Memory> {
-    match given(case, name) {
+    match given_to(case, name) {
         Given::Value(value) => {
             push_given(alloc, mode, value, out)?;
             Ok(true)
@@ -145,5 +145,5 @@ fn is_piece_given(case: &Case, piece: &str) -> bool {
     let Some((_, name)) = place_in(piece) else {
         return true;
     };
-    matches!(given(case, name), Given::Value(_) | Given::Unlisted)
+    matches!(given_to(case, name), Given::Value(_) | Given::Unlisted)
 }

@@ -10,6 +10,8 @@ mod documents;
 mod filling;
 pub mod finding;
 mod json;
+#[cfg(test)]
+mod manifests;
 mod metric;
 mod place;
 mod rollout;

@@ -189,11 +189,7 @@ fn push_plain(
 }
 
 /// How the metric is called at the desk. If it cannot be called anything, this is told.
-pub(crate) fn called(
-    alloc: Global,
-    work: &mut Work,
-    spot: &Spot,
-) -> Result<Option<Called>, Memory> {
+pub(crate) fn call(alloc: Global, work: &mut Work, spot: &Spot) -> Result<Option<Called>, Memory> {
     let Some(kind) = kind_of(alloc, work, spot)? else {
         return Ok(None);
     };
@@ -381,7 +377,7 @@ pub(crate) fn push_metric(
     spot: &Spot,
     out: &mut String,
 ) -> Result<(), Memory> {
-    let Some(called) = called(alloc, work, spot)? else {
+    let Some(called) = call(alloc, work, spot)? else {
         return Ok(());
     };
     push_comma(out)?;
@@ -499,7 +495,7 @@ pub(crate) fn plan_metric(
     let Some(provider) = member(spot.metric, "provider") else {
         return Ok(());
     };
-    let Some(called) = called(alloc, work, spot)? else {
+    let Some(called) = call(alloc, work, spot)? else {
         return Ok(());
     };
     let mut planned = Planned::new(alloc);

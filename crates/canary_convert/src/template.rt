@@ -4,7 +4,7 @@ use crate::documents::Document;
 use crate::json::{
     list_at, member, push_comma, push_head, push_key, push_member, push_text, text_at,
 };
-use crate::metric::{Spot, called, has_desk_place, is_desk_given, plan_metric, push_metric};
+use crate::metric::{Spot, call, has_desk_place, is_desk_given, plan_metric, push_metric};
 use crate::place::Place;
 use crate::work::{Made, Work};
 use canary_base::error::Memory;
@@ -246,7 +246,7 @@ fn push_marked_metric(
     let Some(metric) = metrics.get(index) else {
         return Ok(());
     };
-    match called(alloc, work, &spot_of(case, index, metric))? {
+    match call(alloc, work, &spot_of(case, index, metric))? {
         Some(called) => push_marked(alloc, called.label.as_str(), out),
         None => Ok(()),
     }
@@ -274,9 +274,9 @@ fn note_others(
             let parts = &[
                 "Argo makes a dry run of ",
                 other,
-                " too, whose name has ",
+                " too; here of ",
                 name,
-                " in it",
+                " alone",
             ];
             work.note(alloc, place, parts)?;
         }
