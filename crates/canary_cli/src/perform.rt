@@ -254,6 +254,9 @@ fn run<R: Read, W: Write, F: Write>(
             request,
             strict,
         } => check(rt, &file, &request, strict, output, errors),
+        Program::Argo { files, out, json } => {
+            argo(rt, &files, &out, json, input, output, errors)
+        }
         Program::Backup { db, copy } => done(backup(rt, db.as_str(), copy.as_str())),
         Program::Migrate { db, dry_run } => {
             done(migrate(rt, db.as_str(), dry_run, output, errors, shows))

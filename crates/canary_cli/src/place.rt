@@ -134,7 +134,7 @@ fn files_of(alloc: Global, program: &Program) -> Result<String, AllocError> {
         Program::Backup { db, copy } => listed(alloc, Some(db), Some(copy)),
         Program::Migrate { db, .. } => listed(alloc, Some(db), None),
         Program::Check { file, request, .. } => listed(alloc, file.as_ref(), request.as_ref()),
-        Program::Ask(_) => listed(alloc, None, None),
+        Program::Argo { .. } | Program::Ask(_) => listed(alloc, None, None),
     }
 }
 
@@ -146,7 +146,8 @@ fn db_of(alloc: Global, program: &Program) -> Result<String, AllocError> {
         Program::Export { db, .. } | Program::Status { db, .. } => listed(alloc, Some(db), None),
         Program::Page { db, .. } => listed(alloc, Some(db), None),
         Program::Backup { db, .. } | Program::Migrate { db, .. } => listed(alloc, Some(db), None),
-        Program::Check { .. } | Program::Ask(_) => listed(alloc, None, None),
+        Program::Check { .. } | Program::Argo { .. } => listed(alloc, None, None),
+        Program::Ask(_) => listed(alloc, None, None),
     }
 }
 
