@@ -6,11 +6,10 @@ ghost use Rattle.canary_words.specs.CommandLine.{pipe_command, serve_command, im
 ghost use Rattle.canary_words.specs.CommandLine.{history_command, export_command, status_command};
 ghost use Rattle.canary_words.specs.CommandLine.{page_command, backup_command, migrate_command};
 ghost use Rattle.canary_words.specs.CommandLine.{check_command, flag, moment_option, number_option};
-ghost use Rattle.canary_words.specs.CommandLine.{text_option, text_word, text_words, optional_word};
-ghost use Rattle.canary_words.specs.CommandLine.{with_numbers, with_value, with_client_commands};
-ghost use Rattle.canary_words.specs.CommandLine.{do_command, get_command, watch_command};
-ghost use Rattle.canary_words.specs.CommandLine.{send_command, due_command, with_desk_options};
-ghost use Rattle.canary_words.specs.CommandLine.{rule_for, with_parts};
+ghost use Rattle.canary_words.specs.CommandLine.{text_option, text_words, with_numbers, with_value};
+ghost use Rattle.canary_words.specs.CommandLine.{with_client_commands, do_command, get_command};
+ghost use Rattle.canary_words.specs.CommandLine.{watch_command, send_command, due_command};
+ghost use Rattle.canary_words.specs.CommandLine.{with_desk_options, rule_for, with_parts};
 
 use crate::help;
 use canary_base::moments::LAST_MOMENT;
