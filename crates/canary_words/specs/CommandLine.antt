@@ -76,7 +76,7 @@ flag name = record (new_rule name) {
   action = Some SetTrue;
 }
 
--- what the code has for an option or a word
+-- the rule of a row in the code's tables of options and words
 abbrev pub rule_for : Part → Rule
 rule_for (part.Moment name _) = moment_option name.now
 rule_for (part.Number name _ most _) = number_option name.now most
@@ -87,7 +87,7 @@ rule_for (part.Word name _ _) = text_word name.now
 rule_for (part.OptionalWord name _ _) = optional_word name.now
 rule_for (part.SomeWords name _ _) = text_words name.now
 
--- with these, in turn
+-- with these rows, in turn
 abbrev pub with_parts : App → List Part → App
 with_parts a [] = a
 with_parts a (p ∷ ps) = with_parts (with_rule a (rule_for p)) ps

@@ -371,8 +371,7 @@ fn command<'a>(alloc: Global, name: &'a str, about: &'a str, help: &'a str) -> C
     Command::new(alloc, name).about(about).after_help(help)
 }
 
-// A command with the options of each client, where this is the help of `--timeout`, and with these
-// parts.
+// A command with the options of each client, of which `--timeout` has this help, and these parts.
 fn with_client_parts<'a>(
     alloc: Global,
     client: Command<'a>,
