@@ -92,8 +92,7 @@ fn convert_documents(alloc: Global, work: &mut Work, documents: &[Document]) -> 
             convert_unused(alloc, work, document)?;
         }
     }
-    work.findings.close(alloc)?;
-    work.notes.close(alloc)
+    work.close(alloc)
 }
 
 // What was made, or else what was found.

@@ -400,9 +400,6 @@ fn push_conditions(
 ) -> Result<(), Memory> {
     match called.form {
         Some(form) => {
-            if !form.nan && has_condition(spot.metric) {
-                work.note_nan(alloc, spot.place)?;
-            }
             push_translated(alloc, work, spot, CONDITIONS[0], form, out)?;
             push_translated(alloc, work, spot, CONDITIONS[1], form, out)
         }
@@ -445,6 +442,9 @@ fn push_translation(
     }
     match translate(alloc, text, form) {
         Ok(condition) => {
+            if !form.nan {
+                work.see_nan(spot.place);
+            }
             push_key(out, key)?;
             push_text(alloc, out, condition.as_str())
         }
