@@ -8,9 +8,9 @@ import re
 
 # The crates of tests, that of figures, and the program: no caller rests on them. Nor does any yet
 # rest on the laws over all senders, on those over all books over tables, on the reader of YAML, or
-# on the translation of Argo's conditions.
+# on the conversion of Argo's manifests.
 NO_LIBRARIES = {
-    "canary_argo", "canary_bench", "canary_desk", "canary_desk_tests", "canary_senders",
+    "canary_bench", "canary_convert", "canary_desk", "canary_desk_tests", "canary_senders",
     "canary_tables_laws", "canary_testing", "canary_tests", "canary_yaml", "canary_yaml_tests",
 }
 EXAMPLE = re.compile(r"^In use \((\w+), (\S+)\):\n\n((?:    .*\n)+)", re.MULTILINE)
