@@ -45,7 +45,7 @@ struct Refused {
     instead: &'static str,
 }
 
-const REFUSED: [Refused; 4] = [
+const REFUSED: [Refused; 6] = [
     Refused {
         kind: "ClusterAnalysisTemplate",
         instead: "ClusterAnalysisTemplate: write an AnalysisTemplate",
@@ -61,6 +61,14 @@ const REFUSED: [Refused; 4] = [
     Refused {
         kind: "List",
         instead: "List: expected items, which are no Lists",
+    },
+    Refused {
+        kind: "AnalysisTemplateList",
+        instead: "AnalysisTemplateList: write a List, with the kind of each item",
+    },
+    Refused {
+        kind: "RolloutList",
+        instead: "RolloutList: write a List, with the kind of each item",
     },
 ];
 

@@ -12,8 +12,11 @@ use std::test::Fail;
 // In the form of `MANIFESTS`.
 const FOUND: &str =
     r#"[{"kind":"Service","metadata":{"name":"cart"}},{"kind":"ClusterAnalysisTemplate"},
-{"kind":"Experiment"},{"kind":"AnalysisRun"},7,null,{"kind":5},{"kind":"Li\u0007st"}]
-=> 5 findings, 2 notes
+{"kind":"Experiment"},{"kind":"AnalysisRun"},7,null,{"kind":5},{"kind":"Li\u0007st"},
+{"kind":"RolloutList"},{"kind":"AnalysisTemplateList"}]
+=> 7 findings, 2 notes
+=> finding 8 : RolloutList: write a List
+=> finding 9 : AnalysisTemplateList: write a List
 => note 0 : Service cart: ignored; only AnalysisTemplates and Rollouts are converted
 => finding 1 : ClusterAnalysisTemplate: write an AnalysisTemplate
 => finding 2 : Experiment: write
