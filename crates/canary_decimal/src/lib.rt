@@ -14,6 +14,8 @@
 
 pub mod decimal;
 pub mod laws;
+pub mod point;
 pub mod reading;
 #[cfg(test)]
 mod rows;
+pub mod shown;
