@@ -1,4 +1,4 @@
-//! What texts are read as, by rows that Python's fractions gave.
+//! What texts are read as, by rows that Python's fractions gave; and what is shown of numbers.
 use crate::reading::{Reading, read};
 use crate::shown::Shown;
 use canary_base::error::Memory;

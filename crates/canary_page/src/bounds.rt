@@ -102,11 +102,7 @@ fn number_of(text: &str) -> Word {
 // What the word that is these bytes of the condition is by itself.
 fn term_of(word: Word, begin: usize, end: usize) -> Term {
     match word {
-        Word::Number(number) => Term::Number(Constant {
-            number,
-            begin,
-            end,
-        }),
+        Word::Number(number) => Term::Number(Constant { number, begin, end }),
         Word::Comparison => Term::Comparison,
         _ => Term::Other,
     }

@@ -70,7 +70,12 @@ fn chart(page: &mut Markup, shown: &Measured<'_>, row: Row) {
 fn frame_of(shown: &Measured<'_>, row: Row) -> Frame {
     let conditions = shown.conditions;
     let units = conditions.units;
-    let span = with_bounds(row.span, row.spot, units, conditions.success_bounds.as_slice());
+    let span = with_bounds(
+        row.span,
+        row.spot,
+        units,
+        conditions.success_bounds.as_slice(),
+    );
     Frame {
         spot: row.spot,
         units,
@@ -81,12 +86,7 @@ fn frame_of(shown: &Measured<'_>, row: Row) -> Frame {
 }
 
 // Wide enough for the bounds of that spot, too.
-fn with_bounds(
-    span: Option<Span>,
-    spot: Spot,
-    units: Units,
-    bounds: &[Bound],
-) -> Option<Span> {
+fn with_bounds(span: Option<Span>, spot: Spot, units: Units, bounds: &[Bound]) -> Option<Span> {
     let mut span = span;
     for bound in bounds {
         if bound.is_drawn(spot, units) {
