@@ -24,12 +24,12 @@ pub struct Sought {
     pub late: Option<u64>,
 }
 
-/// Shows a line `RUN METRIC ORDINAL` for each measurement of the services that is due, on a terminal
-/// with the metric's name as people read it in place of its label. With more
-/// than one service the line begins with the service; of late ones it does too, and ends with the
-/// moment since which the measurement is due. If there is none, a call that waits goes on until
-/// there is one or no run is open, and else it ends with `Refused`. If the desk has no such
-/// service, `errors` names it, and the call goes on with the next one.
+/// Shows a line `RUN METRIC ORDINAL` for each measurement of the services that is due. METRIC is
+/// the metric's label, or on a terminal its name as people read it. With more than one service the
+/// line begins with the service; of late ones it does too, and ends with the moment since which the
+/// measurement is due. If there is none, a call that waits goes on until there is one or no run is
+/// open, and else it ends with `Refused`. If the desk has no such service, `errors` names it, and
+/// the call goes on with the next one.
 pub fn due<W: Write, F: Write>(
     rt: &HostRuntime,
     desk: &AskedDesk,

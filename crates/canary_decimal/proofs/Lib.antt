@@ -8,3 +8,4 @@ pub mod ReadsAll
 pub mod Shorts
 pub mod PointLemmas
 pub mod EndingLemmas
+pub mod EndingsApart

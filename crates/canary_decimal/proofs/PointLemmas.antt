@@ -155,7 +155,7 @@ all_digits_found ds rest part n i h e =
 
 -- ---- what is written is spelled
 
-own : IsNumeralModel (λ ds. list_all is_ascii_digit ds ≡ true) (digits_value 10)
+pub own : IsNumeralModel (λ ds. list_all is_ascii_digit ds ≡ true) (digits_value 10)
 own = numerals_by_value _ (search rules)
 
 decimal_digits : (q : ℕ) → q < 2 ^ 64 → IsDigits (decimal q)

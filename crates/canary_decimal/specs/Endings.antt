@@ -29,6 +29,12 @@ abbrev pub IsLabelOf : List ℕ → List ℕ → Units → Type 0
 IsLabelOf label name u =
     (0 < length name) × ((ending : List ℕ) × (label ≡ name ++ ending) × IsEnding ending u)
 
+-- THE LAW OF ENDINGS: a label is read as one name and one ending at most
+abbrev pub OneEnding : Type 0
+OneEnding =
+    (label first second : List ℕ) (u v : Units) → IsLabelOf label first u → IsLabelOf label second v
+    → (first ≡ second) × (u ≡ v)
+
 -- ---- the same, read from the left
 
 -- whether values with this shape begin with a length

@@ -1,7 +1,8 @@
 //! Whole numbers of 10^-places as people read them: with the point put back.
 ghost use Rattle.std.specs.Prelude.{◌≡◌, ◌+◌, ◌^◌, ◌<◌, ◌≤◌};
 ghost use Rattle.arrayvec.specs.ArrayString.{array_string_len};
-ghost use Rattle.canary_decimal.specs.Points.{IsFraction, IsBehind, IsWrittenAs, Spells, front_text};
+ghost use Rattle.canary_decimal.specs.Points.{IsFraction, IsBehind, IsWrittenAs, Spells};
+ghost use Rattle.canary_decimal.specs.Points.{front_text};
 
 use crate::decimal::with_zeros;
 use arrayvec::ArrayString;

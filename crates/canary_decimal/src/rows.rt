@@ -111,7 +111,7 @@ fn word_of(alloc: Global, text: &str) -> Result<u8, Memory> {
     }
 }
 
-// A label, a place of a list or `-`, and a number that is reported there; then the name and the text
+// A label, a place of a list or `-`, and a number that is reported there; then the name and text
 // that people read.
 const SHOWN: &str = "\
 success-rate.e6f - 953215 success-rate 0.953215
