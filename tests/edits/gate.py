@@ -50,9 +50,9 @@ class Gate:
         self.number = 0 if given.all else shares.turn_of(root)[0]
         self.crates = {it.name: it for it in rt.rtlib.crates_below(root)}
 
-    def is_tried(self, name):
-        share = shares.share_of(name) == self.number % shares.SHARES
-        return self.given.all or share or name in self.named
+    def is_tried(self, crate, edit):
+        share = shares.share_of(crate) == self.number % shares.SHARES
+        return self.given.all or share or f"{crate}/{edit}" in self.named
 
     def unbuilt(self):
         """The libraries below crates with planted bugs that are not built of these sources."""
@@ -73,7 +73,7 @@ class Gate:
         """Tries those bugs of a crate whose turn it is, beside a function as it is."""
         trial = self.trial(crate)
         every = planting.edits_in(f"{crate.folder}/planted", trial.source, self.kit_rt)
-        edits = [it for it in every if self.is_tried(f"{crate.name}/{it.name}")]
+        edits = [it for it in every if self.is_tried(crate.name, it.name)]
         functions = sorted({it for edit in every if edit.stays_inside for it in edit.changed})
         if not edits:
             return Came(0, 0, [])
@@ -81,7 +81,9 @@ class Gate:
         try:
             if self.given.all:
                 trial.look_at_all(functions)
-            also = functions[self.number % len(functions) :][:1] if functions else ()
+            # Another one each time that the crate's turn comes.
+            turns = self.number // shares.SHARES
+            also = functions[turns % len(functions) :][:1] if functions else ()
             trial.run(edits, () if self.given.all else also)
         except checks.Stopped as stopped:
             why = str(stopped)
