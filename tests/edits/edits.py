@@ -56,7 +56,7 @@ def main(root):
     dealt = collections.Counter(shares.share_of(it.parent.parent.name) for it in edits
                                 if it.parent.name == "planted")
     counts = ", ".join(f"{dealt[share]}" for share in range(shares.SHARES))
-    print(f"edits: {len(edits)} planted bugs, {len(faults)} do not fit the code; shares of {counts}")
+    print(f"edits: {len(edits)} planted bugs, {len(faults)} do not fit the code; shares: {counts}")
     return 1 if faults or not edits else 0
 
 

@@ -31,7 +31,7 @@ def words_given(words):
     made.add_argument("--of-ci", type=int, metavar="SECOND",
                       help="over what rt ci has built since that second of the clock")
     made.add_argument("--lanes", type=int, help="so many checks at a time")
-    made.add_argument("--limit", type=int, default=900, help="processor seconds of a check")
+    made.add_argument("--limit", type=int, default=1800, help="processor seconds of a check")
     made.add_argument("--minutes", type=int, default=0, help="of the clock, for all")
     made.add_argument("crates", nargs="*", metavar="CRATE", help="the bugs of these alone")
     given = made.parse_intermixed_args(words)
@@ -60,10 +60,15 @@ class Gate:
         return [name for name, it in below.items() if not it.is_built()]
 
     def with_bugs(self):
-        """The crates with planted bugs, the largest first."""
+        """The crates with planted bugs, those of which most are tried first."""
         found = [it for it in self.crates.values() if os.path.isdir(f"{it.folder}/planted")]
         wanted = self.given.crates or [it.name for it in found]
-        return sorted((it for it in found if it.name in wanted), key=lambda it: -it.count(b"\n"))
+        return sorted((it for it in found if it.name in wanted), key=self.tried_in, reverse=True)
+
+    def tried_in(self, crate):
+        """How many bugs of a crate are tried."""
+        names = os.listdir(f"{crate.folder}/planted")
+        return sum(self.is_tried(crate.name, it.removesuffix(".edit")) for it in names)
 
     def trial(self, crate, folder="out"):
         logs = f"{self.root}/tests/edits/{folder}"

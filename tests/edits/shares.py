@@ -12,8 +12,8 @@ import re
 import subprocess
 
 SHARES = 4
-# One of many numbers by which the four shares take alike long. Another one moves nearly all crates,
-# so that a bug may wait seven landings: whoever writes one tries all bugs, by tests/edits/run --all.
+# A number by which the four shares take about as long. Another one moves nearly all crates, so that
+# a bug may wait for seven landings: whoever writes one tries all bugs (tests/edits/run --all).
 DEAL = 2979
 TURN, NAMED = "tests/edits/turn", "tests/edits/named"
 LINES = re.compile(r"landing ([1-9]\d*)\ncrates ([0-9a-f]{64})\n")

@@ -128,17 +128,19 @@ class Trial:
         return faulty + unclear
 
     def look_at(self, functions, lines):
-        """Settles functions that no bug changes: a trial in which one has no proof says nothing. One
-        that calls a function with a bug waits for its proof, and shows nothing either way."""
+        """Settles functions that no bug changes: a trial in which one has no proof says nothing.
+        One that calls a function with a bug waits for its proof, and shows nothing either way."""
         for file, function in functions:
             if not self.stands(lines, file, function):
                 name = f"{function.module}{function.name} as it is"
                 self.settle(name, verdicts.UNSOUND, "beside a group", "it has no proof there")
 
     def stands(self, lines, file, function):
-        """Whether a check says that a function is proved, or waits for others alone."""
+        """Whether a check says that a function is proved, or that all of it is proved that does not
+        wait for others."""
         own = (lines, self.crate.name, file, function)
-        return verdicts.is_proved(*own) or verdicts.waits(*own)
+        told = [it for it in lines if verdicts.is_about(it, file, function)]
+        return verdicts.is_proved(*own) or (verdicts.waits(*own) and not told)
 
     def try_alone(self, edit, why):
         """Tries a bug once more, of which its group told nothing clear."""
