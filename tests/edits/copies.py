@@ -1,7 +1,8 @@
 """Copies of functions, so that one check tries many bugs of a function: the first is planted in the
 function, and each other one in a copy of it. A copy stands at the end of the file under a name of
-its own, and has a copy of the proof. Of each function that has copies one more is as the function
-is: if that is not proved, the others say nothing."""
+its own, and has a copy of the proof. If files of a proof are copied, one more copy is as the
+function is: if that is not proved, the others say nothing. A function whose proof has no file has
+no name that a copy could lose."""
 import re
 
 import bodies
@@ -67,15 +68,20 @@ class Copy:
             for file, text in source.proofs_in(old):
                 texts[new + file] = text.replace(dotted(old), dotted(new))
 
+    def has_files(self, source):
+        """Whether the proof of the function has files."""
+        folders = verdicts.folders_of(self.path, self.function)
+        return any(True for it in folders for _ in source.proofs_in(it))
+
 
 def dotted(folder):
     """How the files of a proof name its folder."""
     return "." + folder.replace("/", ".")
 
 
-def in_one(edits):
-    """The bugs that one check can try, as they are or in copies, with a copy of each function that
-    has one as it is; and the other bugs."""
+def in_one(edits, source):
+    """The bugs that one check can try, as they are or in copies; a copy as it is of each function
+    that has copies with files of a proof; and the other bugs."""
     made, left = [], []
     for edit in sorted(edits, key=can_be_made):
         if all(edit.is_apart(it) for it in made if it.lines):
@@ -84,5 +90,6 @@ def in_one(edits):
             made.append(Copy(*min(edit.changed), edit))
         else:
             left.append(edit)
-    copied = dict.fromkeys((it.path, it.function) for it in made if isinstance(it, Copy))
+    copied = dict.fromkeys((it.path, it.function) for it in made
+                           if isinstance(it, Copy) and it.has_files(source))
     return made, [Copy(*it) for it in copied], left

@@ -85,26 +85,27 @@ class Trial:
             it.write(f"{text}\n")
 
     def try_at_once(self, edits, also):
-        """Tries all bugs that one check can try, of a function in copies of it, beside one of each
-        such function as it is, or beside those of `also`. It gives the bugs of which the check
-        tells nothing clear, and those of `also`, if none of them was looked at."""
-        made, as_they_are, left = copies.in_one(edits)
+        """Tries all bugs that one check can try, of a function in copies of it, beside functions as
+        they are: copies too, or else those of `also`. It gives the bugs of which the check tells
+        nothing clear, and those of `also`, if none was looked at."""
+        made, as_they_are, left = copies.in_one(edits, self.source)
+        copied = [it for it in made if isinstance(it, copies.Copy)]
         beside = self.unchanged(also, made)
         if not as_they_are and not beside:
-            as_they_are = [copies.Copy(*it) for it in also if copies.can_copy(it[1])]
+            wanted = also or [(it.path, it.function) for it in copied[:1]]
+            as_they_are = [copies.Copy(*it) for it in wanted if copies.can_copy(it[1])]
         lines = self.check_some("at-once", made + as_they_are, beside) if made else []
         if not verdicts.reads(lines):
             return edits, also
-        unsound = {it.function for it in as_they_are if not self.stands(lines, *min(it.changed))}
+        is_sound = all(self.stands(lines, *min(it.changed)) for it in as_they_are)
         for it in made:
-            is_copy = isinstance(it, copies.Copy)
             verdict, said = verdicts.of_edit(lines, self.crate.name, it)
-            if verdict in verdicts.CLEAR and not (is_copy and it.function in unsound):
-                self.settle(it.name, verdict, "in a copy" if is_copy else "at once", said)
+            if verdict in verdicts.CLEAR and (is_sound or it not in copied):
+                self.settle(it.name, verdict, "in a copy" if it in copied else "at once", said)
             else:
-                left.append(it.edit if is_copy else it)
+                left.append(it.edit if it in copied else it)
         self.look_at(beside, lines)
-        return left, also if unsound else ()
+        return left, () if is_sound else also
 
     def try_group(self, edits, number, also=()):
         """Plants a group at once, and gives the bugs of which it tells nothing clear, with why.
