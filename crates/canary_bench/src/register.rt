@@ -228,6 +228,7 @@ fn print_probes(rt: &HostRuntime, book: &mut MemoryBook, aim: &Aim) -> Result<()
 }
 
 // A probe of the book.
+#[derive(Drop)]
 struct Asking<'a> {
     book: &'a mut MemoryBook,
     probe: Probe,

@@ -171,7 +171,7 @@ struct Desk {
 }
 
 // A new one, of which a write takes so many bytes.
-fn desk(alloc: Global, most_owed: usize, size: usize) -> Result<Desk, Memory> {
+fn new_desk(alloc: Global, most_owed: usize, size: usize) -> Result<Desk, Memory> {
     let routes = Routes::new(alloc)?;
     Ok(Desk {
         talk: Conversation::new(alloc, most_owed)?,
@@ -227,7 +227,7 @@ impl Desk {
 
 // Whether the stream is answered in these pieces, with no more owed than that and one reply.
 fn is_answered(alloc: Global, size: usize, out: usize, most: usize) -> Result<bool, Memory> {
-    let mut desk = desk(alloc, most, out)?;
+    let mut desk = new_desk(alloc, most, out)?;
     let ran = desk.run(alloc, &mut reading(STREAM, size, 0), FAR, MOST_TURNS)?;
     let is_bounded = ran.owed < most.max(1).saturating_add(300) && ran.turns < MOST_TURNS;
     Ok(is_bounded && desk.writer.bytes.as_slice() == REPLIES.as_bytes())
@@ -257,7 +257,7 @@ fn is_written(
     writes: usize,
     turns: u32,
 ) -> Result<bool, Memory> {
-    let mut desk = desk(alloc, 1_000_000, 1_000_000)?;
+    let mut desk = new_desk(alloc, 1_000_000, 1_000_000)?;
     let ran = desk.run(alloc, &mut reading(stream, 100_000, 1), pace, MOST_TURNS)?;
     Ok(desk.writer.writes == writes && ran.turns <= turns)
 }
@@ -303,7 +303,7 @@ const TICK_AND_QUERY: &str = concat!(
 // How many replies a conversation has after some turns, first while no query is answered and then
 // while each is: a request and a query were sent.
 fn replies_before_and_after(alloc: Global) -> Result<(usize, usize), Memory> {
-    let mut desk = desk(alloc, 16_384, 1_000)?;
+    let mut desk = new_desk(alloc, 16_384, 1_000)?;
     let mut reader = reading(TICK_AND_QUERY, 1000, 1);
     let before = desk.replies(alloc, &mut reader, WAITING);
     Ok((before, desk.replies(alloc, &mut reader, FAR)))
@@ -347,13 +347,13 @@ fn check_new(rt: &impl Abort, alloc: Global, desk: &mut Desk) -> Result<(), Fail
 #[test]
 fn settles_nothing_unanswered(rt: HostRuntime) -> Result<(), Fail> {
     let alloc = rt.alloc();
-    let mut desk = desk(alloc, 16_384, 1_000_000)?;
+    let mut desk = new_desk(alloc, 16_384, 1_000_000)?;
     check_new(&rt, alloc, &mut desk)
 }
 
 // Whether a conversation is open at first, and stands so after it has answered these bytes.
 fn is_at(alloc: Global, stream: &str, stage: Stage) -> Result<bool, Memory> {
-    let mut desk = desk(alloc, 16_384, 1_000)?;
+    let mut desk = new_desk(alloc, 16_384, 1_000)?;
     let before = desk.talk.stage();
     desk.replies(alloc, &mut reading(stream, 1000, 1), FAR);
     Ok(before == Stage::Open && desk.talk.stage() == stage)
