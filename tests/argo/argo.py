@@ -4,11 +4,16 @@ import argparse
 import os
 import sys
 import time
+import traceback
 
+import examples
+import hostile
+import inputs
+import outputs
 import pairs
 from asked import Trial, Wrong
 
-MODULES = (pairs,)
+MODULES = (examples, outputs, inputs, hostile, pairs)
 
 
 def parts_of(module):
@@ -27,6 +32,9 @@ def try_part(name, trial):
     except Wrong as why:
         print(f"argo: {name} FAILED: {why}", file=sys.stderr)
         return False
+    except Exception:  # pylint: disable=broad-except
+        print(f"argo: {name} FAILED\n{traceback.format_exc()}", file=sys.stderr)
+        return False
     seconds = time.monotonic() - begun
     print(f"argo: {name}: {told} ({seconds:.1f} s)", file=sys.stderr, flush=True)
     return True
@@ -44,8 +52,8 @@ def main():
     given = words.parse_args()
     if unknown := set(given.parts) - set(PARTS):
         sys.exit(f"argo: unknown part: {' '.join(sorted(unknown))}")
-    trial = Trial(os.path.realpath(given.program), given.examples, given.folder, given.seed,
-                  given.all)
+    trial = Trial(*map(os.path.realpath, (given.program, given.examples, given.folder)),
+                  given.seed, given.all)
     print(f"argo: --seed {given.seed}", file=sys.stderr)
     names = given.parts or (["try_planted"] if given.selftest else PARTS)
     failed = [name for name in names if not try_part(name, trial)]

@@ -18,6 +18,26 @@ def expect(row, found, wanted):
         raise Wrong(f"{row}\n  wanted {wanted!r}\n  and got {found!r}")
 
 
+class Faults:
+    """What is not as it must be, all of it."""
+
+    def __init__(self):
+        self.found = []
+
+    def __enter__(self):
+        return self
+
+    def __exit__(self, kind, fault, _):
+        """Keeps a fault, so that what follows is tried, too."""
+        if kind is Wrong:
+            self.found.append(str(fault))
+        return kind is Wrong
+
+    def end(self):
+        if self.found:
+            raise Wrong("\n  ".join([f"{len(self.found)} are wrong", *self.found[:20]]))
+
+
 def run(program, words, given=None, **more):
     """Runs the program with a text in bytes as its input, or none."""
     source = {"input": given} if given is not None else {"stdin": more.pop(
