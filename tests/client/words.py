@@ -88,7 +88,7 @@ def try_words(world):
         desk.write("long.json", '{"metadata":{"name":"long"},"status":"' + "x" * 65536 + '"}')
         for words in (("promote",), ("promote", "web", "v2"), ("tick", "web", "1", "2"),
                       ("promoteFull", "web"), ("template",), ("template", "t.json", "v1"),
-                      ("stop", "web"), ("",)):
+                      ("stop", "web"), ("",), ("report", "web", "1", "errors", "5", "6")):
             want(words, desk.do(*words), WORDS, said=COMMAND)
         want("an invalid name", desk.do("promote", "Web"), WORDS, said=INVALID_NAME)
         for words in (("start", "web"), ("service", "web.json")):

@@ -3,6 +3,13 @@
 //!
 //! Callers may rest on this: nothing is translated if anything is found; and of each manifest that
 //! is made canary_check finds nothing, so a desk takes it.
+//!
+//! In use (canary_cli, src/argo.rt):
+//!
+//!     let manifests = manifests_of(rt, files, input, errors)?;
+//!     let Ok(translated) = translate(rt.alloc(), &manifests) else {
+//!         return Err(Fault::Memory);
+//!     };
 #![tactic(auto)]
 
 pub mod found;

@@ -41,6 +41,12 @@ pub enum ReadFault {
     File(usize),
 }
 
+impl From<Memory> for ReadFault {
+    fn from(_: Memory) -> ReadFault {
+        ReadFault::Memory
+    }
+}
+
 /// The documents of the files of these names; `-` is standard input. A file is one manifest in JSON
 /// (RFC 8259), or documents in YAML (yaml.org/spec/1.2.2).
 ///

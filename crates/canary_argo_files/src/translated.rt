@@ -1,4 +1,7 @@
 //! What files of manifests become.
+ghost use Rattle.std.specs.Prelude.{◌≡◌, false, IfOk, IsTrue};
+ghost use Rattle.canary_argo_files.specs.Taken.{are_taken};
+
 use crate::found::Findings;
 use crate::placing::found_at;
 use crate::reading::Manifests;
@@ -21,18 +24,27 @@ pub struct Translated {
     pub found: Findings,
     /// What has to be known of the translation.
     pub notes: Findings,
+    // Whether a desk takes each manifest that is made.
+    are_taken: bool,
 }
 
 impl Translated {
     /// Whether anything keeps them from being translated.
-    pub fn is_found(&self) -> bool {
-        !self.found.is_empty()
+    pub fn is_found(&self) -> bool
+        ensures { result ≡ false → IsTrue self.now.are_taken }
+    {
+        !self.are_taken || !self.found.is_empty()
     }
 }
 
 /// What these files become, and what is found in them; or `Memory`. If nothing is found, the check
 /// of a manifest finds nothing in what is made, so a desk takes it.
-pub fn translate(alloc: Global, manifests: &Manifests) -> Result<Translated, Memory> {
+pub fn translate(alloc: Global, manifests: &Manifests) -> Result<Translated, Memory>
+    ensures templates { IfOk result (λ t.
+        IsTrue t.are_taken → IsTrue (are_taken t.made.templates)) }
+    ensures services { IfOk result (λ t.
+        IsTrue t.are_taken → IsTrue (are_taken t.made.services)) }
+{
     let made = convert(alloc, sources_of(manifests))?;
     let mut found = Findings::new(alloc);
     found.add_all(alloc, &manifests.found)?;
@@ -45,7 +57,26 @@ pub fn translate(alloc: Global, manifests: &Manifests) -> Result<Translated, Mem
     }
     let mut notes = Findings::new(alloc);
     add_placed(alloc, &mut notes, manifests, made.notes.as_slice())?;
-    Ok(Translated { made, found, notes })
+    let are_taken = are_taken(alloc, made.templates.as_slice())?
+        && are_taken(alloc, made.services.as_slice())?;
+    Ok(Translated {
+        made,
+        found,
+        notes,
+        are_taken,
+    })
+}
+
+// Whether a desk takes each of these manifests.
+fn are_taken(alloc: Global, made: &[Made]) -> Result<bool, Memory>
+    ensures { IfOk result (λ are. are ≡ are_taken made.now) }
+{
+    for manifest in made {
+        if !check(alloc, manifest.json.as_bytes())?.is_ok() {
+            return Ok(false);
+        }
+    }
+    Ok(true)
 }
 
 // The documents: none if a file was not read to its end, since others may need what it has.

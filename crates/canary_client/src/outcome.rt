@@ -8,7 +8,7 @@ use canary_journal::entry::Refusal;
 use canary_markup::shown::{Form, shown};
 use canary_sending::kept::KeepFault;
 use canary_sending::settle::Unsettled;
-use std::alloc::{AllocError, Global};
+use std::alloc::{AllocError, AllocFailed, Global};
 use std::io::Write;
 
 // What is said if no answer came.
@@ -390,6 +390,12 @@ pub fn show<W: Write>(output: &mut W, line: &str) -> Result<(), Stop>
 
 impl From<Memory> for Stop {
     fn from(_: Memory) -> Stop {
+        Stop::Memory
+    }
+}
+
+impl<T: Drop> From<AllocFailed<T>> for Stop {
+    fn from(_: AllocFailed<T>) -> Stop {
         Stop::Memory
     }
 }

@@ -1,6 +1,6 @@
 -- How the numbers, texts and flags that were given are got: what the getters of the matches answer.
-use Rattle.std.proofs.Common.{inl, inr, ◌≡◌, ◌≤◌, ℕ, Result, Ok, Err, ◌∙◌, ap, sym, Bool, true, false, List, Option, Some, None, codes, refl}
-use Rattle.std.specs.Prelude.{IfSome, find, map, option_and_then, option_map, slice_get}
+use Rattle.std.proofs.Common.{inl, inr, ◌≡◌, ◌≤◌, ℕ, Result, Ok, Err, ◌∙◌, ap, sym, Bool, true, false, List, [], Option, Some, None, codes, refl}
+use Rattle.std.specs.Prelude.{IfSome, find, map, option_and_then, option_map, slice_get, unwrap_or}
 use Rattle.std.specs.Option.{SomeIff, option_map_or}
 use Rattle.std.specs.Str.{bytes_eq}
 use Rattle.std.specs.Str.Parse.{ParsesUnsigned, digits_value, without_leading_plus}
@@ -8,7 +8,7 @@ use Rattle.std.specs.Borrow.{Bor}
 use Rattle.clap.specs.Words.{IsUnsignedIn, ReadsOne, Row, Text, first_value, matched_of, one_of, one_text, raw_values, rows_of}
 use Rattle.clap.specs.declared.parser.matches.Found.{Found}
 use Rattle.clap.proofs.WalkLemmas.{first_value-rows, one_text-rows, raw_values-rows}
-use Rattle.canary_words.specs.CommandLine.{flag_given, number_given, text_given, texts_given, HasMoment, HasText, IsTrueOrFalse, MayHaveFlag, MayHaveNumber}
+use Rattle.canary_words.specs.CommandLine.{flag_given, number_given, text_given, texts_given, texts_or_none, HasMoment, HasText, IsTrueOrFalse, MayHaveFlag, MayHaveNumber}
 
 -- the number that is read of a text that passed the parser of a number
 number_read : (E : Type 0) (G : List ℕ → Result ℕ E → Type 0) (least most : ℕ) (text : Text) (r : Option ℕ) → ReadsOne G text r
@@ -60,6 +60,11 @@ pub texts_met : (f : Found) (name : Text) (r : Option (Bor (List (Bor Text)))) �
     → (s : Bor (List (Bor Text))) × (r ≡ Some s) × (texts_given name (rows_of f) ≡ Some (map (λ v. v.now) s.now))
 texts_met f name None has got = absurd (none_given name (rows_of f) has.0 (sym (got ∙ raw_values-rows f name)) has.1)
 texts_met f name (Some s) has got = (s, refl, sym (got ∙ raw_values-rows f name))
+
+-- those that may be left out, as they are got
+pub texts_or_left_out : (f : Found) (name : Text) (r : Option (Bor (List (Bor Text)))) → option_map (λ s. map (λ v. v.now) s.now) r ≡ option_map raw_values (matched_of f name)
+    → unwrap_or (option_map (λ s. map (λ v. v.now) s.now) r) [] ≡ texts_or_none name (rows_of f)
+texts_or_left_out f name r got = ap (λ o. unwrap_or o []) (got ∙ raw_values-rows f name)
 
 -- and that of an option that may be left out
 pub text_or_none : (f : Found) (name : Text) (r : Option (Bor Text)) → option_map (λ s. s.now) r ≡ first_value f name → option_map (λ s. s.now) r ≡ text_given name (rows_of f)

@@ -11,7 +11,7 @@ use Rattle.clap.specs.Kinds.{check_kinds}
 use Rattle.clap.specs.Faults.{check_fault, level_fault}
 use Rattle.clap.specs.declared.builder.value_parser.ValueParser.TheVariants.{Bool as bool_parser, Unsigned}
 use Rattle.clap.proofs.ValueTestLemmas.{accepts-Accepts}
-use Rattle.canary_words.specs.CommandLine.{desk_command, number_option, pipe_command, HasAsked, HasCheck, HasDesk, HasDo, HasDue, HasExport, HasImport, HasListener, HasMigrate, HasPage, HasPipe, HasStatus, HasTexts, HasWatch, IsTrueOrFalse}
+use Rattle.canary_words.specs.CommandLine.{desk_command, number_option, pipe_command, HasArgo, HasAsked, HasCheck, HasDesk, HasDo, HasDue, HasExport, HasImport, HasListener, HasMigrate, HasPage, HasPipe, HasStatus, HasTexts, HasWatch, IsTrueOrFalse}
 use Rattle.canary_words.proofs.Walks.{AreOptions, AreRead, given_text, optional_text, read-level}
 
 -- the desk and its commands, as they are built
@@ -51,20 +51,23 @@ migrate = built_at 8
 abbrev pub check : Shape
 check = built_at 9
 
+abbrev pub argo : Shape
+argo = built_at 10
+
 abbrev pub asking : Shape
-asking = built_at 10
+asking = built_at 11
 
 abbrev pub get : Shape
-get = built_at 11
+get = built_at 12
 
 abbrev pub watch : Shape
-watch = built_at 12
+watch = built_at 13
 
 abbrev pub send : Shape
-send = built_at 13
+send = built_at 14
 
 abbrev pub due : Shape
-due = built_at 14
+due = built_at 15
 
 -- ---- what each command has to be given
 
@@ -98,8 +101,11 @@ migrate_options = (record { own = refl; default = tt; takes = inl (refl, refl) }
 check_options : AreOptions check.rules check.rules
 check_options = (record { own = refl; default = tt; takes = inl (refl, refl) }, (record { own = refl; default = refl; takes = inr (inl (refl, tt)) }, (record { own = refl; default = tt; takes = inl (refl, refl) }, (record { own = refl; default = tt; takes = inr (inr refl) }, tt))))
 
+argo_options : AreOptions argo.rules argo.rules
+argo_options = (record { own = refl; default = tt; takes = inl (refl, refl) }, (record { own = refl; default = refl; takes = inr (inl (refl, tt)) }, (record { own = refl; default = tt; takes = inl (refl, refl) }, (record { own = refl; default = tt; takes = inr (inr refl) }, tt))))
+
 asking_options : AreOptions asking.rules asking.rules
-asking_options = (record { own = refl; default = tt; takes = inl (refl, refl) }, (record { own = refl; default = tt; takes = inl (refl, refl) }, (record { own = refl; default = tt; takes = inl (refl, refl) }, (record { own = refl; default = tt; takes = inl (refl, refl) }, (record { own = refl; default = tt; takes = inl (refl, refl) }, (record { own = refl; default = tt; takes = inl (refl, refl) }, (record { own = refl; default = refl; takes = inr (inl (refl, tt)) }, (record { own = refl; default = tt; takes = inl (refl, refl) }, (record { own = refl; default = tt; takes = inl (refl, refl) }, (record { own = refl; default = tt; takes = inl (refl, refl) }, (record { own = refl; default = tt; takes = inl (refl, refl) }, (record { own = refl; default = tt; takes = inl (refl, refl) }, (record { own = refl; default = tt; takes = inl (refl, refl) }, (record { own = refl; default = tt; takes = inr (inr refl) }, tt))))))))))))))
+asking_options = (record { own = refl; default = tt; takes = inl (refl, refl) }, (record { own = refl; default = tt; takes = inl (refl, refl) }, (record { own = refl; default = tt; takes = inl (refl, refl) }, (record { own = refl; default = tt; takes = inl (refl, refl) }, (record { own = refl; default = tt; takes = inl (refl, refl) }, (record { own = refl; default = tt; takes = inl (refl, refl) }, (record { own = refl; default = refl; takes = inr (inl (refl, tt)) }, (record { own = refl; default = refl; takes = inr (inl (refl, tt)) }, (record { own = refl; default = tt; takes = inl (refl, refl) }, (record { own = refl; default = tt; takes = inl (refl, refl) }, (record { own = refl; default = tt; takes = inl (refl, refl) }, (record { own = refl; default = tt; takes = inl (refl, refl) }, (record { own = refl; default = tt; takes = inl (refl, refl) }, (record { own = refl; default = tt; takes = inl (refl, refl) }, (record { own = refl; default = tt; takes = inl (refl, refl) }, (record { own = refl; default = tt; takes = inr (inr refl) }, tt))))))))))))))))
 
 get_options : AreOptions get.rules get.rules
 get_options = (record { own = refl; default = tt; takes = inl (refl, refl) }, (record { own = refl; default = tt; takes = inl (refl, refl) }, (record { own = refl; default = tt; takes = inl (refl, refl) }, (record { own = refl; default = tt; takes = inl (refl, refl) }, (record { own = refl; default = tt; takes = inl (refl, refl) }, (record { own = refl; default = tt; takes = inr (inr refl) }, tt))))))
@@ -253,6 +259,14 @@ check_rows words none =
     let rows : List Row = rows_after check.rules [] words in
     flag_passed (one_of (codes "strict") rows) (optional_text check.rules (codes "strict") _ rows refl level.0)
 
+-- the rows of `argo`
+pub argo_rows : (words : List Text) → level_fault argo [] nothing_held words false [] ≡ [] → HasArgo (rows_after argo.rules [] words)
+argo_rows words none =
+    let level = read-level argo [] words false [] argo_options none in
+    let rows : List Row = rows_after argo.rules [] words in
+    let file = given_text argo.rules (codes "file") _ rows refl level.0 (one_given (is_given (codes "file") rows) level.1) in
+    ((file.0, file.2), flag_passed (one_of (codes "json") rows) (optional_text argo.rules (codes "json") _ rows refl level.0))
+
 -- ---- what the commands that ask a desk have to be given
 
 abbrev tries_rule : Rule
@@ -286,6 +300,7 @@ do_rows words none =
     let rows : List Row = rows_after asking.rules [] words in (
       asked_rows asking (codes "command") _ words asking_options refl refl refl (one_given (is_given (codes "command") rows)) none,
       flag_passed (one_of (codes "instead") rows) (optional_text asking.rules (codes "instead") _ rows refl level.0),
+      flag_passed (one_of (codes "argo") rows) (optional_text asking.rules (codes "argo") _ rows refl level.0),
     )
 
 -- the rows of `get`

@@ -1,6 +1,6 @@
 -- The command lines that the desk takes, by clap's definition of a simple command.
 use Rattle.std.specs.Prelude.{◌≡◌, ◌≢◌, ◌⊎◌, ℕ, Bool, true, false, List, [], ◌∷◌, Option, Some, None, codes}
-use Rattle.std.specs.Prelude.{option_map, option_and_then, IfSome, if◌then◌else◌}
+use Rattle.std.specs.Prelude.{option_map, option_and_then, unwrap_or, IfSome, if◌then◌else◌}
 use Rattle.std.specs.Option.{option_map_or}
 use Rattle.std.specs.Str.{bytes_eq}
 use Rattle.std.specs.Str.Parse.{digits_value, without_leading_plus}
@@ -23,7 +23,7 @@ use Rattle.canary_words.specs.declared.words.AskedLimits.{AskedLimits}
 use Rattle.canary_words.specs.declared.words.Program.{Program}
 use Rattle.canary_words.specs.declared.words.Program.TheVariants.{Pipe, Serve, Import, History}
 use Rattle.canary_words.specs.declared.words.Program.TheVariants.{Export, Status, Page, Backup}
-use Rattle.canary_words.specs.declared.words.Program.TheVariants.{Migrate, Check, Ask}
+use Rattle.canary_words.specs.declared.words.Program.TheVariants.{Migrate, Check, Argo, Ask}
 use Rattle.canary_words.specs.declared.words.WordsFault.{WordsFault}
 use Rattle.canary_words.specs.declared.words.WordsFault.TheVariants.{Help, Usage, Memory}
 
@@ -52,6 +52,10 @@ text_words name = record (text_word name) { range = Some one_or_more }
 -- the word `VALUE`, which may be given
 abbrev pub optional_word : Text → Rule
 optional_word name = with_value name false
+
+-- the words `VALUE..`, of which any number may be given
+abbrev pub more_words : Text → Rule
+more_words name = record (optional_word name) { range = Some one_or_more }
 
 -- the option `--NAME VALUE`, which has to be given if `is_required`
 abbrev pub text_option : Text → Bool → Rule
@@ -86,6 +90,7 @@ rule_for (part.Optional name _ _) = text_option name.now false
 rule_for (part.Word name _ _) = text_word name.now
 rule_for (part.OptionalWord name _ _) = optional_word name.now
 rule_for (part.SomeWords name _ _) = text_words name.now
+rule_for (part.MoreWords name _ _) = more_words name.now
 
 -- with these, in turn
 abbrev pub with_parts : App → List Part → App
@@ -170,23 +175,28 @@ abbrev pub check_command : App
 check_command = with_rule (with_rule (with_rule (new_app (codes "check"))
     (text_option (codes "request") false)) (flag (codes "strict"))) (optional_word (codes "file"))
 
+-- `argo --out FOLDER --json FILE..`
+abbrev pub argo_command : App
+argo_command = with_rule (with_rule (with_rule (new_app (codes "argo"))
+    (text_option (codes "out") false)) (flag (codes "json"))) (text_words (codes "file"))
+
 -- `--desk IP:PORT --tries N --timeout SECONDS`
 abbrev pub with_desk_options : App → App
 with_desk_options a = with_rule (with_rule (with_rule a (text_option (codes "desk") false))
     (number_option (codes "tries") 1000)) (number_option (codes "timeout") 86400)
 
--- `COMMAND FIRST SECOND THIRD FOURTH`, of which only the first has to be given
+-- `COMMAND FIRST SECOND THIRD FOURTH MORE..`, of which only the first has to be given
 abbrev pub with_command_words : App → App
-with_command_words a = with_rule (with_rule (with_rule (with_rule (with_rule a
+with_command_words a = with_rule (with_rule (with_rule (with_rule (with_rule (with_rule a
     (text_word (codes "command"))) (optional_word (codes "first")))
     (optional_word (codes "second"))) (optional_word (codes "third")))
-    (optional_word (codes "fourth"))
+    (optional_word (codes "fourth"))) (more_words (codes "more"))
 
--- `--as NAME --journal FILE --once KEY --instead --failure TEXT`
+-- `--as NAME --journal FILE --once KEY --instead --argo --failure TEXT`
 abbrev pub with_do_options : App → App
-with_do_options a = with_rule (with_rule (with_rule (with_rule (with_rule a
+with_do_options a = with_rule (with_rule (with_rule (with_rule (with_rule (with_rule a
     (text_option (codes "as") false)) (text_option (codes "journal") false))
-    (text_option (codes "once") false)) (flag (codes "instead")))
+    (text_option (codes "once") false)) (flag (codes "instead"))) (flag (codes "argo")))
     (text_option (codes "failure") false)
 
 -- `do COMMAND`, with its options and the words of the command
@@ -236,8 +246,9 @@ bare_desk = on_top (λ s. record s {
 
 -- one of the commands
 abbrev pub desk_command : App
-desk_command = with_client_commands (with_subcommand (with_records_commands (with_subcommand
-    (with_subcommand bare_desk pipe_command.top) serve_command.top)) check_command.top)
+desk_command = with_client_commands (with_subcommand (with_subcommand (with_records_commands
+    (with_subcommand (with_subcommand bare_desk pipe_command.top) serve_command.top))
+    check_command.top) argo_command.top)
 
 -- what clap finds in the words behind the program's name: the kind of the first mistake, or of a
 -- request for help or for the version, and nothing where the desk takes them
@@ -262,6 +273,10 @@ text_given = first_of
 -- the texts that were given
 abbrev pub texts_given : Text → List Row → Option (List Text)
 texts_given = all_of
+
+-- the texts that were given, and none if there are none
+abbrev pub texts_or_none : Text → List Row → List Text
+texts_or_none name rows = unwrap_or (texts_given name rows) []
 
 abbrev pub piped : Option ℕ → Option ℕ → Option Text → Option ℕ → Option Program
 piped (Some at) (Some step) db cache = Some (Pipe at step db cache)
@@ -329,6 +344,10 @@ abbrev pub check_of : List Row → Option Program
 check_of rows = Some (Check (text_given (codes "file") rows) (text_given (codes "request") rows)
     (flag_given (codes "strict") rows))
 
+abbrev pub argo_of : List Row → Option Program
+argo_of rows = option_map (λ files. Argo files (text_given (codes "out") rows)
+    (flag_given (codes "json") rows)) (texts_given (codes "file") rows)
+
 -- where the desk is, and how patiently it is asked, as far as it was given
 abbrev pub desk_of : List Row → AskedDesk
 desk_of rows = record {
@@ -345,6 +364,7 @@ command_of rows = option_map (λ kind. record {
   second = text_given (codes "second") rows;
   third = text_given (codes "third") rows;
   fourth = text_given (codes "fourth") rows;
+  more = texts_or_none (codes "more") rows;
   failure = text_given (codes "failure") rows;
 }) (text_given (codes "command") rows)
 
@@ -355,6 +375,7 @@ do_of rows = option_map (λ command. Ask (Do record {
   journal = text_given (codes "journal") rows;
   key = text_given (codes "once") rows;
   is_instead = flag_given (codes "instead") rows;
+  is_argo = flag_given (codes "argo") rows;
   command = command;
 })) (command_of rows)
 
@@ -396,6 +417,7 @@ program_in p = if bytes_eq p.0 (codes "pipe") then pipe_of p.1
     else if bytes_eq p.0 (codes "backup") then backup_of p.1
     else if bytes_eq p.0 (codes "migrate") then migrate_of p.1
     else if bytes_eq p.0 (codes "check") then check_of p.1
+    else if bytes_eq p.0 (codes "argo") then argo_of p.1
     else client_program_in p
 
 -- the program of the words that the desk takes
@@ -485,6 +507,9 @@ HasMigrate rows = HasText (codes "db") rows × MayHaveFlag (codes "dry-run") row
 abbrev pub HasCheck : List Row → Type 0
 HasCheck rows = MayHaveFlag (codes "strict") rows
 
+abbrev pub HasArgo : List Row → Type 0
+HasArgo rows = HasText (codes "file") rows × MayHaveFlag (codes "json") rows
+
 abbrev pub HasDesk : List Row → Type 0
 HasDesk rows = MayHaveNumber (codes "tries") 1000 rows × MayHaveNumber (codes "timeout") 86400 rows
 
@@ -494,6 +519,7 @@ HasAsked name rows = HasDesk rows × HasText name rows
 
 abbrev pub HasDo : List Row → Type 0
 HasDo rows = HasAsked (codes "command") rows × MayHaveFlag (codes "instead") rows
+    × MayHaveFlag (codes "argo") rows
 
 abbrev pub HasWatch : List Row → Type 0
 HasWatch rows = HasAsked (codes "service") rows × MayHaveFlag (codes "json") rows
@@ -526,4 +552,5 @@ HasClientProgram met = Meets (codes "do") HasDo met
 abbrev pub HasProgram : Option (Text × List Row) → Type 0
 HasProgram met = Meets (codes "pipe") HasPipe met
     ⊎ (Meets (codes "serve") HasListener met ⊎ (HasRecordsProgram met
-    ⊎ (Meets (codes "check") HasCheck met ⊎ HasClientProgram met)))
+    ⊎ (Meets (codes "check") HasCheck met ⊎ (Meets (codes "argo") HasArgo met
+    ⊎ HasClientProgram met))))

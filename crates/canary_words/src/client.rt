@@ -4,13 +4,13 @@ ghost use Rattle.clap.specs.Words.{found_of, rows_of, subcommand_rows_of};
 ghost use Rattle.canary_words.specs.CommandLine.{program_in, text_given, HasText, do_of, get_of};
 ghost use Rattle.canary_words.specs.CommandLine.{watch_of, send_of, due_of, desk_of, command_of};
 ghost use Rattle.canary_words.specs.CommandLine.{HasClientProgram, HasDesk, HasAsked, HasDo};
-ghost use Rattle.canary_words.specs.CommandLine.{HasDue, HasWatch};
+ghost use Rattle.canary_words.specs.CommandLine.{HasDue, HasWatch, texts_or_none};
 
 use crate::values::{
-    flag_given, number_given, optional_text, text_given, texts_given, two_optional,
+    flag_given, number_given, optional_text, text_given, texts_given, texts_or_none, two_optional,
 };
 use crate::words::{Asked, AskedCommand, AskedDesk, Call, Program};
-use canary_base::lists::Text;
+use canary_base::lists::{Listed, Text};
 use clap::ArgMatches;
 use std::alloc::{AllocError, Global};
 
@@ -52,6 +52,7 @@ fn do_of(alloc: Global, asked: &ArgMatches<'_>) -> Result<Program, AllocError>
         journal,
         key,
         is_instead: flag_given(asked, "instead"),
+        is_argo: flag_given(asked, "argo"),
         command,
     })))
 }
@@ -166,7 +167,7 @@ fn command_of(alloc: Global, asked: &ArgMatches<'_>) -> Result<AskedCommand, All
     ensures { IfOk result (λ c. command_of (rows_of (found_of asked.now)) ≡ Some c) }
 {
     let words = further_words(alloc, asked)?;
-    let (kind, failure) = kind_and_failure(alloc, asked)?;
+    let (more, (kind, failure)) = more_and_kind(alloc, asked)?;
     let ((first, second), (third, fourth)) = words;
     Ok(AskedCommand {
         kind,
@@ -174,11 +175,12 @@ fn command_of(alloc: Global, asked: &ArgMatches<'_>) -> Result<AskedCommand, All
         second,
         third,
         fourth,
+        more,
         failure,
     })
 }
 
-// The words that follow the kind of the command.
+// The first four words that follow the kind of the command.
 fn further_words(
     alloc: Global,
     asked: &ArgMatches<'_>,
@@ -190,6 +192,20 @@ fn further_words(
 {
     let begun = two_optional(alloc, asked, "first", "second")?;
     Ok((begun, two_optional(alloc, asked, "third", "fourth")?))
+}
+
+// The words behind the first four, and the kind of the command with why a measurement failed.
+fn more_and_kind(
+    alloc: Global,
+    asked: &ArgMatches<'_>,
+) -> Result<(Listed<Text>, (Text, Option<Text>)), AllocError>
+    requires { HasText (codes "command") (rows_of (found_of asked.now)) }
+    ensures { IfOk result (λ m. (m.0 ≡ texts_or_none (codes "more") (rows_of (found_of asked.now)))
+        × (text_given (codes "command") (rows_of (found_of asked.now)) ≡ Some m.1.0)
+        × (m.1.1 ≡ text_given (codes "failure") (rows_of (found_of asked.now)))) }
+{
+    let more = texts_or_none(alloc, asked, "more")?;
+    Ok((more, kind_and_failure(alloc, asked)?))
 }
 
 // The kind of the command, and why a measurement failed.

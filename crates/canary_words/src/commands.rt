@@ -10,7 +10,7 @@ ghost use Rattle.canary_words.specs.CommandLine.{text_option, text_word, text_wo
 ghost use Rattle.canary_words.specs.CommandLine.{with_numbers, with_value, with_client_commands};
 ghost use Rattle.canary_words.specs.CommandLine.{do_command, get_command, watch_command};
 ghost use Rattle.canary_words.specs.CommandLine.{send_command, due_command, with_desk_options};
-ghost use Rattle.canary_words.specs.CommandLine.{rule_for, with_parts};
+ghost use Rattle.canary_words.specs.CommandLine.{rule_for, with_parts, argo_command, more_words};
 
 use crate::help;
 use canary_base::moments::LAST_MOMENT;
@@ -67,6 +67,8 @@ enum Part {
     OptionalWord(&'static str, &'static str, &'static str),
     // `VALUE..`, any texts, of which at least one has to be given.
     SomeWords(&'static str, &'static str, &'static str),
+    // `VALUE..`, any texts, of which any number may be given.
+    MoreWords(&'static str, &'static str, &'static str),
 }
 
 // `--cache BYTES`.
@@ -84,6 +86,7 @@ pub(crate) fn desk_command<'a>(alloc: Global) -> Result<Command<'a>, AllocError>
     let desk = with_command(desk, serve_command(alloc));
     let desk = with_records_commands(alloc, desk);
     let desk = with_command(desk, check_command(alloc));
+    let desk = with_command(desk, argo_command(alloc));
     with_client_commands(alloc, desk)
 }
 
@@ -296,21 +299,36 @@ fn check_command<'a>(alloc: Global) -> Result<Command<'a>, AllocError>
     with_parts(alloc, check, &PARTS)
 }
 
+// `argo FILE..` and its options.
+fn argo_command<'a>(alloc: Global) -> Result<Command<'a>, AllocError>
+    ensures { IfOk result (λ c. app_of c ≡ argo_command) }
+{
+    static PARTS: [Part; 3] = [
+        Part::Optional("out", "FOLDER", help::ARGO_OUT_HELP),
+        Part::Flag("json", help::ARGO_JSON_HELP),
+        Part::SomeWords("file", "FILE", help::ARGO_FILES_HELP),
+    ];
+    let argo = command(alloc, "argo", help::ARGO_ABOUT, help::ARGO_HELP);
+    with_parts(alloc, argo, &PARTS)
+}
+
 // `do COMMAND` with the words of the command, and its options.
 fn do_command<'a>(alloc: Global) -> Result<Command<'a>, AllocError>
     ensures { IfOk result (λ c. app_of c ≡ do_command) }
 {
-    static PARTS: [Part; 10] = [
+    static PARTS: [Part; 12] = [
         Part::Optional("as", "NAME", help::AS_HELP),
         Part::Optional("journal", "FILE", help::JOURNAL_HELP),
         Part::Optional("once", "KEY", help::ONCE_HELP),
         Part::Flag("instead", help::INSTEAD_HELP),
+        Part::Flag("argo", help::ARGO_OPTION_HELP),
         Part::Optional("failure", "TEXT", help::FAILURE_HELP),
         Part::Word("command", "COMMAND", help::COMMAND_HELP),
         Part::OptionalWord("first", "FIRST", help::FIRST_HELP),
         Part::OptionalWord("second", "SECOND", help::SECOND_HELP),
         Part::OptionalWord("third", "THIRD", help::THIRD_HELP),
         Part::OptionalWord("fourth", "FOURTH", help::FOURTH_HELP),
+        Part::MoreWords("more", "MORE", help::MORE_HELP),
     ];
     let asked = command(alloc, "do", help::DO_ABOUT, help::DO_HELP);
     let asked = asked.override_usage(help::DO_USAGE);
@@ -422,6 +440,7 @@ fn arg_of<'a>(alloc: Global, part: &Part) -> Arg<'a>
         Part::Word(name, value, help) => with_value(alloc, name, value, true, help),
         Part::OptionalWord(name, value, help) => with_value(alloc, name, value, false, help),
         Part::SomeWords(name, value, help) => text_words(alloc, name, value, help),
+        Part::MoreWords(name, value, help) => more_words(alloc, name, value, help),
     }
 }
 
@@ -490,6 +509,14 @@ fn text_words<'a>(alloc: Global, name: &'a str, value: &'a str, help: &'a str) -
     ensures local { result.global ≡ false }
 {
     with_value(alloc, name, value, true, help).num_args(1usize..)
+}
+
+// The words `VALUE..` with any texts, of which any number may be given.
+fn more_words<'a>(alloc: Global, name: &'a str, value: &'a str, help: &'a str) -> Arg<'a>
+    ensures rule { rule_of result ≡ more_words name.entry.now }
+    ensures local { result.global ≡ false }
+{
+    with_value(alloc, name, value, false, help).num_args(1usize..)
 }
 
 // What has a value, any text, which has to be given if `is_required`.

@@ -18,9 +18,9 @@ pub(crate) const DESK_ABOUT: &str =
     "Judges canary releases: a desk settles each numbered request once, and a client asks it";
 
 pub(crate) const DESK_HELP: &str = concat!(
-    "Exit status: 0 for success, 1 for a fault or for findings of check, 2 for an invalid\n",
-    "command line. do, get, watch, send and due ask a desk, and have further statuses. The help\n",
-    "of each command lists its faults and has an example."
+    "Exit status: 0 for success, 1 for a fault or for findings of check or argo, 2 for an\n",
+    "invalid command line. do, get, watch, send and due ask a desk, and have further statuses.\n",
+    "The help of each command lists its faults and has an example."
 );
 
 // ---- options that several commands have
@@ -329,11 +329,44 @@ pub(crate) const CHECK_HELP: &str = concat!(
     "  kubectl get analysistemplate errors -o json | canary check /dev/stdin"
 );
 
+// ---- argo
+
+pub(crate) const ARGO_ABOUT: &str = concat!(
+    "Translates manifests of Argo Rollouts into what a desk takes, ",
+    "or says what is not translated"
+);
+
+pub(crate) const ARGO_OUT_HELP: &str = "The folder to write what a desk takes to";
+
+pub(crate) const ARGO_JSON_HELP: &str = "Print one value in JSON";
+
+pub(crate) const ARGO_FILES_HELP: &str =
+    "Files of Rollouts and AnalysisTemplates in YAML or JSON; - is standard input";
+
+pub(crate) const ARGO_HELP: &str = concat!(
+    "argo asks no desk. Each FILE has Rollouts and AnalysisTemplates, in YAML or JSON, and the\n",
+    "FILE - is standard input. What argo does not translate is a finding: argo prints it with\n",
+    "its file, line and column, and says what to write instead.\n\n",
+    "With --out, argo writes to the folder FOLDER a file NAME.template.json for each template, a\n",
+    "file NAME.rollout.json for each Rollout, and plan.json. It writes nothing if it finds\n",
+    "anything. With --json, argo prints one value in JSON.\n\n",
+    "Exit status: 0 if argo translated all, 2 for an invalid command line, and 1 for findings or\n",
+    "for a fault, which a line on standard error names:\n",
+    "  canary: file    a FILE cannot be read, or a file cannot be written to FOLDER\n",
+    "  canary: write   the output failed or was closed\n",
+    "  canary: memory  out of memory\n\n",
+    "Example: canary argo --out desk success-rate.yaml guestbook.yaml"
+);
+
 // ---- do
 
 pub(crate) const DO_ABOUT: &str = "Asks a command of a desk, once";
 
-pub(crate) const DO_USAGE: &str = "canary do [OPTIONS] <COMMAND> [WORD]..";
+pub(crate) const DO_USAGE: &str = concat!(
+    "canary do [OPTIONS] <COMMAND> [WORD]..\n",
+    "       canary do [OPTIONS] --argo template <FILE>..\n",
+    "       canary do [OPTIONS] --argo service <FILE>.. <VERSION>"
+);
 
 pub(crate) const AS_HELP: &str = "The caller's name; CANARY_AS counts in its place";
 
@@ -345,17 +378,25 @@ pub(crate) const ONCE_HELP: &str =
 
 pub(crate) const INSTEAD_HELP: &str = "Ask the command in the place of the one that is pending";
 
+pub(crate) const ARGO_OPTION_HELP: &str = concat!(
+    "Translates the FILEs of template or service from Argo's manifests first: ",
+    "each template, or each service, is a command"
+);
+
 pub(crate) const FAILURE_HELP: &str = "Why a measurement failed, in place of its RESULT";
 
 pub(crate) const COMMAND_HELP: &str = "The command, one of those below";
 
 pub(crate) const FIRST_HELP: &str = "SERVICE, or FILE of template and service";
 
-pub(crate) const SECOND_HELP: &str = "VERSION of start and service, RUN of report";
+pub(crate) const SECOND_HELP: &str =
+    "VERSION of start and service, RUN of report; with --argo FILE or VERSION";
 
-pub(crate) const THIRD_HELP: &str = "METRIC of report";
+pub(crate) const THIRD_HELP: &str = "METRIC of report; with --argo FILE or VERSION";
 
-pub(crate) const FOURTH_HELP: &str = "RESULT of report";
+pub(crate) const FOURTH_HELP: &str = "RESULT of report; with --argo FILE or VERSION";
+
+pub(crate) const MORE_HELP: &str = "With --argo further FILEs, and VERSION of service at the end";
 
 pub(crate) const DO_HELP: &str = concat!(
     "Each COMMAND has these words:\n",
@@ -368,9 +409,14 @@ pub(crate) const DO_HELP: &str = concat!(
     "  template FILE\n",
     "  service FILE VERSION\n",
     "  report SERVICE RUN METRIC RESULT\n",
-    "  report SERVICE RUN METRIC --failure TEXT\n\n",
+    "  report SERVICE RUN METRIC --failure TEXT\n",
+    "  --argo template FILE..\n",
+    "  --argo service FILE.. VERSION\n\n",
     "FILE is a manifest. A report gets the ordinal that comes next in its run, and the present\n",
     "moment. A RESULT that begins with - stands after --, as in the last example.\n\n",
+    "With --argo, the FILEs are Argo's manifests, as argo takes them. Each of their templates, or\n",
+    "each of their services, is a command of its own. With --once KEY, the key of each is KEY, a\n",
+    "space and its name.\n\n",
     "do needs the caller's name and journal, by the options or by the variables. An option\n",
     "counts before its variable.\n\n",
     "The command is in the journal before do sends it, and its reply before do prints it. While\n",

@@ -2,6 +2,7 @@
 ghost use Rattle.std.specs.Prelude.{◌≡◌, ℕ, Some, map, IfOk};
 ghost use Rattle.clap.specs.Words.{found_of, rows_of};
 ghost use Rattle.canary_words.specs.CommandLine.{number_given, text_given, texts_given, flag_given};
+ghost use Rattle.canary_words.specs.CommandLine.{texts_or_none};
 ghost use Rattle.canary_words.specs.CommandLine.{MayHaveFlag, HasMoment, HasText, MayHaveNumber};
 
 use canary_base::lists::{Listed, Text};
@@ -65,6 +66,20 @@ pub(crate) fn texts_given(
     ensures { IfOk result (λ ts. texts_given name.now (rows_of (found_of matches.now)) ≡ Some ts) }
 {
     copies(alloc, matches.get_strs(name).unwrap())
+}
+
+/// The texts that were given under this name, and none if there are none.
+pub(crate) fn texts_or_none(
+    alloc: Global,
+    matches: &ArgMatches<'_>,
+    name: &str,
+) -> Result<Listed<Text>, AllocError>
+    ensures { IfOk result (λ ts. ts ≡ texts_or_none name.now (rows_of (found_of matches.now))) }
+{
+    match matches.get_strs(name) {
+        Some(given) => copies(alloc, given),
+        None => Ok(Listed::of(Vec::new(alloc))),
+    }
 }
 
 // Copies of texts.

@@ -8,12 +8,13 @@ ghost use Rattle.canary_words.specs.CommandLine.{export_of, status_of, page_of, 
 ghost use Rattle.canary_words.specs.CommandLine.{migrate_of, check_of, HasPage, HasMigrate, IsFor};
 ghost use Rattle.canary_words.specs.CommandLine.{HasProgram, HasPipe, HasListener, HasLimits};
 ghost use Rattle.canary_words.specs.CommandLine.{HasTexts, HasExport, HasStatus, HasImport};
-ghost use Rattle.canary_words.specs.CommandLine.{HasCheck};
+ghost use Rattle.canary_words.specs.CommandLine.{HasCheck, HasArgo, argo_of};
 
 use crate::client::client_program_of;
 use crate::commands::desk_command;
 use crate::values::{
-    flag_given, moment_given, number_given, optional_text, text_given, two_given, two_optional,
+    flag_given, moment_given, number_given, optional_text, text_given, texts_given, two_given,
+    two_optional,
 };
 use canary_base::lists::{Listed, Text};
 use canary_base::moments::Moment;
@@ -60,6 +61,8 @@ pub struct AskedCommand {
     pub second: Option<Text>,
     pub third: Option<Text>,
     pub fourth: Option<Text>,
+    /// The words behind these four.
+    pub more: Listed<Text>,
     /// Why a measurement failed.
     pub failure: Option<Text>,
 }
@@ -77,6 +80,9 @@ pub struct Call {
     pub key: Option<Text>,
     /// Whether the command takes the place of the one that is pending.
     pub is_instead: bool,
+    /// Whether the files that the command names are Argo's manifests, each of which is translated,
+    /// and makes a command for each template, or for each service.
+    pub is_argo: bool,
     /// The command.
     pub command: AskedCommand,
 }
@@ -191,6 +197,14 @@ pub enum Program {
         request: Option<Text>,
         strict: bool,
     },
+    /// What the manifests of Argo Rollouts in the files of these names are for a desk, where `-` is
+    /// standard input, written to the folder of the name `out`; or what of them is not translated.
+    /// With `json` it is said as one JSON value.
+    Argo {
+        files: Listed<Text>,
+        out: Option<Text>,
+        json: bool,
+    },
     /// What a client asks of a desk.
     Ask(Asked),
 }
@@ -265,6 +279,9 @@ fn program_of(alloc: Global, matches: &ArgMatches<'_>) -> Result<Program, AllocE
     }
     if let Some(check) = matches.subcommand_matches("check") {
         return check_of(alloc, check);
+    }
+    if let Some(argo) = matches.subcommand_matches("argo") {
+        return argo_of(alloc, argo);
     }
     client_program_of(alloc, matches)
 }
@@ -388,6 +405,19 @@ fn check_of(alloc: Global, check: &ArgMatches<'_>) -> Result<Program, AllocError
         file,
         request,
         strict: flag_given(check, "strict"),
+    })
+}
+
+// The program of `argo` with these matches.
+fn argo_of(alloc: Global, argo: &ArgMatches<'_>) -> Result<Program, AllocError>
+    requires { HasArgo (rows_of (found_of argo.now)) }
+    ensures { IfOk result (λ p. argo_of (rows_of (found_of argo.now)) ≡ Some p) }
+{
+    let files = texts_given(alloc, argo, "file")?;
+    Ok(Program::Argo {
+        files,
+        out: optional_text(alloc, argo, "out")?,
+        json: flag_given(argo, "json"),
     })
 }
 

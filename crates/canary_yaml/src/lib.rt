@@ -9,6 +9,15 @@
 //!
 //! Callers may rest on this: what is read nests at most 127 deep, so the JSON that is written of it
 //! reads back as the same value; and what is JSON is read as serde_json reads it.
+//!
+//! In use (canary_client, src/wish.rt):
+//!
+//!     match json_of(alloc, text.as_bytes()) {
+//!         Ok(None) => Ok(text),
+//!         Ok(Some(json)) => Ok(json),
+//!         Err(yaml::Fault::Memory) => Err(Stop::Memory),
+//!         Err(_) => Err(Stop::Manifest),
+//!     }
 #![tactic(auto)]
 
 mod block;

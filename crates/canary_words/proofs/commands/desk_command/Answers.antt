@@ -1,5 +1,5 @@
 use Rattle.std.proofs.Common.{refl}
-use Rattle.canary_words.specs.CommandLine.{bare_desk, check_command, pipe_command, serve_command}
+use Rattle.canary_words.specs.CommandLine.{argo_command, bare_desk, check_command, pipe_command, serve_command}
 use Rattle.canary_words.proofs.commands.desk_command.Goals as goal
 
 pub returns : goal.returns
@@ -8,4 +8,5 @@ returns c =
     let served = c.with_command-desk-2.ensures _ serve_command piped c.serve_command.ensures refl in
     let recorded = c.with_records_commands-desk.ensures _ served in
     let checked = c.with_command-desk-3.ensures _ check_command recorded c.check_command.ensures refl in
-    c.with_client_commands.ensures _ checked
+    let translated = c.with_command-desk-4.ensures _ argo_command checked c.argo_command.ensures refl in
+    c.with_client_commands.ensures _ translated

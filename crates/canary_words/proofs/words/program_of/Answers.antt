@@ -103,6 +103,16 @@ returns-in-Some-subcommand_matches-9 c =
     let met = met_by c.args.matches.now (codes "check") c.subcommand_matches-10.result c.in-Some-subcommand_matches-9.check c.subcommand_matches-10.ensures.found c.subcommand_matches-10.ensures.rows c.in-Some-subcommand_matches-9.is in
     program_so (subcommand_rows_of c.args.matches.now) (codes "check") (rows_of (found_of c.in-Some-subcommand_matches-9.check.now)) c.check_of.result met c.check_of.ensures
 
+pub argo_of-requires : goal.argo_of-requires
+argo_of-requires c =
+    let met = met_by c.args.matches.now (codes "argo") c.subcommand_matches-11.result c.in-Some-subcommand_matches-10.argo c.subcommand_matches-11.ensures.found c.subcommand_matches-11.ensures.rows c.in-Some-subcommand_matches-10.is in
+    given_for (subcommand_rows_of c.args.matches.now) (codes "argo") (rows_of (found_of c.in-Some-subcommand_matches-10.argo.now)) c.requires met
+
+pub returns-in-Some-subcommand_matches-10 : goal.returns-in-Some-subcommand_matches-10
+returns-in-Some-subcommand_matches-10 c =
+    let met = met_by c.args.matches.now (codes "argo") c.subcommand_matches-11.result c.in-Some-subcommand_matches-10.argo c.subcommand_matches-11.ensures.found c.subcommand_matches-11.ensures.rows c.in-Some-subcommand_matches-10.is in
+    program_so (subcommand_rows_of c.args.matches.now) (codes "argo") (rows_of (found_of c.in-Some-subcommand_matches-10.argo.now)) c.argo_of.result met c.argo_of.ensures
+
 pub client_program_of-requires : goal.client_program_of-requires
 client_program_of-requires c =
     let m = c.args.matches.now in
@@ -117,4 +127,5 @@ client_program_of-requires c =
       missed m (codes "backup") c.subcommand_matches-8.result c.subcommand_matches-8.ensures.found c.in_default-subcommand_matches-7.is,
       missed m (codes "migrate") c.subcommand_matches-9.result c.subcommand_matches-9.ensures.found c.in_default-subcommand_matches-8.is,
       missed m (codes "check") c.subcommand_matches-10.result c.subcommand_matches-10.ensures.found c.in_default-subcommand_matches-9.is,
+      missed m (codes "argo") c.subcommand_matches-11.result c.subcommand_matches-11.ensures.found c.in_default-subcommand_matches-10.is,
     )

@@ -1,0 +1,232 @@
+//! The values of a template's arguments.
+use crate::documents::Document;
+use crate::filling::{has_place, has_place_of};
+use crate::json::{is_any_of, member, push_key, push_value, text_at};
+use crate::place::Place;
+use crate::work::Work;
+use canary_base::error::Memory;
+use canary_base::names::Label;
+use serde_json::Value;
+use std::alloc::Global;
+
+/// A template, as an analysis of a Rollout uses it.
+#[derive(Clone, Copy)]
+pub(crate) struct Case<'a> {
+    pub(crate) template: Document<'a>,
+    /// The Rollout and its analysis; none if no Rollout names the template.
+    pub(crate) used_by: Option<(Document<'a>, &'a Value)>,
+}
+
+impl<'a> Case<'a> {
+    /// The name of the Rollout, empty if there is none.
+    pub(crate) fn service(&self) -> &'a str {
+        match self.used_by {
+            Some((rollout, _)) => rollout.name(),
+            None => "",
+        }
+    }
+}
+
+/// What an argument is given.
+#[derive(Clone, Copy)]
+pub(crate) enum Given<'a> {
+    /// A text, a number or a truth.
+    Value(&'a Value),
+    /// What is known only as the agent measures: a `valueFrom`.
+    Late(&'a Value),
+    /// Nothing.
+    Nothing,
+    /// A field that the Rollout has not.
+    NoField,
+    /// A value that has a place to be filled in of its own.
+    Nested,
+    /// The template does not list the argument.
+    Unlisted,
+}
+
+impl<'a> Given<'a> {
+    /// What it lacks, and what to write.
+    pub(crate) fn lack(self) -> &'static str {
+        match self {
+            Given::Value(_) => "",
+            Given::Late(_) => "is known only as the agent measures: write a constant",
+            Given::Nothing => "has no value: give it one in the args of the Rollout's analysis",
+            Given::NoField => {
+                "is a field that the Rollout has not, or no text in it: correct its fieldPath"
+            }
+            Given::Nested => "has a value with {{args. in it: write that value out",
+            Given::Unlisted => "is no argument of the template: add it to its spec.args",
+        }
+    }
+}
+
+/// What the argument of that name is given: by the analysis, or else by the template.
+pub(crate) fn given_to<'a>(case: &Case<'a>, name: &str) -> Given<'a> {
+    let Some(own) = named(case.template.in_spec("args"), name) else {
+        return Given::Unlisted;
+    };
+    match given_by_analysis(case, name) {
+        Given::Nothing => given_by(case, own),
+        found => found,
+    }
+}
+
+fn given_by_analysis<'a>(case: &Case<'a>, name: &str) -> Given<'a> {
+    let Some((_, analysis)) = case.used_by else {
+        return Given::Nothing;
+    };
+    match named(member(analysis, "args"), name) {
+        Some(argument) => given_by(case, argument),
+        None => Given::Nothing,
+    }
+}
+
+// The argument of that name in a list.
+fn named<'a>(arguments: Option<&'a Value>, name: &str) -> Option<&'a Value> {
+    for argument in arguments?.as_array()? {
+        if text_at(argument, "name") == name {
+            return Some(argument);
+        }
+    }
+    None
+}
+
+fn given_by<'a>(case: &Case<'a>, argument: &'a Value) -> Given<'a> {
+    if let Some(value) = member(argument, "value") {
+        return plain(value);
+    }
+    let Some(source) = member(argument, "valueFrom") else {
+        return Given::Nothing;
+    };
+    match (member(source, "fieldRef"), case.used_by) {
+        (Some(field), Some((rollout, _))) => {
+            match field_of(rollout.value, text_at(field, "fieldPath")) {
+                Some(value) if is_plain(value) => plain(value),
+                _ => Given::NoField,
+            }
+        }
+        (Some(_), None) => Given::Nothing,
+        (None, _) => Given::Late(source),
+    }
+}
+
+fn plain(value: &Value) -> Given<'_> {
+    if has_place(value.as_str().unwrap_or("")) {
+        return Given::Nested;
+    }
+    Given::Value(value)
+}
+
+// Whether it is a text, a number or a truth.
+fn is_plain(value: &Value) -> bool {
+    !value.is_null() && !value.is_array() && !value.is_object()
+}
+
+// ---- fields of a Rollout
+
+// The value to which a path leads, as `metadata.labels['app.kubernetes.io/name']`.
+fn field_of<'a>(rollout: &'a Value, path: &str) -> Option<&'a Value> {
+    let mut found = rollout;
+    let mut is_quoted = false;
+    for part in path.split("'") {
+        found = if is_quoted {
+            found.get(part)?
+        } else {
+            plain_field_of(found, part)?
+        };
+        is_quoted = !is_quoted;
+    }
+    Some(found)
+}
+
+// The same of a path without quotes. Brackets stand round quotes.
+fn plain_field_of<'a>(value: &'a Value, path: &str) -> Option<&'a Value> {
+    let mut found = value;
+    for part in path.split(".") {
+        let key = part.trim_start_matches("]").trim_end_matches("[");
+        if !key.is_empty() {
+            found = found.get(key)?;
+        }
+    }
+    Some(found)
+}
+
+// ---- lists of arguments
+
+const NAME: &str = "expected 1 to 63 bytes of A-Z a-z 0-9 . _ -";
+
+const SOURCE: &str = "expected fieldRef with a fieldPath, podTemplateHashValue with Latest or \
+    Stable, or secretKeyRef with a name and a key";
+
+/// Adds what is wrong in a list of arguments at that place, or `Memory`.
+pub(crate) fn tell_arguments(
+    alloc: Global,
+    work: &mut Work,
+    place: Place,
+    inner: &'static str,
+    arguments: &Vec<Value>,
+) -> Result<(), Memory> {
+    for (index, argument) in arguments.iter().enumerate() {
+        tell_argument(alloc, work, place.inner(inner, index), argument)?;
+    }
+    Ok(())
+}
+
+fn tell_argument(
+    alloc: Global,
+    work: &mut Work,
+    place: Place,
+    argument: &Value,
+) -> Result<(), Memory> {
+    if Label::read(text_at(argument, "name").as_bytes()).is_none() {
+        work.tell(alloc, place.end("name"), &[NAME])?;
+    }
+    if member(argument, "value").is_some_and(|value| !is_plain(value)) {
+        work.tell(alloc, place.end("value"), &["expected a text"])?;
+    }
+    if member(argument, "valueFrom").is_some_and(|source| !is_source(source)) {
+        work.tell(alloc, place.end("valueFrom"), &[SOURCE])?;
+    }
+    Ok(())
+}
+
+fn is_source(source: &Value) -> bool {
+    if let Some(field) = member(source, "fieldRef") {
+        return !text_at(field, "fieldPath").is_empty();
+    }
+    if let Some(secret) = member(source, "secretKeyRef") {
+        return !text_at(secret, "name").is_empty() && !text_at(secret, "key").is_empty();
+    }
+    is_any_of(
+        &["Latest", "Stable"],
+        text_at(source, "podTemplateHashValue"),
+    )
+}
+
+/// Appends the arguments that are known only as the agent measures, and of which the provider has a
+/// place: the members of an object.
+pub(crate) fn push_late(
+    alloc: Global,
+    case: &Case,
+    provider: &str,
+    out: &mut String,
+) -> Result<(), Memory> {
+    let Some(arguments) = case
+        .template
+        .in_spec("args")
+        .and_then(|list| list.as_array())
+    else {
+        return Ok(());
+    };
+    for argument in arguments {
+        let name = text_at(argument, "name");
+        match given_to(case, name) {
+            Given::Late(source) if has_place_of(provider, name) => {
+                push_key(out, name)?;
+                push_value(alloc, out, source)?;
+            }
+            _ => {}
+        }
+    }
+    Ok(())
+}

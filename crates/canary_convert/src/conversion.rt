@@ -1,0 +1,193 @@
+//! The conversion of manifests.
+use crate::arguments::Case;
+use crate::documents::{Document, documents_of, index_of};
+use crate::finding::Finding;
+use crate::json::member;
+use crate::rollout::convert_rollout;
+use crate::source::Source;
+use crate::template::{convert_template, is_ready, tell_template};
+use crate::work::{Made, Planned, Work};
+use canary_base::error::Memory;
+use canary_base::names::Name;
+use std::alloc::Global;
+
+/// What manifests are converted to; nothing if there are findings.
+#[derive(Drop)]
+pub struct Converted {
+    /// The desk's AnalysisTemplates.
+    pub templates: Vec<Made>,
+    /// The desk's Rollouts.
+    pub services: Vec<Made>,
+    /// How an agent measures their metrics.
+    pub plan: Vec<Planned>,
+    /// What keeps the manifests from being converted.
+    pub findings: Vec<Finding>,
+    /// What was left out, or means something else here.
+    pub notes: Vec<Finding>,
+}
+
+const KINDS: &str = "expected AnalysisTemplate, Rollout or List";
+
+const NAME: &str = "expected 1 to 63 bytes of a-z 0-9 -, the first and the last no -";
+
+const IGNORED: &str = ": ignored; only AnalysisTemplates and Rollouts are converted";
+
+const TWICE: &str = " is there already: leave one of the two out";
+
+const UNUSED: &str = "nothing is made of it: no Rollout names it, and arguments of what the desk \
+    reads have no value";
+
+// A kind that is refused, and what to write.
+struct Refused {
+    kind: &'static str,
+    instead: &'static str,
+}
+
+const REFUSED: [Refused; 4] = [
+    Refused {
+        kind: "ClusterAnalysisTemplate",
+        instead: "ClusterAnalysisTemplate: write an AnalysisTemplate",
+    },
+    Refused {
+        kind: "Experiment",
+        instead: "Experiment: write an AnalysisTemplate, and a step with an analysis of it",
+    },
+    Refused {
+        kind: "AnalysisRun",
+        instead: "AnalysisRun: write the AnalysisTemplate of which it is a run",
+    },
+    Refused {
+        kind: "List",
+        instead: "List: expected items, which are no Lists",
+    },
+];
+
+/// Converts manifests of Argo Rollouts, as they are. The manifests are those of AnalysisTemplates
+/// and Rollouts, also as items of a `List`.
+///
+/// # Errors
+/// `Memory` if an allocation was refused.
+pub fn convert(alloc: Global, sources: &[Source]) -> Result<Converted, Memory> {
+    let mut work = Work::new(alloc);
+    convert_sources(alloc, &mut work, sources)?;
+    Ok(outcome_of(alloc, work))
+}
+
+fn convert_sources(alloc: Global, work: &mut Work, sources: &[Source]) -> Result<(), Memory> {
+    let documents = documents_of(alloc, sources)?;
+    convert_documents(alloc, work, documents.as_slice())
+}
+
+fn convert_documents(alloc: Global, work: &mut Work, documents: &[Document]) -> Result<(), Memory> {
+    for (index, document) in documents.iter().enumerate() {
+        look_at(alloc, work, documents, index, document)?;
+    }
+    for document in documents {
+        if document.kind() == "Rollout" {
+            convert_rollout(alloc, work, documents, document)?;
+        }
+    }
+    for (index, document) in documents.iter().enumerate() {
+        if document.kind() == "AnalysisTemplate" && !work.is_used(index) {
+            convert_unused(alloc, work, document)?;
+        }
+    }
+    work.findings.close(alloc)?;
+    work.notes.close(alloc)
+}
+
+// What was made, or else what was found.
+fn outcome_of(alloc: Global, work: Work) -> Converted {
+    let Work {
+        findings,
+        notes,
+        templates,
+        services,
+        plan,
+        ..
+    } = work;
+    if findings.list.is_empty() {
+        return Converted {
+            templates,
+            services,
+            plan,
+            findings: findings.list,
+            notes: notes.list,
+        };
+    }
+    Converted {
+        templates: Vec::new(alloc),
+        services: Vec::new(alloc),
+        plan: Vec::new(alloc),
+        findings: findings.list,
+        notes: notes.list,
+    }
+}
+
+// Adds what is wrong with a document, but for what it uses; or `Memory`.
+fn look_at(
+    alloc: Global,
+    work: &mut Work,
+    documents: &[Document],
+    index: usize,
+    document: &Document,
+) -> Result<(), Memory> {
+    let kind = document.kind();
+    let place = document.place();
+    if document.value.is_null() {
+        return Ok(());
+    }
+    if kind.is_empty() {
+        return work.tell(alloc, place.at("kind"), &[KINDS]);
+    }
+    if let Some(instead) = instead_of(kind) {
+        return work.tell(alloc, place, &[instead]);
+    }
+    if kind != "AnalysisTemplate" && kind != "Rollout" {
+        return work.note(alloc, place, &[kind, " ", document.name(), IGNORED]);
+    }
+    look_at_name(alloc, work, documents, index, document)?;
+    if kind == "Rollout" {
+        return Ok(());
+    }
+    tell_template(alloc, work, document)
+}
+
+fn instead_of(kind: &str) -> Option<&'static str> {
+    for refused in &REFUSED {
+        if refused.kind == kind {
+            return Some(refused.instead);
+        }
+    }
+    None
+}
+
+fn look_at_name(
+    alloc: Global,
+    work: &mut Work,
+    documents: &[Document],
+    index: usize,
+    document: &Document,
+) -> Result<(), Memory> {
+    let (kind, name) = (document.kind(), document.name());
+    let place = document.place().at("metadata.name");
+    if Name::read(name.as_bytes()).is_none() {
+        return work.tell(alloc, place, &[NAME]);
+    }
+    if index_of(documents, kind, name) != Some(index) {
+        return work.tell(alloc, place, &[kind, " ", name, TWICE]);
+    }
+    Ok(())
+}
+
+// Converts a template that no Rollout names.
+fn convert_unused(alloc: Global, work: &mut Work, document: &Document) -> Result<(), Memory> {
+    let case = Case {
+        template: *document,
+        used_by: None,
+    };
+    if is_ready(&case) {
+        return convert_template(alloc, work, &case);
+    }
+    work.note(alloc, document.place(), &[UNUSED])
+}

@@ -1,0 +1,92 @@
+//! The documents of the sources.
+use crate::json::{list_at, member, text_at};
+use crate::place::Place;
+use crate::source::Source;
+use canary_base::error::Memory;
+use serde_json::Value;
+use std::alloc::Global;
+
+/// A document: that of a source, or an item of its list.
+#[derive(Clone, Copy)]
+pub(crate) struct Document<'a> {
+    pub(crate) source: u32,
+    item: Option<usize>,
+    pub(crate) value: &'a Value,
+}
+
+impl<'a> Document<'a> {
+    /// Its kind, empty if it has none.
+    pub(crate) fn kind(&self) -> &'a str {
+        text_at(self.value, "kind")
+    }
+
+    /// Its name, empty if it has none.
+    pub(crate) fn name(&self) -> &'a str {
+        match member(self.value, "metadata") {
+            Some(metadata) => text_at(metadata, "name"),
+            None => "",
+        }
+    }
+
+    /// What stands under that key of its `spec`.
+    pub(crate) fn in_spec(&self, key: &str) -> Option<&'a Value> {
+        member(member(self.value, "spec")?, key)
+    }
+
+    /// The metrics of a template.
+    pub(crate) fn metrics(&self) -> Option<&'a Vec<Value>> {
+        self.in_spec("metrics")?.as_array()
+    }
+
+    /// Where it stands.
+    pub(crate) fn place(&self) -> Place {
+        Place::of(self.source, self.item)
+    }
+}
+
+/// The documents of these sources; a null is none.
+pub(crate) fn documents_of<'a>(
+    alloc: Global,
+    sources: &'a [Source],
+) -> Result<Vec<Document<'a>>, Memory> {
+    let mut documents = Vec::new(alloc);
+    for (index, source) in sources.iter().enumerate() {
+        let source_index = u32::try_from(index).unwrap_or(u32::MAX);
+        match items_of(&source.value) {
+            Some(items) => {
+                for (item, value) in items.iter().enumerate() {
+                    documents.push(Document {
+                        source: source_index,
+                        item: Some(item),
+                        value,
+                    })?;
+                }
+            }
+            None => documents.push(Document {
+                source: source_index,
+                item: None,
+                value: &source.value,
+            })?,
+        }
+    }
+    Ok(documents)
+}
+
+// The items of a list of documents.
+fn items_of(value: &Value) -> Option<&Vec<Value>> {
+    if text_at(value, "kind") == "List" {
+        list_at(value, "items")
+    } else {
+        None
+    }
+}
+
+/// The index of the first document of that kind and name.
+pub(crate) fn index_of(documents: &[Document], kind: &str, name: &str) -> Option<usize> {
+    for (index, document) in documents.iter().enumerate() {
+        if document.kind() == kind && document.name() == name {
+            return Some(index);
+        }
+    }
+    None
+}

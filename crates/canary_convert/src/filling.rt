@@ -1,0 +1,149 @@
+//! Places to be filled in: `{{args.NAME}}`, with spaces inside the brackets or without.
+//!
+//! A place in a text of JSON stands within a text, since two brackets in a row open nowhere else.
+use crate::arguments::{Case, Given, given_to};
+use crate::json::{push_escaped, push_value};
+use crate::place::Place;
+use crate::work::Work;
+use canary_base::error::Memory;
+use serde_json::Value;
+use std::alloc::Global;
+
+/// In what text places are filled in.
+#[derive(Clone, Copy, PartialEq, Eq)]
+pub(crate) enum Mode {
+    /// A text as it is, that the desk reads.
+    Plain,
+    /// A text of JSON that the desk reads.
+    Json,
+    /// A text of JSON for the agent. What it finds out as it measures stays as a place.
+    Late,
+}
+
+/// Whether the text has a place.
+pub(crate) fn has_place(text: &str) -> bool {
+    text.split("}}").any(|piece| place_in(piece).is_some())
+}
+
+/// Whether the text has a place for that argument.
+pub(crate) fn has_place_of(text: &str, name: &str) -> bool {
+    for piece in text.split("}}") {
+        if let Some((_, found)) = place_in(piece) {
+            if found == name {
+                return true;
+            }
+        }
+    }
+    false
+}
+
+// Of a piece that ends before two closing brackets: what stands before the place at its end, and
+// the name of the argument.
+fn place_in(piece: &str) -> Option<(&str, &str)> {
+    let (before, inside) = piece.rsplit_once("{{")?;
+    let name = inside.trim().strip_prefix("args.")?;
+    if name.contains("\"") {
+        return None;
+    }
+    Some((before, name))
+}
+
+/// Appends the text with its places filled in. If one cannot be, this is told, and false answered.
+pub(crate) fn push_filled(
+    alloc: Global,
+    work: &mut Work,
+    case: &Case,
+    place: Place,
+    mode: Mode,
+    text: &str,
+    out: &mut String,
+) -> Result<bool, Memory> {
+    let mut is_filled = true;
+    let mut held = None;
+    for piece in text.split("}}") {
+        if let Some(held) = held {
+            let is_this = push_piece(alloc, work, case, place, mode, held, out)?;
+            is_filled = is_filled && is_this;
+        }
+        held = Some(piece);
+    }
+    out.push_str(held.unwrap_or(""))?;
+    Ok(is_filled)
+}
+
+// The same of a piece, and the two closing brackets behind it.
+fn push_piece(
+    alloc: Global,
+    work: &mut Work,
+    case: &Case,
+    place: Place,
+    mode: Mode,
+    piece: &str,
+    out: &mut String,
+) -> Result<bool, Memory> {
+    match place_in(piece) {
+        Some((before, name)) => {
+            out.push_str(before)?;
+            push_argument(alloc, work, case, place, mode, name, out)
+        }
+        None => {
+            out.push_str(piece)?;
+            out.push_str("}}")?;
+            Ok(true)
+        }
+    }
+}
+
+// Appends what an argument is given.
+fn push_argument(
+    alloc: Global,
+    work: &mut Work,
+    case: &Case,
+    place: Place,
+    mode: Mode,
+    name: &str,
+    out: &mut String,
+) -> Result<bool, Memory> {
+    match given_to(case, name) {
+        Given::Value(value) => {
+            push_given(alloc, mode, value, out)?;
+            Ok(true)
+        }
+        Given::Late(_) if mode == Mode::Late => {
+            push_place(name, out)?;
+            Ok(true)
+        }
+        lacking => {
+            work.tell(alloc, place, &["{{args.", name, "}} ", lacking.lack()])?;
+            Ok(false)
+        }
+    }
+}
+
+fn push_given(alloc: Global, mode: Mode, value: &Value, out: &mut String) -> Result<(), Memory> {
+    match value.as_str() {
+        Some(text) if mode == Mode::Plain => Ok(out.push_str(text)?),
+        Some(text) => push_escaped(alloc, out, text),
+        None => push_value(alloc, out, value),
+    }
+}
+
+fn push_place(name: &str, out: &mut String) -> Result<(), Memory> {
+    out.push_str("{{args.")?;
+    out.push_str(name)?;
+    out.push_str("}}")?;
+    Ok(())
+}
+
+/// Whether each place of the text can be filled in, but for those of arguments that the template
+/// does not list.
+pub(crate) fn is_given(case: &Case, text: &str) -> bool {
+    text.split("}}").all(|piece| is_piece_given(case, piece))
+}
+
+fn is_piece_given(case: &Case, piece: &str) -> bool {
+    let Some((_, name)) = place_in(piece) else {
+        return true;
+    };
+    matches!(given_to(case, name), Given::Value(_) | Given::Unlisted)
+}

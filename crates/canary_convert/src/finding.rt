@@ -1,0 +1,118 @@
+//! What is found in manifests, and what is noted of them.
+use crate::place::Place;
+use canary_base::error::Memory;
+use std::alloc::Global;
+
+const MOST_FINDINGS: usize = 100;
+
+/// What is found at a place.
+#[derive(Drop)]
+pub struct Finding {
+    /// The index of the source.
+    pub source: u32,
+    /// The keys and indices that lead to the place, as `spec.metrics[0].successCondition`; empty for
+    /// a whole document.
+    pub path: String,
+    /// What it is, and what to write: one line without control characters.
+    pub text: String,
+    /// The byte of the condition at the place of which the finding speaks.
+    pub at: Option<usize>,
+}
+
+/// Findings, each once, and 100 at most.
+#[derive(Drop)]
+pub(crate) struct Findings {
+    pub(crate) list: Vec<Finding>,
+    // How many came after these.
+    more: u64,
+}
+
+impl Findings {
+    /// No findings.
+    pub(crate) fn new(alloc: Global) -> Findings {
+        Findings {
+            list: Vec::new(alloc),
+            more: 0,
+        }
+    }
+
+    /// Adds what is found at a place, and at that byte of a condition, in parts that follow one
+    /// another; or `Memory`.
+    pub(crate) fn tell(
+        &mut self,
+        alloc: Global,
+        place: Place,
+        at: Option<usize>,
+        parts: &[&str],
+    ) -> Result<(), Memory> {
+        let mut finding = Finding {
+            source: place.source,
+            path: String::new(alloc),
+            text: String::new(alloc),
+            at,
+        };
+        finding.write(place, parts)?;
+        self.add(finding)
+    }
+
+    fn add(&mut self, finding: Finding) -> Result<(), Memory> {
+        if self.has(&finding) {
+            return Ok(());
+        }
+        if self.list.len() >= MOST_FINDINGS {
+            self.more = self.more.saturating_add(1);
+            return Ok(());
+        }
+        self.list.push(finding)?;
+        Ok(())
+    }
+
+    fn has(&self, finding: &Finding) -> bool {
+        self.list.iter().any(|known| known.is_same(finding))
+    }
+
+    /// Adds a last one that counts those that were left out, if there are any; or `Memory`.
+    pub(crate) fn close(&mut self, alloc: Global) -> Result<(), Memory> {
+        if self.more == 0 {
+            return Ok(());
+        }
+        let mut last = Finding {
+            source: 0,
+            path: String::new(alloc),
+            text: String::new(alloc),
+            at: None,
+        };
+        let more = self.more;
+        write!(last.text, "and {more} more")?;
+        self.list.push(last)?;
+        Ok(())
+    }
+}
+
+impl Finding {
+    fn write(&mut self, place: Place, parts: &[&str]) -> Result<(), Memory> {
+        place.write(&mut self.path)?;
+        for part in parts {
+            push_plain(&mut self.text, part)?;
+        }
+        Ok(())
+    }
+
+    fn is_same(&self, other: &Finding) -> bool {
+        self.source == other.source
+            && self.path.as_str() == other.path.as_str()
+            && self.text.as_str() == other.text.as_str()
+    }
+}
+
+// Appends a text, with its control characters as their codes.
+fn push_plain(out: &mut String, text: &str) -> Result<(), Memory> {
+    for letter in text.chars() {
+        if letter.is_control() {
+            write!(out, "\\u{:04x}", letter as u32)?;
+        } else {
+            out.push(letter)?;
+        }
+    }
+    Ok(())
+}

@@ -1,0 +1,22 @@
+//! Manifests of Argo Rollouts as they are, converted to a desk's, with a plan for an agent that
+//! measures.
+//!
+//! Callers may rest on this: if anything is found, nothing is made.
+#![tactic(auto)]
+
+mod arguments;
+pub mod conversion;
+mod documents;
+mod filling;
+pub mod finding;
+mod json;
+#[cfg(test)]
+mod manifests;
+mod metric;
+mod place;
+mod rollout;
+#[cfg(test)]
+mod rows;
+pub mod source;
+mod template;
+pub mod work;

@@ -1,0 +1,530 @@
+//! A metric of a template.
+use crate::arguments::{Case, push_late};
+use crate::filling::{Mode, has_place, is_given, push_filled};
+use crate::json::{member, push_comma, push_key, push_text, text_at};
+use crate::place::Place;
+use crate::work::{Planned, Work};
+use canary_argo::fault::{Fault, Finding};
+use canary_argo::form::{Form, LEAST_PLACES, Needs, Shape};
+use canary_argo::translation::translate;
+use canary_base::error::Memory;
+use canary_base::names::Label;
+use serde_json::Value;
+use std::alloc::Global;
+
+const CONDITIONS: [&str; 2] = ["successCondition", "failureCondition"];
+
+// The members that the desk reads, but for the name and the conditions.
+const OTHERS: [&str; 8] = [
+    "interval",
+    "initialDelay",
+    "count",
+    "failureLimit",
+    "inconclusiveLimit",
+    "consecutiveErrorLimit",
+    "consecutiveSuccessLimit",
+    "passAfter",
+];
+
+/// A metric of a template.
+#[derive(Clone, Copy)]
+pub(crate) struct Spot<'a> {
+    pub(crate) case: Case<'a>,
+    pub(crate) place: Place,
+    pub(crate) metric: &'a Value,
+}
+
+/// How a metric is called at the desk, and in which form its values are reported; none if its
+/// conditions are the desk's own.
+#[derive(Clone, Copy)]
+pub(crate) struct Called {
+    name: Label,
+    pub(crate) label: Label,
+    form: Option<Form>,
+}
+
+// ---- places to be filled in
+
+/// Whether a member that the desk reads has a place.
+pub(crate) fn has_desk_place(metric: &Value) -> bool {
+    CONDITIONS.iter().any(|key| has_place(text_at(metric, key)))
+        || OTHERS.iter().any(|key| has_place(text_at(metric, key)))
+        || has_place(text_at(metric, "name"))
+}
+
+/// Whether each place in a member that the desk reads can be filled in.
+pub(crate) fn is_desk_given(case: &Case, metric: &Value) -> bool {
+    CONDITIONS
+        .iter()
+        .all(|key| is_given(case, text_at(metric, key)))
+        && OTHERS
+            .iter()
+            .all(|key| is_given(case, text_at(metric, key)))
+        && is_given(case, text_at(metric, "name"))
+}
+
+// ---- names and forms
+
+const PROVIDER: &str = "expected an object with one provider: write a metric for each";
+
+const KAYENTA: &str = "kayenta is not asked: write the metrics of its canary judgement one by one";
+
+const JOB: &str = "a job has no result: leave the conditions of the metric out";
+
+const LABEL: &str = "expected 1 to 63 bytes of A-Z a-z 0-9 . _ -";
+
+const SUFFIXED: &str = "a name that ends as that of a translated metric: write another one";
+
+// The key of the provider, empty if there is none. If it is not asked, this is told.
+fn kind_of<'a>(alloc: Global, work: &mut Work, spot: &Spot<'a>) -> Result<Option<&'a str>, Memory> {
+    let Some(provider) = member(spot.metric, "provider") else {
+        return Ok(Some(""));
+    };
+    let kind = only_key(provider);
+    let fault = if kind.is_empty() {
+        PROVIDER
+    } else if kind == "kayenta" {
+        KAYENTA
+    } else if kind == "job" && has_condition(spot.metric) {
+        JOB
+    } else {
+        return Ok(Some(kind));
+    };
+    work.tell(alloc, spot.place.end("provider"), &[fault])?;
+    Ok(None)
+}
+
+// The key of the only member that is not null; empty if there are none or several.
+fn only_key(value: &Value) -> &str {
+    let Some(members) = value.as_object() else {
+        return "";
+    };
+    let mut only = "";
+    for (key, member) in members.iter() {
+        if !member.is_null() {
+            if !only.is_empty() {
+                return "";
+            }
+            only = key.as_str();
+        }
+    }
+    only
+}
+
+fn has_condition(metric: &Value) -> bool {
+    CONDITIONS
+        .iter()
+        .any(|key| !text_at(metric, key).is_empty())
+}
+
+// The name, with its places filled in. If it is none, this is told.
+fn name_of(alloc: Global, work: &mut Work, spot: &Spot) -> Result<Option<Label>, Memory> {
+    let mut name = String::new(alloc);
+    if !push_plain(alloc, work, spot, "name", &mut name)? {
+        return Ok(None);
+    }
+    read_name(alloc, work, spot, name.as_str())
+}
+
+fn read_name(
+    alloc: Global,
+    work: &mut Work,
+    spot: &Spot,
+    name: &str,
+) -> Result<Option<Label>, Memory> {
+    let label = Label::read(name.as_bytes());
+    let fault = if label.is_none() {
+        LABEL
+    } else if is_suffixed(name) {
+        SUFFIXED
+    } else {
+        return Ok(label);
+    };
+    work.tell(alloc, spot.place.end("name"), &[fault])?;
+    Ok(None)
+}
+
+// Whether it ends as `form::Form::suffix` writes it.
+fn is_suffixed(name: &str) -> bool {
+    let Some((_, end)) = name.rsplit_once(".e") else {
+        return false;
+    };
+    let shape = without_digits(end);
+    if shape.len() == end.len() {
+        return false;
+    }
+    let shape = shape.strip_prefix("n").unwrap_or(shape);
+    shape.is_empty() || shape == "f" || is_counted(shape)
+}
+
+fn without_digits(text: &str) -> &str {
+    text.trim_start_matches(|letter: char| letter.is_ascii_digit())
+}
+
+// Whether it is the letter of a shape with a number.
+fn is_counted(shape: &str) -> bool {
+    let counted = shape.strip_prefix("p").or(shape.strip_prefix("l"));
+    match counted {
+        Some(count) => !count.is_empty() && without_digits(count).is_empty(),
+        None => false,
+    }
+}
+
+// Appends the text under that key, with its places filled in. If it is no text, or a place cannot
+// be filled in, this is told, and false answered.
+fn push_plain(
+    alloc: Global,
+    work: &mut Work,
+    spot: &Spot,
+    key: &'static str,
+    out: &mut String,
+) -> Result<bool, Memory> {
+    let place = spot.place.end(key);
+    if member(spot.metric, key).is_some_and(|member| !member.is_string()) {
+        work.tell(alloc, place, &["expected a text"])?;
+        return Ok(false);
+    }
+    let text = text_at(spot.metric, key);
+    push_filled(alloc, work, &spot.case, place, Mode::Plain, text, out)
+}
+
+/// How the metric is called at the desk. If it cannot be called anything, this is told.
+pub(crate) fn call(alloc: Global, work: &mut Work, spot: &Spot) -> Result<Option<Called>, Memory> {
+    let Some(kind) = kind_of(alloc, work, spot)? else {
+        return Ok(None);
+    };
+    let Some(name) = name_of(alloc, work, spot)? else {
+        return Ok(None);
+    };
+    if kind.is_empty() || kind == "job" {
+        return Ok(Some(Called {
+            name,
+            label: name,
+            form: None,
+        }));
+    }
+    match form_of(alloc, work, spot, kind)? {
+        Some(form) => labelled(alloc, work, spot, name, form),
+        None => Ok(None),
+    }
+}
+
+fn labelled(
+    alloc: Global,
+    work: &mut Work,
+    spot: &Spot,
+    name: Label,
+    form: Form,
+) -> Result<Option<Called>, Memory> {
+    let mut text = String::from_str(alloc, name.as_str())?;
+    form.suffix(&mut text)?;
+    let Some(label) = Label::read(text.as_bytes()) else {
+        let place = spot.place.end("name");
+        let parts = &[
+            text.as_str(),
+            " is longer than 63 bytes: write a shorter name",
+        ];
+        work.tell(alloc, place, parts)?;
+        return Ok(None);
+    };
+    Ok(Some(Called {
+        name,
+        label,
+        form: Some(form),
+    }))
+}
+
+// ---- conditions
+
+// The conditions of a metric, with their places filled in; empty if there are none.
+#[derive(Drop)]
+struct Conditions {
+    success: String,
+    failure: String,
+}
+
+// The form in which the values are reported. If a condition is not translated, this is told.
+fn form_of(
+    alloc: Global,
+    work: &mut Work,
+    spot: &Spot,
+    kind: &str,
+) -> Result<Option<Form>, Memory> {
+    let mut conditions = Conditions {
+        success: String::new(alloc),
+        failure: String::new(alloc),
+    };
+    if !fill_conditions(alloc, work, spot, &mut conditions)? {
+        return Ok(None);
+    }
+    form_of_conditions(alloc, work, spot, kind, &conditions)
+}
+
+fn fill_conditions(
+    alloc: Global,
+    work: &mut Work,
+    spot: &Spot,
+    conditions: &mut Conditions,
+) -> Result<bool, Memory> {
+    let success = push_plain(alloc, work, spot, CONDITIONS[0], &mut conditions.success)?;
+    let failure = push_plain(alloc, work, spot, CONDITIONS[1], &mut conditions.failure)?;
+    Ok(success && failure)
+}
+
+fn form_of_conditions(
+    alloc: Global,
+    work: &mut Work,
+    spot: &Spot,
+    kind: &str,
+    conditions: &Conditions,
+) -> Result<Option<Form>, Memory> {
+    let none = Needs::none();
+    let success = conditions.success.as_str();
+    let failure = conditions.failure.as_str();
+    if success.is_empty() && failure.is_empty() {
+        return Ok(Some(unconditional_form(kind)));
+    }
+    let first = with_condition(alloc, work, spot, CONDITIONS[0], none, success)?;
+    let both = with_condition(
+        alloc,
+        work,
+        spot,
+        CONDITIONS[1],
+        first.unwrap_or(none),
+        failure,
+    )?;
+    match (first, both) {
+        (Some(_), Some(needs)) => form_of_needs(alloc, work, spot, needs),
+        _ => Ok(None),
+    }
+}
+
+// The form of a metric without a condition: Prometheus answers a list.
+fn unconditional_form(kind: &str) -> Form {
+    Form {
+        places: LEAST_PLACES,
+        shape: if kind == "prometheus" {
+            Shape::First
+        } else {
+            Shape::One
+        },
+        nan: false,
+    }
+}
+
+fn form_of_needs(
+    alloc: Global,
+    work: &mut Work,
+    spot: &Spot,
+    needs: Needs,
+) -> Result<Option<Form>, Memory> {
+    match needs.form() {
+        Ok(form) => Ok(Some(form)),
+        Err(why) => {
+            work.tell(alloc, spot.place, &[why.text()])?;
+            Ok(None)
+        }
+    }
+}
+
+fn with_condition(
+    alloc: Global,
+    work: &mut Work,
+    spot: &Spot,
+    key: &'static str,
+    needs: Needs,
+    text: &str,
+) -> Result<Option<Needs>, Memory> {
+    if text.is_empty() {
+        return Ok(Some(needs));
+    }
+    match needs.with_condition(alloc, text) {
+        Ok(needs) => Ok(Some(needs)),
+        Err(fault) => {
+            tell_fault(alloc, work, spot, key, text, fault)?;
+            Ok(None)
+        }
+    }
+}
+
+// Adds why a condition is not translated. If places of it were filled in, it is shown.
+fn tell_fault(
+    alloc: Global,
+    work: &mut Work,
+    spot: &Spot,
+    key: &'static str,
+    text: &str,
+    fault: Fault,
+) -> Result<(), Memory> {
+    let place = spot.place.end(key);
+    match fault {
+        Fault::Memory => Err(Memory),
+        Fault::Refused(Finding { why, at }) if text == text_at(spot.metric, key) => {
+            work.findings.tell(alloc, place, Some(at), &[why.text()])
+        }
+        Fault::Refused(Finding { why, .. }) => {
+            work.tell(alloc, place, &[why.text(), " (filled in: ", text, ")"])
+        }
+    }
+}
+
+// ---- the desk's metric
+
+/// Appends the metric as the desk reads it. What is wrong with it is told.
+pub(crate) fn push_metric(
+    alloc: Global,
+    work: &mut Work,
+    spot: &Spot,
+    out: &mut String,
+) -> Result<(), Memory> {
+    let Some(called) = call(alloc, work, spot)? else {
+        return Ok(());
+    };
+    push_comma(out)?;
+    out.push_str("{\"name\":")?;
+    push_text(alloc, out, called.label.as_str())?;
+    push_conditions(alloc, work, spot, called, out)?;
+    for key in OTHERS {
+        push_desk_member(alloc, work, spot, key, out)?;
+    }
+    out.push_str("}")?;
+    Ok(())
+}
+
+fn push_conditions(
+    alloc: Global,
+    work: &mut Work,
+    spot: &Spot,
+    called: Called,
+    out: &mut String,
+) -> Result<(), Memory> {
+    match called.form {
+        Some(form) => {
+            if !form.nan && has_condition(spot.metric) {
+                work.note_nan(alloc, spot.place)?;
+            }
+            push_translated(alloc, work, spot, CONDITIONS[0], form, out)?;
+            push_translated(alloc, work, spot, CONDITIONS[1], form, out)
+        }
+        None if member(spot.metric, "provider").is_some() => {
+            push_key(out, CONDITIONS[0])?;
+            push_text(alloc, out, "result == 1")
+        }
+        None => {
+            push_desk_member(alloc, work, spot, CONDITIONS[0], out)?;
+            push_desk_member(alloc, work, spot, CONDITIONS[1], out)
+        }
+    }
+}
+
+// Appends the condition under that key, translated.
+fn push_translated(
+    alloc: Global,
+    work: &mut Work,
+    spot: &Spot,
+    key: &'static str,
+    form: Form,
+    out: &mut String,
+) -> Result<(), Memory> {
+    let mut text = String::new(alloc);
+    push_plain(alloc, work, spot, key, &mut text)?;
+    push_translation(alloc, work, spot, key, form, text.as_str(), out)
+}
+
+fn push_translation(
+    alloc: Global,
+    work: &mut Work,
+    spot: &Spot,
+    key: &'static str,
+    form: Form,
+    text: &str,
+    out: &mut String,
+) -> Result<(), Memory> {
+    if text.is_empty() {
+        return Ok(());
+    }
+    match translate(alloc, text, form) {
+        Ok(condition) => {
+            push_key(out, key)?;
+            push_text(alloc, out, condition.as_str())
+        }
+        Err(fault) => tell_fault(alloc, work, spot, key, text, fault),
+    }
+}
+
+// Appends the member of that key, with its places filled in.
+fn push_desk_member(
+    alloc: Global,
+    work: &mut Work,
+    spot: &Spot,
+    key: &'static str,
+    out: &mut String,
+) -> Result<(), Memory> {
+    let Some(member) = member(spot.metric, key) else {
+        return Ok(());
+    };
+    push_key(out, key)?;
+    push_filled_value(alloc, work, spot, key, Mode::Json, member, out)
+}
+
+// Appends a value, with its places filled in.
+fn push_filled_value(
+    alloc: Global,
+    work: &mut Work,
+    spot: &Spot,
+    key: &'static str,
+    mode: Mode,
+    value: &Value,
+    out: &mut String,
+) -> Result<(), Memory> {
+    let text = value.to_string(alloc)?;
+    let place = spot.place.end(key);
+    push_filled(alloc, work, &spot.case, place, mode, text.as_str(), out)?;
+    Ok(())
+}
+
+// ---- the agent's plan
+
+/// Adds how an agent measures the metric, if it has a provider.
+pub(crate) fn plan_metric(
+    alloc: Global,
+    work: &mut Work,
+    spot: &Spot,
+    template: &str,
+) -> Result<(), Memory> {
+    let Some(provider) = member(spot.metric, "provider") else {
+        return Ok(());
+    };
+    let Some(called) = call(alloc, work, spot)? else {
+        return Ok(());
+    };
+    let mut planned = Planned::new(alloc);
+    planned.template.push_str(template)?;
+    write_planned(alloc, work, spot, called, provider, &mut planned)?;
+    work.plan(alloc, spot.place, planned)
+}
+
+fn write_planned(
+    alloc: Global,
+    work: &mut Work,
+    spot: &Spot,
+    called: Called,
+    provider: &Value,
+    planned: &mut Planned,
+) -> Result<(), Memory> {
+    planned.service.push_str(spot.case.service())?;
+    planned.label.push_str(called.label.as_str())?;
+    planned.metric.push_str(called.name.as_str())?;
+    planned.kind.push_str(only_key(provider))?;
+    let out = &mut planned.provider;
+    push_filled_value(alloc, work, spot, "provider", Mode::Late, provider, out)?;
+    planned.late.push_str("{")?;
+    push_late(
+        alloc,
+        &spot.case,
+        planned.provider.as_str(),
+        &mut planned.late,
+    )?;
+    planned.late.push_str("}")?;
+    Ok(())
+}

@@ -1,0 +1,270 @@
+//! A Rollout.
+use crate::arguments::{Case, tell_arguments};
+use crate::documents::{Document, index_of};
+use crate::json::{
+    member, push_comma, push_head, push_key, push_member, push_others, push_text, text_at,
+};
+use crate::place::Place;
+use crate::template::{convert_template, push_made_name};
+use crate::work::{Made, Work};
+use canary_base::error::Memory;
+use serde_json::Value;
+use std::alloc::Global;
+
+const STEPS: &str = "spec.strategy.canary.steps";
+
+const ANALYSIS: &str = "spec.strategy.canary.analysis";
+
+const TEMPLATES: &str = "expected a list of objects with templateName";
+
+const NO_NAME: &str = "expected the name of an AnalysisTemplate";
+
+const CLUSTER: &str =
+    "a template of the cluster: write an AnalysisTemplate, and leave clusterScope out";
+
+/// A Rollout among all documents.
+#[derive(Clone, Copy)]
+struct Site<'a> {
+    documents: &'a [Document<'a>],
+    rollout: Document<'a>,
+}
+
+// An analysis of a Rollout.
+#[derive(Clone, Copy)]
+struct Use<'a> {
+    site: Site<'a>,
+    place: Place,
+    // The keys behind the place that lead to its templates, and to its arguments.
+    templates: &'static str,
+    arguments: &'static str,
+    analysis: &'a Value,
+}
+
+/// Adds the desk's Rollout, with the templates that it uses; or `Memory`.
+pub(crate) fn convert_rollout(
+    alloc: Global,
+    work: &mut Work,
+    documents: &[Document],
+    rollout: &Document,
+) -> Result<(), Memory> {
+    let site = Site {
+        documents,
+        rollout: *rollout,
+    };
+    let mut made = Made::new(alloc, rollout.source);
+    made.name.push_str(rollout.name())?;
+    push_rollout(alloc, work, &site, &mut made.json)?;
+    work.services.push(made)?;
+    Ok(())
+}
+
+fn push_rollout(
+    alloc: Global,
+    work: &mut Work,
+    site: &Site,
+    out: &mut String,
+) -> Result<(), Memory> {
+    let manifest = site.rollout.value;
+    push_head(alloc, out, manifest, "Rollout", site.rollout.name())?;
+    let place = site.rollout.place().at("spec");
+    if let Some(spec) = work.object_at(alloc, place, manifest, "spec")? {
+        push_member(alloc, out, spec, "paused")?;
+        push_strategy(alloc, work, site, spec, out)?;
+    }
+    out.push_str("}}")?;
+    Ok(())
+}
+
+fn push_strategy(
+    alloc: Global,
+    work: &mut Work,
+    site: &Site,
+    spec: &Value,
+    out: &mut String,
+) -> Result<(), Memory> {
+    let place = site.rollout.place().at("spec.strategy");
+    let Some(strategy) = work.object_at(alloc, place, spec, "strategy")? else {
+        return Ok(());
+    };
+    push_key(out, "strategy")?;
+    out.push_str("{")?;
+    push_member(alloc, out, strategy, "blueGreen")?;
+    let place = place.at("spec.strategy.canary");
+    if let Some(canary) = work.object_at(alloc, place, strategy, "canary")? {
+        push_key(out, "canary")?;
+        push_canary(alloc, work, site, canary, out)?;
+    }
+    out.push_str("}")?;
+    Ok(())
+}
+
+fn push_canary(
+    alloc: Global,
+    work: &mut Work,
+    site: &Site,
+    canary: &Value,
+    out: &mut String,
+) -> Result<(), Memory> {
+    let place = site.rollout.place();
+    out.push_str("{")?;
+    if let Some(steps) = work.list_at(alloc, place.at(STEPS), canary, "steps")? {
+        push_key(out, "steps")?;
+        push_steps(alloc, work, site, steps, out)?;
+    }
+    if let Some(analysis) = work.object_at(alloc, place.at(ANALYSIS), canary, "analysis")? {
+        push_key(out, "analysis")?;
+        let used = Use {
+            site: *site,
+            place,
+            templates: "spec.strategy.canary.analysis.templates",
+            arguments: "spec.strategy.canary.analysis.args",
+            analysis,
+        };
+        push_analysis(alloc, work, &used, out)?;
+    }
+    out.push_str("}")?;
+    Ok(())
+}
+
+fn push_steps(
+    alloc: Global,
+    work: &mut Work,
+    site: &Site,
+    steps: &Vec<Value>,
+    out: &mut String,
+) -> Result<(), Memory> {
+    out.push_str("[")?;
+    for (index, step) in steps.iter().enumerate() {
+        let place = site.rollout.place().item(STEPS, index);
+        push_step(alloc, work, site, place, step, out)?;
+    }
+    out.push_str("]")?;
+    Ok(())
+}
+
+fn push_step(
+    alloc: Global,
+    work: &mut Work,
+    site: &Site,
+    place: Place,
+    step: &Value,
+    out: &mut String,
+) -> Result<(), Memory> {
+    if !step.is_object() {
+        return work.tell(alloc, place, &["expected an object"]);
+    }
+    push_comma(out)?;
+    out.push_str("{")?;
+    push_others(alloc, out, step, &["analysis"])?;
+    if let Some(analysis) = work.object_at(alloc, place.end("analysis"), step, "analysis")? {
+        push_key(out, "analysis")?;
+        let used = Use {
+            site: *site,
+            place,
+            templates: ".analysis.templates",
+            arguments: ".analysis.args",
+            analysis,
+        };
+        push_analysis(alloc, work, &used, out)?;
+    }
+    out.push_str("}")?;
+    Ok(())
+}
+
+fn push_analysis(
+    alloc: Global,
+    work: &mut Work,
+    used: &Use,
+    out: &mut String,
+) -> Result<(), Memory> {
+    let place = used.place;
+    let arguments = work.list_at(alloc, place.part(used.arguments), used.analysis, "args")?;
+    if let Some(arguments) = arguments {
+        tell_arguments(alloc, work, place, used.arguments, arguments)?;
+    }
+    out.push_str("{")?;
+    push_others(alloc, out, used.analysis, &["args", "templates"])?;
+    push_key(out, "templates")?;
+    out.push_str("[")?;
+    match member(used.analysis, "templates").and_then(|list| list.as_array()) {
+        Some(templates) => push_templates(alloc, work, used, templates, out)?,
+        None => work.tell(alloc, place.part(used.templates), &[TEMPLATES])?,
+    }
+    out.push_str("]}")?;
+    Ok(())
+}
+
+fn push_templates(
+    alloc: Global,
+    work: &mut Work,
+    used: &Use,
+    templates: &Vec<Value>,
+    out: &mut String,
+) -> Result<(), Memory> {
+    for (index, named) in templates.iter().enumerate() {
+        let place = used.place.inner(used.templates, index);
+        match template_of(alloc, work, used, place, named)? {
+            Some(template) => push_used(alloc, work, used, template, named, out)?,
+            None => {}
+        }
+    }
+    Ok(())
+}
+
+// The template that an item of an analysis names. If there is none, this is told.
+fn template_of<'a>(
+    alloc: Global,
+    work: &mut Work,
+    used: &Use<'a>,
+    place: Place,
+    named: &Value,
+) -> Result<Option<Document<'a>>, Memory> {
+    let name = text_at(named, "templateName");
+    if member(named, "clusterScope").is_some_and(|scope| scope.as_bool().unwrap_or(false)) {
+        work.tell(alloc, place.end("clusterScope"), &[CLUSTER])?;
+        return Ok(None);
+    }
+    let place = place.end("templateName");
+    if name.is_empty() {
+        work.tell(alloc, place, &[NO_NAME])?;
+        return Ok(None);
+    }
+    match index_of(used.site.documents, "AnalysisTemplate", name) {
+        Some(index) => {
+            work.set_used(index)?;
+            Ok(used.site.documents.get(index).copied())
+        }
+        None => {
+            work.tell(
+                alloc,
+                place,
+                &["AnalysisTemplate ", name, " is in none of the files"],
+            )?;
+            Ok(None)
+        }
+    }
+}
+
+// Appends the item, with the name of the desk's template; and adds that template.
+fn push_used(
+    alloc: Global,
+    work: &mut Work,
+    used: &Use,
+    template: Document,
+    named: &Value,
+    out: &mut String,
+) -> Result<(), Memory> {
+    let case = Case {
+        template,
+        used_by: Some((used.site.rollout, used.analysis)),
+    };
+    convert_template(alloc, work, &case)?;
+    push_comma(out)?;
+    out.push_str("{")?;
+    push_others(alloc, out, named, &["templateName"])?;
+    push_key(out, "templateName")?;
+    out.push_str("\"")?;
+    push_made_name(&case, out)?;
+    out.push_str("\"}")?;
+    Ok(())
+}
