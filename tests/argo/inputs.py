@@ -1,0 +1,336 @@
+"""What `canary argo` reads, and streams that fail."""
+import itertools
+import json
+import os
+import stat
+import subprocess
+
+from asked import Faults, expect, folder_in, read, run, timed, write
+from outputs import EXAMPLE, FILE_FAULT, NAMES, example, want_files
+from wanted import REFUSED, TAKEN
+
+CLOSED = [closed for count in range(1, 4) for closed in itertools.combinations(range(3), count)]
+# C0, DEL, C1, the marks of direction (UAX #9), the separators of lines and paragraphs.
+MARKS = [*range(0x20), *range(0x7f, 0xa0), 0x61c, 0x200e, 0x200f, *range(0x2028, 0x202f),
+         *range(0x2066, 0x206a)]
+NOTHING = "no AnalysisTemplate and no Rollout is here"
+JOB = {"kind": "AnalysisTemplate", "metadata": {"name": "smoke"},
+       "spec": {"metrics": [{"name": "smoke", "provider": {"job": {"spec": {}}}}]}}
+MOST_FILE, MOST_YAML = 16 * 2 ** 20, 2 ** 20
+
+
+def in_json(trial, words, given=None, **more):
+    """The status, and what is made in JSON without the places of files."""
+    done = run(trial.program, ["argo", "--json", *words], given, **more)
+    expect(f"{words}: errors", done.errors, b"")
+    return done.status, json.loads(done.output)
+
+
+def made_of(found):
+    return {key: found[key] for key in ("plan", "services", "templates")}
+
+
+def wanted_of(file):
+    made = TAKEN[file]
+    return {"plan": made.plan, "services": made.services, "templates": made.templates}
+
+
+def texts_of(found, of="findings"):
+    return [it["text"] for it in found[of]]
+
+
+# ---- files and documents
+
+def try_standard_input(trial):
+    """`-` is standard input, a file, a pipe or a FIFO, and its name in findings."""
+    faults = Faults()
+    for file in TAKEN:
+        with faults:
+            status, found = in_json(trial, ["-"], read(example(trial, file)))
+            expect(f"{file} as input", (status, made_of(found)), (0, wanted_of(file)))
+    with faults:
+        with open(example(trial), "rb") as opened:
+            status, found = in_json(trial, ["-"], stdin=opened)
+        expect("a file as input", (status, made_of(found)), (0, wanted_of(EXAMPLE)))
+    with faults:
+        _, found = in_json(trial, ["-"], read(example(trial, "datadog.yaml")))
+        expect("the name of the input", [it["file"] for it in found["findings"]], ["-"])
+    faults.end()
+    return f"{len(TAKEN) + 2} inputs"
+
+
+def split(text):
+    """The documents of an example."""
+    return [f"{part.rstrip()}\n" for part in text.split("\n---\n")]
+
+
+def try_documents(trial):
+    """The documents of a file in files of their own, in any order, between markers, and as items
+    of a List."""
+    place, faults = folder_in(trial, "documents"), Faults()
+    for file in TAKEN:
+        parts = split(read(example(trial, file)).decode())
+        names = [os.path.basename(write(os.path.join(place, f"{at}-{file}"), part))
+                 for at, part in enumerate(parts)]
+        for row, words, text in (
+                ("in files of their own", names, None),
+                ("without what is empty", ["-"], "---\n---\n" + "---\n".join(parts) + "---\n"),
+                ("after ends", ["-"], "...\n---\n".join(parts)),
+                ("with ends of lines of DOS", ["-"], "---\n".join(parts).replace("\n", "\r\n"))):
+            with faults:
+                status, found = in_json(trial, words, text and text.encode(), cwd=place)
+                expect(f"{file} {row}", (status, made_of(found)), (0, wanted_of(file)))
+        with faults:
+            status, found = in_json(trial, names[::-1], cwd=place)
+            expect(f"{file} from its end", (status, sorted(
+                it["metadata"]["name"] for it in found["templates"])), (0, sorted(
+                    it["metadata"]["name"] for it in TAKEN[file].templates)))
+    faults.end()
+    return f"{5 * len(TAKEN)} ways to read documents"
+
+
+def listed(*items):
+    return json.dumps({"apiVersion": "v1", "kind": "List", "items": list(items)}, indent=2)
+
+
+def rollout(name, *templates):
+    steps = [{"analysis": {"templates": [{"templateName": it} for it in templates]}}]
+    return {"kind": "Rollout", "metadata": {"name": name},
+            "spec": {"strategy": {"canary": {"steps": steps}}}}
+
+
+def try_lists(trial):
+    """A List is its items; what is no manifest of Argo's is left out with a note."""
+    faults = Faults()
+    secret = {"kind": "Secret", "metadata": {"name": "token"}, "data": {"token": "c2VjcmV0"}}
+    rows = (
+        ("a List", listed(JOB, rollout("web", "smoke")), 0, [], []),
+        ("no List", json.dumps(JOB), 0, [], []),
+        ("a Secret", listed(secret, JOB), 0, [],
+         ["Secret token: ignored; only AnalysisTemplates and Rollouts are converted"]),
+        ("a Secret alone", listed(secret), 1, [NOTHING],
+         ["Secret token: ignored; only AnalysisTemplates and Rollouts are converted"]),
+        ("an empty List", listed(), 1, [NOTHING], []),
+        ("a List in a List", listed(JOB, {"kind": "List", "items": []}), 1,
+         ["List: expected items, which are no Lists"], []),
+        ("no kind", json.dumps({"metadata": {"name": "web"}}), 1,
+         ["expected AnalysisTemplate, Rollout or List"], []),
+        ("a template twice", listed(JOB, JOB), 1,
+         ["AnalysisTemplate smoke is there already: leave one of the two out"], []),
+        ("a template of the cluster", listed({**JOB, "kind": "ClusterAnalysisTemplate"}), 1,
+         ["ClusterAnalysisTemplate: write an AnalysisTemplate"], []),
+        ("a template that is nowhere", listed(JOB, rollout("web", "smoke", "load")), 1,
+         ["AnalysisTemplate load is in none of the files"], []),
+    )
+    for row, text, status, findings, notes in rows:
+        with faults:
+            ended, found = in_json(trial, ["-"], text.encode())
+            expect(row, (ended, texts_of(found), texts_of(found, "notes")),
+                   (status, findings, notes))
+            if findings:
+                expect(f"{row}: what is made", made_of(found),
+                       {"plan": [], "services": [], "templates": []})
+    with faults:
+        _, found = in_json(trial, ["-"], listed(JOB, rollout("web", "smoke", "load")).encode())
+        (only,) = found["findings"]
+        expect("the place in a List", (only["path"], only["line"]), (
+            "items[1].spec.strategy.canary.steps[0].analysis.templates[1].templateName", 39))
+    faults.end()
+    return f"{len(rows) + 1} lists"
+
+
+def try_many_findings(trial):
+    """A hundred findings are told, and the others are counted."""
+    metrics = [{"name": f"m{at}", "successCondition": "result > 1e-3",
+                "provider": {"web": {"url": "http://any/"}}} for at in range(30)]
+    items = [{"kind": "AnalysisTemplate", "metadata": {"name": f"t{at}"},
+              "spec": {"metrics": metrics}} for at in range(5)]
+    done = run(trial.program, ["argo", "-"], listed(*items).encode())
+    lines = done.output.decode().splitlines()
+    expect("150 findings", (done.status, len(lines), lines[-1]), (1, 101, "and 50 more"))
+    return "150 findings"
+
+
+# ---- what cannot be read
+
+def cannot_read(name):
+    return 1, b"", f"canary: cannot read {name}\ncanary: file\n".encode()
+
+
+def try_unread(trial):
+    """A file that is none, or too long, ends the program; a text that is no manifest is found."""
+    place, faults = folder_in(trial, "unread"), Faults()
+    os.mkdir(os.path.join(place, "folder"))
+    os.symlink("nothing", os.path.join(place, "link"))
+    with open(os.path.join(place, "long.json"), "wb") as made:
+        made.truncate(20_000_000)
+    write(os.path.join(place, "empty.yaml"), "")
+    for name in ("nothing", "folder", "link", "long.json", "nothing/here", "empty.yaml/here"):
+        for words in ([name], [example(trial), name], ["--json", name], ["--out", "new", name]):
+            with faults:
+                expect(f"argo {words}", tuple(run(trial.program, ["argo", *words], cwd=place)),
+                       cannot_read(name))
+    with faults:
+        expect("what is made", os.path.lexists(os.path.join(place, "new")), False)
+    with faults:
+        done, seconds = timed(trial.program, ["argo", "-"], b" " * 20_000_000)
+        expect("20 MB of input", tuple(done), cannot_read("-"))
+        expect(f"20 MB of input in {seconds:.2f} seconds", seconds < 2, True)
+    for row, text, line in (
+            ("nothing", b"", f"-:1:1: {NOTHING}"), ("a comment", b"# nothing\n", f"-:1:1: {NOTHING}"),
+            ("null", b"null", f"-:1:1: {NOTHING}"), ("documents", b"---\n---\n", f"-:1:1: {NOTHING}")):
+        with faults:
+            expect(row, tuple(run(trial.program, ["argo", "-"], text)),
+                   (1, f"{line}\n".encode(), b""))
+    for row, text in (("no UTF-8", b"a: \xff"), ("no JSON", b'{"kind": Rollout'),
+                      ("no YAML", b"a: [b"), ("a byte more", b"#" * (MOST_YAML + 1))):
+        with faults:
+            done = run(trial.program, ["argo", "-"], text)
+            expect(row, (done.status, done.output.count(b"\n"), done.output[:2], done.errors),
+                   (1, 1, b"-:", b""))
+    faults.end()
+    return "36 files and texts"
+
+
+def try_long(trial):
+    """16 MiB of JSON are read."""
+    text = json.dumps(JOB).encode()
+    done, seconds = timed(trial.program, ["argo", "-"], text + b" " * (MOST_FILE - len(text)))
+    expect("16 MiB", (done.status, done.output), (0, b"template smoke\n  smoke\n"
+                                                     b"    success: result == 1\n"))
+    expect("a byte more", tuple(run(trial.program, ["argo", "-"],
+                                    text + b" " * (MOST_FILE + 1 - len(text)))), cannot_read("-"))
+    return f"16 MiB in {seconds:.2f} seconds of a processor"
+
+
+# ---- streams
+
+def closing(closed, words):
+    closes = " ".join(f"{number}>&-" for number in closed)
+    return ["-c", f'exec "$0" "$@" {closes}', *words]
+
+
+def try_closed(trial):
+    """Each set of the three streams closed, and outputs that take nothing: what is written is
+    whole, and no file takes the place of a stream."""
+    place, faults = folder_in(trial, "closed"), Faults()
+    for at, closed in enumerate(CLOSED):
+        for name in (example(trial), "-"):
+            folder = os.path.join(place, f"{at}{len(name)}")
+            words = [trial.program, "argo", "--out", folder, name]
+            with faults:
+                with open(example(trial), "rb") as stdin:
+                    done = run("sh", closing(closed, words), stdin=stdin)
+                row = f"argo {name[-1:]}, closed {closed}"
+                is_unread = 0 in closed and name == "-"
+                wanted = 1 if is_unread or 1 in closed else 0
+                expect(row, done.status, wanted)
+                if is_unread:
+                    expect(f"{row}: files", os.path.lexists(folder), False)
+                else:
+                    want_files(trial, TAKEN[EXAMPLE], folder)
+                if 1 not in closed:
+                    text = TAKEN[EXAMPLE].text() if wanted == 0 else ""
+                    expect(f"{row}: output", done.output.decode(), text)
+                if 2 not in closed:
+                    last = done.errors.decode().splitlines()[-1]
+                    expect(f"{row}: the last line of errors", last[:13], {
+                        0: "canary: note:", 1: "canary: file" if is_unread else "canary: write",
+                    }[wanted])
+    for row, output in (("/dev/full", "/dev/full"), ("a folder", place)):
+        with faults:
+            opened = os.open(output, os.O_RDONLY if row == "a folder" else os.O_WRONLY)
+            done = run(trial.program, ["argo", example(trial)], stdout=opened)
+            os.close(opened)
+            expect(f"to {row}", (done.status, done.errors.endswith(b"canary: write\n")), (1, True))
+    with faults:
+        with open("/dev/full", "wb") as full:
+            done = run(trial.program, ["argo", example(trial)], stderr=full)
+        expect("errors to /dev/full", (done.status, done.output.decode()),
+               (0, TAKEN[EXAMPLE].text()))
+    faults.end()
+    return f"{2 * len(CLOSED) + 3} sets of streams"
+
+
+# ---- control characters
+
+def marked(*front):
+    return "".join([*front, *map(chr, MARKS)])
+
+
+def want_clean(row, done):
+    """Neither stream has a control character or a mark of direction, but ends of lines."""
+    for name, text in (("output", done.output), ("errors", done.errors)):
+        found = sorted({f"U+{ord(letter):04X}" for letter in text.decode()
+                        if ord(letter) in MARKS and letter != "\n"})
+        expect(f"{row}: marks in its {name}", found, [])
+
+
+def with_member(value, path, member):
+    """A copy of a value with something else at a path."""
+    copy = json.loads(json.dumps(value))
+    at = copy
+    for key in path[:-1]:
+        at = at[key]
+    at[path[-1]] = member
+    return copy
+
+
+def manifests_with(text):
+    """Manifests with that text at each place, each with the name of the place."""
+    web = {"kind": "AnalysisTemplate", "metadata": {"name": "t"}, "spec": {
+        "args": [{"name": "a", "value": "1"}, {"name": "b"}], "dryRun": [{"metricName": "m"}],
+        "metrics": [{"name": "m", "successCondition": "result > {{args.a}}", "interval": "1s",
+                     "provider": {"web": {"url": "http://any/{{args.b}}"}}}]}}
+    use = {"kind": "Rollout", "metadata": {"name": "s"}, "spec": {"strategy": {"canary": {
+        "steps": [{"setWeight": 1}, {"analysis": {
+            "templates": [{"templateName": "t"}], "args": [{"name": "b", "value": "x"}]}}]}}}}
+    metric, canary = ("spec", "metrics", 0), ("spec", "strategy", "canary")
+    rows = (
+        (0, ("kind",)), (0, ("metadata", "name")), (0, ("apiVersion",)), (0, (*metric, "name")),
+        (0, (*metric, "successCondition")), (0, (*metric, "failureCondition")),
+        (0, (*metric, "interval")), (0, (*metric, "count")), (0, ("spec", "args", 0, "name")),
+        (0, ("spec", "args", 0, "value")), (0, ("spec", "dryRun", 0, "metricName")),
+        (0, (*metric, "provider")), (0, (*metric, "provider", "web", "url")),
+        (1, ("kind",)), (1, ("metadata", "name")), (1, (*canary, "steps", 0, text)),
+        (1, (*canary, "steps", 0, "setWeight")),
+        (1, (*canary, "steps", 1, "analysis", "templates", 0, "templateName")),
+        (1, (*canary, "steps", 1, "analysis", "args", 0, "value")),
+        (1, (*canary, "steps", 1, "analysis", "args", 0, "name")),
+        (1, (*canary, "steps", 1, "analysis", text)),
+    )
+    for at, path in rows:
+        items = [web, use]
+        items[at] = with_member(items[at], path, text)
+        yield ".".join("TEXT" if it == text else str(it) for it in path), listed(*items)
+    yield "a provider's key", listed(
+        with_member(web, (*metric, "provider"), {text: {"query": "{{args.b}}"}}), use)
+    yield "an argument's place", listed(
+        with_member(web, (*metric, "successCondition"), f"result > {{{{args.{text}}}}}"), use)
+    yield "a field", listed(web, with_member(
+        use, (*canary, "steps", 1, "analysis", "args", 0), {
+            "name": "b", "valueFrom": {"fieldRef": {"fieldPath": text}}}))
+    yield "a key", listed({**web, text: 1}, {**use, text: {text: text}})
+
+
+def try_control_characters(trial):
+    """Control characters and marks of direction in names and texts of manifests, and in names of
+    files, are shown escaped, or not at all."""
+    faults, count = Faults(), 0
+    for text in (marked("a"), marked("a", "b "), "\x1b[31mred", "\u202eabc", "a\rb"):
+        for row, manifest in manifests_with(text):
+            count += 1
+            with faults:
+                done = run(trial.program, ["argo", "-"], manifest.encode())
+                expect(f"{text[:9]!r} as {row}: its status", done.status in (0, 1), True)
+                want_clean(f"{text[:9]!r} as {row}", done)
+    place = folder_in(trial, "marks")
+    name = marked("file")[:80].replace("\0", "")
+    write(os.path.join(place, name), "a: b: c")
+    for words in ([name], [name + "x"]):
+        with faults:
+            done = run(trial.program, ["argo", *words], cwd=place)
+            expect("a file's name", done.status, 1)
+            want_clean("a file's name", done)
+    faults.end()
+    return f"{count + 2} places"

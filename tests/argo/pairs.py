@@ -1,0 +1,254 @@
+"""Random conditions of Argo Rollouts, translated by the program, and values that are reported to a
+desk as the labels say: the phase in each reply is that of Argo's condition on the exact value."""
+import collections
+import json
+import random
+import time
+from fractions import Fraction
+
+import conditions
+import making
+from asked import Wrong, run
+from conditions import MOST, NAN, Form, Meaning
+from story_words import B, put, replies
+
+METRICS, VALUES, TEMPLATES = 32, 8, 16
+LIMIT, SECONDS, MOST_PAIRS = 1_000_000, 20, 100_000
+
+
+# ---- Argo's manifests, and what the program makes of them
+
+def template(name, metrics):
+    return {"apiVersion": "argoproj.io/v1alpha1", "kind": "AnalysisTemplate",
+            "metadata": {"name": name},
+            "spec": {"metrics": [metric.manifest(LIMIT) for metric in metrics]}}
+
+
+def rollout(name, of):
+    steps = [{"analysis": {"templates": [{"templateName": of}]}}, {"pause": {}}]
+    return {"apiVersion": "argoproj.io/v1alpha1", "kind": "Rollout", "metadata": {"name": name},
+            "spec": {"strategy": {"canary": {"steps": steps}}}}
+
+
+class Lot:
+    """Templates of random metrics, translated."""
+
+    def __init__(self, trial, seed, templates=TEMPLATES):
+        rng = random.Random(seed)
+        self.trial, self.metrics = trial, [
+            [making.metric(rng, f"m{at}", VALUES) for at in range(METRICS)]
+            for _ in range(templates)]
+        items = []
+        for at, metrics in enumerate(self.metrics):
+            items += [template(f"t{at}", metrics), rollout(f"s{at}", f"t{at}")]
+        self.made = self.translated({"apiVersion": "v1", "kind": "List", "items": items})
+
+    def translated(self, manifests):
+        done = run(self.trial.program, ["argo", "--json", "-"], json.dumps(manifests).encode())
+        made = json.loads(done.output) if done.output else {}
+        if done.status or done.errors or made.get("findings"):
+            raise Wrong(f"conditions are refused: {self.refused(made)} {done.errors[:300]}")
+        return made
+
+    def refused(self, made):
+        """The first finding, with the conditions of its metric."""
+        for found in made.get("findings", [])[:1]:
+            words = found["path"].replace("[", " ").replace("]", " ").split()
+            at = int(words[1]) // 2
+            place = int(words[3]) if len(words) > 3 else 0
+            return found, self.metrics[at][place].texts
+        return None
+
+    def pairs(self):
+        return len(self.metrics) * METRICS * VALUES
+
+    def want_labels(self):
+        """Each label says what the conditions need."""
+        for at, metrics in enumerate(self.metrics):
+            made = {it["metadata"]["name"]: it for it in self.made["templates"]}[f"t{at}"]
+            names = [metric["name"] for metric in made["spec"]["metrics"]]
+            for metric, name in zip(metrics, names, strict=True):
+                if name != metric.label():
+                    raise Wrong(f"{metric.texts}: {name} in place of {metric.label()}")
+
+    # ---- what a desk says
+
+    def messages(self, multiple):
+        """The requests of each template: it, its service, a start, and the reports."""
+        services = {it["metadata"]["name"]: it for it in self.made["services"]}
+        templates = {it["metadata"]["name"]: it for it in self.made["templates"]}
+        number = 0
+        for at, metrics in enumerate(self.metrics):
+            yield {"template": templates[f"t{at}"]}
+            yield {"service": {"version": "v1", "manifest": services[f"s{at}"]}}
+            yield {"start": {"service": f"s{at}", "version": "v2"}}
+            number += 3
+            for ordinal in range(VALUES):
+                entries = [entry(metric, ordinal, B + number, multiple) for metric in metrics]
+                yield {"report": {"service": f"s{at}", "run": 1, "entries": entries}}
+                number += 1
+
+    def phases(self, multiple):
+        """The phase of each measurement, by template, ordinal and metric."""
+        asked = [put("ops", at, json.dumps(it).encode())
+                 for at, it in enumerate(self.messages(multiple), 1)]
+        done = run(self.trial.program, ["pipe", "--at", str(B), "--step", "1"], b"".join(asked))
+        got = replies(done.output)
+        if done.status or done.errors or len(got) != len(asked):
+            raise Wrong(f"a desk ended with {done.status} and {done.errors[:300]}")
+        for at, (status, body, _) in enumerate(got):
+            if status != 200:
+                raise Wrong(f"a desk answers {body[:300]} to {asked[at][:300]}")
+        each = VALUES + 3
+        return [[json.loads(body)["phases"] for _, body, _ in got[at + 3:at + each]]
+                for at in range(0, len(got), each)]
+
+    def differences(self, phases, meaning):
+        """The pairs of which the desk says something else than that meaning; and how often each
+        phase is meant."""
+        found, counts = [], collections.Counter()
+        for at, metrics in enumerate(self.metrics):
+            for place, metric in enumerate(metrics):
+                for ordinal, value in enumerate(metric.values):
+                    wanted = meaning.phase(metric.trees, value)
+                    counts[wanted] += 1
+                    if phases[at][ordinal][place] != wanted:
+                        found.append((metric, value, phases[at][ordinal][place], wanted))
+        return found, counts
+
+
+def entry(metric, ordinal, taken, multiple):
+    made = {"metric": metric.label(), "ordinal": ordinal + 1, "taken": taken}
+    number = metric.form.reported(metric.values[ordinal], multiple)
+    return made | ({"failure": "no number"} if number is None else {"result": number})
+
+
+def shown(value):
+    """A value as a person reads it."""
+    if isinstance(value, list):
+        return f"[{', '.join(map(shown, value))}]"
+    return f"{value.numerator}/{value.denominator}" if isinstance(value, Fraction) else value
+
+
+def told(difference):
+    metric, value, phase, wanted = difference
+    return (f"success {metric.texts[0]!r}, failure {metric.texts[1]!r}, {metric.label()}, value "
+            f"{shown(value)}: a desk says {phase}, Argo {wanted}")
+
+
+def smallest(differences):
+    """The one with the shortest conditions."""
+    return min(differences, key=lambda it: sum(len(text or "") for text in it[0].texts))
+
+
+def try_pairs(trial):
+    """Conditions and values, as many as there is time for."""
+    tried, counts, until = 0, collections.Counter(), time.monotonic() + SECONDS
+    number = 0
+    while tried < MOST_PAIRS and (trial.is_whole or time.monotonic() < until):
+        lot = Lot(trial, f"{trial.seed} {number}")
+        lot.want_labels()
+        found, more = lot.differences(lot.phases(conditions.multiple), Meaning())
+        if found:
+            raise Wrong(f"lot {number}: {len(found)} differ: {told(smallest(found))}")
+        tried, number, counts = tried + lot.pairs(), number + 1, counts + more
+    phases = ", ".join(f"{count} {phase}" for phase, count in sorted(counts.items()))
+    rare = [phase for phase in ("Successful", "Failed", "Inconclusive", "Error")
+            if counts[phase] * 100 < tried]
+    if rare:
+        raise Wrong(f"of {tried} pairs hardly one is {rare}")
+    return f"{tried} conditions with a value: {phases}"
+
+
+# ---- mistakes that the comparison must find
+
+class GreaterForAtLeast(Meaning):
+    """`>=` read as `>`."""
+
+    @staticmethod
+    def compares(left, sign, right):
+        return conditions.compared(left, ">" if sign == ">=" else sign, right)
+
+
+class RoundedConstant(Meaning):
+    """Constants with three digits after the point."""
+
+    @staticmethod
+    def constant(text):
+        return round(Fraction(text), 3)
+
+
+class BothSides(Meaning):
+    """Both sides of && and || looked at."""
+
+    def joined(self, tree, value):
+        left, right = self.says(tree[1], value), self.says(tree[2], value)
+        return left or right if tree[0] == "or" else left and right
+
+
+class NotANumberCompared(Meaning):
+    """NaN compared, where nothing asks for it."""
+
+    @staticmethod
+    def cannot_report(form, value):
+        asking = Form(())
+        asking.__dict__.update(form.__dict__, has_nan=True)
+        return asking.cannot_report(value)
+
+
+class NotANumberBelow(Meaning):
+    """NaN less than each number, as its number is."""
+
+    @staticmethod
+    def compares(left, sign, right):
+        return conditions.compared(-2 ** 63 if left == NAN else left, sign, right)
+
+
+class OrBeforeAnd(Meaning):
+    """|| and && mixed up."""
+
+    def joined(self, tree, value):
+        return super().joined(("and" if tree[0] == "or" else "or", *tree[1:]), value)
+
+
+def floored(value, places):
+    """The floor of a value: a constant may be reached from above alone."""
+    return max(-MOST, min(MOST, value.numerator * 10 ** places // value.denominator))
+
+
+def cut_off(value, places):
+    """Cut off towards 0, with a last digit of 0."""
+    number = min(MOST, abs(value).numerator * 10 ** places // value.denominator)
+    return -number if value < 0 else number
+
+
+def with_a_place_less(value, places):
+    return conditions.multiple(value, places - 1)
+
+
+def without_a_limit(value, places):
+    """Beyond the greatest number, the next one."""
+    number = conditions.multiple(value, places)
+    return number if abs(number) < MOST else -number // abs(number)
+
+
+MEANINGS = (GreaterForAtLeast, RoundedConstant, BothSides, NotANumberCompared, NotANumberBelow,
+            OrBeforeAnd)
+REPORTS = (floored, cut_off, with_a_place_less, without_a_limit)
+
+
+def try_planted(trial):
+    """Each of some mistakes, of what is meant or of what is reported, shows as a difference."""
+    lot, counts = Lot(trial, f"{trial.seed} planted"), {}
+    phases = lot.phases(conditions.multiple)
+    found, _ = lot.differences(phases, Meaning())
+    if found:
+        raise Wrong(f"{len(found)} differ without a mistake: {told(smallest(found))}")
+    for meaning in MEANINGS:
+        counts[meaning.__name__] = len(lot.differences(phases, meaning())[0])
+    for report in REPORTS:
+        counts[report.__name__] = len(lot.differences(lot.phases(report), Meaning())[0])
+    missed = [name for name, count in counts.items() if not count]
+    if missed:
+        raise Wrong(f"{lot.pairs()} pairs do not show {', '.join(missed)}")
+    return f"{len(counts)} mistakes show, in {min(counts.values())} or more of {lot.pairs()} pairs"

@@ -1,0 +1,258 @@
+"""What becomes of each file of examples/argo, written by hand: TAKEN has what is made of it, and
+REFUSED what is found, each with line, column, path and text."""
+
+NAN = ("NaN without isNaN is a failure here, an Error; Argo takes comparisons with it as false: "
+       "write isNaN(result) where NaN is to count (said once, for all metrics)")
+# What conditions have that is refused, with what to write.
+TEXT = "a text: have the query give 1 or 0, and compare with 1"
+TRUTH = "a truth: have the query give 1 or 0, and write == 1"
+FUNCTION = "this function: do it in the query"
+NUMBER = "this number: write 15 digits at most, as 0.95"
+NAN_NUMBER = -9223372036854775808
+
+
+class Taken:
+    """A file that is translated: the desk's templates with their metrics, its services with their
+    strategies, how an agent measures, and the line and column of the note on NaN, if there is
+    one."""
+
+    def __init__(self, templates, services, plan, nan=None, dry=()):
+        self.templates = [template(name, metrics, dry) for name, metrics in templates.items()]
+        self.services = [service(name, canary) for name, canary in services.items()]
+        self.plan = [planned(*row) for row in plan]
+        self.notes = [(*nan, "spec.metrics[0]", NAN)] if nan else []
+
+    def text(self):
+        """What is printed of it."""
+        lines = []
+        for made in self.templates:
+            lines.append(f"template {made['metadata']['name']}")
+            for metric in made["spec"]["metrics"]:
+                lines.append(f"  {metric['name']}")
+                lines += [f"    {when}: {metric[f'{when}Condition']}"
+                          for when in ("success", "failure") if f"{when}Condition" in metric]
+        lines += [f"service {made['metadata']['name']}" for made in self.services]
+        lines += ["measure {label} of {service} by {kind}".format(**it) for it in self.plan]
+        return "".join(f"{line}\n" for line in lines)
+
+
+def template(name, metrics, dry):
+    spec = {"metrics": metrics}
+    if dry:
+        spec["dryRun"] = [{"metricName": metric} for metric in dry]
+    return {"apiVersion": "argoproj.io/v1alpha1", "kind": "AnalysisTemplate",
+            "metadata": {"name": name}, "spec": spec}
+
+
+def service(name, canary):
+    return {"apiVersion": "argoproj.io/v1alpha1", "kind": "Rollout", "metadata": {"name": name},
+            "spec": {"strategy": {"canary": canary}}}
+
+
+def planned(of, label, by, metric, provider, late=None):
+    (kind,) = provider
+    return {"service": of, "label": label, "template": by, "metric": metric, "kind": kind,
+            "provider": provider, "late": late or {}}
+
+
+def weight(percent):
+    return {"setWeight": percent}
+
+
+def pause(duration=None):
+    return {"pause": {"duration": duration} if duration else {}}
+
+
+def named(*templates, **more):
+    return {"templates": [{"templateName": name} for name in templates], **more}
+
+
+def prometheus(address, query):
+    return {"prometheus": {"address": address, "query": query}}
+
+
+REQUESTS = """sum(irate(
+  istio_requests_total{reporter="source",destination_service=~"guestbook-svc.default.svc.cluster.local",response_code!~"5.*"}[5m]
+)) /
+sum(irate(
+  istio_requests_total{reporter="source",destination_service=~"guestbook-svc.default.svc.cluster.local"}[5m]
+))
+"""
+LATENCY = ("histogram_quantile(0.99, sum(rate(http_request_duration_seconds_bucket{{service=\"{}\"}}"
+           "[2m])) by (le))")
+ERRORS = ('sum(rate(http_requests_total{app="shop-web",code=~"5.."}[1m])) / '
+          'sum(rate(http_requests_total{app="shop-web"}[1m]))')
+REGIONS = ('sort(sum by (region) (rate(ok_total{app="checkout"}[5m])) / '
+           'sum by (region) (rate(all_total{app="checkout"}[5m])))')
+RESTARTS = ('sum(increase(kube_pod_container_status_restarts_total{pod=~"profile-.*",'
+            'pod!~"profile-{{args.stable-hash}}.*"}[5m]))')
+SMOKE = {"job": {"spec": {"backoffLimit": 1, "template": {"spec": {
+    "restartPolicy": "Never", "containers": [{
+        "name": "smoke", "image": "registry.example/shop/smoke:3",
+        "args": ["--target", "http://shop-{{args.hash}}:8080"]}]}}}}}
+JUDGE = {"web": {
+    "url": "http://judge.internal/api/v1/score?service=billing", "timeoutSeconds": 20,
+    "headers": [{"key": "Authorization", "value": "Bearer {{args.api-token}}"}],
+    "jsonPath": "{$.data.score}"}}
+APDEX = {"web": {"url": "http://apm.internal/apdex/profile", "jsonPath": "{$.apdex}"}}
+
+
+def latency(limit):
+    return [{"name": "p99.e6f", "successCondition": f"result <= {limit}", "interval": "1m",
+             "count": 10, "failureLimit": 2}]
+
+
+TAKEN = {
+    "success-rate.yaml": Taken(
+        {"success-rate": [
+            {"name": "success-rate.e6f", "successCondition": "result >= 950000", "interval": "5m",
+             "count": 6, "failureLimit": 3}]},
+        {"guestbook": {
+            "steps": [weight(20), pause("10m"), weight(40), pause("10m"), weight(60), pause("10m"),
+                      weight(80), pause("10m")],
+            "analysis": named("success-rate", startingStep=2)}},
+        [("guestbook", "success-rate.e6f", "success-rate", "success-rate",
+          prometheus("http://prometheus.example.com:9090", REQUESTS))],
+        nan=(11, 5)),
+    "threshold-argument.yaml": Taken(
+        {"latency-for-cart": latency(500000), "latency-for-search": latency(250000)},
+        {"cart": {"steps": [weight(10), {"analysis": named("latency-for-cart")}, weight(50),
+                            pause()]},
+         "search": {"steps": [weight(10), {"analysis": named("latency-for-search")}, weight(50),
+                              pause()]}},
+        [("cart", "p99.e6f", "latency-for-cart", "p99",
+          prometheus("http://prometheus:9090", LATENCY.format("cart"))),
+         ("search", "p99.e6f", "latency-for-search", "p99",
+          prometheus("http://prometheus:9090", LATENCY.format("search")))],
+        nan=(12, 5)),
+    "empty-and-nan.yaml": Taken(
+        {"error-share": [
+            {"name": "error-share.e6nl1",
+             "successCondition": f"result[0] == 0 || result[1] == {NAN_NUMBER} || "
+                                 f"(result[1] < 20000 && result[1] != {NAN_NUMBER})",
+             "failureCondition": "result[0] > 0 && result[1] >= 100000",
+             "interval": "30s", "failureLimit": 1, "inconclusiveLimit": 5}]},
+        {"web": {"steps": [weight(25), pause("15m"), weight(75), pause("15m")],
+                 "analysis": named("error-share")}},
+        [("web", "error-share.e6nl1", "error-share", "error-share",
+          prometheus("http://prometheus:9090", ERRORS))]),
+    "web-jsonpath.yaml": Taken(
+        {"judge": [
+            {"name": "score.e6", "successCondition": "result >= 92500000",
+             "failureCondition": "result < 80000000", "interval": "2m", "count": 5,
+             "inconclusiveLimit": 2}]},
+        {"billing": {"steps": [weight(5), {"analysis": named("judge")}, weight(100)]}},
+        [("billing", "score.e6", "judge", "score", JUDGE,
+          {"api-token": {"secretKeyRef": {"name": "judge-secret", "key": "token"}}})],
+        nan=(11, 5)),
+    "job.yaml": Taken(
+        {"smoke": [{"name": "smoke-test", "successCondition": "result == 1"}]},
+        {"shop": {"steps": [weight(1), {"analysis": named("smoke")}, weight(30), pause("1h")]}},
+        [("shop", "smoke-test", "smoke", "smoke-test", SMOKE,
+          {"hash": {"podTemplateHashValue": "Latest"}})]),
+    "two-regions-dry-run.yaml": Taken(
+        {"regions": [
+            {"name": "availability.e6p2",
+             "successCondition": "(result[0] > 999000) && (result[1] > 999000)",
+             "failureCondition": "result[0] < 990000 || result[1] < 990000",
+             "interval": "1m", "count": 5, "inconclusiveLimit": 3, "consecutiveErrorLimit": 2},
+            {"name": "saturation.e6f", "failureCondition": "result > 80500000",
+             "interval": "1m", "count": 5}]},
+        {"checkout": {"steps": [weight(10), {"analysis": named("regions")}, weight(60),
+                                pause("30m")]}},
+        [("checkout", "availability.e6p2", "regions", "availability",
+          prometheus("http://thanos:9090", REGIONS)),
+         ("checkout", "saturation.e6f", "regions", "saturation",
+          prometheus("http://thanos:9090", 'max(container_cpu_percent{app="checkout"})'))],
+        nan=(11, 5), dry=["saturation.e6f"]),
+    "many-digits.yaml": Taken(
+        {"budget": [
+            {"name": "burn-rate.e8f", "successCondition": "result < 1440012500 && result >= 10",
+             "interval": "10m", "count": 12, "failureLimit": 1}]},
+        {"mail": {"steps": [weight(10), {"analysis": named("budget")}, weight(100)]}},
+        [("mail", "burn-rate.e8f", "budget", "burn-rate",
+          prometheus("http://prometheus:9090", 'slo:burn:rate1h{app="mail"}'))],
+        nan=(8, 5)),
+    "several-templates.yaml": Taken(
+        {"apdex-for-profile": [
+            {"name": "apdex.e6", "successCondition": "result >= 850000", "interval": "1m",
+             "failureLimit": 3}],
+         "restarts": [
+             {"name": "restarts.e6f", "failureCondition": "result > 0", "interval": "1m",
+              "failureLimit": 0}]},
+        {"profile": {"steps": [weight(20), pause("5m"), weight(50), pause("5m")],
+                     "analysis": named("apdex-for-profile", "restarts", startingStep=1)}},
+        [("profile", "apdex.e6", "apdex-for-profile", "apdex", APDEX),
+         ("profile", "restarts.e6f", "restarts", "restarts",
+          prometheus("http://prometheus:9090", RESTARTS),
+          {"stable-hash": {"podTemplateHashValue": "Stable"}})],
+        nan=(8, 5)),
+}
+
+
+class Refused:
+    """A file in which something is found, and where the note on NaN stands, if there is one."""
+
+    def __init__(self, findings, nan=None):
+        self.findings = findings
+        self.notes = [(*nan, NAN)] if nan else []
+
+
+def success(at, line, text):
+    return line, 23, f"spec.metrics[{at}].successCondition", text
+
+
+def failure(at, line, text):
+    return line, 23, f"spec.metrics[{at}].failureCondition", text
+
+
+def provider(at, line, text):
+    return line, 15, f"spec.metrics[{at}].provider", text
+
+
+REFUSED = {
+    "datadog.yaml": Refused([success(0, 14, f"byte 1: {FUNCTION}")]),
+    "dry-run-of-an-analysis.yaml": Refused([
+        (32, 25, "spec.strategy.canary.steps[1].setCanaryScale",
+         "expected no member but setWeight, pause or analysis (others are unsupported)\n"
+         "    instead: leave the step out: the desk scales no pods"),
+        (29, 9, "spec.strategy.canary.analysis.dryRun",
+         "expected none or an empty list (others are unsupported)\n"
+         "    instead: write dryRun in the spec of the AnalysisTemplate"),
+    ], nan=(9, 5, "spec.metrics[0]")),
+    "refused.yaml": Refused([
+        success(0, 13, f"byte 11: {TEXT}"),
+        success(1, 16, f"byte 11: {TRUTH}"),
+        success(2, 19, f"byte 1: {TRUTH}"),
+        success(3, 22, "byte 1: a member: put the path into the provider's jsonPath"),
+        success(4, 25, "byte 11: arithmetic: do it in the query"),
+        success(5, 28, "byte 1: two results: put their quotient or difference into the query"),
+        success(6, 31, f"byte 1: {FUNCTION}"),
+        failure(7, 34, f"byte 1: {FUNCTION}"),
+        failure(8, 37, f"byte 1: {FUNCTION}"),
+        success(9, 40, f"byte 1: {FUNCTION}"),
+        success(10, 43, f"byte 13: {NUMBER}"),
+        success(11, 46, f"byte 13: {NUMBER}"),
+        success(12, 49, "byte 20: this number is too large for the digits after the points"),
+        success(13, 52, "byte 2: a comparison is wanted here, as result[0] >= 0.95"),
+        success(14, 55, "byte 17: a chain: write 1 < result && result < 5"),
+        success(15, 58, "byte 1: ! before a comparison: write !(result > 5)"),
+        success(16, 61, "byte 17: a choice: write a condition without ? : and ??"),
+        success(17, 64, "byte 8: in: write result == 1 || result == 2, and so on"),
+        (66, 5, "spec.metrics[18]", "result beside result[0]: write one of the two"),
+        (70, 5, "spec.metrics[19]", "this place of a list: write result[0], up to result[15]"),
+        success(20, 74, "{{args.threshold}} is no argument of the template: "
+                        "add it to its spec.args"),
+        success(21, 77, "{{args.limit}} has no value: "
+                        "give it one in the args of the Rollout's analysis"),
+        success(22, 80, "{{args.hash}} is known only as the agent measures: write a constant"),
+        (82, 11, "spec.metrics[23].name",
+         "a name that ends as that of a translated metric: write another one"),
+        provider(24, 86, "kayenta is not asked: "
+                         "write the metrics of its canary judgement one by one"),
+        provider(25, 89, "a job has no result: leave the conditions of the metric out"),
+        provider(26, 92, "expected an object with one provider: write a metric for each"),
+        (105, 27, "spec.strategy.canary.steps[1].analysis.templates[1].templateName",
+         "AnalysisTemplate elsewhere is in none of the files"),
+    ], nan=(48, 5, "spec.metrics[12]")),
+}
