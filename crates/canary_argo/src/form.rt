@@ -1,7 +1,7 @@
 //! How the values of a metric are reported.
 ghost use Rattle.std.specs.Prelude.{◌≡◌, ◌≤◌, ◌++◌, OnOk, string_bytes};
-ghost use Rattle.canary_argo.specs.Labels.{shape_text, suffix_of, units_of};
-ghost use Rattle.canary_decimal.specs.Endings.{nan_text, IsEnding};
+ghost use Rattle.canary_argo.specs.Labels.{shape_text, has_length, suffix_of, units_of};
+ghost use Rattle.canary_decimal.specs.Endings.{nan_text, IsEnding, IsShape};
 
 use crate::condition::{Item, Place, Test};
 use crate::fault::{Fault, Refusal};
@@ -163,8 +163,8 @@ impl Form {
     /// `.e6l1` for its length and the first; with `n` after the places if NaN is reported.
     pub fn suffix(self, out: &mut String) -> Result<(), Memory>
         ensures text { OnOk result (string_bytes out.new ≡ string_bytes out.old ++ suffix_of self) }
-        ensures ending { 6 ≤ self.places → self.places ≤ 18
-            → IsEnding (suffix_of self) (units_of self) }
+        ensures ending { OnOk result (6 ≤ self.places → self.places ≤ 18
+            → IsEnding (suffix_of self) (units_of self)) }
     {
         let nan = nan_text(self.nan);
         write!(out, ".e{}{nan}", self.places)?;
@@ -174,7 +174,9 @@ impl Form {
 
 impl Shape {
     fn suffix(self, out: &mut String) -> Result<(), Memory>
-        ensures { OnOk result (string_bytes out.new ≡ string_bytes out.old ++ shape_text self) }
+        ensures text { OnOk result
+            (string_bytes out.new ≡ string_bytes out.old ++ shape_text self) }
+        ensures shape { OnOk result (IsShape (has_length self) (shape_text self)) }
     {
         match self {
             Shape::One => {}
