@@ -13,6 +13,7 @@ import outputs
 import pairs
 from asked import Trial, Wrong
 
+STRACE_PARTS = ("try_empty_name",)
 MODULES = (examples, outputs, inputs, hostile, pairs)
 
 
@@ -56,6 +57,8 @@ def main():
                   given.seed, given.all)
     print(f"argo: --seed {given.seed}", file=sys.stderr)
     names = given.parts or (["try_planted"] if given.selftest else PARTS)
+    if "strace" in os.environ.get("CHECK_WITHOUT", "").split():
+        names = [name for name in names if name not in STRACE_PARTS]
     failed = [name for name in names if not try_part(name, trial)]
     if failed:
         print(f"argo: --seed {given.seed} repeats it: {' '.join(failed)}", file=sys.stderr)

@@ -60,7 +60,8 @@ def want_answered(trial, row, text):
 def try_changed(trial):
     """Examples that are changed at random."""
     rng, faults, statuses = random.Random(f"{trial.seed} changed"), Faults(), []
-    texts = [read(os.path.join(trial.examples, name)) for name in sorted(os.listdir(trial.examples))]
+    names = sorted(os.listdir(trial.examples))
+    texts = [read(os.path.join(trial.examples, name)) for name in names]
     for _ in range(CHANGED):
         text = changed(rng, rng.choice(texts))
         with faults:
@@ -124,8 +125,9 @@ TEXTS = {
     "a long argument in many places": lambda: listed(
         analysis("t", [metric(provider={"web": {"url": "{{args.a}}" * 1000}})], [
             {"name": "a", "value": "x" * 8000}]), uses("t")),
-    "arguments": lambda: listed(analysis("t", [metric(provider={"web": {"url": "{{args.a9999}}"}})], [
-        {"name": f"a{at}", "value": "x"} for at in range(10000)]), uses("t")),
+    "arguments": lambda: listed(analysis("t", [metric(
+        provider={"web": {"url": "{{args.a9999}}"}})], [
+            {"name": f"a{at}", "value": "x"} for at in range(10000)]), uses("t")),
     "arguments, each in a place": lambda: listed(analysis("t", [metric(
         provider={"web": {"url": "".join(f"{{{{args.a{at}}}}}" for at in range(1000))}})], [
             {"name": f"a{at}", "value": "x"} for at in range(1000)]), uses("t")),
@@ -164,8 +166,8 @@ TEXTS = {
 def json_lines():
     """Templates that fill a file in YAML, with a metric each that is refused."""
     return "".join(f"---\nkind: AnalysisTemplate\nmetadata:\n  name: t{at}\nspec:\n  metrics:\n"
-                   f"  - name: m\n    successCondition: result > x{at}\n    provider: {{web: {{}}}}\n"
-                   for at in range(7000))
+                   f"  - name: m\n    successCondition: result > x{at}\n"
+                   "    provider: {web: {}}\n" for at in range(7000))
 
 
 def try_hostile(trial):

@@ -2,12 +2,10 @@
 import itertools
 import json
 import os
-import stat
-import subprocess
 
 from asked import Faults, expect, folder_in, read, run, timed, write
-from outputs import EXAMPLE, FILE_FAULT, NAMES, example, want_files
-from wanted import REFUSED, TAKEN
+from outputs import EXAMPLE, example, want_files
+from wanted import TAKEN
 
 CLOSED = [closed for count in range(1, 4) for closed in itertools.combinations(range(3), count)]
 # C0, DEL, C1, the marks of direction (UAX #9), the separators of lines and paragraphs.
@@ -176,12 +174,11 @@ def try_unread(trial):
         done, seconds = timed(trial.program, ["argo", "-"], b" " * 20_000_000)
         expect("20 MB of input", tuple(done), cannot_read("-"))
         expect(f"20 MB of input in {seconds:.2f} seconds", seconds < 2, True)
-    for row, text, line in (
-            ("nothing", b"", f"-:1:1: {NOTHING}"), ("a comment", b"# nothing\n", f"-:1:1: {NOTHING}"),
-            ("null", b"null", f"-:1:1: {NOTHING}"), ("documents", b"---\n---\n", f"-:1:1: {NOTHING}")):
+    for row, text in (("nothing", b""), ("a comment", b"# nothing\n"), ("null", b"null"),
+                      ("documents", b"---\n---\n")):
         with faults:
             expect(row, tuple(run(trial.program, ["argo", "-"], text)),
-                   (1, f"{line}\n".encode(), b""))
+                   (1, f"-:1:1: {NOTHING}\n".encode(), b""))
     for row, text in (("no UTF-8", b"a: \xff"), ("no JSON", b'{"kind": Rollout'),
                       ("no YAML", b"a: [b"), ("a byte more", b"#" * (MOST_YAML + 1))):
         with faults:

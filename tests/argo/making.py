@@ -141,10 +141,10 @@ class Maker:
     def number(self):
         """A number at a constant, beside one, far away, or anywhere; rarely none."""
         rng, kind = self.rng, self.rng.random()
-        if kind < (0.12 if self.has_nan else 0.03):
+        if kind < (0.25 if self.has_nan else 0.03):
             return NAN
-        if kind < 0.14:
-            return INFINITE if rng.random() < 0.1 else Fraction(rng.randrange(-10, 10))
+        if kind < (0.28 if self.has_nan else 0.06):
+            return INFINITE if rng.random() < 0.3 else Fraction(rng.randrange(-10, 10))
         if kind < 0.8 and self.constants:
             step = Fraction(rng.choice(STEPS)) / 10 ** rng.choice([*range(14), 17, 18, 20, 25, 30])
             return rng.choice(self.constants) + step
@@ -159,7 +159,8 @@ class Maker:
         if not is_list:
             return self.number()
         wanted = len(set(self.places) - {"len(result)"})
-        length = rng.choice([wanted] * 8 + [wanted + 1, max(0, wanted - 1), 0, 1, 2, 3, 20])
+        length = rng.choice([wanted] * 6 + [max(0, wanted - 1)] * 2 + [
+            wanted + 1, 0, 1, 2, 3, 20])
         return [self.number() for _ in range(length)]
 
 

@@ -3,9 +3,8 @@ import json
 import os
 import shutil
 import stat
-import subprocess
 
-from asked import Faults, Wrong, expect, folder_in, read, run, write
+from asked import Faults, expect, folder_in, read, run, write
 from wanted import REFUSED, TAKEN
 
 FILE_FAULT = (1, b"", b"canary: file\n")
@@ -39,7 +38,7 @@ def want_files(trial, made, folder):
     for name, value in wanted.items():
         file = os.path.join(folder, name)
         expect(file, json.loads(read(file)), value)
-        expect(f"{file}: its end", read(file)[-2:-1] + read(file)[-1:], read(file)[-2:-1] + b"\n")
+        expect(f"{file}: its lines", (read(file).count(b"\n"), read(file)[-1:]), (1, b"\n"))
         expect(f"{file}: its mode", stat.S_IMODE(os.lstat(file).st_mode), 0o644)
         if name != "plan.json":
             want_checked(trial, file)
@@ -63,9 +62,11 @@ def try_written(trial):
                    (1, len(made.findings)))
             expect(f"argo --out {file}: a folder", os.path.lexists(folder), False)
     with faults:
-        done = run(trial.program, ["argo", "--json", "--out", "all", *map(
-            lambda name: example(trial, name), TAKEN)], cwd=place)
+        # web.yaml has a template of the name of one in success-rate.yaml
+        files = [example(trial, name) for name in TAKEN if name != "web.yaml"]
+        done = run(trial.program, ["argo", "--json", "--out", "all", *files], cwd=place)
         made = json.loads(done.output)
+        expect("all examples", done.status, 0)
         expect("all examples: their files", len(os.listdir(os.path.join(place, "all"))),
                len(made["templates"]) + len(made["services"]) + 1)
     faults.end()
@@ -184,14 +185,8 @@ def try_folders(trial):
             done = written(trial, EXAMPLE, folder, cwd=place)
             expect(f"to {folder}", done.status, 0)
             want_files(trial, TAKEN[EXAMPLE], os.path.join(place, folder))
-    with faults:
-        ready(place)
-        before = state_of(place)
-        done = written(trial, EXAMPLE, "", cwd=place, **user())
-        expect("an empty name", tuple(done)[:2], (1, b""))
-        expect("an empty name: what is there", state_of(place), before)
     faults.end()
-    return f"{2 * len(FOLDERS) + 8} folders"
+    return f"{2 * len(FOLDERS) + 7} folders"
 
 
 def user():
@@ -199,17 +194,37 @@ def user():
     return {"user": OTHER_USER, "group": OTHER_USER, "extra_groups": []} if not os.geteuid() else {}
 
 
+def for_others(trial):
+    """A copy of the program that other users may run."""
+    for folder in (trial.folder, os.path.dirname(trial.folder)):
+        os.chmod(folder, 0o755)
+    program = shutil.copy(trial.program, trial.folder)
+    os.chmod(program, 0o755)
+    return program
+
+
+def try_empty_name(trial):
+    """FOLDER has a name: with none no file is made at the root (with strace)."""
+    place = ready(os.path.join(trial.folder, "empty"))
+    program, calls = for_others(trial), os.path.join(folder_at(place, "calls", 0o777), "calls")
+    words = ["-f", "-o", calls, "-e", "trace=open,openat,mkdir,mkdirat", program, "argo", "--out",
+             "", "-"]
+    done = run("strace", words, read(example(trial)), cwd=place, **user())
+    made = [line for line in read(calls).decode().splitlines() if "O_CREAT" in line]
+    expect("an empty name", (done.status in (1, 2), made), (True, []))
+    return "nothing is made"
+
+
 def try_forbidden(trial):
     """A folder in which this user may make nothing, or that it may not enter, is a fault."""
     place, faults = ready(os.path.join(trial.folder, "forbidden")), Faults()
-    for folder in (trial.folder, os.path.dirname(trial.folder)):
-        os.chmod(folder, 0o755)
+    program = for_others(trial)
     forbidden = folder_at(place, "shut", 0o555), folder_at(place, "closed", 0o000)
     before = state_of(place)
     given = read(example(trial))
     for folder in ("shut", "shut/new", "closed", "closed/new"):
         with faults:
-            done = run(trial.program, ["argo", "--out", folder, "-"], given, cwd=place, **user())
+            done = run(program, ["argo", "--out", folder, "-"], given, cwd=place, **user())
             expect(f"to {folder}", tuple(done), FILE_FAULT)
     with faults:
         expect("what is there", state_of(place), before)
@@ -224,11 +239,3 @@ def folder_at(place, name, mode):
     os.mkdir(made)
     os.chmod(made, mode)
     return made
-
-
-def limited(most):
-    """Lets a process write files of so many bytes at most, as on a full disk."""
-    import resource
-    import signal
-    signal.signal(signal.SIGXFSZ, signal.SIG_IGN)
-    resource.setrlimit(resource.RLIMIT_FSIZE, (most, resource.RLIM_INFINITY))

@@ -14,6 +14,8 @@ from story_words import B, put, replies
 
 METRICS, VALUES, TEMPLATES = 32, 8, 16
 LIMIT, SECONDS, MOST_PAIRS = 1_000_000, 20, 100_000
+# Of the mistakes that are planted.
+PLANTED_TEMPLATES, MOST_LOTS = 8, 6
 
 
 # ---- Argo's manifests, and what the program makes of them
@@ -237,18 +239,23 @@ MEANINGS = (GreaterForAtLeast, RoundedConstant, BothSides, NotANumberCompared, N
 REPORTS = (floored, cut_off, with_a_place_less, without_a_limit)
 
 
+def shows(lot, phases, mistake):
+    """Whether a mistake shows as a difference."""
+    if mistake in MEANINGS:
+        return bool(lot.differences(phases, mistake())[0])
+    return bool(lot.differences(lot.phases(mistake), Meaning())[0])
+
+
 def try_planted(trial):
     """Each of some mistakes, of what is meant or of what is reported, shows as a difference."""
-    lot, counts = Lot(trial, f"{trial.seed} planted"), {}
-    phases = lot.phases(conditions.multiple)
-    found, _ = lot.differences(phases, Meaning())
-    if found:
-        raise Wrong(f"{len(found)} differ without a mistake: {told(smallest(found))}")
-    for meaning in MEANINGS:
-        counts[meaning.__name__] = len(lot.differences(phases, meaning())[0])
-    for report in REPORTS:
-        counts[report.__name__] = len(lot.differences(lot.phases(report), Meaning())[0])
-    missed = [name for name, count in counts.items() if not count]
-    if missed:
-        raise Wrong(f"{lot.pairs()} pairs do not show {', '.join(missed)}")
-    return f"{len(counts)} mistakes show, in {min(counts.values())} or more of {lot.pairs()} pairs"
+    missed, tried = [*MEANINGS, *REPORTS], 0
+    for number in range(MOST_LOTS):
+        lot = Lot(trial, f"{trial.seed} planted {number}", PLANTED_TEMPLATES)
+        phases = lot.phases(conditions.multiple)
+        if found := lot.differences(phases, Meaning())[0]:
+            raise Wrong(f"{len(found)} differ without a mistake: {told(smallest(found))}")
+        missed = [mistake for mistake in missed if not shows(lot, phases, mistake)]
+        tried += lot.pairs()
+        if not missed:
+            return f"{len(MEANINGS) + len(REPORTS)} mistakes show in {tried} pairs"
+    raise Wrong(f"{tried} pairs do not show {[mistake.__name__ for mistake in missed]}")

@@ -72,14 +72,14 @@ def prometheus(address, query):
 
 
 REQUESTS = """sum(irate(
-  istio_requests_total{reporter="source",destination_service=~"guestbook-svc.default.svc.cluster.local",response_code!~"5.*"}[5m]
+  istio_requests_total{{reporter="source",destination_service=~"{0}",response_code!~"5.*"}}[5m]
 )) /
 sum(irate(
-  istio_requests_total{reporter="source",destination_service=~"guestbook-svc.default.svc.cluster.local"}[5m]
+  istio_requests_total{{reporter="source",destination_service=~"{0}"}}[5m]
 ))
 """
-LATENCY = ("histogram_quantile(0.99, sum(rate(http_request_duration_seconds_bucket{{service=\"{}\"}}"
-           "[2m])) by (le))")
+LATENCY = ('histogram_quantile(0.99, sum(rate(http_request_duration_seconds_bucket{{service="{}"}}'
+           '[2m])) by (le))')
 ERRORS = ('sum(rate(http_requests_total{app="shop-web",code=~"5.."}[1m])) / '
           'sum(rate(http_requests_total{app="shop-web"}[1m]))')
 REGIONS = ('sort(sum by (region) (rate(ok_total{app="checkout"}[5m])) / '
@@ -112,7 +112,17 @@ TAKEN = {
                       weight(80), pause("10m")],
             "analysis": named("success-rate", startingStep=2)}},
         [("guestbook", "success-rate.e6f", "success-rate", "success-rate",
-          prometheus("http://prometheus.example.com:9090", REQUESTS))],
+          prometheus("http://prometheus.example.com:9090",
+                     REQUESTS.format("guestbook-svc.default.svc.cluster.local")))],
+        nan=(11, 5)),
+    "web.yaml": Taken(
+        {"success-rate": [
+            {"name": "success-rate.e6f", "successCondition": "result >= 950000",
+             "interval": "5m"}]},
+        {"web": {"steps": [weight(20), pause()], "analysis": named("success-rate")}},
+        [("web", "success-rate.e6f", "success-rate", "success-rate",
+          prometheus("http://prometheus.example.com:9090",
+                     REQUESTS.format("web.default.svc.cluster.local")))],
         nan=(11, 5)),
     "threshold-argument.yaml": Taken(
         {"latency-for-cart": latency(500000), "latency-for-search": latency(250000)},

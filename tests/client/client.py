@@ -7,6 +7,7 @@ import sys
 import time
 import traceback
 
+import argo
 import closed
 import journals
 import kills
@@ -37,7 +38,7 @@ def parts_of(*modules):
 
 # The long ones first.
 PARTS = parts_of(storms, kills, journals, replies, wishes, closed, reports, sends, queries, silence,
-                 strangers, limits, words, minutes)
+                 strangers, limits, words, minutes, argo)
 
 
 def fail(why):

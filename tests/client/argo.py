@@ -1,0 +1,195 @@
+"""Argo's manifests that `do --argo` translates and sends: parts of client.py."""
+import json
+
+from words import MANIFEST, NO_FILE
+from world import (
+    CONTRADICTION, DONE, KEY_USED, LOCAL, PENDING, WORDS, answering, ask, expect, rollout, shows,
+    want, want_delivered)
+
+ARGO = ("--argo",)
+KEY = ("--argo", "--once", "deploy-77")
+UNTRANSLATED = "nothing was sent: these manifests are not translated"
+ARGO_COMMAND = "--argo takes template FILE.. or service FILE.. VERSION"
+LATENCY = """
+apiVersion: argoproj.io/v1alpha1
+kind: AnalysisTemplate
+metadata: {name: latency}
+spec:
+  args: [{name: limit, value: "0.5"}]
+  metrics:
+  - name: p99
+    interval: 1s
+    count: 10
+    successCondition: isNaN(result[0]) || result[0] <= {{args.limit}}
+    failureLimit: 1
+    provider:
+      prometheus: {address: "http://prometheus:9090", query: p99}
+"""
+FOUND = ("canary: other.yaml:11:23: spec.metrics[0].successCondition: arithmetic: do it in the "
+         "query (filled in: isNaN(result[0]) || result[0] + 1 <= 0.5)")
+FILES = ("latency.yaml", "rollouts.yaml")
+NAN = -9223372036854775808
+
+
+def steps(**more):
+    """The steps of a service whose analysis has these arguments."""
+    return [{"setWeight": 10}, {"analysis": {"templates": [{"templateName": "latency"}], **more}},
+            {"setWeight": 50}, {"pause": {}}]
+
+
+def write_files(desk):
+    """Argo's template, and two Rollouts that use it."""
+    desk.write("latency.yaml", LATENCY)
+    desk.write("rollouts.yaml", json.dumps({"kind": "List", "items": [
+        rollout("cart", *steps()),
+        rollout("search", *steps(args=[{"name": "limit", "value": "0.25"}]))]}))
+
+
+def made_template(service, limit):
+    """The desk's template of a service."""
+    condition = f"result == {NAN} || (result <= {limit} && result != {NAN})"
+    return {"apiVersion": "argoproj.io/v1alpha1", "kind": "AnalysisTemplate",
+            "metadata": {"name": f"latency-for-{service}"}, "spec": {"metrics": [
+                {"name": "p99.e6nf", "successCondition": condition, "interval": "1s", "count": 10,
+                 "failureLimit": 1}]}}
+
+
+def made_service(name):
+    made = [{"setWeight": 10}, {"analysis": {"templates": [
+        {"templateName": f"latency-for-{name}"}]}}, {"setWeight": 50}, {"pause": {}}]
+    return rollout(name, *made)
+
+
+def registered(*names, revision=1):
+    """The replies to templates."""
+    return "".join(f'{{"code":"ok","revision":{revision},"template":"{name}"}}\n' for name in names)
+
+
+TEMPLATES = registered("latency-for-cart", "latency-for-search")
+SERVICES = "".join(shows(name, "Healthy", 4, 100) + "\n" for name in ("cart", "search"))
+
+
+def recorded(service, phase, status="Progressing", step=1, weight=10, verdict="Running"):
+    return (f'{{"code":"ok","phases":["{phase}"],"run":1,"service":"{service}",'
+            f'"status":"{status}","step":{step},"verdict":"{verdict}","weight":{weight}}}\n')
+
+
+def want_nothing_sent(row, desk):
+    """Nothing was asked, and no journal begun."""
+    expect(f"{row}: requests", desk.rows("SELECT count(*) FROM kept"), [(0,)])
+    expect(f"{row}: a journal", (desk.folder / "ops.journal").exists(), False)
+
+
+def try_argo(world):
+    """Each template and each service is a command, whose translated body the journal keeps; and
+    reports with the label are judged as Argo judges the decimals."""
+    with world.desk("argo") as desk:
+        write_files(desk)
+        want("templates", desk.do("template", *FILES, options=ARGO), DONE, TEMPLATES)
+        want("services", desk.do("service", *FILES, "v1", options=ARGO), DONE, SERVICES)
+        bodies = [json.loads(each.body_asked) for each in desk.journal().kept]
+        expect("the journal", bodies, [
+            {"template": made_template("cart", 500000)},
+            {"template": made_template("search", 250000)},
+            {"service": {"version": "v1", "manifest": made_service("cart")}},
+            {"service": {"version": "v1", "manifest": made_service("search")}}])
+        want("a second time", desk.do("template", *FILES, options=ARGO), DONE,
+             registered("latency-for-cart", "latency-for-search", revision=2))
+        for name in ("cart", "search"):
+            want(f"start {name}", desk.do("start", name, "v2"), DONE,
+                 shows(name, "Progressing", 1, 10) + "\n")
+        report_each(desk)
+        want_delivered("argo", desk)
+
+
+def report_each(desk):
+    """0.5 of cart, and NaN of search, as their label says."""
+    for service, result, phase in (("cart", 500000, "Successful"), ("search", NAN, "Successful")):
+        words = ("report", service, "1", "p99.e6nf")
+        want(f"{service}: {result}", desk.do(*words, "--", str(result)), DONE,
+             recorded(service, phase))
+    want("search: not as Argo has it", desk.do("report", "search", "1", "p99", "0"), 1,
+         said="the run has no such metric")
+
+
+def try_argo_once(world):
+    """With a key a second call sends nothing, and needs no desk; another manifest under it is a
+    contradiction."""
+    with world.desk("argo-once") as desk:
+        write_files(desk)
+        want("first", desk.do("template", *FILES, options=KEY), DONE, TEMPLATES)
+        kept = (desk.folder / "ops.journal").read_bytes()
+        expect("the keys", [each.key for each in desk.journal().kept],
+               ["deploy-77 latency-for-cart", "deploy-77 latency-for-search"])
+        want("second", desk.do("template", *FILES, options=KEY), DONE, TEMPLATES)
+        desk.kill()
+        want("no desk", desk.do("template", *FILES, options=KEY, tries=1), DONE, TEMPLATES)
+        desk.start()
+        desk.write("latency.yaml", LATENCY.replace('"0.5"', '"0.75"'))
+        want("another limit", desk.do("template", *FILES, options=KEY), CONTRADICTION,
+             said=KEY_USED)
+        expect("the journal", (desk.folder / "ops.journal").read_bytes(), kept)
+        want_delivered("argo-once", desk)
+
+
+def try_argo_cut(world):
+    """The second command's message or reply is lost: the same call with the key goes on there."""
+    for name, is_passed in (("lost", False), ("unanswered", True)):
+        with world.desk(f"argo-{name}") as desk:
+            write_files(desk)
+
+            def cut(client, desk=desk, is_passed=is_passed):
+                message = client.recv(65536)
+                is_second = b"/requests/2 " in message
+                if not is_second or is_passed:
+                    reply = ask(desk.port, message)
+                    client.sendall(b"" if is_second else reply)
+
+            with answering(cut) as port:
+                ended = desk.do("template", *FILES, options=KEY, port=port, tries=1)
+            expect(f"{name}: the first", (ended.status, ended.output),
+                   (PENDING, registered("latency-for-cart")))
+            want(f"{name}: again", desk.do("template", *FILES, options=KEY), DONE, TEMPLATES)
+            want_delivered(name, desk)
+
+
+def try_argo_found(world):
+    """Nothing is sent if anything is found in one of the files, or one is too long for a desk, or
+    cannot be read."""
+    with world.desk("argo-found") as desk:
+        write_files(desk)
+        desk.write("other.yaml", LATENCY.replace("name: latency", "name: other").replace(
+            "<=", "+ 1 <="))
+        for words in (("template", *FILES, "other.yaml"),
+                      ("service", *FILES, "other.yaml", "v1")):
+            ended = desk.do(*words, options=ARGO)
+            want(words, ended, WORDS, said=UNTRANSLATED)
+            expect(f"{words}: what was found", ended.errors.splitlines()[:-1], [FOUND])
+            want_nothing_sent(words, desk)
+        want("no file", desk.do("template", *FILES, "none.yaml", options=ARGO), LOCAL, said=NO_FILE)
+        long = " || ".join(["result > 1"] * 51)
+        metrics = [{"name": f"m{at}", "successCondition": long, "failureCondition": long,
+                    "provider": {"web": {}}} for at in range(32)]
+        desk.write("long.yaml", json.dumps({"kind": "AnalysisTemplate", "metadata": {
+            "name": "long"}, "spec": {"metrics": metrics}}))
+        want("too long", desk.do("template", *FILES, "long.yaml", options=ARGO), WORDS,
+             said=MANIFEST)
+        want_nothing_sent("too long", desk)
+
+
+def try_argo_words(world):
+    """Commands that --argo is not for, and words that are missing."""
+    with world.desk("argo-words") as desk:
+        write_files(desk)
+        for words in (("promote", "web"), ("start", "web", "v2"), ("tick", "web"),
+                      ("report", "web", "1", "m", "5")):
+            want(words, desk.do(*words, options=ARGO), WORDS, said=ARGO_COMMAND)
+            want_nothing_sent(words, desk)
+        for words in (("template",), ("service",), ("service", "v1"), ("service", *FILES),
+                      ("service", "latency.yaml", "v1")):
+            expect(words, desk.do(*words, options=ARGO).status, WORDS)
+            want_nothing_sent(words, desk)
+        for words in (("template", *FILES), ("service", *FILES, "v1")):
+            ended = desk.do(*words)
+            expect(f"{words} without --argo", ended.status, WORDS)
+            want_nothing_sent(words, desk)
