@@ -112,9 +112,9 @@ struct Asking<'a> {
 
 impl Work for Asking<'_> {
     fn done(&mut self, _: Global) -> bool {
-        let tally = &self.tallies[self.round as usize % TALLIES];
+        let place = self.round as usize % TALLIES;
         self.round = self.round.saturating_add(1);
-        tally.phase(self.metric, false) == Phase::Running
+        self.tallies[place].phase(self.metric, false) == Phase::Running
     }
 }
 
