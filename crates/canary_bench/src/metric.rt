@@ -39,7 +39,7 @@ fn print_size(
     begin: Moment,
     size: u32,
 ) -> Result<(), Fault> {
-    let fillings = (work / size).max(1);
+    let fillings = (work / size.max(1)).max(1);
     let mut filling = Filling {
         tallies: [Tally::new(); TALLIES],
         size,
@@ -57,7 +57,10 @@ fn print_size(
         },
         work,
     )?;
-    let additions = rate(u64::from(fillings) * u64::from(size), filled.nanos);
+    let additions = rate(
+        u64::from(fillings).saturating_mul(u64::from(size)),
+        filled.nanos,
+    );
     let phases = rate(u64::from(work), asked.nanos);
     println!(rt; "{size:>12} {additions:>14} {phases:>14}")?;
     if asked.wanted > work {
