@@ -39,7 +39,7 @@ fn print_size(
     begin: Moment,
     size: u32,
 ) -> Result<(), Fault> {
-    let fillings = (work / size).max(1);
+    let fillings = (work / size.max(1)).max(1);
     let mut filling = Filling {
         tallies: [Tally::new(); TALLIES],
         size,
@@ -57,7 +57,10 @@ fn print_size(
         },
         work,
     )?;
-    let additions = rate(u64::from(fillings) * u64::from(size), filled.nanos);
+    let additions = rate(
+        u64::from(fillings).saturating_mul(u64::from(size)),
+        filled.nanos,
+    );
     let phases = rate(u64::from(work), asked.nanos);
     println!(rt; "{size:>12} {additions:>14} {phases:>14}")?;
     if asked.wanted > work {
@@ -112,9 +115,9 @@ struct Asking<'a> {
 
 impl Work for Asking<'_> {
     fn done(&mut self, _: Global) -> bool {
-        let tally = &self.tallies[self.round as usize % TALLIES];
+        let place = self.round as usize % TALLIES;
         self.round = self.round.saturating_add(1);
-        tally.phase(self.metric, false) == Phase::Running
+        self.tallies[place].phase(self.metric, false) == Phase::Running
     }
 }
 
