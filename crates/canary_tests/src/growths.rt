@@ -368,13 +368,17 @@ fn is_bound_by(alloc: Global, asked: &Asked) -> Option<bool> {
     }
 }
 
+fn are_t(names: &[Name]) -> bool {
+    match names {
+        [one, other] => one.as_str() == "t" && other.as_str() == "t",
+        _ => false,
+    }
+}
+
 fn are_looked_up(alloc: Global, strategy: &Strategy) -> Option<bool> {
     let start = command(alloc, "start v2")?;
     let names = start.names_looked_up(alloc, Some(strategy)).ok()?;
-    match names.as_slice() {
-        [one, other] => Some(one.as_str() == "t" && other.as_str() == "t"),
-        _ => Some(false),
-    }
+    Some(are_t(names.as_slice()))
 }
 
 // The calls on a strategy.

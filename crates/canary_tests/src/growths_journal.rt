@@ -1,22 +1,23 @@
 //! Each call of canary_records, canary_journal and canary_sending that asks for memory, made twice
 //! on the same arguments, as in growths.rt. A call that may not be made again on what it left is
 //! made anew. A text is added to a file in records.rt.
+ghost use Rattle.canary_sending.specs.Keeping.{IsKept};
 
 use crate::growths::{is_right, refused};
 use crate::journals::found;
 use crate::records::{FILE, device};
-use crate::settling::{answering, entry_of, journal, reply, send};
+use crate::settling::{Fated, answering, entry_of, journal, reply, send};
 use canary_base::error::Memory;
 use canary_canonical::form::FormFault;
 use canary_journal::entry::Entry;
 use canary_journal::journal::Journal;
 use canary_journal::meaning::{Meaning, meaning_of};
 use canary_journal::{lines, reading};
-use canary_records::device::DeviceFault;
+use canary_records::device::{Device, DeviceFault};
 use canary_records::memory::MemoryDevice;
 use canary_records::store::recover;
 use canary_records::texts;
-use canary_sending::kept::{KeepFault, Opened, begin, open};
+use canary_sending::kept::{KeepFault, KeptJournal, Opened, begin, open};
 use canary_sending::network;
 use canary_testing::asked::name;
 use std::alloc::Global;
@@ -83,35 +84,40 @@ fn opened(alloc: Global) -> Option<bool> {
 }
 
 fn begun(alloc: Global) -> Option<bool> {
+    let ops = name("ops")?;
     let Ok(Opened::New(store)) = open(alloc, device(alloc, "")?) else {
         return None;
     };
-    match begin(alloc, store, name("ops")?, 4) {
+    match begin(alloc, store, ops, 4) {
         Ok(kept) => Some(kept.store.device.bytes() == FILE.as_bytes()),
         Err(fault) => refused(fault == KeepFault::Memory),
     }
 }
 
-// Whether a wish is kept.
-fn kept(alloc: Global) -> Option<bool> {
-    let mut kept = journal(alloc, device(alloc, FILE)?)?;
-    match kept.keep(alloc, entry_of(alloc, 5, "p")?) {
-        Ok(()) => Some(kept.journal.pending().is_some()),
-        Err(fault) => refused(fault == KeepFault::Memory),
+// Whether a wish is kept, and is settled then.
+fn is_kept<D: Device>(
+    alloc: Global,
+    network: &mut Fated<'_>,
+    kept: &mut KeptJournal<D>,
+) -> Option<bool>
+    requires { IsKept D.seen D.may_leave kept.old }
+{
+    if let Err(fault) = kept.keep(alloc, entry_of(alloc, 5, "p")?) {
+        return refused(fault == KeepFault::Memory);
     }
-}
-
-// Whether what is pending is settled.
-fn settled(alloc: Global) -> Option<bool> {
-    let mut kept = journal(alloc, device(alloc, FILE)?)?;
-    kept.keep(alloc, entry_of(alloc, 5, "p")?).ok()?;
-    let mut network = answering(alloc)?;
-    let is_settled = send(alloc, &mut network, &mut kept, 1)?;
+    let is_pending = kept.journal.pending().is_some();
+    let is_settled = send(alloc, network, kept, 1)?;
     if network.was_refused {
         None
     } else {
-        Some(is_settled)
+        Some(is_pending && is_settled)
     }
+}
+
+fn kept(alloc: Global) -> Option<bool> {
+    let mut network = answering(alloc)?;
+    let mut kept = journal(alloc, device(alloc, FILE)?)?;
+    is_kept(alloc, &mut network, &mut kept)
 }
 
 // The calls, each on arguments that are made anew.
@@ -126,8 +132,7 @@ fn of_journal(alloc: Global, call: u32) -> Option<bool> {
         6 => query_told(alloc),
         7 => opened(alloc),
         8 => begun(alloc),
-        9 => kept(alloc),
-        _ => settled(alloc),
+        _ => kept(alloc),
     }
 }
 
@@ -156,7 +161,7 @@ fn pending(alloc: Global) -> Option<Journal> {
 }
 
 fn check_kept(rt: &impl Abort, alloc: Global, device: &mut MemoryDevice, journal: &mut Journal) {
-    for call in 0..11 {
+    for call in 0..10 {
         assert!(rt;
             is_right(of_journal(alloc, call), of_journal(alloc, call)),
             "{call}"

@@ -367,21 +367,27 @@ pub(crate) fn journal<D: Device + Drop>(alloc: Global, device: D) -> Option<Kept
     }
 }
 
-/// Whether a row holds; none if memory was refused.
-fn holds(alloc: Global, row: &str) -> Option<bool> {
-    let (fates, then) = row.split_once(' ')?;
+/// Whether what acted is told by the rest of a row, and its replies are kept; none if memory was
+/// refused.
+fn is_told(network: &Fated<'_>, journal: &Journal, then: &str) -> Option<bool> {
     let (acted, late) = match then.strip_suffix(" late") {
         Some(acted) => (acted, true),
         None => (then, false),
     };
-    let mut network = network(alloc, fates);
-    let mut kept = journal(alloc, MemoryDevice::new(alloc, Vec::new(alloc)))?;
-    let is_settled = tell(alloc, &mut network, &mut kept)?;
     if network.was_refused {
         return None;
     }
-    let is_so = has_replies(&kept.journal, acted) && is_late(&kept.journal) == late;
-    Some(is_settled && is_so && network.desk.acted.as_str() == acted)
+    let is_so = has_replies(journal, acted) && is_late(journal) == late;
+    Some(is_so && network.desk.acted.as_str() == acted)
+}
+
+/// Whether a row holds; none if memory was refused.
+fn holds(alloc: Global, row: &str) -> Option<bool> {
+    let (fates, then) = row.split_once(' ')?;
+    let mut network = network(alloc, fates);
+    let mut kept = journal(alloc, MemoryDevice::new(alloc, Vec::new(alloc)))?;
+    let is_settled = tell(alloc, &mut network, &mut kept)?;
+    Some(is_told(&network, &kept.journal, then)? && is_settled)
 }
 
 #[test]
@@ -465,14 +471,25 @@ impl Device for Failing<'_> {
     }
 }
 
-/// Goes on by the journal that a device has, until p and q are settled; whether it has their
-/// replies then. None if the device failed, or memory was refused.
+/// Sends what is pending, and what of p and q was not asked; whether their replies are kept then.
+/// None if the device failed, or memory was refused.
+fn finish<N: Network, D: Device>(
+    alloc: Global,
+    network: &mut N,
+    kept: &mut KeptJournal<D>,
+) -> Option<bool>
+    requires { IsKept D.seen D.may_leave kept.old }
+{
+    let _ = send_pending(alloc, network, kept)?;
+    let _ = ask_unless(alloc, network, kept, 0, "p")?;
+    let _ = ask_unless(alloc, network, kept, 1, "q")?;
+    Some(has_replies(&kept.journal, "pq"))
+}
+
+/// Goes on by the journal that a device has, until p and q are settled.
 fn go_on<N: Network, D: Device + Drop>(alloc: Global, network: &mut N, device: D) -> Option<bool> {
     let mut kept = journal(alloc, device)?;
-    let _ = send_pending(alloc, network, &mut kept)?;
-    let _ = ask_unless(alloc, network, &mut kept, 0, "p")?;
-    let _ = ask_unless(alloc, network, &mut kept, 1, "q")?;
-    Some(has_replies(&kept.journal, "pq"))
+    finish(alloc, network, &mut kept)
 }
 
 /// The file, failing after so many calls.
