@@ -1,6 +1,6 @@
 //! The book in memory: what stories leave, with moments that fall, which no program gives it; pages
-//! of measurements, which no request or query asks for; and what it answers. Each test holds as well
-//! where any one allocation is refused.
+//! of measurements, which no request or query asks for; and what it answers. Each test holds as
+//! well where any one allocation is refused.
 
 use crate::growths::is_right;
 use crate::sending::{answer, has_status, parts, send_story, settled};
