@@ -218,20 +218,6 @@ impl Desk {
         Ok(Ran { owed, turns: most })
     }
 
-    fn answers(&mut self, alloc: Global, size: usize, most: usize) -> Result<bool, Memory> {
-        let ran = self.run(alloc, &mut reading(STREAM, size, 0), FAR, MOST_TURNS)?;
-        if ran.owed >= most.max(1).saturating_add(300) || ran.turns >= MOST_TURNS {
-            return Ok(false);
-        }
-        Ok(self.writer.bytes.as_slice() == REPLIES.as_bytes())
-    }
-
-    // How many turns it takes to answer what comes at once.
-    fn turns(&mut self, alloc: Global, stream: &str, pace: Paced) -> Result<u32, Memory> {
-        let ran = self.run(alloc, &mut reading(stream, 100_000, 1), pace, MOST_TURNS)?;
-        Ok(ran.turns)
-    }
-
     // How many replies there are after ten turns more, which take all that is sent at once.
     fn replies(&mut self, alloc: Global, reader: &mut Incoming, pace: Paced) -> usize {
         let _ = self.run(alloc, reader, pace, 10);
@@ -242,7 +228,9 @@ impl Desk {
 // Whether the stream is answered in these pieces, with no more owed than that and one reply.
 fn is_answered(alloc: Global, size: usize, out: usize, most: usize) -> Result<bool, Memory> {
     let mut desk = new_desk(alloc, most, out)?;
-    desk.answers(alloc, size, most)
+    let ran = desk.run(alloc, &mut reading(STREAM, size, 0), FAR, MOST_TURNS)?;
+    let is_bounded = ran.owed < most.max(1).saturating_add(300) && ran.turns < MOST_TURNS;
+    Ok(is_bounded && desk.writer.bytes.as_slice() == REPLIES.as_bytes())
 }
 
 // Asked again where a reply may say that memory was refused.
@@ -261,23 +249,27 @@ fn answers_in_any_pieces(rt: HostRuntime) -> Result<(), Fail> {
     Ok(())
 }
 
-// How many turns and writes it takes to answer what comes at once.
-fn turns_and_writes(alloc: Global, stream: &str, pace: Paced) -> Result<(u32, usize), Memory> {
+// Whether messages that come at once go out by so many writes, in no more than so many turns.
+fn is_written(
+    alloc: Global,
+    stream: &str,
+    pace: Paced,
+    writes: usize,
+    turns: u32,
+) -> Result<bool, Memory> {
     let mut desk = new_desk(alloc, 1_000_000, 1_000_000)?;
-    let turns = desk.turns(alloc, stream, pace)?;
-    Ok((turns, desk.writer.writes))
+    let ran = desk.run(alloc, &mut reading(stream, 100_000, 1), pace, MOST_TURNS)?;
+    Ok(desk.writer.writes == writes && ran.turns <= turns)
 }
 
 // Whether 300 messages at once go out by one write a turn, where it takes 64 a turn.
 fn is_written_by_turns(alloc: Global, stream: &str) -> Result<bool, Memory> {
-    let (turns, writes) = turns_and_writes(alloc, stream, FAR)?;
-    Ok(writes == 5 && turns <= 8)
+    is_written(alloc, stream, FAR, 5, 8)
 }
 
 // Whether each of 300 messages has a turn of its own, if a turn goes on with no other.
 fn is_written_one_by_one(alloc: Global, stream: &str) -> Result<bool, Memory> {
-    let (_, writes) = turns_and_writes(alloc, stream, ONE_BY_ONE)?;
-    Ok(writes == 300)
+    is_written(alloc, stream, ONE_BY_ONE, 300, MOST_TURNS)
 }
 
 fn put_messages(stream: &mut String) -> Result<(), Memory> {
