@@ -16,6 +16,9 @@ ADDED, STARTED = shows("web", "Healthy", 2, 100), shows("web", "Paused", 1, 20)
 ATTEMPT = ["background run 1", "step 0 setWeight 20", "step 1 pause"]
 FIRST = ["created v1", "start v2", *ATTEMPT, "run 1 Failed", "abort run 1"]
 SECOND = ["retry v2", *(line.replace("run 1", "run 2") for line in ATTEMPT)]
+# What the translation of Argo's first example says.
+TRANSLATED = ["template success-rate", "  success-rate.e6f", "    success: result >= 950000",
+              "service web", "measure success-rate.e6f of web by prometheus"]
 # Waits for the line of a desk that was begun in the line before.
 WAIT = "until grep -q listening told; do sleep 0.02; done; echo listening"
 
@@ -73,27 +76,29 @@ def history_in(line):
 def try_five_minutes(world):
     """README.md's session by the client."""
     place, lines, errors = run_session(world, "minutes", "README.md", "Five minutes")
-    expect("README.md, up to the kill", lines[:6],
-           ["listening", '{"code":"ok","revision":1,"template":"errors"}', ADDED, STARTED,
-            "1 errors 1", FAILED])
-    expect("README.md: the history", history_in(lines[6]), FIRST)
-    expect("README.md, behind the kill", lines[7:10], ["listening", STARTED, FAILED])
-    expect("README.md: the history", history_in(lines[10]), FIRST + SECOND)
+    expect("README.md, up to the kill", lines[:11],
+           ["listening", *TRANSLATED, '{"code":"ok","revision":1,"template":"success-rate"}', ADDED,
+            STARTED, "1 success-rate.e6f 1", FAILED])
+    expect("README.md: the history", history_in(lines[11]), FIRST)
+    expect("README.md, behind the kill", lines[12:15], ["listening", STARTED, FAILED])
+    expect("README.md: the history", history_in(lines[15]), FIRST + SECOND)
     end = len(FIRST + SECOND)
     expect("README.md: the last lines", [line.split(" ", 1)[1] for line in lines[-end:]],
            FIRST + SECOND)
-    said = [line for line in errors.splitlines() if line.startswith("canary: ")]
+    said = [line for line in errors.splitlines()
+            if line.startswith("canary: ") and not line.startswith("canary: note: ")]
     expect("README.md: what the client says", said, [
         "canary: nobody answers there; trying again",
         "canary: pending: no answer came, so it may have acted or not; the same call again finds"
         " out"])
-    for name in ("errors.json", "web.json"):
-        checked = world.run(["check", "--strict", name], place)
+    world.run(["argo", "--out", "made", "examples/argo/web.yaml"], place)
+    for name in ("success-rate.template.json", "web.rollout.json"):
+        checked = world.run(["check", "--strict", f"made/{name}"], place)
         want(f"README.md: check of {name}", checked, 0, "ok\n")
     if "web" not in (place / "desk.html").read_text(encoding="utf-8"):
         raise Wrong("README.md: the page does not show web")
-    if not any(line.split()[:1] == ["web"] for line in lines[11:-end]):
-        raise Wrong(f"README.md: the status does not show web: {lines[11:-end]}")
+    if not any(line.split()[:1] == ["web"] for line in lines[16:-end]):
+        raise Wrong(f"README.md: the status does not show web: {lines[16:-end]}")
 
 
 def try_session_by_curl(world):

@@ -224,6 +224,26 @@ def try_terminals(world):
         want_delivered("terminals", desk)
 
 
+def try_shown_metrics(world):
+    """On a terminal `due` and `get` name a metric that is measured in decimals as people read it,
+    and on a pipe by its label."""
+    with world.desk("shown-metrics") as desk:
+        label = "success-rate.e6f"
+        add_measured(desk, {**metric(label, "0s"), "failureLimit": 0,
+                            "successCondition": "result >= 950000"})
+        at = ["--desk", f"127.0.0.1:{desk.port}"]
+        want("due", desk.ask("due", "web"), DONE, f"1 {label} 1\n")
+        expect("due on a terminal", on_terminal(world, ["due", *at, "web"], desk.folder),
+               (DONE, "1 success-rate 1\n"))
+        expect("it is measured", desk.do("report", "web", "1", label, "900000").status, DONE)
+        line = "run 1 of web ended Failed: of success-rate 1 of 1 measurements failed\n"
+        expect("get on a terminal", on_terminal(world, ["get", *at, "web", "1"], desk.folder),
+               (DONE, line))
+        found = desk.ask("get", "web", "1").output
+        if f'"name":"{label}"' not in found:
+            raise Wrong(f"get of a run: {found!r}")
+
+
 def ended_with(world, words, folder, output):
     with process([world.program, *words], cwd=folder, env=environment(), stdin=subprocess.DEVNULL,
                  stdout=output, stderr=subprocess.PIPE) as client:

@@ -5,8 +5,9 @@ import re
 
 # A function of a file: the module by which it is named, which is that of its type if the impl is of
 # no trait; its name there; the numbers of its first line, attributes among them, of the line that
-# opens its body and of its last line, from 1; and the cycle of calls that it names, or nothing.
-Function = collections.namedtuple("Function", "module name first body last cycle")
+# opens its body and of its last line, from 1; the cycle of calls that it names, or nothing; and the
+# head of the impl in which it stands, nothing if it stands in none, or None if that is of a trait.
+Function = collections.namedtuple("Function", "module name first body last cycle head")
 
 CYCLE = re.compile(r" *#\[cycle\((\w+)\)\]")
 HEAD = re.compile(r"( *)(?:pub(?:\(\w+\))? )?fn (\w+)")
@@ -83,7 +84,7 @@ def first_of(lines, at):
 def functions_of(file, text, homes):
     """The functions of a file, in their order. `homes` has the modules of types, by name."""
     lines, found, place = text.split("\n"), [], 0
-    block, own = "", module_of(file)
+    block, own, head_of_block = "", module_of(file), ""
     module = own
     while place < len(lines):
         line = lines[place]
@@ -95,15 +96,17 @@ def functions_of(file, text, homes):
                 head += " " + lines[place]
             name = (None, opened[1]) if opened[1] else name_of_impl(head[:-1].strip())
             module, block = homes.get(name[0], own), name[1] + "::"
+            head_of_block = line[: opened.start(2)] + head if name[0] else None
         elif line == "}":
-            module, block = own, ""
+            module, block, head_of_block = own, "", ""
         head = HEAD.match(lines[place])
         if head and head[1] == (" " * 4 if block else ""):
             body, last = body_of(lines, place, head[1])
             first = first_of(lines, place)
             named = (it[1] for it in map(CYCLE.match, lines[first:place]) if it)
             at = first + 1, body + 1, last + 1
-            found.append(Function(module, block + head[2], *at, next(named, "")))
+            cycle = next(named, "")
+            found.append(Function(module, block + head[2], *at, cycle, head_of_block))
             place = last
         place += 1
     return found

@@ -28,6 +28,7 @@ def copied(crate, parts, room, texts, gone):
     for path in gone:
         shutil.rmtree(f"{room}/{path}", ignore_errors=True)
     for path, text in texts.items():
+        os.makedirs(os.path.dirname(f"{room}/{path}"), exist_ok=True)
         with open(f"{room}/{path}", "w", encoding="utf-8") as it:
             it.write(text)
 

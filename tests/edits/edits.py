@@ -7,6 +7,7 @@ clause is changed with its function. The pairs are applied one after another: ea
 in the file once as it is replaced, and in the end the file has changed. Those of
 `tests/edits/itself/CRATE` are no bugs, but have to fit, too; and each name in `tests/edits/named`
 has to be one of a bug."""
+import collections
 import pathlib
 import re
 import sys
@@ -52,7 +53,10 @@ def main(root):
                if not (crates / f"{it.replace('/', '/planted/')}.edit").is_file()]
     for edit, fault in faults:
         print(f"edits: {edit}: {fault}")
-    print(f"edits: {len(edits)} planted bugs, {len(faults)} do not fit the code")
+    dealt = collections.Counter(shares.share_of(it.parent.parent.name) for it in edits
+                                if it.parent.name == "planted")
+    counts = ", ".join(f"{dealt[share]}" for share in range(shares.SHARES))
+    print(f"edits: {len(edits)} planted bugs, {len(faults)} do not fit the code; shares: {counts}")
     return 1 if faults or not edits else 0
 
 

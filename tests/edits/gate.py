@@ -31,7 +31,7 @@ def words_given(words):
     made.add_argument("--of-ci", type=int, metavar="SECOND",
                       help="over what rt ci has built since that second of the clock")
     made.add_argument("--lanes", type=int, help="so many checks at a time")
-    made.add_argument("--limit", type=int, default=900, help="processor seconds of a check")
+    made.add_argument("--limit", type=int, default=1800, help="processor seconds of a check")
     made.add_argument("--minutes", type=int, default=0, help="of the clock, for all")
     made.add_argument("crates", nargs="*", metavar="CRATE", help="the bugs of these alone")
     given = made.parse_intermixed_args(words)
@@ -50,9 +50,9 @@ class Gate:
         self.number = 0 if given.all else shares.turn_of(root)[0]
         self.crates = {it.name: it for it in rt.rtlib.crates_below(root)}
 
-    def is_tried(self, name):
-        share = shares.share_of(name) == self.number % shares.SHARES
-        return self.given.all or share or name in self.named
+    def is_tried(self, crate, edit):
+        share = shares.share_of(crate) == self.number % shares.SHARES
+        return self.given.all or share or f"{crate}/{edit}" in self.named
 
     def unbuilt(self):
         """The libraries below crates with planted bugs that are not built of these sources."""
@@ -60,10 +60,15 @@ class Gate:
         return [name for name, it in below.items() if not it.is_built()]
 
     def with_bugs(self):
-        """The crates with planted bugs, the largest first."""
+        """The crates with planted bugs, those of which most are tried first."""
         found = [it for it in self.crates.values() if os.path.isdir(f"{it.folder}/planted")]
         wanted = self.given.crates or [it.name for it in found]
-        return sorted((it for it in found if it.name in wanted), key=lambda it: -it.count(b"\n"))
+        return sorted((it for it in found if it.name in wanted), key=self.tried_in, reverse=True)
+
+    def tried_in(self, crate):
+        """How many bugs of a crate are tried."""
+        names = os.listdir(f"{crate.folder}/planted")
+        return sum(self.is_tried(crate.name, it.removesuffix(".edit")) for it in names)
 
     def trial(self, crate, folder="out"):
         logs = f"{self.root}/tests/edits/{folder}"
@@ -73,7 +78,7 @@ class Gate:
         """Tries those bugs of a crate whose turn it is, beside a function as it is."""
         trial = self.trial(crate)
         every = planting.edits_in(f"{crate.folder}/planted", trial.source, self.kit_rt)
-        edits = [it for it in every if self.is_tried(f"{crate.name}/{it.name}")]
+        edits = [it for it in every if self.is_tried(crate.name, it.name)]
         functions = sorted({it for edit in every if edit.stays_inside for it in edit.changed})
         if not edits:
             return Came(0, 0, [])
@@ -81,7 +86,9 @@ class Gate:
         try:
             if self.given.all:
                 trial.look_at_all(functions)
-            also = functions[self.number % len(functions) :][:1] if functions else ()
+            # Another one each time that the crate's turn comes.
+            turns = self.number // shares.SHARES
+            also = functions[turns % len(functions) :][:1] if functions else ()
             trial.run(edits, () if self.given.all else also)
         except checks.Stopped as stopped:
             why = str(stopped)

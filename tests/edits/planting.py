@@ -33,9 +33,16 @@ class Source:
             lines[path][number - 1] = text
         return {path: "\n".join(it) for path, it in lines.items()}
 
-    def cut_off(self, edits, kept):
-        """The texts of all files, with the bugs, in which no function stays but those of `kept`, of
-        their cycles of calls, and the laws; and those that are cut off, each with its file."""
+    def proofs_in(self, folder):
+        """The files of a folder of the crate's proofs, by their paths there, with their texts."""
+        for below, _, names in os.walk(f"{self.folder}/{folder}"):
+            for path in (f"{below}/{it}" for it in names):
+                yield os.path.relpath(path, f"{self.folder}/{folder}"), text_of(path)
+
+    def cut_off(self, edits, kept, copied=()):
+        """The texts of all files, with the bugs and copies of functions, in which no other function
+        stays but those of `kept`, of their cycles of calls, and the laws; and those that are cut
+        off, each with its file."""
         texts, cut = {**self.texts, **self.planted(edits)}, []
         cycles = cycles_of(kept)
         for path, functions in self.functions.items():
@@ -43,9 +50,10 @@ class Source:
                     and not cycles & cycles_of([(path, it)])]
             texts[path] = cutting.cut_off(texts[path], gone)
             cut += [(path, it) for it in gone]
+        for it in copied:
+            it.add(self, texts)
         cutting.add_never(texts)
         return texts, cut
-
 
     def beside(self, edit):
         """The functions with a body of each file of code in which the bug changes more than bodies.
@@ -75,6 +83,13 @@ class Edit:
         self.beyond = {path for path, function, adds in found if not function and not adds}
         self.stays_inside = bool(self.changed) and not self.beyond
 
+    def is_apart(self, other):
+        """Whether two bugs can be planted at once: they change no function, no line and no cycle of
+        calls both."""
+        if cycles_of(self.changed) & cycles_of(other.changed):
+            return False
+        return not self.changed & other.changed and not self.lines.keys() & other.lines.keys()
+
 
 def with_never(crate):
     """The crate, with checks that allow the function that proves everything, which is one of C."""
@@ -99,19 +114,11 @@ def cycles_of(functions):
     return {(path, it.cycle) for path, it in functions if it.cycle}
 
 
-def are_apart(one, other):
-    """Whether two bugs can be planted at once: they change no function, no line and no cycle of
-    calls both."""
-    if cycles_of(one.changed) & cycles_of(other.changed):
-        return False
-    return not one.changed & other.changed and not one.lines.keys() & other.lines.keys()
-
-
 def grouped(edits):
     """The bugs in groups, of which each two can be planted at once."""
     groups = []
     for edit in edits:
-        free = (it for it in groups if all(are_apart(edit, other) for other in it))
+        free = (it for it in groups if all(map(edit.is_apart, it)))
         group = next(free, None)
         if group is None:
             groups.append(group := [])

@@ -1,4 +1,5 @@
 """Tries the trials of planted bugs themselves, by edits of which is known what they come to."""
+import copies
 import planting
 import verdicts
 
@@ -16,7 +17,17 @@ def complaints_of(trial, root, rt):
     edits = planting.edits_in(f"{root}/{FOLDER}", trial.source, rt)
     if {it.name for it in edits} != set(WANTED):
         return [f"{FOLDER} does not have the edits {', '.join(WANTED)}"]
-    trial.run(edits)
+    for is_bad in (False, True):
+        trial.run([it for it in edits if (WANTED[it.name] == verdicts.BAD) == is_bad])
     found = {name: trial.verdicts.get(name, (verdicts.UNTRIED, "", ""))[0] for name in WANTED}
-    return [f"{FOLDER}/{name}: {found[name]}, and not {wanted}"
-            for name, wanted in WANTED.items() if found[name] != wanted]
+    complaints = [f"{FOLDER}/{name}: {found[name]}, and not {wanted}"
+                  for name, wanted in WANTED.items() if found[name] != wanted]
+    return complaints + complaints_of_copy(trial, edits)
+
+
+def complaints_of_copy(trial, edits):
+    """What is wrong with a trial in a copy of the edit that has to be proved."""
+    [edit] = [it for it in edits if WANTED[it.name] == verdicts.PROVED]
+    copy = copies.Copy(*min(edit.changed), edit)
+    verdict, said = verdicts.of_edit(trial.check_some("in-a-copy", [copy]), CRATE, copy)
+    return [] if verdict == verdicts.PROVED else [f"{FOLDER}/{edit.name}, in a copy: {said}"]

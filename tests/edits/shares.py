@@ -1,24 +1,29 @@
 """Which of the planted bugs a landing tries.
 
-Each bug has a share, from 0 to 3, by its name alone; and each landing that changes the crates has a
-number, one above that of the landing before it, which says whose turn it is. So four landings one
-after another have the four shares. The file `turn` holds the number, and a sum of the crates for
-which it was taken: if they have changed since, the turn has to be taken for this landing."""
+Each crate has a share, from 0 to 3, by its name alone, so that a landing checks a fourth of the
+crates, with all bugs of each; and each landing that changes the crates has a number, one above that
+of the landing before it, which says whose turn it is. So any four landings one after another have
+the four shares, and a crate or a bug that comes moves no other. The file `turn` holds the number,
+and a sum of the crates for which it was taken: if they have changed since, the turn has to be taken
+for this landing."""
 import hashlib
 import pathlib
 import re
 import subprocess
 
 SHARES = 4
+# A number by which the four shares take about as long. Another one moves nearly all crates, so that
+# a bug may wait for seven landings: whoever writes one tries all bugs (tests/edits/run --all).
+DEAL = 2979
 TURN, NAMED = "tests/edits/turn", "tests/edits/named"
 LINES = re.compile(r"landing ([1-9]\d*)\ncrates ([0-9a-f]{64})\n")
 # What the verdict on a bug rests on; and the bugs.
 PARTS = ("src", "specs", "proofs", "planted", "must-fail")
 
 
-def share_of(name):
-    """The share of the bug CRATE/EDIT."""
-    return int(hashlib.sha256(name.encode()).hexdigest(), 16) % SHARES
+def share_of(crate):
+    """The share of the bugs of the crate of this name."""
+    return int(hashlib.sha256(f"{DEAL} {crate}".encode()).hexdigest(), 16) % SHARES
 
 
 def named_in(root):

@@ -4,9 +4,17 @@ import os
 import time
 
 import checks
+import copies
 import kit
 import planting
 import verdicts
+
+
+def words_only(functions, laws=False):
+    """The words that ask a check for these functions, each with its file, and for the laws."""
+    names = sorted({it.module + it.name for _, it in functions}) + ["laws"] * laws
+    return [word for name in names for word in ("--only", name)]
+
 
 class Trial:
     """The source of a crate, and what came of those of its planted bugs that were tried.
@@ -53,15 +61,18 @@ class Trial:
 
     def check_some(self, log, edits, also=(), laws=False):
         """What a check says of the functions that the bugs change and of those of `also`, of which
-        each has its file, and of the laws, if they are asked for."""
+        each has its file, and of the laws, if they are asked for. In a lean trial a bug may be
+        planted in a copy."""
         kept = {it for edit in edits for it in edit.changed} | set(also)
-        names = sorted({it.module + it.name for _, it in kept}) + ["laws"] * laws
-        flags = [word for name in names for word in ("--only", name)]
         if not self.is_lean:
             with checks.room_for(self.crate) as room:
                 kit.link(f"{self.crate.folder}/out/incremental", f"{room}/kept")
-                return self.check(log, self.source.planted(edits), flags, kept=f"{room}/kept")
-        texts, cut = self.source.cut_off(edits, kept)
+                texts, flags = self.source.planted(edits), words_only(kept, laws)
+                return self.check(log, texts, flags, kept=f"{room}/kept")
+        copied = [it for it in edits if isinstance(it, copies.Copy)]
+        kept -= {it for copy in copied for it in copy.changed}
+        texts, cut = self.source.cut_off([it for it in edits if it not in copied], kept, copied)
+        flags = words_only(kept.union(*(it.changed for it in copied)), laws)
         gone = [folder for it in cut for folder in verdicts.folders_of(*it)]
         return self.check(log, texts, flags, gone, self.kept)
 
@@ -72,6 +83,29 @@ class Trial:
     def note(self, text):
         with open(f"{self.logs}/verdicts", "a", encoding="utf-8") as it:
             it.write(f"{text}\n")
+
+    def try_at_once(self, edits, also):
+        """Tries all bugs that one check can try, of a function in copies of it, beside functions as
+        they are: copies too, or else those of `also`. It gives the bugs of which the check tells
+        nothing clear, and those of `also`, if none was looked at."""
+        made, as_they_are, left = copies.in_one(edits, self.source)
+        copied = [it for it in made if isinstance(it, copies.Copy)]
+        beside = self.unchanged(also, made)
+        if not as_they_are and not beside:
+            wanted = also or [(it.path, it.function) for it in copied[:1]]
+            as_they_are = [copies.Copy(*it) for it in wanted if copies.can_copy(it[1])]
+        lines = self.check_some("at-once", made + as_they_are, beside) if made else []
+        if not verdicts.reads(lines):
+            return edits, also
+        is_sound = all(self.stands(lines, *min(it.changed)) for it in as_they_are)
+        for it in made:
+            verdict, said = verdicts.of_edit(lines, self.crate.name, it)
+            if verdict in verdicts.CLEAR and (is_sound or it not in copied):
+                self.settle(it.name, verdict, "in a copy" if it in copied else "at once", said)
+            else:
+                left.append(it.edit if it in copied else it)
+        self.look_at(beside, lines)
+        return left, () if is_sound else also
 
     def try_group(self, edits, number, also=()):
         """Plants a group at once, and gives the bugs of which it tells nothing clear, with why.
@@ -95,13 +129,19 @@ class Trial:
         return faulty + unclear
 
     def look_at(self, functions, lines):
-        """Settles functions that no bug changes: a trial in which one has no proof says nothing. One
-        that calls a function with a bug waits for its proof, and shows nothing either way."""
+        """Settles functions that no bug changes: a trial in which one has no proof says nothing.
+        One that calls a function with a bug waits for its proof, and shows nothing either way."""
         for file, function in functions:
-            own = (lines, self.crate.name, file, function)
-            if not verdicts.is_proved(*own) and not verdicts.waits(*own):
+            if not self.stands(lines, file, function):
                 name = f"{function.module}{function.name} as it is"
                 self.settle(name, verdicts.UNSOUND, "beside a group", "it has no proof there")
+
+    def stands(self, lines, file, function):
+        """Whether a check says that a function is proved, or that all of it is proved that does not
+        wait for others."""
+        own = (lines, self.crate.name, file, function)
+        told = [it for it in lines if verdicts.is_about(it, file, function)]
+        return verdicts.is_proved(*own) or (verdicts.waits(*own) and not told)
 
     def try_alone(self, edit, why):
         """Tries a bug once more, of which its group told nothing clear."""
@@ -157,10 +197,17 @@ class Trial:
     def run(self, edits, also=()):
         """Tries these bugs. The functions of `also` are looked at beside the first group."""
         begun = time.time()
-        beyond = [it for it in edits if not it.stays_inside]
-        groups, unclear = planting.grouped([it for it in edits if it.stays_inside]), []
-        for number, group in enumerate(groups, 1):
-            unclear += self.try_group(group, number, self.unchanged(also, group))
+        left, beyond = ([it for it in edits if it.stays_inside == which] for which in (True, False))
+        unclear = []
+        if self.is_lean:
+            left, also = self.try_at_once(left, also)
+        for number, group in enumerate(planting.grouped(left), 1):
+            beside = self.unchanged(also, group)
+            if self.is_lean and len(group) == 1 and not beside:
+                # A check of it alone, which need not be run twice.
+                unclear.append((group[0], ""))
+            else:
+                unclear += self.try_group(group, number, beside)
             also = ()
         for edit, why in unclear:
             self.try_alone(edit, why)

@@ -148,6 +148,29 @@ def try_breaking(program, folder):
         fail("breaking: a mark in the page")
 
 
+def try_decimals(program, folder):
+    """The title of a metric's name is its label, and what stands for NaN says so on the axis, below
+    the points that have a number."""
+    file = os.path.join(folder, "decimals.db")
+    root = look(run([program, "page", "--db", file, "-"], "decimals"), "decimals")
+    told = [(name.text(), name.attributes["title"]) for name in root.all("span")
+            if "title" in name.attributes]
+    rate, latency = ("success-rate", "success-rate.e6f"), ("latency", "latency.e6n")
+    pair, size = ("pair", "pair.e6p2"), ("size", "size.e6l1")
+    # of three measurements that are late, and then of each figure
+    if told != [rate, latency, pair, rate, latency, pair, size]:
+        fail(f"decimals: the titles of names are {told}")
+    drawing = list(root.all("svg", "plot"))[1]
+    points = [(point.first("title").inside[0], point.attributes["cy"])
+              for point in drawing.all("circle")]
+    if points != [("#1, 00:01:10, Successful: 0.125", "600"),
+                  ("#2, 00:01:20, Successful: NaN", "690")]:
+        fail(f"decimals: the points are {points}")
+    limits = [label.text() for label in drawing.all("text", "end")][1:]
+    if limits != ["0.25"]:
+        fail(f"decimals: the limits are {limits}")
+
+
 def try_many(program, folder):
     """The page of 200 services begins with an index: first the 40 that wait, as the page has them."""
     file = os.path.join(folder, "many.db")
@@ -272,6 +295,7 @@ def main(program, folder, names):
             try_case(program, folder, case)
     if not names:
         try_breaking(program, folder)
+        try_decimals(program, folder)
         try_many(program, folder)
         try_twenty(program, folder)
         try_silence(program, folder)

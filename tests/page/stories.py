@@ -336,4 +336,25 @@ def silence(at):
     return desk
 
 
-CASES = [nothing, states, outcomes, breaking, widest, thinned, lists, late, ended]
+def decimals():
+    """Metrics that are measured in decimals and reported in whole numbers: names and numbers are as
+    people read them, also in the conditions. What stands for NaN is at no height."""
+    desk = Desk()
+    desk.template("rates", metric("success-rate.e6f", count=99, failureLimit=9,
+                                  successCondition="result >= 950000"),
+                  metric("latency.e6n", count=99, failureLimit=9,
+                         successCondition=f"result < 250000 || result == {-2 ** 63}"),
+                  metric("pair.e6p2", count=99, failureLimit=9,
+                         successCondition="result[0] > -500000 && 1000000 <= result[1]"),
+                  metric("size.e6l1", count=99, failureLimit=9,
+                         successCondition="result[0] == 3 and result[1] < 1500000"))
+    desk.service("rates", "v1", [analysis("rates")])
+    desk.start("rates", "v2")
+    desk.report("rates", 1, "success-rate.e6f", 953215, 950000, 1000000, 949999)
+    desk.report("rates", 1, "latency.e6n", 125000, -2 ** 63, 250000)
+    desk.report("rates", 1, "pair.e6p2", [0, 1000000], [-500000, 2500000])
+    desk.report("rates", 1, "size.e6l1", [3, 1250000])
+    return desk
+
+
+CASES = [nothing, states, outcomes, breaking, widest, thinned, lists, late, ended, decimals]

@@ -3,3 +3,4 @@ mod Groups
 mod Skeletons
 mod Printed
 mod SameValues
+mod Suffixes

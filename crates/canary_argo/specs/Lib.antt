@@ -5,3 +5,4 @@ pub mod Grouping
 pub mod Meaning
 pub mod Reporting
 pub mod Translating
+pub mod Labels

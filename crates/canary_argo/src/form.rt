@@ -1,4 +1,8 @@
 //! How the values of a metric are reported.
+ghost use Rattle.std.specs.Prelude.{◌≡◌, ◌≤◌, ◌++◌, OnOk, string_bytes};
+ghost use Rattle.canary_argo.specs.Labels.{shape_text, has_length, suffix_of, units_of};
+ghost use Rattle.canary_decimal.specs.Endings.{nan_text, IsEnding, IsShape};
+
 use crate::condition::{Item, Place, Test};
 use crate::fault::{Fault, Refusal};
 use crate::{items, lexer};
@@ -157,17 +161,35 @@ impl Form {
     /// Appends what a label of a metric ends in whose values are reported in this form: `.e6` for
     /// one number in millionths, `.e6f` for the first value of a list, `.e6p2` for two of them, and
     /// `.e6l1` for its length and the first; with `n` after the places if NaN is reported.
-    pub fn suffix(self, out: &mut String) -> Result<(), Memory> {
-        write!(out, ".e{}", self.places)?;
-        if self.nan {
-            write!(out, "n")?;
-        }
-        match self.shape {
+    pub fn suffix(self, out: &mut String) -> Result<(), Memory>
+        ensures text { OnOk result (string_bytes out.new ≡ string_bytes out.old ++ suffix_of self) }
+        ensures ending { OnOk result (6 ≤ self.places → self.places ≤ 18
+            → IsEnding (suffix_of self) (units_of self)) }
+    {
+        let nan = nan_text(self.nan);
+        write!(out, ".e{}{nan}", self.places)?;
+        self.shape.suffix(out)
+    }
+}
+
+impl Shape {
+    fn suffix(self, out: &mut String) -> Result<(), Memory>
+        ensures text { OnOk result
+            (string_bytes out.new ≡ string_bytes out.old ++ shape_text self) }
+        ensures shape { OnOk result (IsShape (has_length self) (shape_text self)) }
+    {
+        match self {
             Shape::One => {}
-            Shape::First => write!(out, "f")?,
+            Shape::First => out.push_str("f")?,
             Shape::Several(most) => write!(out, "p{most}")?,
             Shape::Length(most) => write!(out, "l{most}")?,
         }
         Ok(())
     }
+}
+
+fn nan_text(nan: bool) -> &'static str
+    ensures { result.now ≡ nan_text nan }
+{
+    if nan { "n" } else { "" }
 }

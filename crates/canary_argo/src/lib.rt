@@ -5,13 +5,8 @@
 //!
 //! In use (canary_convert, src/metric.rt):
 //!
-//!     match translate(alloc, text, form) {
-//!         Ok(condition) => {
-//!             push_key(out, key)?;
-//!             push_text(alloc, out, condition.as_str())
-//!         }
-//!         Err(fault) => tell_fault(alloc, work, spot, key, text, fault),
-//!     }
+//!     let condition = translate(alloc, text, form)?;
+//!     Ok(quoted(alloc, condition.as_str())?)
 #![tactic(auto)]
 
 pub mod condition;

@@ -1,30 +1,57 @@
 //! Times the reading and the evaluation of conditions.
 
 use crate::fault::Fault;
-use crate::machine::nanos_of;
+use crate::timing::{Batch, Work, time};
 use canary_condition::condition::{Condition, Verdict3};
 use canary_condition::outcome::Value;
-use std::alloc::Global;
-use std::time::Instant;
+use std::alloc::{AllocError, Global};
 
 // A comparison of 16 bytes that is false at 0.
 const COMPARISON: &str = "result > 1000000";
 
-// A condition of this many bytes, whose every comparison is evaluated at 0.
-fn condition_text(alloc: Global, len: usize) -> Result<String, Fault> {
-    let mut text = String::from_str(alloc, COMPARISON)?;
-    for _ in 0..len / 18 {
-        if text.len() < len && len - text.len() >= 18 {
-            text.push_str("||")?;
-            text.push_str(COMPARISON)?;
-        }
+// What lengthens a text by 18 bytes.
+const OR_COMPARISON: &str = "||result > 1000000";
+
+#[derive(Clone, Copy)]
+struct Parsing<'a> {
+    text: &'a str,
+}
+
+impl Work for Parsing<'_> {
+    fn done(&mut self, alloc: Global) -> bool {
+        Condition::parse(alloc, self.text).is_ok()
     }
-    for _ in 0..18 {
-        if text.len() < len {
-            text.push(' ')?;
-        }
+}
+
+#[derive(Clone, Copy)]
+struct Evaluating<'a> {
+    condition: &'a Condition,
+    value: &'a Value,
+}
+
+impl Work for Evaluating<'_> {
+    fn done(&mut self, _: Global) -> bool {
+        self.condition.eval(self.value) == Verdict3::False
     }
-    Ok(text)
+}
+
+// What comes next in a text that lacks so many bytes.
+fn next_piece(lacks: usize) -> &'static str {
+    if lacks >= OR_COMPARISON.len() {
+        OR_COMPARISON
+    } else if lacks > 0 {
+        " "
+    } else {
+        ""
+    }
+}
+
+// Makes of a comparison a condition of this many bytes, whose every comparison is evaluated at 0.
+fn lengthen(text: &mut String, len: usize) -> Result<(), AllocError> {
+    for _ in 0..len {
+        text.push_str(next_piece(len.saturating_sub(text.len())))?;
+    }
+    Ok(())
 }
 
 fn per_second(rounds: u32, nanos: u64) -> u64 {
@@ -37,46 +64,34 @@ fn tenths_per_byte(rounds: u32, len: usize, nanos: u64) -> u64 {
     nanos.saturating_mul(10) / bytes.max(1)
 }
 
-// The nanoseconds that reading the text so many times takes.
-fn time_parsing(rt: &HostRuntime, rounds: u32, text: &str) -> Result<u64, Fault> {
-    let start = Instant::now(rt)?;
-    for _ in 0..rounds {
-        if Condition::parse(rt.alloc(), text).is_err() {
-            return Err(Fault::Unwanted);
-        }
-    }
-    Ok(nanos_of(start.elapsed(rt)?))
-}
-
-// The nanoseconds that evaluating the condition so many times takes.
-fn time_evaluation(rt: &HostRuntime, rounds: u32, text: &str) -> Result<u64, Fault> {
-    let Ok(condition) = Condition::parse(rt.alloc(), text) else {
-        return Ok(0);
-    };
-    let value = Value::Whole(0);
-    let start = Instant::now(rt)?;
-    for _ in 0..rounds {
-        if condition.eval(&value) != Verdict3::False {
-            return Err(Fault::Unwanted);
-        }
-    }
-    Ok(nanos_of(start.elapsed(rt)?))
-}
-
 // How many a second, and the nanoseconds for each byte, with one decimal.
-fn print_figures(rt: &HostRuntime, rounds: u32, len: usize, nanos: u64) -> Result<(), Fault> {
-    let (each, tenths) = (
-        per_second(rounds, nanos),
-        tenths_per_byte(rounds, len, nanos),
-    );
+fn print_figures(rt: &HostRuntime, rounds: u32, len: usize, batch: Batch) -> Result<(), Fault> {
+    if batch.wanted != rounds {
+        return Err(Fault::Unwanted);
+    }
+    let each = per_second(rounds, batch.nanos);
+    let tenths = tenths_per_byte(rounds, len, batch.nanos);
     let (whole, tenth) = (tenths / 10, tenths % 10);
     print!(rt; " {each:14} {whole:>10}.{tenth}")?;
     Ok(())
 }
 
+// What so many evaluations of the condition take.
+fn time_evaluation(rt: &HostRuntime, rounds: u32, text: &str) -> Result<Batch, Fault> {
+    let value = Value::Whole(0);
+    let value = &value;
+    match Condition::parse(rt.alloc(), text) {
+        Ok(condition) => {
+            let condition = &condition;
+            time(rt, &mut Evaluating { condition, value }, rounds)
+        }
+        Err(_) => Err(Fault::Unwanted),
+    }
+}
+
 fn print_text(rt: &HostRuntime, rounds: u32, text: &str) -> Result<(), Fault> {
     let len = text.len();
-    let parsing = time_parsing(rt, rounds, text)?;
+    let parsing = time(rt, &mut Parsing { text }, rounds)?;
     let evaluation = time_evaluation(rt, rounds, text)?;
     print!(rt; "{len:5}")?;
     print_figures(rt, rounds, len, parsing)?;
@@ -86,7 +101,8 @@ fn print_text(rt: &HostRuntime, rounds: u32, text: &str) -> Result<(), Fault> {
 }
 
 fn print_line(rt: &HostRuntime, rounds: u32, len: usize) -> Result<(), Fault> {
-    let text = condition_text(rt.alloc(), len)?;
+    let mut text = String::from_str(rt.alloc(), COMPARISON)?;
+    lengthen(&mut text, len)?;
     print_text(rt, rounds, text.as_str())
 }
 

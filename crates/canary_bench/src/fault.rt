@@ -2,10 +2,10 @@
 use canary_schema::fault::StoreFault;
 use sqlite::Error;
 use std::alloc::AllocError;
-use std::{fmt, io};
+use std::io;
 
 /// Why a benchmark was not done.
-#[derive(Clone, Copy, Debug, PartialEq, Eq)]
+#[derive(Clone, Copy)]
 pub enum Fault {
     /// The words name no subject, or lack its number, or name no stream.
     Words,
@@ -17,14 +17,15 @@ pub enum Fault {
     Unwanted,
 }
 
-impl fmt::Display for Fault {
-    fn fmt<W: fmt::Write>(&self, f: &mut fmt::Formatter<W>) -> fmt::Result {
-        f.write_str(match self {
+impl Fault {
+    /// Its words.
+    pub fn text(self) -> &'static str {
+        match self {
             Fault::Words => "SUBJECT or its number or stream is missing or unknown",
             Fault::Refused => "out of memory, or refused",
             Fault::Machine => "the output, the clock or a file of the system failed",
             Fault::Unwanted => "something was read or answered that was not wanted",
-        })
+        }
     }
 }
 

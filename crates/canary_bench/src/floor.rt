@@ -3,7 +3,7 @@
 //! beside, and nobody sends or is answered.
 
 use crate::fault::Fault;
-use crate::machine::nanos_of;
+use crate::timing::nanos_of;
 use canary_base::lists::Text;
 use canary_base::moments::Moment;
 use canary_base::names::{Label, Name};
@@ -16,7 +16,7 @@ use canary_statements::inserts::{
 };
 use canary_statements::updates::{count_measurement, update_caller, update_service};
 use sqlite::{Alter, Connection, File, FileStore, Transaction};
-use std::alloc::Global;
+use std::alloc::{AllocError, Global};
 use std::time::Instant;
 
 // 2026-01-01T00:00:00Z.
@@ -44,7 +44,7 @@ const REPORTED: &str = "{\"code\":\"ok\",\"phases\":[\"Successful\"],\"run\":1,\
     \"service\":\"web\",\"status\":\"Paused\",\"step\":1,\"verdict\":\"Running\",\"weight\":20}";
 
 // What is settled again and again.
-#[derive(Clone, Copy, PartialEq, Eq)]
+#[derive(Clone, Copy)]
 enum Kind {
     // A Tick at which nothing moves.
     Tick,
@@ -54,29 +54,25 @@ enum Kind {
 
 impl Kind {
     fn named(name: &str) -> Option<Kind> {
-        match name {
-            "tick" => Some(Kind::Tick),
-            "report" => Some(Kind::Report),
-            _ => None,
+        if name == "tick" {
+            return Some(Kind::Tick);
         }
+        if name == "report" {
+            return Some(Kind::Report);
+        }
+        None
     }
 
-    fn command(self) -> &'static str {
+    // The command, and the body of its reply.
+    fn texts(self) -> (&'static str, &'static str) {
         match self {
-            Kind::Tick => TICK,
-            Kind::Report => REPORT,
-        }
-    }
-
-    fn body(self) -> &'static str {
-        match self {
-            Kind::Tick => TICKED,
-            Kind::Report => REPORTED,
+            Kind::Tick => (TICK, TICKED),
+            Kind::Report => (REPORT, REPORTED),
         }
     }
 }
 
-// Who sends, to which service, in which versions.
+// Who sends, to which service, in which versions, and from when on.
 #[derive(Clone, Copy)]
 struct Cast {
     kind: Kind,
@@ -84,42 +80,49 @@ struct Cast {
     service: Name,
     stable: Label,
     version: Label,
+    begin: Moment,
 }
 
 impl Cast {
     fn new(kind: Kind) -> Option<Cast> {
         Some(Cast {
             kind,
-            caller: Name::read(b"agent")?,
-            service: Name::read(b"web")?,
-            stable: Label::read(b"v0")?,
-            version: Label::read(b"v1")?,
+            caller: Name::read("agent".as_bytes())?,
+            service: Name::read("web".as_bytes())?,
+            stable: Label::read("v0".as_bytes())?,
+            version: Label::read("v1".as_bytes())?,
+            begin: moment(0)?,
         })
     }
 
-    // How the service stands once the request of that number is settled.
-    fn standing(&self, number: u32) -> Option<Standing> {
-        Some(Standing {
+    // How the service stands once the request of that moment is settled.
+    fn standing(&self, last: Moment) -> Standing {
+        Standing {
             stable: self.stable,
             version: self.version,
             state: 0,
             step: 1,
-            entered: moment(0)?,
+            entered: self.begin,
             hold: 0,
             background: 1,
             runs: 1,
-            last: moment(number)?,
-        })
+            last,
+        }
     }
 
     // The measurement that the request of that number reports.
-    fn measurement(&self, alloc: Global, number: u32) -> Result<MeasurementRow, Fault> {
+    fn measurement(
+        &self,
+        alloc: Global,
+        number: u32,
+        taken: Moment,
+    ) -> Result<MeasurementRow, AllocError> {
         Ok(MeasurementRow {
             service: self.service,
             run: 1,
             metric: 0,
             ordinal: number,
-            taken: moment(number).ok_or(Fault::Refused)?,
+            taken,
             phase: SUCCESSFUL,
             outcome: Text::of(String::from_str(alloc, "7")?),
         })
@@ -135,24 +138,26 @@ fn moment(seconds: u32) -> Option<Moment> {
 pub fn measure(
     rt: &HostRuntime,
     rounds: u32,
-    kind: Option<String>,
-    path: Option<String>,
+    kind: Option<&str>,
+    path: Option<&str>,
 ) -> Result<(), Fault> {
-    let kind = kind.ok_or(Fault::Words)?;
+    let kind = Kind::named(kind.unwrap_or("")).ok_or(Fault::Words)?;
     let path = path.ok_or(Fault::Words)?;
-    let kind = Kind::named(kind.as_str()).ok_or(Fault::Words)?;
     let cast = Cast::new(kind).ok_or(Fault::Refused)?;
-    let mut conn = connect(rt, path.as_str())?;
-    make_desk(&mut conn, &cast)?;
+    let mut conn = connect(rt, path)?;
     print_time(rt, &mut conn, &cast, rounds)
 }
 
-fn print_time(
+// Makes a desk's tables, with a caller, a service and an open run of one metric, and prints the
+// time of each request that is settled then.
+fn print_time<S: Alter>(
     rt: &HostRuntime,
-    conn: &mut Connection<FileStore<File>>,
+    conn: &mut Connection<S>,
     cast: &Cast,
     rounds: u32,
 ) -> Result<(), Fault> {
+    make_tables(conn)?;
+    settle(conn, rt.alloc(), cast, 0)?;
     let start = Instant::now(rt)?;
     settle_all(conn, rt.alloc(), cast, rounds)?;
     let nanos = nanos_of(start.elapsed(rt)?);
@@ -162,41 +167,11 @@ fn print_time(
     Ok(())
 }
 
-// A desk's tables, with a caller, a service and an open run of one metric.
-fn make_desk<S: Alter>(conn: &mut Connection<S>, cast: &Cast) -> Result<(), Fault> {
+fn make_tables<S: Alter>(conn: &mut Connection<S>) -> Result<(), Fault> {
     if !conn.is_autocommit() {
         return Err(Fault::Machine);
     }
     create(conn)?;
-    fill(conn, cast)
-}
-
-fn fill<S: Alter>(conn: &mut Connection<S>, cast: &Cast) -> Result<(), Fault> {
-    if !conn.is_autocommit() {
-        return Err(Fault::Machine);
-    }
-    let mut tx = conn.transaction();
-    add_first(&mut tx, cast)?;
-    tx.commit()?;
-    Ok(())
-}
-
-fn add_first<S: Alter>(tx: &mut Transaction<'_, S>, cast: &Cast) -> Result<(), Fault> {
-    insert_caller(tx, &cast.caller)?;
-    add_service(tx, cast)?;
-    add_run(tx, cast)
-}
-
-fn add_service<S: Alter>(tx: &mut Transaction<'_, S>, cast: &Cast) -> Result<(), Fault> {
-    let standing = cast.standing(0).ok_or(Fault::Refused)?;
-    insert_service(tx, &cast.service, SPEC, &standing)?;
-    Ok(())
-}
-
-fn add_run<S: Alter>(tx: &mut Transaction<'_, S>, cast: &Cast) -> Result<(), Fault> {
-    let begin = moment(0).ok_or(Fault::Refused)?;
-    insert_run(tx, &cast.service, 1, None, begin)?;
-    insert_tallies(tx, &cast.service, 1, 1)?;
     Ok(())
 }
 
@@ -212,7 +187,8 @@ fn settle_all<S: Alter>(
     Ok(())
 }
 
-// One transaction of all that a desk writes of the request of that number.
+// One transaction of all that a desk writes of the request of that number; of 0, of what is there
+// before the requests.
 fn settle<S: Alter>(
     conn: &mut Connection<S>,
     alloc: Global,
@@ -234,37 +210,47 @@ fn write<S: Alter>(
     cast: &Cast,
     number: u32,
 ) -> Result<(), Fault> {
-    keep(tx, cast, number)?;
-    stand(tx, cast, number)?;
-    if cast.kind == Kind::Report {
-        record(tx, alloc, cast, number)?;
+    if number == 0 {
+        return add_first(tx, cast);
     }
+    let now = moment(number).ok_or(Fault::Refused)?;
+    keep(tx, cast, number, now)?;
+    match cast.kind {
+        Kind::Tick => Ok(()),
+        Kind::Report => record(tx, cast, &cast.measurement(alloc, number, now)?),
+    }
+}
+
+fn add_first<S: Alter>(tx: &mut Transaction<'_, S>, cast: &Cast) -> Result<(), Fault> {
+    let begin = cast.begin;
+    insert_caller(tx, &cast.caller)?;
+    insert_service(tx, &cast.service, SPEC, &cast.standing(begin))?;
+    insert_run(tx, &cast.service, 1, None, begin)?;
+    insert_tallies(tx, &cast.service, 1, 1)?;
     Ok(())
 }
 
-// The caller's count, and what is kept of the request.
-fn keep<S: Alter>(tx: &mut Transaction<'_, S>, cast: &Cast, number: u32) -> Result<(), Fault> {
+// The caller's count, what is kept of the request, and how the service stands.
+fn keep<S: Alter>(
+    tx: &mut Transaction<'_, S>,
+    cast: &Cast,
+    number: u32,
+    now: Moment,
+) -> Result<(), Fault> {
+    let (command, body) = cast.kind.texts();
     update_caller(tx, &cast.caller, number)?;
-    let (command, body) = (cast.kind.command(), cast.kind.body());
     insert_kept(tx, &cast.caller, number, command, ACCEPTED, body)?;
-    Ok(())
-}
-
-fn stand<S: Alter>(tx: &mut Transaction<'_, S>, cast: &Cast, number: u32) -> Result<(), Fault> {
-    let standing = cast.standing(number).ok_or(Fault::Refused)?;
-    update_service(tx, &cast.service, &standing)?;
+    update_service(tx, &cast.service, &cast.standing(now))?;
     Ok(())
 }
 
 // The measurement, and its tally.
 fn record<S: Alter>(
     tx: &mut Transaction<'_, S>,
-    alloc: Global,
     cast: &Cast,
-    number: u32,
+    row: &MeasurementRow,
 ) -> Result<(), Fault> {
-    let row = cast.measurement(alloc, number)?;
-    insert_measurement(tx, &row)?;
+    insert_measurement(tx, row)?;
     count_measurement(tx, &cast.service, 1, 0, Phase::Successful, row.taken)?;
     Ok(())
 }

@@ -3,6 +3,7 @@
 
 use crate::fault::Fault;
 use crate::plans::{self, Size};
+use crate::timing::{Batch, Work, quickest};
 use canary_base::moments::Moment;
 use canary_plan::command::Command;
 use canary_plan::service::ServiceSpec;
@@ -12,25 +13,56 @@ use canary_release::decide::{Decision, DeskChange, decide};
 use canary_release::reply::ReplyStatus;
 use canary_release::service::Service;
 use canary_testing::asked::command;
-use std::alloc::Global;
-use std::time::{Duration, Instant};
+use std::alloc::{AllocError, Global};
 
-// The quickest of so many batches counts.
-const BATCHES: u32 = 7;
+// What is decided, cell by cell: the service is registered, a release is started, and then, at the
+// first step at which it stands, time passes, it is promoted, and it is reported on.
+const CELLS: u32 = 7;
 
-// How often each is decided, on a strategy of what size, and at which moment.
+const REGISTER: u32 = 0;
+
+const START: u32 = 1;
+
+const PROMOTE: u32 = 3;
+
+const CLOSING: u32 = 6;
+
+// How often each is decided, on a strategy of what size, over which templates, and at which moment.
 #[derive(Clone, Copy)]
-struct Trial {
+struct Trial<'a> {
     rounds: u32,
     size: Size,
+    templates: &'a Templates,
     now: Moment,
 }
 
-// What a batch of calls took, and how many of them were accepted.
 #[derive(Clone, Copy)]
-struct Batch {
-    nanos: u64,
-    accepted: u32,
+struct Checking<'a> {
+    templates: &'a Templates,
+    spec: &'a ServiceSpec,
+}
+
+impl Work for Checking<'_> {
+    fn done(&mut self, alloc: Global) -> bool {
+        Strategy::check(alloc, self.spec, self.templates).is_ok()
+    }
+}
+
+#[derive(Clone, Copy)]
+struct Deciding<'a> {
+    templates: &'a Templates,
+    service: Option<&'a Service>,
+    now: Moment,
+    command: &'a Command,
+}
+
+impl Work for Deciding<'_> {
+    fn done(&mut self, alloc: Global) -> bool {
+        match decide(alloc, self.templates, self.service, self.now, self.command) {
+            Ok(decision) => decision.reply.status == ReplyStatus::Accepted,
+            Err(_) => false,
+        }
+    }
 }
 
 /// Decides each command that many times over, seven times, and prints a table of the quickest.
@@ -47,133 +79,167 @@ pub fn measure(rt: &HostRuntime, rounds: u32) -> Result<(), Fault> {
 }
 
 fn print_row(rt: &HostRuntime, rounds: u32, steps: u32, metrics: u32) -> Result<(), Fault> {
-    let size = Size { steps, metrics };
-    let now = plans::begin().ok_or(Fault::Refused)?;
-    let trial = &Trial { rounds, size, now };
     print!(rt; "{steps:>5} {metrics:>7}")?;
-    let templates = plans::known(rt.alloc(), size).ok_or(Fault::Refused)?;
-    print_cells(rt, trial, &templates)
+    let mut templates = Templates::new(rt.alloc());
+    print_sized(rt, rounds, Size { steps, metrics }, &mut templates)
 }
 
-fn print_cells(rt: &HostRuntime, trial: &Trial, templates: &Templates) -> Result<(), Fault> {
-    print_check(rt, trial, templates)?;
-    print_new(rt, trial, templates)?;
+// Over templates of which none is known yet.
+fn print_sized(
+    rt: &HostRuntime,
+    rounds: u32,
+    size: Size,
+    templates: &mut Templates,
+) -> Result<(), Fault> {
+    if size.metrics > 0 {
+        plans::learn(rt.alloc(), templates, size.metrics).ok_or(Fault::Refused)?;
+    }
+    print_cells(rt, rounds, size, templates)
+}
+
+fn print_cells(
+    rt: &HostRuntime,
+    rounds: u32,
+    size: Size,
+    templates: &Templates,
+) -> Result<(), Fault> {
+    let now = plans::begin().ok_or(Fault::Refused)?;
+    let trial = Trial {
+        rounds,
+        size,
+        templates,
+        now,
+    };
+    for cell in 0..CELLS {
+        print_cell(rt, &trial, cell)?;
+    }
     println!(rt; "")?;
     Ok(())
 }
 
+fn print_cell(rt: &HostRuntime, trial: &Trial, cell: u32) -> Result<(), Fault> {
+    match asked(rt.alloc(), trial.size, cell) {
+        Some(command) => print_command(rt, trial, cell, &command),
+        None => Err(Fault::Refused),
+    }
+}
+
+fn print_command(
+    rt: &HostRuntime,
+    trial: &Trial,
+    cell: u32,
+    command: &Command,
+) -> Result<(), Fault> {
+    if let Command::Service(spec) = command {
+        print_check(rt, trial, spec)?;
+    }
+    let service = before(rt.alloc(), trial, cell);
+    print_decision(rt, trial, cell, service.as_ref(), command)
+}
+
 // The strategy is checked, which registering the service begins with.
-fn print_check(rt: &HostRuntime, trial: &Trial, templates: &Templates) -> Result<(), Fault> {
-    let spec = plans::service(rt.alloc(), trial.size).ok_or(Fault::Refused)?;
-    let rounds = trial.rounds;
-    let mut least = u64::MAX;
-    let mut accepted = 0;
-    for _ in 0..BATCHES {
-        let start = Instant::now(rt)?;
-        accepted = check_often(rt.alloc(), rounds, templates, &spec);
-        least = least.min(nanos_of(start.elapsed(rt)?));
-    }
-    let nanos = least;
-    print_figure(rt, rounds, Batch { nanos, accepted })
+fn print_check(rt: &HostRuntime, trial: &Trial, spec: &ServiceSpec) -> Result<(), Fault> {
+    let templates = trial.templates;
+    let batch = quickest(rt, &mut Checking { templates, spec }, trial.rounds)?;
+    print_figure(rt, trial.rounds, batch)
 }
 
-// How many of so many checks accept the strategy.
-fn check_often(alloc: Global, rounds: u32, templates: &Templates, spec: &ServiceSpec) -> u32 {
-    let mut accepted = 0u32;
-    for _ in 0..rounds {
-        if Strategy::check(alloc, spec, templates).is_ok() {
-            accepted = accepted.saturating_add(1);
-        }
-    }
-    accepted
-}
-
-// Registering the service, and what follows on it.
-fn print_new(rt: &HostRuntime, trial: &Trial, templates: &Templates) -> Result<(), Fault> {
-    let register = plans::register(rt.alloc(), trial.size);
-    print_given(rt, trial, templates, None, register)?;
-    let register = plans::register(rt.alloc(), trial.size);
-    match after_given(rt.alloc(), trial.now, templates, None, register) {
-        Some(service) => print_start(rt, trial, templates, &service),
-        None => Err(Fault::Refused),
-    }
-}
-
-// Starting a release, and what follows on it.
-fn print_start(
+fn print_decision(
     rt: &HostRuntime,
     trial: &Trial,
-    templates: &Templates,
-    service: &Service,
-) -> Result<(), Fault> {
-    let start = command(rt.alloc(), "start v2");
-    print_given(rt, trial, templates, Some(service), start)?;
-    let start = command(rt.alloc(), "start v2");
-    match after_given(rt.alloc(), trial.now, templates, Some(service), start) {
-        Some(started) => print_started(rt, trial, templates, &started),
-        None => Err(Fault::Refused),
-    }
-}
-
-// What is decided at the first step at which the release stands.
-fn print_started(
-    rt: &HostRuntime,
-    trial: &Trial,
-    templates: &Templates,
-    service: &Service,
-) -> Result<(), Fault> {
-    let alloc = rt.alloc();
-    let all = trial.size.metrics.max(1);
-    let at = Some(service);
-    print_given(rt, trial, templates, at, command(alloc, "tick"))?;
-    print_promote(rt, trial, templates, service)?;
-    print_given(rt, trial, templates, at, plans::good_report(alloc, 1))?;
-    print_given(rt, trial, templates, at, plans::good_report(alloc, all))?;
-    print_given(rt, trial, templates, at, plans::doubtful_report(alloc, all))
-}
-
-// A promotion of the release as it is held by its run, or at its pause.
-fn print_promote(
-    rt: &HostRuntime,
-    trial: &Trial,
-    templates: &Templates,
-    service: &Service,
-) -> Result<(), Fault> {
-    let promote = command(rt.alloc(), "promote");
-    match held(rt.alloc(), trial, templates, service) {
-        None => print_given(rt, trial, templates, Some(service), promote),
-        Some(held) => print_given(rt, trial, templates, Some(&held), promote),
-    }
-}
-
-fn held(alloc: Global, trial: &Trial, templates: &Templates, service: &Service) -> Option<Service> {
-    let report = plans::doubtful_report(alloc, trial.size.metrics);
-    after_given(alloc, trial.now, templates, Some(service), report)
-}
-
-// The service as the command leaves it, if that was had.
-fn after_given(
-    alloc: Global,
-    now: Moment,
-    templates: &Templates,
+    cell: u32,
     service: Option<&Service>,
-    command: Option<Command>,
-) -> Option<Service> {
-    after(alloc, now, templates, service, &command?)
+    command: &Command,
+) -> Result<(), Fault> {
+    if cell > REGISTER && service.is_none() {
+        return Err(Fault::Refused);
+    }
+    let mut deciding = Deciding {
+        templates: trial.templates,
+        service,
+        now: trial.now,
+        command,
+    };
+    let batch = quickest(rt, &mut deciding, trial.rounds)?;
+    print_figure(rt, trial.rounds, batch)
 }
 
-// The service as the command leaves it.
-fn after(
+// The command of a cell.
+fn asked(alloc: Global, size: Size, cell: u32) -> Option<Command> {
+    let text = text_of(alloc, size, cell).ok()?;
+    command(alloc, text.as_str())
+}
+
+fn text_of(alloc: Global, size: Size, cell: u32) -> Result<String, AllocError> {
+    let all = size.metrics.max(1);
+    match cell {
+        0 => plans::register(alloc, size),
+        1 => String::from_str(alloc, "start v2"),
+        2 => String::from_str(alloc, "tick"),
+        3 => String::from_str(alloc, "promote"),
+        4 => plans::good_report(alloc, 1),
+        5 => plans::good_report(alloc, all),
+        _ => plans::doubtful_report(alloc, all),
+    }
+}
+
+// The service as it stands before the command of a cell.
+fn before(alloc: Global, trial: &Trial, cell: u32) -> Option<Service> {
+    if cell == REGISTER {
+        return None;
+    }
+    if cell == START {
+        return after(alloc, trial, None, REGISTER);
+    }
+    if cell == PROMOTE {
+        return before_promote(alloc, trial);
+    }
+    started(alloc, trial)
+}
+
+// The release as it is held by its run, or at its pause.
+fn before_promote(alloc: Global, trial: &Trial) -> Option<Service> {
+    match held(alloc, trial) {
+        Some(held) => Some(held),
+        None => started(alloc, trial),
+    }
+}
+
+fn started(alloc: Global, trial: &Trial) -> Option<Service> {
+    let registered = after(alloc, trial, None, REGISTER);
+    after(alloc, trial, registered.as_ref(), START)
+}
+
+fn held(alloc: Global, trial: &Trial) -> Option<Service> {
+    let started = started(alloc, trial);
+    after(alloc, trial, started.as_ref(), CLOSING)
+}
+
+// The service as the command of a cell leaves it.
+fn after(alloc: Global, trial: &Trial, service: Option<&Service>, cell: u32) -> Option<Service> {
+    match asked(alloc, trial.size, cell) {
+        Some(command) => decided(alloc, trial, service, &command),
+        None => None,
+    }
+}
+
+fn decided(
     alloc: Global,
-    now: Moment,
-    templates: &Templates,
+    trial: &Trial,
     service: Option<&Service>,
     command: &Command,
 ) -> Option<Service> {
+    match decide(alloc, trial.templates, service, trial.now, command) {
+        Ok(decision) => changed(decision),
+        Err(_) => None,
+    }
+}
+
+fn changed(decision: Decision) -> Option<Service> {
     let Decision {
         reply: _reply,
         change,
-    } = decide(alloc, templates, service, now, command).ok()?;
+    } = decision;
     match change {
         DeskChange::Nothing => None,
         DeskChange::Template(_) => None,
@@ -184,76 +250,10 @@ fn after(
     }
 }
 
-fn print_given(
-    rt: &HostRuntime,
-    trial: &Trial,
-    templates: &Templates,
-    service: Option<&Service>,
-    command: Option<Command>,
-) -> Result<(), Fault> {
-    let command = command.ok_or(Fault::Refused)?;
-    print_cell(rt, trial, templates, service, &command)
-}
-
-fn print_cell(
-    rt: &HostRuntime,
-    trial: &Trial,
-    templates: &Templates,
-    service: Option<&Service>,
-    command: &Command,
-) -> Result<(), Fault> {
-    let rounds = trial.rounds;
-    let mut least = u64::MAX;
-    let mut accepted = 0;
-    for _ in 0..BATCHES {
-        let start = Instant::now(rt)?;
-        accepted = decide_often(rt.alloc(), trial, templates, service, command);
-        least = least.min(nanos_of(start.elapsed(rt)?));
-    }
-    let nanos = least;
-    print_figure(rt, rounds, Batch { nanos, accepted })
-}
-
-// How many of so many decisions accept the command.
-fn decide_often(
-    alloc: Global,
-    trial: &Trial,
-    templates: &Templates,
-    service: Option<&Service>,
-    command: &Command,
-) -> u32 {
-    let mut accepted = 0u32;
-    for _ in 0..trial.rounds {
-        if is_accepted(alloc, trial.now, templates, service, command) {
-            accepted = accepted.saturating_add(1);
-        }
-    }
-    accepted
-}
-
-fn is_accepted(
-    alloc: Global,
-    now: Moment,
-    templates: &Templates,
-    service: Option<&Service>,
-    command: &Command,
-) -> bool {
-    match decide(alloc, templates, service, now, command) {
-        Ok(decision) => decision.reply.status == ReplyStatus::Accepted,
-        Err(_) => false,
-    }
-}
-
-/// The nanoseconds of a time.
-pub fn nanos_of(took: Duration) -> u64 {
-    u64::try_from(took.as_nanos()).unwrap_or(u64::MAX)
-}
-
 fn print_figure(rt: &HostRuntime, rounds: u32, batch: Batch) -> Result<(), Fault> {
     let hundredths = batch.nanos / 10 / u64::from(rounds.max(1));
-    let whole = hundredths / 100;
-    let part = hundredths % 100;
-    let mark = if batch.accepted == rounds { ' ' } else { '*' };
+    let (whole, part) = (hundredths / 100, hundredths % 100);
+    let mark = if batch.wanted == rounds { ' ' } else { '*' };
     print!(rt; "{whole:>6}.{part:02}{mark}")?;
     Ok(())
 }

@@ -14,6 +14,7 @@ mod plans;
 mod reads;
 mod register;
 mod streams;
+mod timing;
 
 use fault::Fault;
 use std::env;
@@ -23,41 +24,50 @@ fn main(rt: HostRuntime) -> ExitCode {
     match run(&rt) {
         Ok(()) => ExitCode::SUCCESS,
         Err(fault) => {
-            let _ = eprintln!(&rt; "canary_bench: {fault}");
+            let why = fault.text();
+            let _ = eprintln!(&rt; "canary_bench: {why}");
             ExitCode::FAILURE
         }
     }
 }
 
 fn run(rt: &HostRuntime) -> Result<(), Fault> {
-    let mut words = env::args(rt)?;
-    let _program = words.next();
-    let Some(subject) = words.next() else {
-        return Ok(());
-    };
-    let rounds = words.next().ok_or(Fault::Words)?;
-    let rounds = number(rounds.as_str())?;
-    if subject.as_str() == "floor" {
-        return floor::measure(rt, rounds, words.next(), words.next());
+    let words: Vec<String> = env::args(rt)?.collect(rt.alloc())?;
+    measure(rt, words.as_slice())
+}
+
+// The word at that place behind the program's name.
+fn word(words: &[String], place: usize) -> Option<&str> {
+    match words.get(place) {
+        Some(word) => Some(word.as_str()),
+        None => None,
     }
-    measure(rt, subject.as_str(), rounds, words.next())
 }
 
 fn number(word: &str) -> Result<u32, Fault> {
     word.parse::<u32>().or(Err(Fault::Words))
 }
 
-fn measure(
-    rt: &HostRuntime,
-    subject: &str,
-    rounds: u32,
-    stream: Option<String>,
-) -> Result<(), Fault> {
-    match subject {
-        "condition" => condition::measure(rt, rounds),
-        "metric" => metric::measure(rt, rounds),
-        "machine" => machine::measure(rt, rounds),
-        "register" => register::measure(rt, rounds, stream),
-        _ => Err(Fault::Words),
+fn measure(rt: &HostRuntime, words: &[String]) -> Result<(), Fault> {
+    let Some(subject) = word(words, 1) else {
+        return Ok(());
+    };
+    let rounds = number(word(words, 2).unwrap_or(""))?;
+    let of = word(words, 3);
+    if subject == "condition" {
+        return condition::measure(rt, rounds);
     }
+    if subject == "metric" {
+        return metric::measure(rt, rounds);
+    }
+    if subject == "machine" {
+        return machine::measure(rt, rounds);
+    }
+    if subject == "register" {
+        return register::measure(rt, rounds, of);
+    }
+    if subject == "floor" {
+        return floor::measure(rt, rounds, of, word(words, 4));
+    }
+    Err(Fault::Words)
 }

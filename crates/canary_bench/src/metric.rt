@@ -4,23 +4,21 @@ ghost use Rattle.std.specs.Prelude.{IsTrue};
 ghost use Rattle.canary_metric.specs.Measurements.{is_measured};
 
 use crate::fault::Fault;
+use crate::timing::{Work, time};
 use canary_base::durations::Seconds;
 use canary_base::moments::Moment;
 use canary_base::names::Label;
 use canary_condition::outcome::Phase;
 use canary_metric::metric::{Metric, MetricSettings};
 use canary_metric::tally::Tally;
-use std::time::{Duration, Instant};
+use std::alloc::Global;
 
 // The tallies among which the phases are asked in turn.
 const TALLIES: usize = 4;
 
 /// Makes about so many additions and asks so many phases at each size, and prints a table.
 pub fn measure(rt: &HostRuntime, work: u32) -> Result<(), Fault> {
-    println!(rt;
-        "{:>12} {:>14} {:>14}",
-        "measurements", "additions/s", "phases/s"
-    )?;
+    println!(rt; "measurements    additions/s       phases/s")?;
     match measured() {
         Some((metric, begin)) => print_sizes(rt, work, &metric, begin),
         None => Ok(()),
@@ -29,17 +27,44 @@ pub fn measure(rt: &HostRuntime, work: u32) -> Result<(), Fault> {
 
 fn print_sizes(rt: &HostRuntime, work: u32, metric: &Metric, begin: Moment) -> Result<(), Fault> {
     for size in [10, 100, 1_000, 10_000, 100_000, 1_000_000] {
-        let start = Instant::now(rt)?;
-        let fillings = (work / size).max(1);
-        let tallies = filled_often(size, fillings, begin);
-        let additions = rate(u64::from(fillings) * u64::from(size), start.elapsed(rt)?);
-        let start = Instant::now(rt)?;
-        let running = count_running(&tallies, work, metric);
-        let phases = rate(u64::from(work), start.elapsed(rt)?);
-        println!(rt; "{size:>12} {additions:>14} {phases:>14}")?;
-        if running > work {
-            println!(rt; "more phases than were asked")?;
-        }
+        print_size(rt, work, metric, begin, size)?;
+    }
+    Ok(())
+}
+
+fn print_size(
+    rt: &HostRuntime,
+    work: u32,
+    metric: &Metric,
+    begin: Moment,
+    size: u32,
+) -> Result<(), Fault> {
+    let fillings = (work / size.max(1)).max(1);
+    let mut filling = Filling {
+        tallies: [Tally::new(); TALLIES],
+        size,
+        begin,
+        round: 0,
+    };
+    let filled = time(rt, &mut filling, fillings)?;
+    let tallies = filling.tallies;
+    let asked = time(
+        rt,
+        &mut Asking {
+            tallies,
+            metric,
+            round: 0,
+        },
+        work,
+    )?;
+    let additions = rate(
+        u64::from(fillings).saturating_mul(u64::from(size)),
+        filled.nanos,
+    );
+    let phases = rate(u64::from(work), asked.nanos);
+    println!(rt; "{size:>12} {additions:>14} {phases:>14}")?;
+    if asked.wanted > work {
+        println!(rt; "more phases than were asked")?;
     }
     Ok(())
 }
@@ -62,13 +87,38 @@ fn measured() -> Option<(Metric, Moment)> {
     Some((metric, Moment::new(1_767_225_600)?))
 }
 
-// Fills tallies with so many measurements each, again and again; gives the last.
-fn filled_often(size: u32, fillings: u32, begin: Moment) -> [Tally; TALLIES] {
-    let mut tallies = [Tally::new(); TALLIES];
-    for round in 0..fillings {
-        tallies[round as usize % TALLIES] = filled(size, round, begin);
+// Tallies that are filled in turn with so many measurements each, again and again.
+#[derive(Clone, Copy)]
+struct Filling {
+    tallies: [Tally; TALLIES],
+    size: u32,
+    begin: Moment,
+    round: u32,
+}
+
+impl Work for Filling {
+    fn done(&mut self, _: Global) -> bool {
+        let round = self.round;
+        self.tallies[round as usize % TALLIES] = filled(self.size, round, self.begin);
+        self.round = round.saturating_add(1);
+        true
     }
-    tallies
+}
+
+// Tallies whose phases are asked in turn.
+#[derive(Clone, Copy)]
+struct Asking<'a> {
+    tallies: [Tally; TALLIES],
+    metric: &'a Metric,
+    round: u32,
+}
+
+impl Work for Asking<'_> {
+    fn done(&mut self, _: Global) -> bool {
+        let place = self.round as usize % TALLIES;
+        self.round = self.round.saturating_add(1);
+        self.tallies[place].phase(self.metric, false) == Phase::Running
+    }
 }
 
 fn filled(size: u32, round: u32, begin: Moment) -> Tally {
@@ -92,18 +142,8 @@ fn phase_at(k: u32) -> Phase
     }
 }
 
-fn count_running(tallies: &[Tally; TALLIES], work: u32, metric: &Metric) -> u32 {
-    let mut running: u32 = 0;
-    for k in 0..work {
-        if tallies[k as usize % TALLIES].phase(metric, false) == Phase::Running {
-            running = running.saturating_add(1);
-        }
-    }
-    running
-}
-
 // So many calls in that time, as calls a second.
-fn rate(calls: u64, time: Duration) -> u64 {
-    let micros = u64::try_from(time.as_micros()).unwrap_or(u64::MAX);
+fn rate(calls: u64, nanos: u64) -> u64 {
+    let micros = nanos / 1_000;
     calls.saturating_mul(1_000_000) / micros.max(1)
 }

@@ -19,7 +19,7 @@ const FIRST_RUN: u32 = 1;
 const PAGE_LENGTH: u32 = 256;
 
 /// What is asked.
-#[derive(Clone, Copy, PartialEq, Eq)]
+#[derive(Clone, Copy)]
 pub enum Probe {
     /// The first request again, which is number 1 of its caller.
     Repeat,
@@ -44,16 +44,16 @@ pub enum Probe {
 /// At what the probes aim: what was settled first, and what in the middle.
 #[derive(Drop)]
 pub struct Aim {
-    pub first: Request,
-    pub first_status: ReplyStatus,
-    pub now: Moment,
-    pub stranger: Name,
-    pub ahead: Number,
-    pub caller: Name,
-    pub number: Number,
-    pub subject: Name,
-    pub template: Name,
-    pub middle: u64,
+    // The first request again.
+    repeat: Request,
+    first_status: ReplyStatus,
+    // Number 2 of a caller who is not known.
+    ahead: Request,
+    caller: Name,
+    number: Number,
+    subject: Name,
+    template: Name,
+    place: u64,
 }
 
 // What is said of the request in the middle.
@@ -78,32 +78,46 @@ fn take_middle(alloc: Global, stream: Stream, place: u32) -> Option<Middle> {
     Some(middle_of(&stream.request(alloc, place)?))
 }
 
+// A number that nobody awaits, sent about that service.
+fn ahead(now: Moment, service: Name) -> Option<Request> {
+    Some(Request {
+        moment: now,
+        caller: Name::read("nobody".as_bytes())?,
+        number: Number::new(2)?,
+        command: Command::Promote { service },
+    })
+}
+
+// The first request, as it comes again at that moment.
+fn again(alloc: Global, stream: Stream, now: Moment) -> Option<Request> {
+    let mut first = stream.request(alloc, 0)?;
+    first.moment = now;
+    Some(first)
+}
+
 /// What the probes aim at in a book with so many settled requests of the stream.
 pub fn take_aim(alloc: Global, stream: Stream, settled: u32) -> Option<Aim> {
     let place = settled / 2;
     let middle = take_middle(alloc, stream, place)?;
-    let stranger = Name::read("nobody".as_bytes())?;
-    let ahead = Number::new(2)?;
     let template = crate::plans::latency()?;
+    let ahead = ahead(middle.now, middle.subject)?;
     Some(Aim {
-        first: stream.request(alloc, 0)?,
+        repeat: again(alloc, stream, middle.now)?,
         first_status: stream.status(),
-        now: middle.now,
-        stranger,
         ahead,
         caller: middle.caller,
         number: middle.number,
         subject: middle.subject,
         template,
-        middle: u64::from(place),
+        place: u64::from(place),
     })
 }
 
 /// Asks once, and says how much was found; 0 is nothing, or another answer than the one wanted.
 pub fn ask(alloc: Global, book: &mut MemoryBook, probe: Probe, aim: &Aim) -> u64 {
     match probe {
-        Probe::Repeat => repeat(alloc, book, aim),
-        Probe::Ahead => refuse_ahead(alloc, book, aim),
+        Probe::Repeat => replied(alloc, book, &aim.repeat, aim.first_status),
+        Probe::Ahead => replied(alloc, book, &aim.ahead, ReplyStatus::Conflict),
         Probe::Settled => settled(book, aim),
         Probe::Receipt => receipt(book, aim),
         Probe::Templates => templates(book, aim),
@@ -114,24 +128,16 @@ pub fn ask(alloc: Global, book: &mut MemoryBook, probe: Probe, aim: &Aim) -> u64
     }
 }
 
-fn repeat(alloc: Global, book: &mut MemoryBook, aim: &Aim) -> u64 {
-    let first = &aim.first;
-    let answer = post(
-        alloc,
-        book,
-        aim.now,
-        first.caller,
-        first.number,
-        &first.command,
-    );
-    length_if(&answer, aim.first_status)
-}
-
-fn refuse_ahead(alloc: Global, book: &mut MemoryBook, aim: &Aim) -> u64 {
-    let service = aim.subject;
-    let command = Command::Promote { service };
-    let answer = post(alloc, book, aim.now, aim.stranger, aim.ahead, &command);
-    length_if(&answer, ReplyStatus::Conflict)
+/// Sends the request, and says how long the body is of a reply that says so; 0 is another answer.
+pub fn replied(
+    alloc: Global,
+    book: &mut MemoryBook,
+    request: &Request,
+    status: ReplyStatus,
+) -> u64 {
+    let (moment, caller, number) = (request.moment, request.caller, request.number);
+    let answer = post(alloc, book, moment, caller, number, &request.command);
+    length_if(&answer, status)
 }
 
 // How long the body is of a reply that says so.
@@ -143,8 +149,7 @@ fn length_if(answer: &Answer, status: ReplyStatus) -> u64 {
     }
 }
 
-/// Whether the answer is a reply that says so.
-pub fn has_status(answer: &Answer, status: ReplyStatus) -> bool {
+fn has_status(answer: &Answer, status: ReplyStatus) -> bool {
     match answer {
         Answer::Replied(reply) => reply.status == status,
         Answer::Unavailable(_) => false,
@@ -187,7 +192,7 @@ fn run(book: &mut MemoryBook, aim: &Aim) -> u64 {
 }
 
 fn page(book: &mut MemoryBook, aim: &Aim) -> u64 {
-    match book.measurements(&aim.subject, aim.middle, PAGE_LENGTH) {
+    match book.measurements(&aim.subject, aim.place, PAGE_LENGTH) {
         Ok(measurements) => measurements.as_slice().len() as u64,
         Err(_) => 0,
     }

@@ -2,12 +2,11 @@
 //! settled requests take.
 
 use crate::fault::Fault;
-use crate::machine::nanos_of;
 use crate::reads::{self, Aim, Probe};
 use crate::streams::Stream;
+use crate::timing::{Work, nanos_of, quickest, time};
 use canary_once::event::Request;
 use canary_once::memory::MemoryBook;
-use canary_once::post::post;
 use canary_release::reply::ReplyStatus;
 use std::alloc::Global;
 use std::fs;
@@ -50,10 +49,10 @@ const PROBES: [Probe; 9] = [
 
 /// Settles up to so many requests of the stream of that name, and prints a row at each size. With
 /// no name it prints the head of the table.
-pub fn measure(rt: &HostRuntime, most: u32, name: Option<String>) -> Result<(), Fault> {
+pub fn measure(rt: &HostRuntime, most: u32, name: Option<&str>) -> Result<(), Fault> {
     match name {
         None => print_head(rt),
-        Some(name) => measure_named(rt, most, name.as_str()),
+        Some(name) => measure_named(rt, most, name),
     }
 }
 
@@ -114,15 +113,14 @@ fn make_ready(rt: &HostRuntime, stream: Stream) -> Result<(), Fault> {
 // The bytes of memory that this process has.
 fn resident(rt: &HostRuntime) -> Result<u64, Fault> {
     let text = fs::read_to_string(rt, "/proc/self/statm")?;
-    let pages = pages_in(text.as_str()).ok_or(Fault::Machine)?;
-    Ok(pages.saturating_mul(PAGE))
+    bytes_in(text.as_str()).ok_or(Fault::Machine)
 }
 
-// The second number of the text.
-fn pages_in(text: &str) -> Option<u64> {
-    let mut words = text.split(' ');
-    let _all = words.next()?;
-    words.next()?.parse::<u64>().ok()
+// The bytes of so many pages as the second number of the text says.
+fn bytes_in(text: &str) -> Option<u64> {
+    let behind = text.split_once(' ')?.1;
+    let pages = behind.split_once(' ')?.0.parse::<u64>().ok()?;
+    Some(pages.saturating_mul(PAGE))
 }
 
 // The nanoseconds in which the book grows from a number of settled requests to another, or none
@@ -170,60 +168,43 @@ fn settle(
     from: u32,
     count: u32,
 ) -> Result<u64, Fault> {
-    let requests = stream
-        .requests(rt.alloc(), from, count)
-        .ok_or(Fault::Refused)?;
-    let (nanos, as_wanted) = time_posts(rt, book, requests.as_slice(), stream.status())?;
-    if as_wanted == count {
+    match stream.requests(rt.alloc(), from, count) {
+        Some(requests) => time_posts(rt, book, requests.as_slice(), stream.status()),
+        None => Err(Fault::Refused),
+    }
+}
+
+// The nanoseconds that the requests take, each of which has a reply that says that.
+fn time_posts(
+    rt: &HostRuntime,
+    book: &mut MemoryBook,
+    requests: &[Request],
+    status: ReplyStatus,
+) -> Result<u64, Fault> {
+    let start = Instant::now(rt)?;
+    let as_wanted = post_all(rt.alloc(), book, requests, status);
+    let nanos = nanos_of(start.elapsed(rt)?);
+    if as_wanted == requests.len() {
         Ok(nanos)
     } else {
         Err(Fault::Unwanted)
     }
 }
 
-// The nanoseconds that the requests take, and how many replies say that.
-fn time_posts(
-    rt: &HostRuntime,
-    book: &mut MemoryBook,
-    requests: &[Request],
-    status: ReplyStatus,
-) -> Result<(u64, u32), Fault> {
-    let start = Instant::now(rt)?;
-    let as_wanted = post_all(rt.alloc(), book, requests, status);
-    Ok((nanos_of(start.elapsed(rt)?), as_wanted))
-}
-
+// How many replies say that.
 fn post_all(
     alloc: Global,
     book: &mut MemoryBook,
     requests: &[Request],
     status: ReplyStatus,
-) -> u32 {
-    let mut as_wanted = 0u32;
+) -> usize {
+    let mut as_wanted = 0usize;
     for request in requests {
-        if is_answered(alloc, book, request, status) {
+        if reads::replied(alloc, book, request, status) > 0 {
             as_wanted = as_wanted.saturating_add(1);
         }
     }
     as_wanted
-}
-
-fn is_answered(
-    alloc: Global,
-    book: &mut MemoryBook,
-    request: &Request,
-    status: ReplyStatus,
-) -> bool {
-    let moment = request.moment;
-    let answer = post(
-        alloc,
-        book,
-        moment,
-        request.caller,
-        request.number,
-        &request.command,
-    );
-    reads::has_status(&answer, status)
 }
 
 fn print_reads(
@@ -232,56 +213,41 @@ fn print_reads(
     stream: Stream,
     size: u32,
 ) -> Result<(), Fault> {
-    let aim = reads::take_aim(rt.alloc(), stream, size).ok_or(Fault::Refused)?;
-    print_probes(rt, book, &aim)
+    match reads::take_aim(rt.alloc(), stream, size) {
+        Some(aim) => print_probes(rt, book, &aim),
+        None => Err(Fault::Refused),
+    }
 }
 
 fn print_probes(rt: &HostRuntime, book: &mut MemoryBook, aim: &Aim) -> Result<(), Fault> {
     for probe in PROBES {
-        print_read(rt, book, probe, aim)?;
+        print_read(rt, &mut Asking { book, probe, aim })?;
     }
     println!(rt; "")?;
     Ok(())
 }
 
-// The nanoseconds of one call in the quickest batch.
-fn print_read(
-    rt: &HostRuntime,
-    book: &mut MemoryBook,
+// A probe of the book.
+#[derive(Drop)]
+struct Asking<'a> {
+    book: &'a mut MemoryBook,
     probe: Probe,
-    aim: &Aim,
-) -> Result<(), Fault> {
-    let (once, _found) = time_reads(rt, book, probe, aim, 1)?;
-    let rounds = (BATCH_NANOS / once.max(1)).max(1).min(MOST_READS);
-    let mut least = u64::MAX;
-    let mut found = 0;
-    for _ in 0..BATCHES {
-        let (nanos, all) = time_reads(rt, book, probe, aim, rounds)?;
-        least = least.min(nanos);
-        found = all;
+    aim: &'a Aim,
+}
+
+impl Work for Asking<'_> {
+    fn done(&mut self, alloc: Global) -> bool {
+        reads::ask(alloc, self.book, self.probe, self.aim) > 0
     }
-    let each = least / rounds.max(1);
-    let mark = if found == 0 { '*' } else { ' ' };
+}
+
+// The nanoseconds of one call in the quickest batch.
+fn print_read(rt: &HostRuntime, asking: &mut Asking<'_>) -> Result<(), Fault> {
+    let once = time(rt, asking, 1)?.nanos.max(1);
+    let rounds = (BATCH_NANOS / once).max(1).min(MOST_READS) as u32;
+    let batch = quickest(rt, asking, rounds)?;
+    let each = batch.nanos / u64::from(rounds.max(1));
+    let mark = if batch.wanted == 0 { '*' } else { ' ' };
     print!(rt; "{each:>9}{mark}")?;
     Ok(())
-}
-
-fn time_reads(
-    rt: &HostRuntime,
-    book: &mut MemoryBook,
-    probe: Probe,
-    aim: &Aim,
-    rounds: u64,
-) -> Result<(u64, u64), Fault> {
-    let start = Instant::now(rt)?;
-    let found = read_often(rt.alloc(), book, probe, aim, rounds);
-    Ok((nanos_of(start.elapsed(rt)?), found))
-}
-
-fn read_often(alloc: Global, book: &mut MemoryBook, probe: Probe, aim: &Aim, rounds: u64) -> u64 {
-    let mut found = 0u64;
-    for _ in 0..rounds {
-        found = found.saturating_add(reads::ask(alloc, book, probe, aim));
-    }
-    found
 }

@@ -1,18 +1,18 @@
 //! The requests that fill a book, stream by stream.
 
-use crate::plans::{self, Size};
+use crate::plans::{self, Size, USUAL};
 use canary_base::moments::Moment;
 use canary_base::names::Name;
 use canary_base::numbers::Number;
 use canary_once::event::Request;
 use canary_plan::command::Command;
 use canary_release::reply::ReplyStatus;
-use canary_testing::asked::command;
-use std::alloc::Global;
+use canary_testing::asked::{command_on, name};
+use std::alloc::{AllocError, Global};
 
 /// Which requests are settled, one after another. But for `Reports`, each service has the usual
 /// strategy, of two weights and two pauses.
-#[derive(Clone, Copy, PartialEq, Eq)]
+#[derive(Clone, Copy)]
 pub enum Stream {
     /// One caller on one service: a Start, a Tick and two Promotes, again and again.
     One,
@@ -42,11 +42,6 @@ const BEFORE_REPORTS: u32 = 3;
 
 // Seconds from one request to the next: the interval of the metric.
 const STEP: u64 = 60;
-
-const USUAL: Size = Size {
-    steps: 4,
-    metrics: 0,
-};
 
 const ONE_ANALYSIS: Size = Size {
     steps: 1,
@@ -91,15 +86,11 @@ impl Stream {
 
     /// Its request at that place, from 0.
     pub fn request(self, alloc: Global, place: u32) -> Option<Request> {
-        let moment = moment_at(place)?;
-        let caller = self.caller(alloc, place)?;
-        let number = self.number(place)?;
-        let command = self.command(alloc, place)?;
         Some(Request {
-            moment,
-            caller,
-            number,
-            command,
+            moment: moment_at(place)?,
+            caller: self.caller(alloc, place)?,
+            number: self.number(place)?,
+            command: self.command(alloc, place)?,
         })
     }
 
@@ -116,7 +107,7 @@ impl Stream {
         if self.has_many_callers() {
             numbered(alloc, "caller", place)
         } else {
-            Name::read("ops".as_bytes())
+            name("ops")
         }
     }
 
@@ -129,11 +120,28 @@ impl Stream {
     }
 
     fn command(self, alloc: Global, place: u32) -> Option<Command> {
+        let service = self.service(alloc, place)?;
+        let text = self.text(alloc, place).ok()?;
+        command_on(alloc, service, text.as_str())
+    }
+
+    // The service of the request at that place.
+    fn service(self, alloc: Global, place: u32) -> Option<Name> {
+        match self {
+            Stream::One | Stream::Callers | Stream::Reports => name("web"),
+            Stream::Services => numbered(alloc, "service", one_of_many(place)),
+            Stream::Names => numbered(alloc, "service", place),
+            Stream::Unknown => numbered(alloc, "none", place),
+        }
+    }
+
+    // What the request at that place asks of its service.
+    fn text(self, alloc: Global, place: u32) -> Result<String, AllocError> {
         match self {
             Stream::One | Stream::Callers => in_turn(alloc, place),
-            Stream::Services => on_many(alloc, place),
-            Stream::Names => register(alloc, place),
-            Stream::Unknown => promote_unknown(alloc, place),
+            Stream::Services => String::from_str(alloc, on_many(place)),
+            Stream::Names => String::from_str(alloc, USUAL),
+            Stream::Unknown => String::from_str(alloc, "promote"),
             Stream::Reports => reporting(alloc, place),
         }
     }
@@ -156,57 +164,50 @@ fn numbered(alloc: Global, word: &str, number: u32) -> Option<Name> {
     Name::read(text.as_bytes())
 }
 
-// The service is registered, and then released again and again.
-fn in_turn(alloc: Global, place: u32) -> Option<Command> {
+// The service is registered, and then released again and again, each time in a version that ends
+// with a number above the place.
+fn in_turn(alloc: Global, place: u32) -> Result<String, AllocError> {
     if place == 0 {
-        return plans::register(alloc, USUAL);
+        return String::from_str(alloc, USUAL);
     }
     match place % 4 {
-        1 => start(alloc, place),
-        2 => command(alloc, "tick"),
-        _ => command(alloc, "promote"),
+        1 => numbered_text(alloc, "start v", place.saturating_add(1)),
+        2 => String::from_str(alloc, "tick"),
+        _ => String::from_str(alloc, "promote"),
     }
 }
 
-// Begins a release of a version that ends with a number above that.
-fn start(alloc: Global, place: u32) -> Option<Command> {
-    let number = place.saturating_add(1);
-    let text = format!(in alloc; "start v{number}").ok()?;
-    command(alloc, text.as_str())
+fn numbered_text(alloc: Global, text: &str, number: u32) -> Result<String, AllocError> {
+    format!(in alloc; "{text}{number}")
 }
 
 // A service is registered, or time passes on one of those that are there.
-fn on_many(alloc: Global, place: u32) -> Option<Command> {
-    let last = place / 2;
-    if place % 2 == 0 {
-        return register(alloc, last);
-    }
-    let service = numbered(alloc, "service", spread(last))?;
-    Some(Command::Tick { service })
+fn on_many(place: u32) -> &'static str {
+    if place % 2 == 0 { USUAL } else { "tick" }
 }
 
-// A number from 0 to the last, which leaps about as the last grows.
-fn spread(last: u32) -> u32 {
+// The number of that service. Among those that are there it leaps about as they grow.
+fn one_of_many(place: u32) -> u32 {
+    let last = place / 2;
+    if place % 2 == 0 {
+        return last;
+    }
     let count = u64::from(last) + 1;
     (u64::from(last) * 7_919 % count) as u32
 }
 
-fn register(alloc: Global, number: u32) -> Option<Command> {
-    let name = numbered(alloc, "service", number)?;
-    plans::register_named(alloc, name, USUAL)
-}
-
-fn promote_unknown(alloc: Global, place: u32) -> Option<Command> {
-    let service = numbered(alloc, "none", place)?;
-    Some(Command::Promote { service })
-}
-
 // The template and the service are registered, the release begins, and its run is measured.
-fn reporting(alloc: Global, place: u32) -> Option<Command> {
+fn reporting(alloc: Global, place: u32) -> Result<String, AllocError> {
     match place {
-        0 => plans::register_template(alloc, 1, 1_000_000),
+        0 => plans::template(alloc, 1, 1_000_000),
         1 => plans::register(alloc, ONE_ANALYSIS),
-        2 => command(alloc, "start v2"),
-        _ => plans::report_of_one(alloc, place - BEFORE_REPORTS + 1, after(place)),
+        2 => String::from_str(alloc, "start v2"),
+        _ => report_at(alloc, place - BEFORE_REPORTS + 1, after(place)),
     }
+}
+
+// A report of one measurement, a success taken so many seconds after the moment at which all
+// begins.
+fn report_at(alloc: Global, ordinal: u32, after: u64) -> Result<String, AllocError> {
+    format!(in alloc; "report 1 m0:{ordinal}:{after}:0")
 }

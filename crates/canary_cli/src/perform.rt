@@ -340,7 +340,7 @@ fn client_outcome<R: Read, W: Write, F: Write>(
             services,
         } => {
             let sought = Sought { waits: wait, late };
-            due(rt, &desk, &services, sought, output, errors)
+            due(rt, &desk, &services, sought, output, errors, is_terminal)
         }
     }
 }

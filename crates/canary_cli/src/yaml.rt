@@ -20,7 +20,7 @@ pub(crate) enum Reading {
 
 /// What a file of these bytes holds.
 pub(crate) fn documents_of(alloc: Global, bytes: &[u8]) -> Result<Reading, Fault> {
-    if is_meant_as_json(bytes) || is_json(alloc, bytes)? {
+    if is_meant_as_json(bytes) || is_utf16(bytes) || is_json(alloc, bytes)? {
         return Ok(Reading::Json);
     }
     match read_documents(alloc, bytes) {
@@ -28,6 +28,11 @@ pub(crate) fn documents_of(alloc: Global, bytes: &[u8]) -> Result<Reading, Fault
         Ok(documents) => Ok(Reading::Documents(documents)),
         Err(why) => refused(alloc, why),
     }
+}
+
+// Whether it begins with the byte order mark of UTF-16, of which the check of JSON says what to do.
+fn is_utf16(bytes: &[u8]) -> bool {
+    bytes.starts_with(b"\xfe\xff") || bytes.starts_with(b"\xff\xfe")
 }
 
 fn is_json(alloc: Global, bytes: &[u8]) -> Result<bool, Fault> {

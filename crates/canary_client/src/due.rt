@@ -7,6 +7,7 @@ use crate::tcp::Tcp;
 use canary_base::lists::{Listed, Text};
 use canary_base::moments::Moment;
 use canary_base::names::Name;
+use canary_decimal::shown::Shown;
 use canary_markup::shown::{Form, shown};
 use canary_sending::network::Network;
 use canary_words::words::AskedDesk;
@@ -23,11 +24,12 @@ pub struct Sought {
     pub late: Option<u64>,
 }
 
-/// Shows a line `RUN METRIC ORDINAL` for each measurement of the services that is due. With more
-/// than one service the line begins with the service; of late ones it does too, and ends with the
-/// moment since which the measurement is due. If there is none, a call that waits goes on until
-/// there is one or no run is open, and else it ends with `Refused`. If the desk has no such
-/// service, `errors` names it, and the call goes on with the next one.
+/// Shows a line `RUN METRIC ORDINAL` for each measurement of the services that is due. METRIC is
+/// the metric's label, or on a terminal its name as people read it. With more than one service the
+/// line begins with the service; of late ones it does too, and ends with the moment since which the
+/// measurement is due. If there is none, a call that waits goes on until there is one or no run is
+/// open, and else it ends with `Refused`. If the desk has no such service, `errors` names it, and
+/// the call goes on with the next one.
 pub fn due<W: Write, F: Write>(
     rt: &HostRuntime,
     desk: &AskedDesk,
@@ -35,8 +37,9 @@ pub fn due<W: Write, F: Write>(
     sought: Sought,
     output: &mut W,
     errors: &mut F,
+    is_terminal: bool,
 ) -> Outcome {
-    match try_due(rt, desk, services, sought, output, errors) {
+    match try_due(rt, desk, services, sought, output, errors, is_terminal) {
         Ok(outcome) => outcome,
         Err(stop) => tell(stop, errors),
     }
@@ -49,6 +52,7 @@ fn try_due<W: Write, F: Write>(
     sought: Sought,
     output: &mut W,
     errors: &mut F,
+    is_terminal: bool,
 ) -> Result<Outcome, Stop> {
     are_services(services.as_slice())?;
     let place = place_of(rt, desk)?;
@@ -57,6 +61,7 @@ fn try_due<W: Write, F: Write>(
         tries: place.tries,
         late: sought.late,
         is_named: sought.late.is_some() || services.as_slice().len() > 1,
+        is_terminal,
     };
     if !sought.waits {
         let mut network = Tcp::new(rt, &place);
@@ -136,6 +141,7 @@ struct Look {
     tries: u32,
     late: Option<u64>,
     is_named: bool,
+    is_terminal: bool,
 }
 
 impl Look {
@@ -206,8 +212,17 @@ impl Look {
         Ok(found)
     }
 
+    // The name of a metric: its label, or on a terminal what people read in place of that.
+    fn name_of<'a>(&self, label: &'a str) -> &'a str {
+        if self.is_terminal {
+            Shown::or_whole(label).name
+        } else {
+            label
+        }
+    }
+
     fn line(&self, service: Name, run: u64, due: &NextMeasurement<'_>) -> Result<String, Stop> {
-        let metric = shown(self.alloc, due.metric, Form::Line)?;
+        let metric = shown(self.alloc, self.name_of(due.metric), Form::Line)?;
         let (metric, ordinal) = (metric.as_str(), due.ordinal);
         let line = format!(in self.alloc; "{run} {metric} {ordinal}")?;
         if !self.is_named {

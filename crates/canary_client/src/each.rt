@@ -1,7 +1,7 @@
 //! What `do --argo` asks: the commands that manifests of Argo Rollouts become.
 use crate::outcome::{Stop, say_lines};
 use crate::wish::{Asking, service_asking, template_asking, version_of};
-use canary_argo_files::reading::{Manifests, ReadFault, read_files};
+use canary_argo_files::reading::{ReadFault, read_files};
 use canary_argo_files::translated::{Translated, translate};
 use canary_base::lists::Text;
 use canary_convert::conversion::Converted;
@@ -19,8 +19,7 @@ pub(crate) struct Named {
 }
 
 /// The commands of `template FILE..` or `service FILE.. VERSION`: one for each template, or each
-/// Rollout, of Argo's manifests in these files. What is found in them, and what has to be known of
-/// them, goes to `errors`.
+/// Rollout, of Argo's manifests in these files. What is found in them goes to `errors`.
 ///
 /// # Errors
 /// `Argo` if the words are no such command, or anything is found; `NoVersion`, `BadVersion`; `File`
@@ -107,24 +106,15 @@ fn made_of<P: Files + AllocGlobal, F: Write>(
         Err(ReadFault::File(_)) => return Err(Stop::File),
     };
     let translated = translate(rt.alloc(), &manifests)?;
-    tell(rt.alloc(), &manifests, &translated, errors)?;
     if translated.is_found() {
+        say_lines(
+            errors,
+            translated.found.lines(rt.alloc(), &manifests)?.as_str(),
+        );
         return Err(Stop::Argo);
     }
     let Translated { made, .. } = translated;
     Ok(made)
-}
-
-// Says what was found, and what has to be known.
-fn tell<F: Write>(
-    alloc: Global,
-    manifests: &Manifests,
-    translated: &Translated,
-    errors: &mut F,
-) -> Result<(), Stop> {
-    say_lines(errors, translated.found.lines(alloc, manifests)?.as_str());
-    say_lines(errors, translated.notes.lines(alloc, manifests)?.as_str());
-    Ok(())
 }
 
 fn named(alloc: Global, made: &Made, asking: Asking) -> Result<Named, Stop> {

@@ -1,4 +1,5 @@
 //! A run as one sentence for people: whether it is open, and why it ended.
+use canary_decimal::shown::Shown;
 use serde_json::Value;
 use std::alloc::{AllocError, Global};
 
@@ -72,7 +73,7 @@ fn push_metric(
     verdict: &str,
     metric: &Value,
 ) -> Result<(), AllocError> {
-    let name = metric.get("name").and_then(Value::as_str).unwrap_or("");
+    let name = Shown::or_whole(metric.get("name").and_then(Value::as_str).unwrap_or("")).name;
     let (taken, bad) = (count(metric, "measurements"), bad(verdict, metric));
     let reason = match verdict {
         "Failed" => format!(in alloc; ": of {name} {bad} of {taken} measurements failed")?,

@@ -63,6 +63,9 @@ impl Asking {
 /// no measurement has, `File` if the manifest's file cannot be read, `Manifest` if the desk would
 /// not take what it says; `Memory`.
 pub fn read_asking<P: Files + AllocGlobal>(rt: &P, words: &AskedCommand) -> Result<Asking, Stop> {
+    if !words.more.as_slice().is_empty() {
+        return Err(Stop::Command);
+    }
     match words.kind.as_str() {
         "template" => template(rt, words),
         "service" => service(rt, words),

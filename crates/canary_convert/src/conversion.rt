@@ -1,8 +1,10 @@
 //! The conversion of manifests.
+ghost use Rattle.std.specs.Prelude.{IfOk};
+ghost use Rattle.canary_convert.specs.Making.{IsAllOrNothing};
+
 use crate::arguments::Case;
 use crate::documents::{Document, documents_of, index_of};
 use crate::finding::Finding;
-use crate::json::member;
 use crate::rollout::convert_rollout;
 use crate::source::Source;
 use crate::template::{convert_template, is_ready, tell_template};
@@ -43,7 +45,7 @@ struct Refused {
     instead: &'static str,
 }
 
-const REFUSED: [Refused; 4] = [
+const REFUSED: [Refused; 6] = [
     Refused {
         kind: "ClusterAnalysisTemplate",
         instead: "ClusterAnalysisTemplate: write an AnalysisTemplate",
@@ -60,6 +62,14 @@ const REFUSED: [Refused; 4] = [
         kind: "List",
         instead: "List: expected items, which are no Lists",
     },
+    Refused {
+        kind: "AnalysisTemplateList",
+        instead: "AnalysisTemplateList: write a List, with the kind of each item",
+    },
+    Refused {
+        kind: "RolloutList",
+        instead: "RolloutList: write a List, with the kind of each item",
+    },
 ];
 
 /// Converts manifests of Argo Rollouts, as they are. The manifests are those of AnalysisTemplates
@@ -67,7 +77,9 @@ const REFUSED: [Refused; 4] = [
 ///
 /// # Errors
 /// `Memory` if an allocation was refused.
-pub fn convert(alloc: Global, sources: &[Source]) -> Result<Converted, Memory> {
+pub fn convert(alloc: Global, sources: &[Source]) -> Result<Converted, Memory>
+    ensures { IfOk result IsAllOrNothing }
+{
     let mut work = Work::new(alloc);
     convert_sources(alloc, &mut work, sources)?;
     Ok(outcome_of(alloc, work))
@@ -92,12 +104,13 @@ fn convert_documents(alloc: Global, work: &mut Work, documents: &[Document]) -> 
             convert_unused(alloc, work, document)?;
         }
     }
-    work.findings.close(alloc)?;
-    work.notes.close(alloc)
+    work.close(alloc)
 }
 
 // What was made, or else what was found.
-fn outcome_of(alloc: Global, work: Work) -> Converted {
+fn outcome_of(alloc: Global, work: Work) -> Converted
+    ensures { IsAllOrNothing result }
+{
     let Work {
         findings,
         notes,
@@ -106,21 +119,22 @@ fn outcome_of(alloc: Global, work: Work) -> Converted {
         plan,
         ..
     } = work;
-    if findings.list.is_empty() {
+    let (findings, notes) = (findings.list, notes.list);
+    if findings.is_empty() {
         return Converted {
             templates,
             services,
             plan,
-            findings: findings.list,
-            notes: notes.list,
+            findings,
+            notes,
         };
     }
     Converted {
         templates: Vec::new(alloc),
         services: Vec::new(alloc),
         plan: Vec::new(alloc),
-        findings: findings.list,
-        notes: notes.list,
+        findings,
+        notes,
     }
 }
 

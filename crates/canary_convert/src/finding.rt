@@ -10,8 +10,8 @@ const MOST_FINDINGS: usize = 100;
 pub struct Finding {
     /// The index of the source.
     pub source: u32,
-    /// The keys and indices that lead to the place, as `spec.metrics[0].successCondition`; empty for
-    /// a whole document.
+    /// The keys and indices that lead to the place, as `spec.metrics[0].successCondition`; empty
+    /// for a whole document.
     pub path: String,
     /// What it is, and what to write: one line without control characters.
     pub text: String,

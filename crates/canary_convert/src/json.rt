@@ -1,4 +1,7 @@
 //! Members of values, and JSON as text.
+ghost use Rattle.std.specs.Prelude.{◌≡◌, ◌∷◌, ◌++◌, [], List, ℕ, IfOk, IfSome, string_bytes};
+ghost use Rattle.canary_convert.specs.Making.{IsQuoted, IsEscaped};
+
 use canary_base::error::Memory;
 use serde_json::Value;
 use std::alloc::Global;
@@ -49,7 +52,9 @@ pub(crate) fn push_value(alloc: Global, out: &mut String, value: &Value) -> Resu
 }
 
 /// The text, quoted and escaped.
-fn quoted(alloc: Global, text: &str) -> Result<String, Memory> {
+pub(crate) fn quoted(alloc: Global, text: &str) -> Result<String, Memory>
+    ensures { IfOk result (λ quoted. IsQuoted text.now (string_bytes quoted)) }
+{
     let value = Value::try_from_str(alloc, text)?;
     Ok(value.to_string(alloc)?)
 }
@@ -61,17 +66,33 @@ pub(crate) fn push_text(alloc: Global, out: &mut String, text: &str) -> Result<(
     Ok(())
 }
 
-/// Appends a text, escaped, without quotes.
-pub(crate) fn push_escaped(alloc: Global, out: &mut String, text: &str) -> Result<(), Memory> {
+/// Appends a text, escaped, without quotes. So it never ends the text of JSON that it stands in.
+pub(crate) fn push_escaped(alloc: Global, out: &mut String, text: &str) -> Result<(), Memory>
+    ensures { IfOk result (λ _. (inner : List ℕ) × IsEscaped text.now inner
+        × (string_bytes out.new ≡ string_bytes out.old ++ inner)) }
+{
     let quoted = quoted(alloc, text)?;
-    out.push_str(unquoted(quoted.as_str()))?;
-    Ok(())
+    push_unquoted(out, quoted.as_str())
+}
+
+// Appends what stands between quotes.
+fn push_unquoted(out: &mut String, quoted: &str) -> Result<(), Memory>
+    ensures { IfOk result (λ _. (inner : List ℕ) × (quoted.now ≡ 34 ∷ inner ++ 34 ∷ [])
+        × (string_bytes out.new ≡ string_bytes out.old ++ inner)) }
+{
+    match unquoted(quoted) {
+        Some(inner) => Ok(out.push_str(inner)?),
+        // a text of JSON is always quoted
+        None => Err(Memory),
+    }
 }
 
 // What stands between quotes.
-fn unquoted(text: &str) -> &str {
-    let text = text.strip_prefix("\"").unwrap_or("");
-    text.strip_suffix("\"").unwrap_or("")
+fn unquoted(quoted: &str) -> Option<&str>
+    ensures { IfSome result (λ inner. quoted.now ≡ 34 ∷ inner.now ++ 34 ∷ []) }
+{
+    let rest = quoted.strip_prefix('"')?;
+    rest.strip_suffix('"')
 }
 
 /// Appends the member of that key, if there is one.

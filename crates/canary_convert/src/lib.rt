@@ -2,6 +2,10 @@
 //! measures.
 //!
 //! Callers may rest on this: if anything is found, nothing is made.
+//!
+//! In use (canary_argo_files, src/translated.rt):
+//!
+//!     let made = convert(alloc, sources_of(manifests))?;
 #![tactic(auto)]
 
 mod arguments;

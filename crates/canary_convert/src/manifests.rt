@@ -122,9 +122,10 @@ er {{args.api-token}}"}],"jsonPath":"{$.data.score}","url":"http://j/?s=billing"
 [{"kind":"AnalysisTemplate","metadata":{"name":"budget"},"spec":{"metrics":[{"name":"burn-rate",
 "successCondition":"result[0] < 14.400125 && result[0] >= 0.0000001",
 "provider":{"prometheus":{"query":"up"}}},{"name":"burn",
-"successCondition":"result[0] < 1.44e1","provider":{"prometheus":{"query":"up"}}}]}}]
+"successCondition":"result[0] < 1.4400125e1 && result[0] >= 1e-7",
+"provider":{"prometheus":{"query":"up"}}}]}}]
 => 1 findings
-=> finding 0 spec.metrics[1].successCondition: this number: write 15 digits at most, as 0.95 @12
+=> finding 0 spec.metrics[1].successCondition: this number: write 15 digits at most, as 0.95 @40
 
 [{"kind":"AnalysisTemplate","metadata":{"name":"budget"},"spec":{"metrics":[{"name":"burn-rate",
 "successCondition":"result[0] < 14.400125 && result[0] >= 0.0000001",

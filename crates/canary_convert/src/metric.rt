@@ -1,7 +1,10 @@
 //! A metric of a template.
+ghost use Rattle.std.specs.Prelude.{IfOk, string_bytes};
+ghost use Rattle.canary_convert.specs.Making.{IsQuotedTranslation};
+
 use crate::arguments::{Case, push_late};
 use crate::filling::{Mode, has_place, is_given, push_filled};
-use crate::json::{member, push_comma, push_key, push_text, text_at};
+use crate::json::{member, push_comma, push_key, push_text, quoted, text_at};
 use crate::place::Place;
 use crate::work::{Planned, Work};
 use canary_argo::fault::{Fault, Finding};
@@ -400,9 +403,6 @@ fn push_conditions(
 ) -> Result<(), Memory> {
     match called.form {
         Some(form) => {
-            if !form.nan && has_condition(spot.metric) {
-                work.note_nan(alloc, spot.place)?;
-            }
             push_translated(alloc, work, spot, CONDITIONS[0], form, out)?;
             push_translated(alloc, work, spot, CONDITIONS[1], form, out)
         }
@@ -443,13 +443,24 @@ fn push_translation(
     if text.is_empty() {
         return Ok(());
     }
-    match translate(alloc, text, form) {
+    match quoted_translation(alloc, text, form) {
         Ok(condition) => {
+            if !form.nan {
+                work.see_nan(spot.place);
+            }
             push_key(out, key)?;
-            push_text(alloc, out, condition.as_str())
+            Ok(out.push_str(condition.as_str())?)
         }
         Err(fault) => tell_fault(alloc, work, spot, key, text, fault),
     }
+}
+
+// The translation of a condition, as a text of JSON.
+fn quoted_translation(alloc: Global, text: &str, form: Form) -> Result<String, Fault>
+    ensures { IfOk result (λ json. IsQuotedTranslation text.now form (string_bytes json)) }
+{
+    let condition = translate(alloc, text, form)?;
+    Ok(quoted(alloc, condition.as_str())?)
 }
 
 // Appends the member of that key, with its places filled in.

@@ -12,8 +12,11 @@ use std::test::Fail;
 // In the form of `MANIFESTS`.
 const FOUND: &str =
     r#"[{"kind":"Service","metadata":{"name":"cart"}},{"kind":"ClusterAnalysisTemplate"},
-{"kind":"Experiment"},{"kind":"AnalysisRun"},7,null,{"kind":5},{"kind":"Li\u0007st"}]
-=> 5 findings, 2 notes
+{"kind":"Experiment"},{"kind":"AnalysisRun"},7,null,{"kind":5},{"kind":"Li\u0007st"},
+{"kind":"RolloutList"},{"kind":"AnalysisTemplateList"}]
+=> 7 findings, 2 notes
+=> finding 8 : RolloutList: write a List
+=> finding 9 : AnalysisTemplateList: write a List
 => note 0 : Service cart: ignored; only AnalysisTemplates and Rollouts are converted
 => finding 1 : ClusterAnalysisTemplate: write an AnalysisTemplate
 => finding 2 : Experiment: write
@@ -73,7 +76,7 @@ const FOUND: &str =
 "metadata":{"name":"e"},"spec":{"strategy":{"canary":{"steps":[4,{"analysis":5},
 {"analysis":{"templates":[6,{"templateName":"t","clusterScope":true},{"templateName":"u"}]}}],
 "analysis":{"args":3}}}}}]
-=> 11 findings
+=> 12 findings
 => finding 0 spec: expected an object
 => finding 1 spec.strategy: expected an object
 => finding 2 spec.strategy.canary: expected an object
@@ -165,7 +168,7 @@ rgs.d}} {{args.e}} }} {{"}}}]}},
 "valueFrom":{"podTemplateHashValue":"Latest"}},{"name":"s",
 "valueFrom":{"secretKeyRef":{"name":"s","key":"k"}}},{"name":"none"},{"name":"f",
 "valueFrom":{"fieldRef":{"fieldPath":"metadata.labels['x']"}}},{"name":"t",
-"value":"{{args.h}}"},{"name":"x","value":"1e3"},{"name":"g",
+"value":"{{args.h}}"},{"name":"x","value":"1e-3"},{"name":"g",
 "valueFrom":{"fieldRef":{"fieldPath":"metadata"}}}],"metrics":[{"name":"m",
 "successCondition":"result > {{args.h}}","failureCondition":"result < {{args.s}}",
 "provider":{"prometheus":{"query":"up"}}},{"name":"n",
@@ -183,7 +186,7 @@ rite a constant
 => finding 0 spec.metrics[1].provider: {{args.f}} is a field that the Rollout has not
 => finding 0 spec.metrics[2].provider: {{args.t}} has a value with {{args. in it
 => finding 0 spec.metrics[3].successCondition: this number: write 15 digits at most, as 0.95 (fi
-lled in: result > 1e3)
+lled in: result > 1e-3)
 => finding 0 spec.metrics[4].provider: {{args.g}} is a field that
 => finding 0 spec.metrics[5].provider: {{args.none}} has no value: give it one in the args
 => finding 0 spec.metrics[5].provider: {{args.no}} is no argument of the template
@@ -386,18 +389,26 @@ fn is_shown(shown: &str, wanted: &str) -> bool {
     }
 }
 
-// The first line of a row that is not as wanted, and all that is answered; empty if there is none.
-fn missing(alloc: Global, row: &str) -> Result<String, Memory> {
-    let mut out = String::new(alloc);
+// Appends the lines of a row that are not as wanted, each with all that is answered.
+fn push_missing(alloc: Global, row: &str, out: &mut String) -> Result<(), Memory> {
     let mut pieces = row.split("\n=> ");
     let documents = joined(alloc, pieces.next().unwrap_or(""))?;
     let shown = shown(alloc, documents.as_str())?;
     for piece in pieces {
         let wanted = joined(alloc, piece)?;
         if !is_shown(shown.as_str(), wanted.as_str()) {
-            out.push_str(wanted.as_str())?;
-            out.push_str("\nis not in:\n")?;
-            out.push_str(shown.as_str())?;
+            let (wanted, shown) = (wanted.as_str(), shown.as_str());
+            write!(out, "{wanted}\nis not in:\n{shown}")?;
+        }
+    }
+    Ok(())
+}
+
+fn missing_of(alloc: Global) -> Result<String, Memory> {
+    let mut out = String::new(alloc);
+    for table in [MANIFESTS, FOUND] {
+        for row in table.split("\n\n") {
+            push_missing(alloc, row, &mut out)?;
         }
     }
     Ok(out)
@@ -405,14 +416,7 @@ fn missing(alloc: Global, row: &str) -> Result<String, Memory> {
 
 #[test]
 fn rows(rt: HostRuntime) -> Result<(), Fail> {
-    let alloc = rt.alloc();
-    for row in MANIFESTS.split("\n\n") {
-        let missing = missing(alloc, row)?;
-        assert!(rt; missing.is_empty(), "{missing}");
-    }
-    for row in FOUND.split("\n\n") {
-        let missing = missing(alloc, row)?;
-        assert!(rt; missing.is_empty(), "{missing}");
-    }
+    let missing = missing_of(rt.alloc())?;
+    assert!(rt; missing.is_empty(), "{missing}");
     Ok(())
 }

@@ -47,8 +47,8 @@ pub(crate) struct Work {
     pub(crate) plan: Vec<Planned>,
     // The indices of the documents of templates that Rollouts name.
     used: Vec<usize>,
-    // Whether it was noted what becomes of NaN.
-    nan: bool,
+    // The first metric whose conditions do not ask for NaN.
+    nan: Option<Place>,
 }
 
 const NAN: &str =
@@ -129,7 +129,7 @@ impl Work {
             services: Vec::new(alloc),
             plan: Vec::new(alloc),
             used: Vec::new(alloc),
-            nan: false,
+            nan: None,
         }
     }
 
@@ -153,13 +153,20 @@ impl Work {
         self.notes.tell(alloc, place, None, parts)
     }
 
-    /// Notes once what becomes of NaN, or `Memory`.
-    pub(crate) fn note_nan(&mut self, alloc: Global, place: Place) -> Result<(), Memory> {
-        if self.nan {
-            return Ok(());
+    /// Says that the conditions there do not ask for NaN.
+    pub(crate) fn see_nan(&mut self, place: Place) {
+        if self.nan.is_none() {
+            self.nan = Some(place);
         }
-        self.nan = true;
-        self.note(alloc, place, &[NAN])
+    }
+
+    /// Adds what is said once, or `Memory`.
+    pub(crate) fn close(&mut self, alloc: Global) -> Result<(), Memory> {
+        if let Some(place) = self.nan {
+            self.note(alloc, place, &[NAN])?;
+        }
+        self.findings.close(alloc)?;
+        self.notes.close(alloc)
     }
 
     /// Adds a template, or `Memory`. If there is another one of its name, this is told.

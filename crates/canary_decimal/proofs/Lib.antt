@@ -6,3 +6,6 @@ pub mod Nearness
 pub mod Scaling
 pub mod ReadsAll
 pub mod Shorts
+pub mod PointLemmas
+pub mod EndingLemmas
+pub mod EndingsApart

@@ -60,13 +60,13 @@ joined_again first second text = sym (take-append-drop (position_or_len (is_eith
 digit_no_mark : (b : ℕ) → is_ascii_digit b ≡ true → not (is_either 101 69 b) ≡ true
 digit_no_mark b d = grind (arith, nat_tests)
 
-digit_no_point : (b : ℕ) → is_ascii_digit b ≡ true → not (is_either 46 46 b) ≡ true
+pub digit_no_point : (b : ℕ) → is_ascii_digit b ≡ true → not (is_either 46 46 b) ≡ true
 digit_no_point b d = grind (arith, nat_tests)
 
 point_no_mark : not (is_either 101 69 46) ≡ true
 point_no_mark = refl
 
-each_without : (p : ℕ → Bool) → ((b : ℕ) → is_ascii_digit b ≡ true → not (p b) ≡ true) → (ds : List ℕ) → list_all is_ascii_digit ds ≡ true → IsWithout p ds
+pub each_without : (p : ℕ → Bool) → ((b : ℕ) → is_ascii_digit b ≡ true → not (p b) ≡ true) → (ds : List ℕ) → list_all is_ascii_digit ds ≡ true → IsWithout p ds
 each_without p f [] all = refl
 each_without p f (d ∷ ds) all =
     let parts = and_parts (is_ascii_digit d) (list_all is_ascii_digit ds) all in

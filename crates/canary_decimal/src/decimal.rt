@@ -33,7 +33,7 @@ pub(crate) fn leading(digits: &[u8]) -> u64
 }
 
 // The number with so many zeros after it, or the greatest u64.
-fn with_zeros(number: u64, zeros: usize) -> u64
+pub(crate) fn with_zeros(number: u64, zeros: usize) -> u64
     ensures { result ≡ min (2 ^ 64 - 1) (number * 10 ^ zeros) }
 {
     let mut product = number;

@@ -1,4 +1,5 @@
 //! Laws of the definitions, for whoever rests on them.
+ghost use Rattle.canary_decimal.specs.Endings.{OneEnding};
 ghost use Rattle.canary_decimal.specs.Exactness.{ComparesAsDecimals};
 ghost use Rattle.canary_decimal.specs.Reader.{ReadsWhatIsSpelled};
 ghost use Rattle.canary_decimal.specs.Short.{ShortConstants};
@@ -18,4 +19,9 @@ pub fn reads_what_is_spelled()
 /// The constant of a decimal whose number fits, in more places than it has, is its constant.
 pub fn short_constants()
     ensures { ShortConstants }
+{}
+
+/// A label is a name with an ending in one way at most.
+pub fn one_ending()
+    ensures { OneEnding }
 {}

@@ -2,7 +2,8 @@
 //!
 //! Callers may rest on this: `reading::read` reads each text of its grammar as the decimal that it
 //! spells, and no other; what `to_multiple` gives compares to what `to_constant` gives as the
-//! decimals do that they were made of, whichever stands first (`laws::compares_as_decimals`).
+//! decimals do that they were made of, whichever stands first (`laws::compares_as_decimals`); and
+//! what `point::with_point` writes of a whole number spells it, over 10^places, exactly.
 //!
 //! In use (canary_argo, src/lexer.rt):
 //!
@@ -14,6 +15,8 @@
 
 pub mod decimal;
 pub mod laws;
+pub mod point;
 pub mod reading;
 #[cfg(test)]
 mod rows;
+pub mod shown;

@@ -49,7 +49,7 @@ fn are_digits(word: &[u8]) -> bool
 }
 
 // One digit or more.
-fn is_digits(word: &[u8]) -> bool
+pub(crate) fn is_digits(word: &[u8]) -> bool
     ensures { result ≡ is_digits word.now }
 {
     !word.is_empty() && are_digits(word)

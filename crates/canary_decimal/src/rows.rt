@@ -1,5 +1,6 @@
-//! What texts are read as, by rows that Python's fractions gave.
+//! What texts are read as, by rows that Python's fractions gave; and what is shown of numbers.
 use crate::reading::{Reading, read};
+use crate::shown::Shown;
 use canary_base::error::Memory;
 use std::alloc::Global;
 use std::test::Fail;
@@ -110,11 +111,82 @@ fn word_of(alloc: Global, text: &str) -> Result<u8, Memory> {
     }
 }
 
+// A label, a place of a list or `-`, and a number that is reported there; then the name and text
+// that people read.
+const SHOWN: &str = "\
+success-rate.e6f - 953215 success-rate 0.953215
+rate.e6 - 950000 rate 0.95
+rate.e6 - 1000000 rate 1
+rate.e6 - 10000000 rate 10
+rate.e6 - -500 rate -0.0005
+rate.e6 - 0 rate 0
+rate.e6 - 1 rate 0.000001
+rate.e6 - -1 rate -0.000001
+rate.e6 - -2500000 rate -2.5
+rate.e6 - 9223372036854775807 rate 9223372036854.775807
+rate.e6 - -9223372036854775808 rate -9223372036854.775808
+rate.e6n - -9223372036854775808 rate NaN
+rate.e6nf - -9223372036854775808 rate NaN
+rate.e6n - -9223372036854775807 rate -9223372036854.775807
+rate.e9 - 1500000000 rate 1.5
+rate.e10 - 1 rate 0.0000000001
+rate.e18 - 9223372036854775807 rate 9.223372036854775807
+rate.e18 - -1 rate -0.000000000000000001
+pair.e6p2 0 1500000 pair 1.5
+pair.e6p2 1 -250000 pair -0.25
+many.e6p16 15 7000000 many 7
+size.e6l1 0 3 size 3
+size.e6l1 1 250000 size 0.25
+size.e6l0 0 12 size 12
+size.e6nl1 0 -9223372036854775808 size -9223372036854775808
+size.e6nl1 1 -9223372036854775808 size NaN
+a.b.e6 - 5000 a.b 0.005
+a.e6.e7 - 5 a.e6 0.0000005
+errors - 12 errors 12
+errors - -9223372036854775808 errors -9223372036854775808
+rate.e5 - 12 rate.e5 12
+rate.e19 - 12 rate.e19 12
+rate.e06 - 12 rate.e06 12
+rate.e60 - 12 rate.e60 12
+rate.e1 - 12 rate.e1 12
+rate.e - 12 rate.e 12
+rate.e6x - 12 rate.e6x 12
+rate.e6fn - 12 rate.e6fn 12
+rate.e6nn - 12 rate.e6nn 12
+rate.e6p - 12 rate.e6p 12
+rate.e6px - 12 rate.e6px 12
+rate.e6lf - 12 rate.e6lf 12
+rate.e6f1 - 12 rate.e6f1 12
+rate.E6 - 12 rate.E6 12
+rate-e6 - 12 rate-e6 12
+rate.e6. - 12 rate.e6. 12
+.e6 - 12 .e6 12
+";
+
+// Whether a row of labels holds.
+fn shows(row: &str) -> bool {
+    let mut words = row.split(' ');
+    let (Some(label), Some(place), Some(reported)) = (words.next(), words.next(), words.next())
+    else {
+        return false;
+    };
+    let (Some(name), Some(text), Some(reported)) = (words.next(), words.next(), number(reported))
+    else {
+        return false;
+    };
+    let shown = Shown::or_whole(label);
+    let written = shown.units.text(place.parse::<u64>().ok(), reported);
+    shown.name == name && written.as_str() == text
+}
+
 #[test]
 fn rows(rt: HostRuntime) -> Result<(), Fail> {
     let alloc = rt.alloc();
     for row in ROWS.lines() {
         assert!(rt; holds(alloc, row)?);
+    }
+    for row in SHOWN.lines() {
+        assert!(rt; shows(row));
     }
     assert!(rt; word_of(alloc, "NaN")? == 1);
     assert!(rt; word_of(alloc, "Inf")? == 2);

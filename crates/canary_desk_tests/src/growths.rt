@@ -8,6 +8,7 @@ use canary_files::history::history_text;
 use canary_manifest::command::{WireFault, command_from_json};
 use canary_plan::command::CommandKind;
 use canary_plan::line::{Line, LineEvent};
+use canary_testing::asked::cut;
 use canary_wire::conversation::{Conversation, Routes};
 use std::alloc::Global;
 
@@ -22,86 +23,61 @@ fn refused(is_memory: bool) -> Option<bool> {
     if is_memory { None } else { Some(false) }
 }
 
-// Bodies, and the kind of their command.
-const BODIES: [(&str, CommandKind); 5] = [
-    (
-        concat!(
-            r#"{"template":{"metadata":{"name":"t"},"spec":{"metrics":[{"name":"m","interval":"#,
-            r#""60s","successCondition":"result > 1"},{"name":"n"}],"dryRun":[{"metricName":"n"}]"#,
-            "}}}"
-        ),
-        CommandKind::Template,
-    ),
-    (
-        concat!(
-            r#"{"service":{"version":"v1","manifest":{"metadata":{"name":"web"},"spec":{"#,
-            r#""strategy":{"canary":{"steps":[{"setWeight":20},{"pause":{"duration":"60s"}},"#,
-            r#"{"analysis":{"templates":[{"templateName":"t"}]}}],"analysis":{"startingStep":1,"#,
-            r#""templates":[{"templateName":"t"}]}}}}}}}"#
-        ),
-        CommandKind::Service,
-    ),
-    (
-        concat!(
-            r#"{"report":{"service":"web","run":1,"entries":[{"metric":"m","ordinal":1,"taken":5,"#,
-            r#""failure":"down"},{"metric":"m","ordinal":2,"taken":65,"result":[1,2]}]}}"#
-        ),
-        CommandKind::Report,
-    ),
-    (
-        r#"{"start":{"service":"web","version":"v2"}}"#,
-        CommandKind::Start,
-    ),
-    (r#"{"tick":{"service":"web"}}"#, CommandKind::Tick),
-];
+// Bodies, each behind what it is read as: a kind of command, or a fault.
+const BODIES: &str = concat!(
+    r#"template {"template":{"metadata":{"name":"t"},"spec":{"metrics":[{"name":"m","interval":"#,
+    r#""60s","successCondition":"result > 1"},{"name":"n"}],"dryRun":[{"metricName":"n"}]}}}"#,
+    "\n",
+    r#"service {"service":{"version":"v1","manifest":{"metadata":{"name":"web"},"spec":{"#,
+    r#""strategy":{"canary":{"steps":[{"setWeight":20},{"pause":{"duration":"60s"}},"#,
+    r#"{"analysis":{"templates":[{"templateName":"t"}]}}],"analysis":{"startingStep":1,"#,
+    r#""templates":[{"templateName":"t"}]}}}}}}}"#,
+    "\n",
+    r#"report {"report":{"service":"web","run":1,"entries":[{"metric":"m","ordinal":1,"taken":5,"#,
+    r#""failure":"down"},{"metric":"m","ordinal":2,"taken":65,"result":[1,2]}]}}"#,
+    "\n",
+    r#"start {"start":{"service":"web","version":"v2"}}"#,
+    "\n",
+    r#"tick {"tick":{"service":"web"}}"#,
+    "\n",
+    r#"unreadable {"tick":{"service":"web","more":[1,2,3]}}"#,
+    "\n",
+    r#"unreadable {"tick":{"service":"web"}"#,
+    "\n",
+    r#"unsupported {"template":{"kind":"Pod","metadata":{"name":"t"}}}"#
+);
 
-fn read(alloc: Global, body: &str, kind: CommandKind) -> Option<bool> {
-    match command_from_json(alloc, body.as_bytes()) {
-        Ok(command) => Some(command.kind() == kind),
-        Err(fault) => refused(fault == WireFault::Memory),
+fn word_of(kind: CommandKind) -> &'static str {
+    match kind {
+        CommandKind::Template => "template",
+        CommandKind::Service => "service",
+        CommandKind::Report => "report",
+        CommandKind::Start => "start",
+        CommandKind::Tick => "tick",
+        _ => "another",
     }
 }
 
-// Bodies that are no command, each with its fault.
-const FAULTS: [(&str, WireFault); 3] = [
-    (
-        r#"{"tick":{"service":"web","more":[1,2,3]}}"#,
-        WireFault::Unreadable,
-    ),
-    (r#"{"tick":{"service":"web"}"#, WireFault::Unreadable),
-    (
-        r#"{"template":{"kind":"Pod","metadata":{"name":"t"}}}"#,
-        WireFault::Unsupported,
-    ),
-];
-
-fn is_no_command(alloc: Global, body: &str, wanted: WireFault) -> Option<bool> {
+// What a body is read as; none if memory was refused.
+fn read(alloc: Global, body: &str) -> Option<&'static str> {
     match command_from_json(alloc, body.as_bytes()) {
-        Ok(_) => Some(false),
-        Err(fault) => {
-            if fault == wanted {
-                return Some(true);
-            }
-            refused(fault == WireFault::Memory)
-        }
+        Ok(command) => Some(word_of(command.kind())),
+        Err(WireFault::Unreadable) => Some("unreadable"),
+        Err(WireFault::Unsupported) => Some("unsupported"),
+        Err(WireFault::Memory) => None,
     }
+}
+
+fn is_read(alloc: Global, row: &str) -> Option<bool> {
+    let (word, body) = cut(row, ' ');
+    Some(read(alloc, body)? == word)
 }
 
 #[test]
 fn of_bodies(rt: HostRuntime) {
     let alloc = rt.alloc();
-    for (body, kind) in BODIES {
-        assert!(rt;
-            is_right(read(alloc, body, kind), read(alloc, body, kind)),
-            "{body}"
-        );
-    }
-    for (body, fault) in FAULTS {
-        let first = is_no_command(alloc, body, fault);
-        assert!(rt;
-            is_right(first, is_no_command(alloc, body, fault)),
-            "{body}"
-        );
+    for row in BODIES.lines() {
+        assert!(rt; is_right(is_read(alloc, row), is_read(alloc, row)), "{row}");
     }
 }
 
@@ -119,17 +95,22 @@ fn lines() -> Option<[Line; 2]> {
     ])
 }
 
-const HISTORY: &str = "1970-01-01T00:00:00Z created v1
+const TOLD: &str = "so far 1970-01-01T00:00:00Z created v1
 1970-01-02T00:00:00Z step 1 pause
 ";
 
-// A refused history leaves the text before it as it was.
 fn history_told(alloc: Global) -> Option<bool> {
+    let lines = lines()?;
     let mut out = String::from_str(alloc, "so far ").ok()?;
-    if history_text(&lines()?, &mut out).is_err() {
+    told(&lines, &mut out)
+}
+
+// A refused history leaves the text before it as it was.
+fn told(lines: &[Line], out: &mut String) -> Option<bool> {
+    if history_text(lines, out).is_err() {
         return refused(out.as_str() == "so far ");
     }
-    Some(out.as_str().strip_prefix("so far ") == Some(HISTORY))
+    Some(out.as_str() == TOLD)
 }
 
 fn routes_made(alloc: Global) -> Option<bool> {

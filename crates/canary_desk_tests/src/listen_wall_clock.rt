@@ -1,7 +1,7 @@
 //! The machine's clock, if it falls, is beyond the limits, or cannot be read.
-use canary_base::moments::LAST_MOMENT;
 use canary_listen::wall_clock::WallClock;
 use canary_once::clock::Clock;
+use canary_testing::asked::cut;
 use std::cell::Cell;
 use std::io::{self, ErrorKind};
 use std::test::Fail;
@@ -26,26 +26,30 @@ impl time::Clock for Machine {
     }
 }
 
+// What the machine's clock reads, `-` if it fails, and the moment that is told then.
+const MOMENTS: &str = "\
+    - 0
+1767225600 1767225600
+1767225599 1767225599
+- 1767225599
+1767225601 1767225601
+18446744073709551615 1767225601
+253370764800 253370764799
+5 5";
+
 #[test]
 fn tells_the_machines_moment(rt: HostRuntime) -> Result<(), Fail> {
     let machine = Machine {
         seconds: Cell::new(None),
     };
     let mut clock = WallClock::new(&machine);
-    assert!(rt; clock.now().get() == 0);
-    machine.seconds.set(Some(1_767_225_600));
-    assert!(rt; clock.now().get() == 1_767_225_600);
-    machine.seconds.set(Some(1_767_225_599));
-    assert!(rt; clock.now().get() == 1_767_225_599);
-    machine.seconds.set(None);
-    assert!(rt; clock.now().get() == 1_767_225_599);
-    machine.seconds.set(Some(1_767_225_601));
-    assert!(rt; clock.now().get() == 1_767_225_601);
-    machine.seconds.set(Some(u64::MAX));
-    assert!(rt; clock.now().get() == 1_767_225_601);
-    machine.seconds.set(Some(LAST_MOMENT + 1));
-    assert!(rt; clock.now().get() == LAST_MOMENT);
-    machine.seconds.set(Some(5));
-    assert!(rt; clock.now().get() == 5);
+    for row in MOMENTS.lines() {
+        let (read, told) = cut(row, ' ');
+        machine.seconds.set(read.parse::<u64>().ok());
+        assert!(rt;
+            Some(clock.now().get()) == told.parse::<u64>().ok(),
+            "{row}"
+        );
+    }
     Ok(())
 }

@@ -54,7 +54,7 @@ fn pause(calls: u32) -> io::Error {
 }
 
 // Gives pieces, with a pause after each; then it ends.
-#[derive(Drop)]
+#[derive(Clone, Copy)]
 struct Incoming<'a> {
     rest: &'a [u8],
     size: usize,
@@ -101,12 +101,11 @@ impl Write for Outgoing {
     }
 }
 
-fn writing(alloc: Global, size: usize) -> Outgoing {
-    Outgoing {
-        bytes: Vec::new(alloc),
+fn reading(stream: &str, size: usize, calls: u32) -> Incoming<'_> {
+    Incoming {
+        rest: stream.as_bytes(),
         size,
-        calls: 0,
-        writes: 0,
+        calls,
     }
 }
 
@@ -139,6 +138,12 @@ const ONE_BY_ONE: Paced = Paced {
     answers_queries: true,
 };
 
+// No query is answered.
+const WAITING: Paced = Paced {
+    goes_on: true,
+    answers_queries: false,
+};
+
 // The turns after which a conversation has no end.
 const MOST_TURNS: u32 = 100_000;
 
@@ -150,63 +155,94 @@ struct Ran {
     turns: u32,
 }
 
-fn run(
-    alloc: Global,
-    reader: &mut Incoming,
-    writer: &mut Outgoing,
-    most_owed: usize,
-    pace: Paced,
-) -> Result<Ran, Memory> {
-    let routes = Routes::new(alloc)?;
-    let mut talk = Conversation::new(alloc, most_owed)?;
-    let mut book = MemoryBook::new(alloc);
-    take_turns(alloc, &routes, &mut talk, reader, writer, &mut book, pace)
-}
-
 // A clock that ticks by a second.
 fn seconds() -> StepClock {
     let start = Moment::new(1_767_225_600).unwrap();
     StepClock::new(start, Moment::new(1).unwrap())
 }
 
-fn take_turns(
-    alloc: Global,
-    routes: &Routes,
-    talk: &mut Conversation,
-    reader: &mut Incoming,
-    writer: &mut Outgoing,
-    book: &mut MemoryBook,
-    pace: Paced,
-) -> Result<Ran, Memory> {
-    let (mut now, mut pace) = (seconds(), pace);
-    let mut owed = 0;
-    for turns in 0..MOST_TURNS {
-        let wants = talk.turn(alloc, routes, reader, writer, &mut now, book, &mut pace);
-        owed = owed.max(talk.owes());
-        match wants {
-            Wants::Nothing(Cause::Memory) => return Err(Memory),
-            Wants::Nothing(Cause::EndOfInput) => return Ok(Ran { owed, turns }),
-            Wants::Nothing(_) => break,
-            _ => {}
-        }
-    }
-    Ok(Ran {
-        owed,
-        turns: MOST_TURNS,
+// A conversation, with its book and what it writes.
+#[derive(Drop)]
+struct Desk {
+    routes: Routes,
+    talk: Conversation,
+    book: MemoryBook,
+    writer: Outgoing,
+}
+
+// A new one, of which a write takes so many bytes.
+fn new_desk(alloc: Global, most_owed: usize, size: usize) -> Result<Desk, Memory> {
+    let routes = Routes::new(alloc)?;
+    Ok(Desk {
+        talk: Conversation::new(alloc, most_owed)?,
+        routes,
+        book: MemoryBook::new(alloc),
+        writer: Outgoing {
+            bytes: Vec::new(alloc),
+            size,
+            calls: 0,
+            writes: 0,
+        },
     })
+}
+
+impl Desk {
+    // Takes turns to the end of the conversation, so many at most.
+    fn run(
+        &mut self,
+        alloc: Global,
+        reader: &mut Incoming,
+        pace: Paced,
+        most: u32,
+    ) -> Result<Ran, Memory> {
+        let (mut now, mut pace) = (seconds(), pace);
+        let mut owed = 0;
+        for turns in 0..most {
+            let wants = self.talk.turn(
+                alloc,
+                &self.routes,
+                reader,
+                &mut self.writer,
+                &mut now,
+                &mut self.book,
+                &mut pace,
+            );
+            owed = owed.max(self.talk.owes());
+            match wants {
+                Wants::Nothing(Cause::Memory) => return Err(Memory),
+                Wants::Nothing(Cause::EndOfInput) => return Ok(Ran { owed, turns }),
+                Wants::Nothing(_) => break,
+                _ => {}
+            }
+        }
+        Ok(Ran { owed, turns: most })
+    }
+
+    fn answers(&mut self, alloc: Global, size: usize, most: usize) -> Result<bool, Memory> {
+        let ran = self.run(alloc, &mut reading(STREAM, size, 0), FAR, MOST_TURNS)?;
+        if ran.owed >= most.max(1).saturating_add(300) || ran.turns >= MOST_TURNS {
+            return Ok(false);
+        }
+        Ok(self.writer.bytes.as_slice() == REPLIES.as_bytes())
+    }
+
+    // How many turns it takes to answer what comes at once.
+    fn turns(&mut self, alloc: Global, stream: &str, pace: Paced) -> Result<u32, Memory> {
+        let ran = self.run(alloc, &mut reading(stream, 100_000, 1), pace, MOST_TURNS)?;
+        Ok(ran.turns)
+    }
+
+    // How many replies there are after ten turns more, which take all that is sent at once.
+    fn replies(&mut self, alloc: Global, reader: &mut Incoming, pace: Paced) -> usize {
+        let _ = self.run(alloc, reader, pace, 10);
+        count_of(&self.writer.bytes, "HTTP/1.1 ")
+    }
 }
 
 // Whether the stream is answered in these pieces, with no more owed than that and one reply.
 fn is_answered(alloc: Global, size: usize, out: usize, most: usize) -> Result<bool, Memory> {
-    let mut reader = Incoming {
-        rest: STREAM.as_bytes(),
-        size,
-        calls: 0,
-    };
-    let mut writer = writing(alloc, out);
-    let ran = run(alloc, &mut reader, &mut writer, most, FAR)?;
-    let is_bounded = ran.owed < most.max(1).saturating_add(300) && ran.turns < MOST_TURNS;
-    Ok(is_bounded && writer.bytes.as_slice() == REPLIES.as_bytes())
+    let mut desk = new_desk(alloc, most, out)?;
+    desk.answers(alloc, size, most)
 }
 
 // Asked again where a reply may say that memory was refused.
@@ -225,87 +261,60 @@ fn answers_in_any_pieces(rt: HostRuntime) -> Result<(), Fail> {
     Ok(())
 }
 
-// Whether so many messages at once go out by one write a turn, where it takes 64 a turn.
-fn is_written_by_turns(alloc: Global, stream: &[u8]) -> Result<bool, Memory> {
-    let mut reader = Incoming {
-        rest: stream,
-        size: 100_000,
-        calls: 1,
-    };
-    let mut writer = writing(alloc, 1_000_000);
-    let ran = run(alloc, &mut reader, &mut writer, 1_000_000, FAR)?;
-    Ok(writer.writes == 5 && ran.turns <= 8)
+// How many turns and writes it takes to answer what comes at once.
+fn turns_and_writes(alloc: Global, stream: &str, pace: Paced) -> Result<(u32, usize), Memory> {
+    let mut desk = new_desk(alloc, 1_000_000, 1_000_000)?;
+    let turns = desk.turns(alloc, stream, pace)?;
+    Ok((turns, desk.writer.writes))
 }
 
-// Whether each of so many messages has a turn of its own, if a turn goes on with no other.
-fn is_written_one_by_one(alloc: Global, stream: &[u8], count: usize) -> Result<bool, Memory> {
-    let mut reader = Incoming {
-        rest: stream,
-        size: 100_000,
-        calls: 1,
-    };
-    let mut writer = writing(alloc, 1_000_000);
-    run(alloc, &mut reader, &mut writer, 1_000_000, ONE_BY_ONE)?;
-    Ok(writer.writes == count)
+// Whether 300 messages at once go out by one write a turn, where it takes 64 a turn.
+fn is_written_by_turns(alloc: Global, stream: &str) -> Result<bool, Memory> {
+    let (turns, writes) = turns_and_writes(alloc, stream, FAR)?;
+    Ok(writes == 5 && turns <= 8)
+}
+
+// Whether each of 300 messages has a turn of its own, if a turn goes on with no other.
+fn is_written_one_by_one(alloc: Global, stream: &str) -> Result<bool, Memory> {
+    let (_, writes) = turns_and_writes(alloc, stream, ONE_BY_ONE)?;
+    Ok(writes == 300)
+}
+
+fn put_messages(stream: &mut String) -> Result<(), Memory> {
+    for _ in 0..300 {
+        stream.push_str("GET /nope HTTP/1.1\r\n\r\n")?;
+    }
+    Ok(())
+}
+
+fn check_many(rt: &impl Abort, alloc: Global, stream: &str) -> Result<(), Fail> {
+    assert!(rt; is_written_by_turns(alloc, stream)? || is_written_by_turns(alloc, stream)?);
+    assert!(rt; is_written_one_by_one(alloc, stream)? || is_written_one_by_one(alloc, stream)?);
+    Ok(())
 }
 
 #[test]
 fn answers_many_at_once(rt: HostRuntime) -> Result<(), Fail> {
     let alloc = rt.alloc();
-    let mut stream = Vec::new(alloc);
-    for _ in 0..300 {
-        stream.extend_from_slice(b"GET /nope HTTP/1.1\r\n\r\n".as_slice())?;
-    }
-    let stream = stream.as_slice();
-    assert!(rt; is_written_by_turns(alloc, stream)? || is_written_by_turns(alloc, stream)?);
-    assert!(rt;
-        is_written_one_by_one(alloc, stream, 300)? || is_written_one_by_one(alloc, stream, 300)?
-    );
-    Ok(())
+    let mut stream = String::new(alloc);
+    put_messages(&mut stream)?;
+    check_many(&rt, alloc, stream.as_str())
 }
+
+// A request and a query.
+const TICK_AND_QUERY: &str = concat!(
+    "PUT /callers/ops/requests/1 HTTP/1.1\r\nContent-Length: 26\r\n\r\n",
+    r#"{"tick":{"service":"web"}}"#,
+    "\r\nGET /services/web HTTP/1.1\r\n\r\n"
+);
 
 // How many replies a conversation has after some turns, first while no query is answered and then
 // while each is: a request and a query were sent.
 fn replies_before_and_after(alloc: Global) -> Result<(usize, usize), Memory> {
-    let mut talk = Conversation::new(alloc, 16_384)?;
-    let mut reader = Incoming {
-        rest: concat!(
-            "PUT /callers/ops/requests/1 HTTP/1.1\r\nContent-Length: 26\r\n\r\n",
-            r#"{"tick":{"service":"web"}}"#,
-            "\r\nGET /services/web HTTP/1.1\r\n\r\n"
-        )
-        .as_bytes(),
-        size: 1000,
-        calls: 1,
-    };
-    let mut writer = writing(alloc, 1_000);
-    let waiting = Paced {
-        goes_on: true,
-        answers_queries: false,
-    };
-    take_ten_turns(alloc, &mut talk, &mut reader, &mut writer, waiting)?;
-    let before = count_of(&writer.bytes, "HTTP/1.1 ");
-    take_ten_turns(alloc, &mut talk, &mut reader, &mut writer, FAR)?;
-    Ok((before, count_of(&writer.bytes, "HTTP/1.1 ")))
-}
-
-// Ten turns at this pace, over a book of their own.
-fn take_ten_turns(
-    alloc: Global,
-    talk: &mut Conversation,
-    reader: &mut Incoming,
-    writer: &mut Outgoing,
-    pace: Paced,
-) -> Result<(), Memory> {
-    let routes = Routes::new(alloc)?;
-    let mut book = MemoryBook::new(alloc);
-    let (mut now, mut pace) = (seconds(), pace);
-    for _ in 0..10 {
-        talk.turn(
-            alloc, &routes, reader, writer, &mut now, &mut book, &mut pace,
-        );
-    }
-    Ok(())
+    let mut desk = new_desk(alloc, 16_384, 1_000)?;
+    let mut reader = reading(TICK_AND_QUERY, 1000, 1);
+    let before = desk.replies(alloc, &mut reader, WAITING);
+    Ok((before, desk.replies(alloc, &mut reader, FAR)))
 }
 
 #[test]
@@ -331,44 +340,14 @@ fn count_of(replies: &[u8], text: &str) -> usize {
         .count()
 }
 
-// Answers the new requests in ten turns, which take them all.
-fn answer_new(alloc: Global, writer: &mut Outgoing, book: &mut MemoryBook) -> Result<(), Memory> {
-    let routes = Routes::new(alloc)?;
-    let mut talk = Conversation::new(alloc, 16_384)?;
-    let mut now = seconds();
-    let mut reader = Incoming {
-        rest: NEW.as_bytes(),
-        size: 1000,
-        calls: 1,
-    };
-    let mut pace = FAR;
-    for _ in 0..10 {
-        talk.turn(
-            alloc,
-            &routes,
-            &mut reader,
-            writer,
-            &mut now,
-            book,
-            &mut pace,
-        );
-    }
-    Ok(())
-}
-
-fn check_new(
-    rt: &impl Abort,
-    alloc: Global,
-    writer: &mut Outgoing,
-    book: &mut MemoryBook,
-) -> Result<(), Fail> {
-    writer.bytes.reserve(1_000)?;
-    answer_new(alloc, writer, book)?;
-    let Ok(settled) = book.settled(&name("ops").ok_or("a name")?) else {
+fn check_new(rt: &impl Abort, alloc: Global, desk: &mut Desk) -> Result<(), Fail> {
+    desk.writer.bytes.reserve(1_000)?;
+    let replies = desk.replies(alloc, &mut reading(NEW, 1000, 1), FAR);
+    let Ok(settled) = desk.book.settled(&name("ops").ok_or("a name")?) else {
         return Err("a count".into());
     };
-    assert!(rt; count_of(&writer.bytes, "HTTP/1.1 ") == 2);
-    assert!(rt; count_of(&writer.bytes, "HTTP/1.1 200 OK") == settled as usize);
+    assert!(rt; replies == 2);
+    assert!(rt; count_of(&desk.writer.bytes, "HTTP/1.1 200 OK") == settled as usize);
     Ok(())
 }
 
@@ -376,27 +355,16 @@ fn check_new(
 #[test]
 fn settles_nothing_unanswered(rt: HostRuntime) -> Result<(), Fail> {
     let alloc = rt.alloc();
-    let (mut writer, mut book) = (writing(alloc, 1_000_000), MemoryBook::new(alloc));
-    check_new(&rt, alloc, &mut writer, &mut book)
+    let mut desk = new_desk(alloc, 16_384, 1_000_000)?;
+    check_new(&rt, alloc, &mut desk)
 }
 
-// Where a conversation stands before its first turn, and after ten in which it answers these bytes.
-fn stages(alloc: Global, stream: &str) -> Result<(Stage, Stage), Memory> {
-    let mut talk = Conversation::new(alloc, 16_384)?;
-    let mut reader = Incoming {
-        rest: stream.as_bytes(),
-        size: 1000,
-        calls: 1,
-    };
-    let mut writer = writing(alloc, 1_000);
-    let before = talk.stage();
-    take_ten_turns(alloc, &mut talk, &mut reader, &mut writer, FAR)?;
-    Ok((before, talk.stage()))
-}
-
-// Whether it is open at first, and stands so after its bytes.
+// Whether a conversation is open at first, and stands so after it has answered these bytes.
 fn is_at(alloc: Global, stream: &str, stage: Stage) -> Result<bool, Memory> {
-    Ok(stages(alloc, stream)? == (Stage::Open, stage))
+    let mut desk = new_desk(alloc, 16_384, 1_000)?;
+    let before = desk.talk.stage();
+    desk.replies(alloc, &mut reading(stream, 1000, 1), FAR);
+    Ok(before == Stage::Open && desk.talk.stage() == stage)
 }
 
 // Asked again where memory was refused.

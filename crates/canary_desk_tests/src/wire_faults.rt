@@ -14,7 +14,6 @@ use canary_plan::line::Line;
 use canary_plan::templates::Templates;
 use canary_release::effect::Recorded;
 use canary_release::service::Service;
-use canary_testing::rows::says;
 use canary_wire::serve::{Ended, ServeFault, serve};
 use std::alloc::Global;
 use std::test::Fail;
@@ -102,10 +101,8 @@ impl Book for Failing {
     }
 }
 
-// Whether a store that fails at this call is told of once, and the request is settled as it comes
-// again.
-fn goes_on(alloc: Global, fails: u32) -> Result<bool, Memory> {
-    let mut written = Vec::with_capacity(alloc, 1_000)?;
+// Serves the stream over a store that fails at this call.
+fn serve_failing(alloc: Global, written: &mut Vec<u8>, fails: u32) -> Result<Ended, ServeFault> {
     let start = Moment::new(1_767_225_600).unwrap();
     let mut now = StepClock::new(start, Moment::new(1).unwrap());
     let mut stream = STREAM.as_bytes();
@@ -114,14 +111,24 @@ fn goes_on(alloc: Global, fails: u32) -> Result<bool, Memory> {
         calls: 0,
         fails,
     };
-    let ended = serve(alloc, &mut stream, &mut written, &mut now, &mut book);
+    serve(alloc, &mut stream, written, &mut now, &mut book)
+}
+
+// Whether the failure was told of once, and the request was settled as it came again.
+fn went_on(ended: Result<Ended, ServeFault>, written: &[u8]) -> Result<bool, Memory> {
     let tells_of_memory = written
         .windows(9)
         .any(|window| window == "no-memory".as_bytes());
     if ended == Err(ServeFault::Memory) || tells_of_memory {
         return Err(Memory);
     }
-    Ok(ended == Ok(Ended::EndOfInput) && written.as_slice() == REPLIES.as_bytes())
+    Ok(ended == Ok(Ended::EndOfInput) && written == REPLIES.as_bytes())
+}
+
+fn goes_on(alloc: Global, fails: u32) -> Result<bool, Memory> {
+    let mut written = Vec::with_capacity(alloc, 1_000)?;
+    let ended = serve_failing(alloc, &mut written, fails);
+    went_on(ended, written.as_slice())
 }
 
 // A promotion asks for the count of its caller, the service and the templates, and is settled.
@@ -134,41 +141,77 @@ fn a_store_that_fails_once(rt: HostRuntime) -> Result<(), Fail> {
     Ok(())
 }
 
+// The faults of bodies and of streams.
+const WIRE_FAULTS: &str = "\
+    the body is no command
+the body asks for what the desk does not do
+out of memory
+the input could not be read
+the output could not be written
+out of memory";
+
+fn says_wire_faults(alloc: Global) -> Result<bool, Memory> {
+    let text = format!(in alloc;
+        "{}\n{}\n{}\n{}\n{}\n{}",
+        WireFault::Unreadable,
+        WireFault::Unsupported,
+        WireFault::Memory,
+        ServeFault::Read,
+        ServeFault::Write,
+        ServeFault::Memory
+    )?;
+    Ok(text.as_str() == WIRE_FAULTS)
+}
+
 #[test]
 fn says_what_went_wrong(rt: HostRuntime) -> Result<(), Fail> {
-    let alloc = rt.alloc();
-    assert!(rt; says(alloc, &WireFault::Unreadable, "the body is no command")?);
-    let unsupported = "the body asks for what the desk does not do";
-    assert!(rt; says(alloc, &WireFault::Unsupported, unsupported)?);
-    assert!(rt; says(alloc, &WireFault::Memory, "out of memory")?);
-    assert!(rt; says(alloc, &ServeFault::Read, "the input could not be read")?);
-    assert!(rt; says(alloc, &ServeFault::Write, "the output could not be written")?);
-    assert!(rt; says(alloc, &ServeFault::Memory, "out of memory")?);
+    assert!(rt; says_wire_faults(rt.alloc())?);
     Ok(())
+}
+
+// The faults of an import.
+const IMPORT_FAULTS: &str = "\
+    the input could not be read
+the output could not be written
+out of memory
+the first record is not the header
+the file has too many rows";
+
+fn says_import_faults(alloc: Global) -> Result<bool, Memory> {
+    let text = format!(in alloc;
+        "{}\n{}\n{}\n{}\n{}",
+        ImportFault::Read,
+        ImportFault::Write,
+        ImportFault::Memory,
+        ImportFault::Header,
+        ImportFault::RowsSpent
+    )?;
+    Ok(text.as_str() == IMPORT_FAULTS)
+}
+
+// The faults of an export.
+const EXPORT_FAULTS: &str = "\
+    out of memory
+the store failed
+the output could not be written
+too many measurements
+unknown service";
+
+fn says_export_faults(alloc: Global) -> Result<bool, Memory> {
+    let text = format!(in alloc;
+        "{}\n{}\n{}\n{}\n{}",
+        ExportFault::Memory,
+        ExportFault::Storage,
+        ExportFault::Write,
+        ExportFault::TooMany,
+        ExportFault::UnknownService
+    )?;
+    Ok(text.as_str() == EXPORT_FAULTS)
 }
 
 #[test]
 fn says_why_a_file_ended(rt: HostRuntime) -> Result<(), Fail> {
-    let alloc = rt.alloc();
-    let (input, output) = (
-        "the input could not be read",
-        "the output could not be written",
-    );
-    assert!(rt; says(alloc, &ImportFault::Read, input)?);
-    assert!(rt; says(alloc, &ImportFault::Write, output)?);
-    assert!(rt; says(alloc, &ImportFault::Memory, "out of memory")?);
-    assert!(rt;
-        says(
-            alloc,
-            &ImportFault::Header,
-            "the first record is not the header"
-        )?
-    );
-    assert!(rt; says(alloc, &ImportFault::RowsSpent, "the file has too many rows")?);
-    assert!(rt; says(alloc, &ExportFault::Memory, "out of memory")?);
-    assert!(rt; says(alloc, &ExportFault::Storage, "the store failed")?);
-    assert!(rt; says(alloc, &ExportFault::Write, output)?);
-    assert!(rt; says(alloc, &ExportFault::TooMany, "too many measurements")?);
-    assert!(rt; says(alloc, &ExportFault::UnknownService, "unknown service")?);
+    assert!(rt; says_import_faults(rt.alloc())?);
+    assert!(rt; says_export_faults(rt.alloc())?);
     Ok(())
 }

@@ -3,8 +3,9 @@ use crate::json::add_value;
 use crate::table::Table;
 use canary_base::error::Memory;
 use canary_base::moments::Moment;
-use canary_base::names::Name;
+use canary_base::names::{Label, Name};
 use canary_condition::outcome::Phase;
+use canary_decimal::shown::Shown;
 use canary_metric::metric::Metric;
 use canary_metric::tally::Tally;
 use canary_metric::verdict::is_completed;
@@ -165,12 +166,18 @@ fn metric_row(
     row.push(String::from_str(alloc, service.as_str())?)?;
     row.push(analysis(alloc, run.step)?)?;
     row.push(templates_text(alloc, run.analysis.revisions())?)?;
-    row.push(String::from_str(alloc, metric.name().as_str())?)?;
+    row.push(name_of(alloc, metric.name())?)?;
     row.push(String::from_str(alloc, phase.text())?)?;
     row.push(format!(in alloc; "{counted}")?)?;
     row.push(passes_text(alloc, metric.pass_after(), tally.passes())?)?;
     row.push(due_text(alloc, run, metric, tally, phase)?)?;
     Ok(row)
+}
+
+// The name of a metric as people read it: its label, without an ending that says how its numbers
+// are reported.
+fn name_of(alloc: Global, label: Label) -> Result<String, Memory> {
+    Ok(String::from_str(alloc, Shown::or_whole(label.as_str()).name)?)
 }
 
 fn analysis(alloc: Global, step: Option<u32>) -> Result<String, Memory> {

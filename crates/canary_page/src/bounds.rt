@@ -1,13 +1,29 @@
 //! What conditions name of a result, and the numbers with which they compare it.
 use crate::spot::Spot;
 use canary_base::error::Memory;
+use canary_decimal::shown::Units;
 use std::alloc::Global;
+
+/// A number of a condition, and the bytes of the condition that it is: from `begin` to `end`.
+#[derive(Clone, Copy, Debug, PartialEq, Eq)]
+pub(crate) struct Constant {
+    pub(crate) number: i64,
+    pub(crate) begin: usize,
+    pub(crate) end: usize,
+}
 
 /// A number with which a condition compares what it names.
 #[derive(Clone, Copy, Debug, PartialEq, Eq)]
 pub(crate) struct Bound {
     pub(crate) spot: Spot,
-    pub(crate) number: i64,
+    pub(crate) constant: Constant,
+}
+
+impl Bound {
+    // Whether it is one of that spot, and does not stand for NaN.
+    pub(crate) fn is_drawn(self, spot: Spot, units: Units) -> bool {
+        self.spot == spot && !units.is_nan(spot.place(), self.constant.number)
+    }
 }
 
 /// What a condition names of a result, and its bounds: each as often as they stand there, in order.
@@ -32,7 +48,7 @@ enum Word {
 #[derive(Clone, Copy, PartialEq, Eq)]
 enum Term {
     Named(Spot),
-    Number(i64),
+    Number(Constant),
     Comparison,
     Other,
 }
@@ -83,9 +99,10 @@ fn number_of(text: &str) -> Word {
     }
 }
 
-fn term_of(word: Word) -> Term {
+// What the word that is these bytes of the condition is by itself.
+fn term_of(word: Word, begin: usize, end: usize) -> Term {
     match word {
-        Word::Number(number) => Term::Number(number),
+        Word::Number(number) => Term::Number(Constant { number, begin, end }),
         Word::Comparison => Term::Comparison,
         _ => Term::Other,
     }
@@ -123,10 +140,11 @@ impl Scan<'_> {
             return Ok(());
         }
         let word = word_of(self.kind, self.text.get(self.begin..place).unwrap_or(""));
-        self.take_word(word)
+        self.take_word(word, place)
     }
 
-    fn take_word(&mut self, word: Word) -> Result<(), Memory> {
+    // Takes the word that ends at this place.
+    fn take_word(&mut self, word: Word, end: usize) -> Result<(), Memory> {
         match (self.begun, word) {
             (Begun::Result, Word::Open) => self.begun = Begun::Bracket,
             (Begun::Bracket, Word::Number(number)) => {
@@ -138,7 +156,7 @@ impl Scan<'_> {
             }
             _ => {
                 self.end_result()?;
-                self.begin_term(word)?;
+                self.begin_term(word, end)?;
             }
         }
         Ok(())
@@ -154,12 +172,12 @@ impl Scan<'_> {
         Ok(())
     }
 
-    fn begin_term(&mut self, word: Word) -> Result<(), Memory> {
+    fn begin_term(&mut self, word: Word, end: usize) -> Result<(), Memory> {
         if word == Word::Result {
             self.begun = Begun::Result;
             return Ok(());
         }
-        self.take_term(term_of(word))
+        self.take_term(term_of(word, self.begin, end))
     }
 
     fn take_term(&mut self, term: Term) -> Result<(), Memory> {
@@ -181,8 +199,8 @@ fn bound_of(first: Term, second: Term, third: Term) -> Option<Bound> {
         return None;
     }
     match (first, third) {
-        (Term::Named(spot), Term::Number(number)) => Some(Bound { spot, number }),
-        (Term::Number(number), Term::Named(spot)) => Some(Bound { spot, number }),
+        (Term::Named(spot), Term::Number(constant)) => Some(Bound { spot, constant }),
+        (Term::Number(constant), Term::Named(spot)) => Some(Bound { spot, constant }),
         _ => None,
     }
 }

@@ -1,9 +1,11 @@
 //! The measurements of a metric that a chart shows.
+use crate::conditions::Conditions;
 use crate::numbers::Span;
 use crate::spot::Spot;
 use canary_base::error::Memory;
 use canary_base::moments::Moment;
 use canary_condition::outcome::{Outcome, Phase};
+use canary_decimal::shown::Units;
 use canary_metric::tally::Tally;
 use canary_release::effect::Recorded;
 use std::alloc::Global;
@@ -34,12 +36,13 @@ pub(crate) struct Chart {
     // How many were seen, and how many of these were not Successful.
     seen: u64,
     seen_bad: u64,
+    units: Units,
     rows: Vec<Row>,
     points: Vec<Point>,
 }
 
 /// What a chart shows of its results: the numbers at a spot, from the least to the greatest, of all
-/// measurements, if there are any.
+/// measurements, if there are any. What stands for NaN is none.
 #[derive(Clone, Copy)]
 pub(crate) struct Row {
     pub(crate) spot: Spot,
@@ -47,16 +50,20 @@ pub(crate) struct Row {
 }
 
 impl Row {
-    fn widen(&mut self, outcome: &Outcome) {
-        if let Some(number) = self.spot.number_of(outcome) {
+    fn widen(&mut self, units: Units, outcome: &Outcome) {
+        if let Some(number) = self.spot.drawn_of(units, outcome) {
             self.span = Some(Span::with(self.span, number));
         }
     }
 }
 
 impl Chart {
-    // That of no measurement so far, which shows these spots.
-    pub(crate) fn new(alloc: Global, tally: &Tally, spots: &[Spot]) -> Result<Chart, Memory> {
+    // That of no measurement so far, which shows what these conditions name.
+    pub(crate) fn new(
+        alloc: Global,
+        tally: &Tally,
+        conditions: &Conditions,
+    ) -> Result<Chart, Memory> {
         let bad = u64::from(tally.failed())
             .saturating_add(u64::from(tally.inconclusive()))
             .saturating_add(u64::from(tally.errors()));
@@ -65,7 +72,8 @@ impl Chart {
             whole_bad: bad,
             seen: 0,
             seen_bad: 0,
-            rows: rows_of(alloc, spots)?,
+            units: conditions.units,
+            rows: rows_of(alloc, conditions.drawn())?,
             points: Vec::new(alloc),
         })
     }
@@ -79,7 +87,7 @@ impl Chart {
             self.seen_bad = self.seen_bad.saturating_add(1);
         }
         for row in self.rows.iter_mut() {
-            row.widen(&recorded.outcome);
+            row.widen(self.units, &recorded.outcome);
         }
         if shows {
             push_point(alloc, &mut self.points, recorded)?;

@@ -4,6 +4,7 @@ use crate::spot::Spot;
 use canary_base::error::Memory;
 use canary_base::lists::Text;
 use canary_base::names::Label;
+use canary_decimal::shown::{Shown, Units, WHOLE};
 use canary_plan::analysis_parts::Revision;
 use canary_plan::template_spec::MetricSpec;
 use canary_plan::templates::Templates;
@@ -12,11 +13,13 @@ use std::alloc::Global;
 // The most charts of a metric.
 const MOST_CHARTS: usize = 8;
 
-/// The texts of a metric's conditions, as its template has them, and their bounds. They are not
-/// known if its template was revised after the metric was bound.
+/// The texts of a metric's conditions, as its template has them but for the numbers of its units,
+/// and their bounds. They are not known if its template was revised after the metric was bound.
 #[derive(Drop)]
 pub(crate) struct Conditions {
     pub(crate) is_known: bool,
+    /// The units of the metric's numbers.
+    pub(crate) units: Units,
     pub(crate) success: Option<Text>,
     pub(crate) failure: Option<Text>,
     pub(crate) success_bounds: Vec<Bound>,
@@ -45,14 +48,13 @@ pub(crate) fn conditions_of(
     revisions: &[Revision],
     metric: Label,
 ) -> Result<Conditions, Memory> {
+    let units = Shown::or_whole(metric.as_str()).units;
     for revision in revisions {
         if let Some(spec) = spec_of(templates, *revision, metric) {
-            let success = copy_of(alloc, &spec.success)?;
-            let failure = copy_of(alloc, &spec.failure)?;
-            return with_mentions(alloc, true, success, failure);
+            return with_mentions(alloc, true, units, &spec.success, &spec.failure);
         }
     }
-    with_mentions(alloc, false, None, None)
+    with_mentions(alloc, false, units, &None, &None)
 }
 
 // The metric of this name, if the template's newest revision is this one and has it.
@@ -69,26 +71,53 @@ fn spec_of(templates: &Templates, revision: Revision, metric: Label) -> Option<&
         .find(|spec| spec.name == metric)
 }
 
-fn copy_of(alloc: Global, text: &Option<Text>) -> Result<Option<Text>, Memory> {
+// The text of a condition, with its bounds in these units.
+fn shown_text(
+    alloc: Global,
+    text: &Option<Text>,
+    bounds: &[Bound],
+    units: Units,
+) -> Result<Option<Text>, Memory> {
     match text {
         None => Ok(None),
-        Some(text) => Ok(Some(text.copy(alloc)?)),
+        Some(text) if units == WHOLE => Ok(Some(text.copy(alloc)?)),
+        Some(text) => Ok(Some(Text::of(with_points(alloc, text.as_str(), bounds, units)?))),
     }
+}
+
+fn with_points(
+    alloc: Global,
+    text: &str,
+    bounds: &[Bound],
+    units: Units,
+) -> Result<String, Memory> {
+    let mut shown = String::new(alloc);
+    let mut from = 0;
+    for bound in bounds {
+        shown.push_str(text.get(from..bound.constant.begin).unwrap_or(""))?;
+        let number = units.text(bound.spot.place(), bound.constant.number);
+        shown.push_str(number.as_str())?;
+        from = bound.constant.end;
+    }
+    shown.push_str(text.get(from..).unwrap_or(""))?;
+    Ok(shown)
 }
 
 fn with_mentions(
     alloc: Global,
     is_known: bool,
-    success: Option<Text>,
-    failure: Option<Text>,
+    units: Units,
+    success: &Option<Text>,
+    failure: &Option<Text>,
 ) -> Result<Conditions, Memory> {
-    let in_success = mentions_of(alloc, text_of(&success))?;
-    let in_failure = mentions_of(alloc, text_of(&failure))?;
+    let in_success = mentions_of(alloc, text_of(success))?;
+    let in_failure = mentions_of(alloc, text_of(failure))?;
     let spots = spots_of(alloc, &in_success, &in_failure)?;
     Ok(Conditions {
         is_known,
-        success,
-        failure,
+        units,
+        success: shown_text(alloc, success, in_success.bounds.as_slice(), units)?,
+        failure: shown_text(alloc, failure, in_failure.bounds.as_slice(), units)?,
         success_bounds: in_success.bounds,
         failure_bounds: in_failure.bounds,
         spots,

@@ -5,11 +5,13 @@ use crate::conditions::{Conditions, text_of};
 use crate::late::{due_of, late_since};
 use crate::numbers::Span;
 use crate::plot::{Frame, axis, bounds, curve, outcome, points};
-use crate::spot::{Spot, spot_text};
+use crate::spot::{Spot, number_text, spot_text};
 use crate::time::clock;
+use crate::words::metric_name;
 use canary_base::lists::Text;
 use canary_base::moments::Moment;
 use canary_condition::outcome::Phase;
+use canary_decimal::shown::{Shown, Units};
 use canary_markup::element::{Attribute, Element};
 use canary_markup::markup::Markup;
 use canary_metric::metric::{Metric, effective_count};
@@ -67,21 +69,28 @@ fn chart(page: &mut Markup, shown: &Measured<'_>, row: Row) {
 
 fn frame_of(shown: &Measured<'_>, row: Row) -> Frame {
     let conditions = shown.conditions;
-    let span = with_bounds(row.span, row.spot, conditions.success_bounds.as_slice());
+    let units = conditions.units;
+    let span = with_bounds(
+        row.span,
+        row.spot,
+        units,
+        conditions.success_bounds.as_slice(),
+    );
     Frame {
         spot: row.spot,
+        units,
         from: shown.started,
         to: last_of(shown),
-        span: with_bounds(span, row.spot, conditions.failure_bounds.as_slice()),
+        span: with_bounds(span, row.spot, units, conditions.failure_bounds.as_slice()),
     }
 }
 
 // Wide enough for the bounds of that spot, too.
-fn with_bounds(span: Option<Span>, spot: Spot, bounds: &[Bound]) -> Option<Span> {
+fn with_bounds(span: Option<Span>, spot: Spot, units: Units, bounds: &[Bound]) -> Option<Span> {
     let mut span = span;
     for bound in bounds {
-        if bound.spot == spot {
-            span = Some(Span::with(span, bound.number));
+        if bound.is_drawn(spot, units) {
+            span = Some(Span::with(span, bound.constant.number));
         }
     }
     span
@@ -104,7 +113,7 @@ fn phase_of(shown: &Measured<'_>) -> Phase {
 fn caption(page: &mut Markup, shown: &Measured<'_>) {
     page.begin(Element::Caption);
     page.begin(Element::Strong);
-    page.text(shown.metric.name().as_str());
+    metric_name(page, shown.metric.name());
     page.end(Element::Strong);
     if shown.metric.dry_run() {
         page.text(" ");
@@ -126,7 +135,7 @@ fn last_value(page: &mut Markup, shown: &Measured<'_>) {
             page.text(point.phase.text());
             page.text(": ");
             page.begin(Element::Strong);
-            outcome(page, &point.outcome);
+            outcome(page, &point.outcome, shown.conditions.units);
             page.end(Element::Strong);
         }
         None if shown.is_closed => page.text("Not measured"),
@@ -162,7 +171,7 @@ fn begin_drawing(page: &mut Markup, shown: &Measured<'_>, row: Row) {
 }
 
 fn in_words(page: &mut Markup, shown: &Measured<'_>, row: Row) {
-    page.text(shown.metric.name().as_str());
+    page.text(Shown::or_whole(shown.metric.name().as_str()).name);
     page.text(": ");
     counted(page, shown.chart.whole(), " measurement");
     let tally = shown.tally;
@@ -171,19 +180,20 @@ fn in_words(page: &mut Markup, shown: &Measured<'_>, row: Row) {
     phase_count(page, tally.failed(), Phase::Failed);
     phase_count(page, tally.inconclusive(), Phase::Inconclusive);
     phase_count(page, tally.errors(), Phase::Error);
+    let units = shown.conditions.units;
     if let Some(span) = row.span {
         page.text("; ");
         spot_text(page, row.spot);
         page.text(" from ");
-        page.whole(span.low);
+        number_text(page, units, row.spot, span.low);
         page.text(" to ");
-        page.whole(span.high);
+        number_text(page, units, row.spot, span.high);
     }
     if let Some(last) = shown.chart.points().last() {
         page.text("; the last ");
         page.text(last.phase.text());
         page.text(": ");
-        outcome(page, &last.outcome);
+        outcome(page, &last.outcome, units);
     }
 }
 

@@ -2,11 +2,12 @@
 use crate::bounds::Bound;
 use crate::chart::{Chart, Point};
 use crate::numbers::{Span, part};
-use crate::spot::Spot;
+use crate::spot::{Spot, number_text};
 use crate::time::clock;
 use crate::words;
 use canary_base::moments::Moment;
 use canary_condition::outcome::{Outcome, Phase};
+use canary_decimal::shown::Units;
 use canary_markup::element::{Attribute, Element};
 use canary_markup::markup::Markup;
 
@@ -24,11 +25,12 @@ const AXIS: u64 = 740;
 
 const TICKS: u64 = 850;
 
-/// From when to when a chart goes, what of a result it shows, and between which numbers, if there
-/// are any.
+/// From when to when a chart goes, what of a result it shows, in which units, and between which
+/// numbers, if there are any.
 #[derive(Clone, Copy)]
 pub(crate) struct Frame {
     pub(crate) spot: Spot,
+    pub(crate) units: Units,
     pub(crate) from: Moment,
     pub(crate) to: Moment,
     pub(crate) span: Option<Span>,
@@ -52,7 +54,7 @@ impl Frame {
 
     // How far from the top a measurement is.
     fn top_of(&self, outcome: &Outcome) -> u64 {
-        match self.spot.number_of(outcome) {
+        match self.spot.drawn_of(self.units, outcome) {
             Some(number) => self.top(number),
             None => BASE,
         }
@@ -94,8 +96,8 @@ fn label(page: &mut Markup, class: &str, left: u64, top: u64) {
 // The dashed line of each of these bounds of that condition that is one of what the chart shows.
 pub(crate) fn bounds(page: &mut Markup, frame: &Frame, class: &str, bounds: &[Bound], text: &str) {
     for bound in bounds {
-        if bound.spot == frame.spot {
-            limit(page, frame, class, bound.number, text);
+        if bound.is_drawn(frame.spot, frame.units) {
+            limit(page, frame, class, bound.constant.number, text);
         }
     }
 }
@@ -108,7 +110,7 @@ fn limit(page: &mut Markup, frame: &Frame, class: &str, bound: i64, text: &str) 
     page.end(Element::Title);
     page.end(Element::Line);
     label(page, "tick end", LEFT - 40, top.saturating_add(30));
-    page.whole(bound);
+    number_text(page, frame.units, frame.spot, bound);
     page.end(Element::Label);
 }
 
@@ -122,7 +124,7 @@ pub(crate) fn curve(page: &mut Markup, frame: &Frame, chart: &Chart) {
     page.value(Attribute::Data);
     let mut step = "M";
     for point in chart.points() {
-        if let Some(number) = frame.spot.number_of(&point.outcome) {
+        if let Some(number) = frame.spot.drawn_of(frame.units, &point.outcome) {
             step_to(page, step, frame.left(point.taken), frame.top(number));
             step = "L";
         }
@@ -158,7 +160,7 @@ fn draw_point(page: &mut Markup, frame: &Frame, point: &Point) {
         _ => square(page, left, top),
     }
     page.start_end();
-    title(page, point);
+    title(page, frame.units, point);
     page.end(element);
 }
 
@@ -196,7 +198,7 @@ fn path(page: &mut Markup, left: u64, top: u64, before: u64, above: u64, rest: &
 }
 
 // What a point says if it is pointed at.
-fn title(page: &mut Markup, point: &Point) {
+fn title(page: &mut Markup, units: Units, point: &Point) {
     page.begin(Element::Title);
     page.text("#");
     page.number(u64::from(point.ordinal));
@@ -205,14 +207,14 @@ fn title(page: &mut Markup, point: &Point) {
     page.text(", ");
     page.text(point.phase.text());
     page.text(": ");
-    outcome(page, &point.outcome);
+    outcome(page, &point.outcome, units);
     page.end(Element::Title);
 }
 
 // What a measurement brought.
-pub(crate) fn outcome(page: &mut Markup, outcome: &Outcome) {
+pub(crate) fn outcome(page: &mut Markup, outcome: &Outcome, units: Units) {
     match outcome {
-        Outcome::Result(value) => words::result(page, value),
+        Outcome::Result(value) => words::result(page, value, units),
         Outcome::Failure(text) => page.foreign(text.as_str()),
     }
 }

@@ -186,7 +186,7 @@ fn empty_charts(
 ) -> Result<Vec<Chart>, Memory> {
     let mut charts = Vec::new(alloc);
     for (tally, conditions) in tallies.iter().zip(conditions) {
-        charts.push(Chart::new(alloc, tally, conditions.drawn())?)?;
+        charts.push(Chart::new(alloc, tally, conditions)?)?;
     }
     Ok(charts)
 }

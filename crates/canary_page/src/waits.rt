@@ -3,6 +3,7 @@ use crate::figure::counted;
 use crate::late::late_since;
 use crate::shown::{Shown, Standing, step_of};
 use crate::time::{clock, near, since, span};
+use crate::words::metric_name;
 use canary_base::durations::Seconds;
 use canary_base::moments::Moment;
 use canary_base::names::{Label, Name};
@@ -174,7 +175,7 @@ fn late_one(page: &mut Markup, run: &OpenRun, metric: &Metric, tally: &Tally) {
     page.text("Late: measurement ");
     page.number(u64::from(tally.measurements()).saturating_add(1));
     page.text(" of ");
-    page.text(metric.name().as_str());
+    metric_name(page, metric.name());
     page.text(", ");
     place(page, run);
 }

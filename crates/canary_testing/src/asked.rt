@@ -6,7 +6,7 @@
 //!
 //! - `template NAME METRIC.. dryRun:NAME..`
 //! - `service VERSION STEP.. background:TEMPLATE`, each step `setWeight:N`, `pause`,
-//!   `pause:SECONDS` or `analysis:TEMPLATE`, or `N*` in front of one that stands so many times
+//!   `pause:SECONDS` or `analysis:TEMPLATE`
 //! - `start VERSION`, `promote`, `promoteFull`, `abort`, `retry`, `tick`
 //! - `report RUN ENTRY..`
 ghost use Rattle.std.specs.Prelude.{◌≡◌, IsTrue, true, nat_lt, length, IfSome, IfOk};
@@ -42,20 +42,33 @@ fn label(text: &str) -> Option<Label> {
     Label::read(text.as_bytes())
 }
 
-// What stands before the first of that mark, and what behind it: nothing where there is none.
-fn cut(text: &str, mark: char) -> (&str, &str) {
+/// What stands before the first of that mark, and what behind it: nothing where there is none.
+pub fn cut(text: &str, mark: char) -> (&str, &str) {
     text.split_once(mark).unwrap_or((text, ""))
 }
 
-// The value of that member of a metric; empty where there is none.
-fn member<'a>(metric: &'a str, key: &str) -> &'a str {
-    for member in metric.split(',') {
-        let (found, value) = cut(member, '=');
-        if found == key {
-            return value;
-        }
+// What stands before the first of that mark, and what behind it: nothing where there is none.
+fn cut_at<'a>(text: &'a str, mark: &str) -> (&'a str, &'a str) {
+    text.split_once(mark).unwrap_or((text, ""))
+}
+
+// The value of a member of a metric, by its mark, as `,count=`; empty where there is none.
+fn member<'a>(metric: &'a str, mark: &str) -> &'a str {
+    cut(cut_at(metric, mark).1, ',').0
+}
+
+// A word of a list, as what it stands for.
+trait Item: Sized {
+    fn read(alloc: Global, word: &str) -> Option<Self>;
+}
+
+// What each word stands for.
+fn list<T: Item + Drop>(alloc: Global, words: &str) -> Option<Vec<T>> {
+    let mut items = Vec::new(alloc);
+    for word in words.split_ascii_whitespace() {
+        items.push(T::read(alloc, word)?).ok()?;
     }
-    ""
+    Some(items)
 }
 
 // No condition where the text is empty.
@@ -92,59 +105,45 @@ fn limit(text: &str) -> u32
     }
 }
 
-fn metric(alloc: Global, metric: &str) -> Option<MetricSpec> {
-    let success = condition(alloc, member(metric, "success")).ok()?;
-    let failure = condition(alloc, member(metric, "failure")).ok()?;
-    Some(MetricSpec {
-        name: label(cut(metric, ',').0)?,
-        success,
-        failure,
-        interval: seconds(member(metric, "interval")),
-        initial_delay: Seconds::new(0)?,
-        count: count(member(metric, "count")),
-        pass_after: count(member(metric, "passAfter")),
-        failure_limit: limit(member(metric, "failureLimit")),
-        inconclusive_limit: 0,
-        consecutive_error_limit: 4,
-    })
-}
-
-fn metrics(alloc: Global, words: &str) -> Option<Vec<MetricSpec>> {
-    let mut metrics = Vec::new(alloc);
-    for word in words.split(' ') {
-        if !word.starts_with("dryRun:") {
-            metrics.push(metric(alloc, word)?).ok()?;
-        }
+impl Item for MetricSpec {
+    fn read(alloc: Global, metric: &str) -> Option<MetricSpec> {
+        let name = label(cut(metric, ',').0)?;
+        let initial_delay = Seconds::new(0)?;
+        let success = condition(alloc, member(metric, ",success=")).ok()?;
+        Some(MetricSpec {
+            failure: condition(alloc, member(metric, ",failure=")).ok()?,
+            success,
+            name,
+            interval: seconds(member(metric, ",interval=")),
+            initial_delay,
+            count: count(member(metric, ",count=")),
+            pass_after: count(member(metric, ",passAfter=")),
+            failure_limit: limit(member(metric, ",failureLimit=")),
+            inconclusive_limit: 0,
+            consecutive_error_limit: 4,
+        })
     }
-    Some(metrics)
 }
 
-fn dry_run_name(alloc: Global, name: &str) -> Option<DryRunName> {
-    DryRunName::of(Text::of(String::from_str(alloc, name).ok()?))
-}
-
-fn dry_run(alloc: Global, words: &str) -> Option<Listed<DryRunName>> {
-    let mut names = Vec::new(alloc);
-    for word in words.split(' ') {
-        if let Some(name) = word.strip_prefix("dryRun:") {
-            names.push(dry_run_name(alloc, name)?).ok()?;
-        }
+impl Item for DryRunName {
+    fn read(alloc: Global, word: &str) -> Option<DryRunName> {
+        let name = word.strip_prefix("dryRun:").unwrap_or(word);
+        DryRunName::of(Text::of(String::from_str(alloc, name).ok()?))
     }
-    Some(Listed::of(names))
 }
 
 fn template(alloc: Global, asked: &str) -> Option<TemplateSpec> {
-    let (template, words) = asked.split_once(' ')?;
+    let (template, words) = cut(asked, ' ');
+    let (words, dry_run) = cut_at(words, " dryRun:");
     let name = name(template)?;
-    let dry_run = dry_run(alloc, words)?;
-    let metrics = metrics(alloc, words)?;
+    let metrics = list::<MetricSpec>(alloc, words)?;
     if metrics.is_empty() || metrics.len() > 32 {
         return None;
     }
     Some(TemplateSpec {
+        dry_run: Listed::of(list(alloc, dry_run)?),
         name,
         metrics: Listed::of(metrics),
-        dry_run,
     })
 }
 
@@ -152,74 +151,53 @@ fn templates(alloc: Global, template: &str) -> Option<Listed<Name>> {
     Some(Listed::of(Vec::from_slice(alloc, &[name(template)?]).ok()?))
 }
 
-fn step(alloc: Global, word: &str) -> Option<Step> {
-    let (kind, of) = cut(word, ':');
-    if kind == "setWeight" {
-        return Some(Step::SetWeight(Weight::new(of.parse().ok()?)?));
-    }
-    if kind == "analysis" {
-        return Some(Step::Analysis(templates(alloc, of)?));
-    }
-    if kind != "pause" {
-        return None;
-    }
-    Some(Step::Pause(seconds(of)))
-}
-
-fn push_steps(alloc: Global, steps: &mut Vec<Step>, word: &str) -> Option<()> {
-    let (count, word) = word.split_once('*').unwrap_or(("1", word));
-    let count: u32 = count.parse().ok()?;
-    for _ in 0..count {
-        steps.push(step(alloc, word)?).ok()?;
-    }
-    Some(())
-}
-
-fn steps(alloc: Global, words: &str) -> Option<Listed<Step>> {
-    let mut steps = Vec::new(alloc);
-    for word in words.split_ascii_whitespace() {
-        if !word.starts_with("background:") {
-            push_steps(alloc, &mut steps, word)?;
+impl Item for Step {
+    fn read(alloc: Global, word: &str) -> Option<Step> {
+        let (kind, of) = cut(word, ':');
+        if kind == "setWeight" {
+            return Weight::new(of.parse().ok()?).map(Step::SetWeight);
         }
+        if kind == "analysis" {
+            return templates(alloc, of).map(Step::Analysis);
+        }
+        if kind != "pause" {
+            return None;
+        }
+        Some(Step::Pause(seconds(of)))
     }
-    Some(Listed::of(steps))
 }
 
-// The background analysis that stands last, if one does.
-fn background(alloc: Global, words: &str) -> Result<Option<Background>, AllocError> {
-    let Some((_, template)) = words.split_once("background:") else {
-        return Ok(None);
-    };
-    let Some(name) = name(template) else {
-        return Ok(None);
-    };
-    let Some(starting_step) = StartingStep::new(0) else {
-        return Ok(None);
-    };
-    Ok(Some(Background {
-        templates: Listed::of(Vec::from_slice(alloc, &[name])?),
+// The background analysis of that template; none of no template.
+fn background(alloc: Global, template: &str) -> Option<Option<Background>> {
+    if template.is_empty() {
+        return Some(None);
+    }
+    let starting_step = StartingStep::new(0)?;
+    Some(Some(Background {
+        templates: templates(alloc, template)?,
         starting_step,
     }))
 }
 
 fn service(alloc: Global, service: Name, asked: &str) -> Option<ServiceSpec> {
     let (version, words) = cut(asked, ' ');
+    let (words, template) = cut_at(words, "background:");
     let version = label(version)?;
-    let background = background(alloc, words).ok()?;
+    let background = background(alloc, template)?;
     Some(ServiceSpec {
+        steps: Listed::of(list(alloc, words)?),
         name: service,
         version,
-        steps: steps(alloc, words)?,
         background,
     })
 }
 
 fn outcome(alloc: Global, text: &str) -> Option<Outcome> {
     let Some(failure) = text.strip_prefix("!") else {
-        return Some(Outcome::Result(Value::read(text)?));
+        return Value::read(text).map(Outcome::Result);
     };
     let failure = Text::of(String::from_str(alloc, failure).ok()?);
-    Some(Outcome::Failure(FailureText::of(failure)?))
+    FailureText::of(failure).map(Outcome::Failure)
 }
 
 fn ordinal(text: &str) -> Option<u32>
@@ -228,25 +206,24 @@ fn ordinal(text: &str) -> Option<u32>
     Some(Number::read(text.as_bytes())?.get())
 }
 
-fn entry(alloc: Global, word: &str) -> Option<Entry> {
-    let (metric, rest) = word.split_once(':')?;
-    let (place, rest) = rest.split_once(':')?;
-    let (taken, brought) = rest.split_once(':')?;
-    Some(Entry {
-        metric: label(metric)?,
-        ordinal: ordinal(place)?,
-        taken: moment(taken)?,
-        outcome: outcome(alloc, brought)?,
-    })
+impl Item for Entry {
+    fn read(alloc: Global, word: &str) -> Option<Entry> {
+        let (metric, rest) = cut(word, ':');
+        let (place, rest) = cut(rest, ':');
+        let (after, brought) = cut(rest, ':');
+        Some(Entry {
+            metric: label(metric)?,
+            ordinal: ordinal(place)?,
+            taken: moment(after)?,
+            outcome: outcome(alloc, brought)?,
+        })
+    }
 }
 
 fn report(alloc: Global, service: Name, asked: &str) -> Option<Report> {
-    let (run, words) = asked.split_once(' ')?;
+    let (run, words) = cut(asked, ' ');
     let run = ordinal(run)?;
-    let mut entries = Vec::new(alloc);
-    for word in words.split(' ') {
-        entries.push(entry(alloc, word)?).ok()?;
-    }
+    let entries = list::<Entry>(alloc, words)?;
     if entries.is_empty() || entries.len() > 32 {
         return None;
     }
@@ -277,23 +254,31 @@ fn plain(service: Name, kind: &str) -> Option<Command> {
     None
 }
 
-/// The command that the text asks for; none where it asks for none, or memory was refused.
-pub fn command(alloc: Global, asked: &str) -> Option<Command> {
+fn start(service: Name, version: &str) -> Option<Command> {
+    let version = label(version)?;
+    Some(Command::Start { service, version })
+}
+
+/// The command on that service that the text asks for; none where it asks for none, or memory was
+/// refused.
+pub fn command_on(alloc: Global, on: Name, asked: &str) -> Option<Command> {
     let (kind, of) = cut(asked, ' ');
-    let web = name("web")?;
     if kind == "template" {
-        return Some(Command::Template(template(alloc, of)?));
+        return template(alloc, of).map(Command::Template);
     }
     if kind == "service" {
-        return Some(Command::Service(service(alloc, web, of)?));
+        return service(alloc, on, of).map(Command::Service);
     }
     if kind == "report" {
-        return Some(Command::Report(report(alloc, web, of)?));
+        return report(alloc, on, of).map(Command::Report);
     }
     if kind == "start" {
-        let version = label(of)?;
-        let service = web;
-        return Some(Command::Start { service, version });
+        return start(on, of);
     }
-    plain(web, kind)
+    plain(on, kind)
+}
+
+/// The command that the text asks for; none where it asks for none, or memory was refused.
+pub fn command(alloc: Global, asked: &str) -> Option<Command> {
+    command_on(alloc, name("web")?, asked)
 }

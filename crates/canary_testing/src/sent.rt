@@ -3,16 +3,16 @@
 //! - a request: the caller, its number, the seconds, and the command (`asked::command`)
 //! - a query: `?`, the seconds, and `service NAME`, `history NAME` or `run NAME NUMBER`
 
-use crate::asked::{command, moment, name};
+use crate::asked::{command, cut, moment, name};
 use canary_base::numbers::Number;
 use canary_once::event::{Event, Query, Request};
 use std::alloc::Global;
 
 /// The request of a row; none where it has none, or memory was refused.
 pub fn request(alloc: Global, asked: &str) -> Option<Request> {
-    let (caller, asked) = asked.split_once(' ')?;
-    let (number, asked) = asked.split_once(' ')?;
-    let (after, asked) = asked.split_once(' ')?;
+    let (caller, asked) = cut(asked, ' ');
+    let (number, asked) = cut(asked, ' ');
+    let (after, asked) = cut(asked, ' ');
     Some(Request {
         moment: moment(after)?,
         caller: name(caller)?,
@@ -22,23 +22,23 @@ pub fn request(alloc: Global, asked: &str) -> Option<Request> {
 }
 
 fn query(asked: &str) -> Option<Query> {
-    let (kind, of) = asked.split_once(' ')?;
+    let (kind, of) = cut(asked, ' ');
     if kind == "run" {
-        let (service, number) = of.split_once(' ')?;
+        let (service, number) = cut(of, ' ');
         return Some(Query::Run(name(service)?, Number::read(number.as_bytes())?));
     }
     if kind == "history" {
-        return Some(Query::History(name(of)?));
+        return name(of).map(Query::History);
     }
     if kind == "service" {
-        return Some(Query::Service(name(of)?));
+        return name(of).map(Query::Service);
     }
     None
 }
 
 // The query behind a `?`, at its moment.
 fn queried(asked: &str) -> Option<Event> {
-    let (after, asked) = asked.split_once(' ')?;
+    let (after, asked) = cut(asked, ' ');
     let moment = moment(after)?;
     let query = query(asked)?;
     Some(Event::Query { moment, query })
@@ -48,6 +48,6 @@ fn queried(asked: &str) -> Option<Event> {
 pub fn event(alloc: Global, asked: &str) -> Option<Event> {
     match asked.strip_prefix("? ") {
         Some(asked) => queried(asked),
-        None => Some(Event::Request(request(alloc, asked)?)),
+        None => request(alloc, asked).map(Event::Request),
     }
 }

@@ -2,14 +2,17 @@
 //! is refused the first time, it answers `Memory` and no other fault, and leaves its arguments as
 //! they were: the second time it answers what it must. `tests/allocations/in-tests` refuses each
 //! allocation in turn. Calls on commands and on what becomes of them are in growths_kept.rt.
+//!
+//! The calls on one value are one function, with a number for each call.
 
+use canary_base::durations::Seconds;
 use canary_base::error::Memory;
 use canary_base::lists::{Listed, Text};
 use canary_base::moments::Moment;
-use canary_base::names::Name;
+use canary_base::names::{Label, Name};
 use canary_condition::condition::{Condition, ConditionFault, Verdict3};
-use canary_condition::outcome::{FailureText, Outcome, Value};
-use canary_metric::metric::Metric;
+use canary_condition::outcome::{Outcome, Value};
+use canary_metric::metric::MetricSettings;
 use canary_plan::analysis_parts::{Revision, distinct};
 use canary_plan::bound::Bound;
 use canary_plan::bound_analysis::BoundAnalysis;
@@ -19,7 +22,7 @@ use canary_plan::line::{Line, LineEvent};
 use canary_plan::service::ServiceSpec;
 use canary_plan::step::{Step, copy_steps};
 use canary_plan::strategy::Strategy;
-use canary_plan::template::Template;
+use canary_plan::template::{BadCondition, ConditionKey, Template};
 use canary_plan::template_spec::TemplateSpec;
 use canary_plan::templates::Templates;
 use canary_testing::asked::{B, command, name};
@@ -38,47 +41,63 @@ pub(crate) fn refused(is_memory: bool) -> Option<bool> {
     if is_memory { None } else { Some(false) }
 }
 
-// What a call counts for that was to append to a text that was `so far `.
-fn appended(is_done: bool, out: &str, told: &str) -> Option<bool> {
-    if is_done {
-        return Some(out.strip_prefix("so far ") == Some(told));
-    }
-    refused(out == "so far ")
-}
+// What is appended for each value of `put`.
+const TOLD: &str = "\
+2026-01-01T00:00:00Z
+[1;-2]
+step 2 setWeight 50";
 
-fn so_far(alloc: Global) -> Option<String> {
-    String::from_str(alloc, "so far ").ok()
-}
-
-fn text(alloc: Global, text: &str) -> Option<Text> {
-    Some(Text::of(String::from_str(alloc, text).ok()?))
-}
-
-fn text_copied(alloc: Global, text: &Text) -> Option<bool> {
-    Some(text.copy(alloc).ok()?.as_str() == "a text")
-}
-
-fn list_copied(alloc: Global, list: &Listed<u32>) -> Option<bool> {
-    let copy = list.copy(alloc).ok()?;
-    Some(copy.as_slice().len() == 2 && is_counted(copy.as_slice()))
-}
-
-fn moment_told(alloc: Global) -> Option<bool> {
+// Appends a value; none where memory was refused.
+fn put(out: &mut String, value: usize) -> Option<()> {
     let moment = Moment::new(B)?;
-    let mut out = so_far(alloc)?;
-    let is_done = moment.text(&mut out).is_ok();
-    appended(is_done, out.as_str(), "2026-01-01T00:00:00Z")
+    if value == 0 {
+        return moment.text(out).ok();
+    }
+    if value == 1 {
+        return Value::list(&[1, -2])?.words(out).ok();
+    }
+    let event = LineEvent::WeightEntered {
+        step: 2,
+        weight: 50,
+    };
+    Line { moment, event }.words(out).ok()
 }
 
-#[test]
-fn of_base(rt: HostRuntime) -> Result<(), Fail> {
-    let alloc = rt.alloc();
-    let text = text(alloc, "a text").ok_or(Memory)?;
-    assert!(rt; is_right(text_copied(alloc, &text), text_copied(alloc, &text)));
-    let list = Listed::of(Vec::from_slice(alloc, &[0, 1])?);
-    assert!(rt; is_right(list_copied(alloc, &list), list_copied(alloc, &list)));
-    assert!(rt; is_right(moment_told(alloc), moment_told(alloc)));
-    Ok(())
+// Whether a value is appended whole to a text, or nothing is.
+fn is_told(alloc: Global, value: usize, told: &str) -> Option<bool> {
+    let mut out = String::from_str(alloc, "so far ").ok()?;
+    if put(&mut out, value).is_some() {
+        return Some(out.as_str().strip_prefix("so far ") == Some(told));
+    }
+    refused(out.as_str() == "so far ")
+}
+
+// Texts that are no conditions, and one that is.
+const CONDITIONS: [(&str, Option<ConditionFault>); 3] = [
+    ("(result > 10) && result != 12", None),
+    ("result >", Some(ConditionFault::Syntax)),
+    (
+        "result > 9223372036854775808",
+        Some(ConditionFault::NumberRange),
+    ),
+];
+
+fn is_above_10(condition: &Condition) -> bool {
+    condition.eval(&Value::Whole(11)) == Verdict3::True
+        && condition.eval(&Value::Whole(10)) == Verdict3::False
+}
+
+// Whether a text has this fault, or none and is read.
+fn is_read(alloc: Global, text: &str, wanted: Option<ConditionFault>) -> Option<bool> {
+    match Condition::parse(alloc, text) {
+        Ok(condition) => Some(wanted.is_none() && is_above_10(&condition)),
+        Err(ConditionFault::Memory) => None,
+        Err(fault) => Some(wanted == Some(fault)),
+    }
+}
+
+fn text(alloc: Global) -> Option<Text> {
+    Some(Text::of(String::from_str(alloc, "a text").ok()?))
 }
 
 // A list to which so many numbers are appended, each once more where memory was refused; none where
@@ -93,8 +112,8 @@ fn pushed(alloc: Global, most: u32) -> Option<Listed<u32>> {
     Some(list)
 }
 
-// Whether it has the numbers from 0 on.
-fn is_counted(list: &[u32]) -> bool {
+// Whether it has the numbers from 0 on, so many.
+fn is_counted(list: &[u32], most: usize) -> bool {
     let mut next = 0;
     for number in list {
         if *number != next {
@@ -102,133 +121,61 @@ fn is_counted(list: &[u32]) -> bool {
         }
         next = number.saturating_add(1);
     }
-    true
+    list.len() == most
 }
 
-#[test]
-fn of_lists(rt: HostRuntime) -> Result<(), Fail> {
-    let list = pushed(rt.alloc(), 40).ok_or(Memory)?;
-    assert!(rt; list.as_slice().len() == 40 && is_counted(list.as_slice()));
-    Ok(())
+fn condition(alloc: Global) -> Option<Condition> {
+    Condition::parse(alloc, "result > 10").ok()
 }
 
-fn is_above_10(condition: &Condition) -> bool {
-    condition.eval(&Value::Whole(11)) == Verdict3::True
-        && condition.eval(&Value::Whole(10)) == Verdict3::False
+fn timeout(alloc: Global) -> Option<Outcome> {
+    Outcome::read(alloc, "!timeout").ok()?
 }
 
-fn parsed(alloc: Global) -> Option<bool> {
-    match Condition::parse(alloc, "(result > 10) && result != 12") {
-        Ok(condition) => Some(is_above_10(&condition)),
-        Err(fault) => refused(fault == ConditionFault::Memory),
-    }
-}
-
-// A text with a fault has this fault.
-fn has_fault(alloc: Global, text: &str, wanted: ConditionFault) -> Option<bool> {
-    match Condition::parse(alloc, text) {
-        Ok(_) => Some(false),
-        Err(fault) => {
-            if fault == wanted {
-                return Some(true);
-            }
-            refused(fault == ConditionFault::Memory)
+// Whether it is that failure, and so is the copy of its text; none where memory was refused.
+fn is_timeout(alloc: Global, outcome: &Outcome) -> Option<bool> {
+    match outcome {
+        Outcome::Result(_) => Some(false),
+        Outcome::Failure(text) => {
+            Some(text.as_str() == "timeout" && text.copy(alloc).ok()?.as_str() == "timeout")
         }
     }
 }
 
-fn condition_copied(alloc: Global, condition: &Condition) -> Option<bool> {
-    Some(is_above_10(&condition.copy(alloc).ok()?))
-}
-
-fn value_told(alloc: Global) -> Option<bool> {
-    let value = Value::list(&[1, -2])?;
-    let mut out = so_far(alloc)?;
-    let is_done = value.words(&mut out).is_ok();
-    appended(is_done, out.as_str(), "[1;-2]")
-}
-
-fn is_timeout(outcome: &Outcome) -> bool {
-    match outcome {
-        Outcome::Result(_) => false,
-        Outcome::Failure(text) => text.as_str() == "timeout",
+// The calls on values that are made anew for each.
+fn of_value(alloc: Global, call: u32) -> Option<bool> {
+    match call {
+        0 => Some(text(alloc)?.copy(alloc).ok()?.as_str() == "a text"),
+        1 => Some(is_counted(pushed(alloc, 40)?.as_slice(), 40)),
+        2 => Some(is_counted(pushed(alloc, 2)?.copy(alloc).ok()?.as_slice(), 2)),
+        3 => Some(is_above_10(&condition(alloc)?.copy(alloc).ok()?)),
+        4 => is_timeout(alloc, &timeout(alloc)?),
+        5 => is_timeout(alloc, &timeout(alloc)?.copy(alloc).ok()?),
+        _ => Some(timeout(alloc)?.text(alloc).ok()?.as_str() == "!timeout"),
     }
 }
 
-fn outcome_read(alloc: Global) -> Option<bool> {
-    let found = Outcome::read(alloc, "!timeout").ok()?;
-    Some(is_timeout(&found?))
-}
-
-fn outcome_copied(alloc: Global, outcome: &Outcome) -> Option<bool> {
-    Some(is_timeout(&outcome.copy(alloc).ok()?))
-}
-
-fn outcome_told(alloc: Global, outcome: &Outcome) -> Option<bool> {
-    Some(outcome.text(alloc).ok()?.as_str() == "!timeout")
-}
-
-fn failure_copied(alloc: Global, failure: &FailureText) -> Option<bool> {
-    Some(failure.copy(alloc).ok()?.as_str() == "timeout")
-}
-
-fn check_conditions(rt: &impl Abort, alloc: Global) -> Result<(), Fail> {
-    assert!(rt; is_right(parsed(alloc), parsed(alloc)));
-    for (text, fault) in [
-        ("result >", ConditionFault::Syntax),
-        ("result > 9223372036854775808", ConditionFault::NumberRange),
-    ] {
-        assert!(rt; is_right(has_fault(alloc, text, fault), has_fault(alloc, text, fault)));
-    }
-    let condition = Condition::parse(alloc, "result > 10")?;
-    assert!(rt;
-        is_right(
-            condition_copied(alloc, &condition),
-            condition_copied(alloc, &condition),
-        )
-    );
-    Ok(())
-}
-
 #[test]
-fn of_conditions(rt: HostRuntime) -> Result<(), Fail> {
-    check_conditions(&rt, rt.alloc())
-}
-
-#[test]
-fn of_outcomes(rt: HostRuntime) -> Result<(), Fail> {
+fn of_values(rt: HostRuntime) {
     let alloc = rt.alloc();
-    assert!(rt; is_right(value_told(alloc), value_told(alloc)));
-    assert!(rt; is_right(outcome_read(alloc), outcome_read(alloc)));
-    let failure = FailureText::of(text(alloc, "timeout").ok_or(Memory)?).ok_or("a failure")?;
-    assert!(rt;
-        is_right(
-            failure_copied(alloc, &failure),
-            failure_copied(alloc, &failure)
-        )
-    );
-    let outcome = Outcome::Failure(failure);
-    assert!(rt;
-        is_right(
-            outcome_copied(alloc, &outcome),
-            outcome_copied(alloc, &outcome)
-        )
-    );
-    assert!(rt; is_right(outcome_told(alloc, &outcome), outcome_told(alloc, &outcome)));
-    Ok(())
-}
-
-fn line_told(alloc: Global) -> Option<bool> {
-    let line = Line {
-        moment: Moment::new(B)?,
-        event: LineEvent::WeightEntered {
-            step: 2,
-            weight: 50,
-        },
-    };
-    let mut out = so_far(alloc)?;
-    let is_done = line.words(&mut out).is_ok();
-    appended(is_done, out.as_str(), "step 2 setWeight 50")
+    for (value, told) in TOLD.lines().enumerate() {
+        assert!(rt;
+            is_right(is_told(alloc, value, told), is_told(alloc, value, told)),
+            "{told}"
+        );
+    }
+    for (text, fault) in CONDITIONS {
+        assert!(rt;
+            is_right(is_read(alloc, text, fault), is_read(alloc, text, fault)),
+            "{text}"
+        );
+    }
+    for call in 0..7 {
+        assert!(rt;
+            is_right(of_value(alloc, call), of_value(alloc, call)),
+            "{call}"
+        );
+    }
 }
 
 /// The template that a text asks for; none where it asks for none, or memory was refused.
@@ -240,14 +187,17 @@ fn template_spec(alloc: Global, asked: &str) -> Option<TemplateSpec> {
 }
 
 /// The service that a text asks for; none where it asks for none, or memory was refused.
-fn service_spec(alloc: Global, asked: &str) -> Option<ServiceSpec> {
-    match command(alloc, asked)? {
+fn service_spec(alloc: Global) -> Option<ServiceSpec> {
+    match command(alloc, SERVICE)? {
         Command::Service(spec) => Some(spec),
         _ => None,
     }
 }
 
 const TEMPLATE: &str = "template t m,success=result>10,count=3,interval=60 n dryRun:n";
+
+// A template whose second metric has a condition that has no reading.
+const BAD: &str = "template t m n,success=result>1,failure=result>";
 
 const SERVICE: &str = "service v1 setWeight:20 analysis:t pause:300 background:t";
 
@@ -264,14 +214,6 @@ fn is_template(spec: &TemplateSpec) -> bool {
     }
 }
 
-fn spec_copied(alloc: Global, spec: &TemplateSpec) -> Option<bool> {
-    Some(is_template(&spec.copy(alloc).ok()?))
-}
-
-fn has_no_bad(alloc: Global, spec: &TemplateSpec) -> Option<bool> {
-    Some(spec.bad_condition(alloc).ok()?.is_none())
-}
-
 // Whether it is the seventh revision, with two metrics that can be judged.
 fn is_bound(template: &Template) -> bool {
     template.revision() == 7
@@ -279,76 +221,105 @@ fn is_bound(template: &Template) -> bool {
         && template.metrics.as_slice().len() == 2
 }
 
-fn template_bound(alloc: Global, spec: &TemplateSpec) -> Option<bool> {
+fn template(alloc: Global) -> Option<Template> {
+    Template::bind(alloc, &template_spec(alloc, TEMPLATE)?, 7).ok()
+}
+
+// Whether it can be inserted there; the templates are as before where memory is refused.
+fn inserted(alloc: Global, found: &mut Templates, text: &str) -> Option<bool> {
+    let name = name(text)?;
+    if found.insert(name, template(alloc)?).is_err() {
+        return refused(found.get(name).is_none());
+    }
+    Some(found.get(name).is_some())
+}
+
+fn check_inserted(rt: &impl Abort, alloc: Global, found: &mut Templates) {
+    let first = inserted(alloc, found, "s");
+    assert!(rt; is_right(first, inserted(alloc, found, "s")));
+}
+
+// A service's spec, templates that it names, and the strategy that was checked.
+#[derive(Drop)]
+struct Asked {
+    spec: ServiceSpec,
+    known: Templates,
+    strategy: Strategy,
+}
+
+// The template t alone; none where memory was refused.
+fn templates(alloc: Global) -> Option<Templates> {
+    let mut known = Templates::new(alloc);
+    inserted(alloc, &mut known, "t")?;
+    Some(known)
+}
+
+fn asked_for(alloc: Global) -> Option<Asked> {
+    let spec = service_spec(alloc)?;
+    let known = templates(alloc)?;
+    let strategy = Strategy::check(alloc, &spec, &known).ok()?;
+    Some(Asked {
+        spec,
+        known,
+        strategy,
+    })
+}
+
+// The settings of a metric with an interval of a minute and a condition of success.
+fn settings(alloc: Global) -> Option<MetricSettings> {
+    let name = Label::read("m".as_bytes())?;
+    Some(MetricSettings {
+        name,
+        success: Some(condition(alloc)?),
+        failure: None,
+        interval: Seconds::new(60),
+        initial_delay: None,
+        count: None,
+        pass_after: None,
+        failure_limit: None,
+        inconclusive_limit: None,
+        consecutive_error_limit: None,
+        dry_run: false,
+    })
+}
+
+fn are_settings(settings: &MetricSettings) -> bool {
+    settings.interval == Seconds::new(60) && settings.success.is_some()
+}
+
+// The condition of a template that has no reading; none where memory was refused.
+fn is_bad(alloc: Global) -> Option<bool> {
+    let bad = BadCondition {
+        metric: 1,
+        key: ConditionKey::Failure,
+    };
+    Some(template_spec(alloc, BAD)?.bad_condition(alloc).ok()? == Some(bad))
+}
+
+fn is_rebound(alloc: Global, spec: &TemplateSpec) -> Option<bool> {
     match Template::bind(alloc, spec, 7) {
         Ok(template) => Some(is_bound(&template)),
         Err(fault) => refused(fault == BindFault::Memory),
     }
 }
 
-fn template_copied(alloc: Global, template: &Template) -> Option<bool> {
-    Some(is_bound(&template.copy(alloc).ok()?))
+fn are_known(known: &Templates) -> Option<bool> {
+    let has_t = is_bound(known.get(name("t")?)?);
+    Some(has_t && known.get(name("s")?).is_none())
 }
 
-#[test]
-fn of_templates(rt: HostRuntime) -> Result<(), Fail> {
-    let alloc = rt.alloc();
-    assert!(rt; is_right(line_told(alloc), line_told(alloc)));
-    let spec = template_spec(alloc, TEMPLATE).ok_or(Memory)?;
-    assert!(rt; is_right(spec_copied(alloc, &spec), spec_copied(alloc, &spec)));
-    assert!(rt; is_right(has_no_bad(alloc, &spec), has_no_bad(alloc, &spec)));
-    assert!(rt; is_right(template_bound(alloc, &spec), template_bound(alloc, &spec)));
-    let template = Template::bind(alloc, &spec, 7).ok().ok_or(Memory)?;
-    assert!(rt;
-        is_right(
-            template_copied(alloc, &template),
-            template_copied(alloc, &template)
-        )
-    );
-    Ok(())
-}
-
-// Templates with these names alone; none where memory was refused.
-fn templates(alloc: Global, names: &[&str]) -> Option<Templates> {
-    let mut found = Templates::new(alloc);
-    for name in names {
-        inserted(alloc, &mut found, name)?;
+// The calls on a template, and on those that are known.
+fn of_template(alloc: Global, known: &Templates, call: u32) -> Option<bool> {
+    let template = known.get(name("t")?)?;
+    match call {
+        0 => Some(is_template(&template.spec.copy(alloc).ok()?)),
+        1 => Some(template.spec.bad_condition(alloc).ok()?.is_none()),
+        2 => is_bad(alloc),
+        3 => is_rebound(alloc, &template.spec),
+        4 => Some(is_bound(&template.copy(alloc).ok()?)),
+        5 => are_known(&known.copy(alloc).ok()?),
+        _ => Some(are_settings(&settings(alloc)?.copy(alloc).ok()?)),
     }
-    Some(found)
-}
-
-// Whether it can be inserted there; the templates are as before where memory is refused.
-fn inserted(alloc: Global, found: &mut Templates, text: &str) -> Option<bool> {
-    let spec = template_spec(alloc, TEMPLATE)?;
-    let template = Template::bind(alloc, &spec, 7).ok()?;
-    let name = name(text)?;
-    if found.insert(name, template).is_err() {
-        return refused(found.get(name).is_none());
-    }
-    Some(found.get(name).is_some())
-}
-
-fn templates_copied(alloc: Global, known: &Templates) -> Option<bool> {
-    let copy = known.copy(alloc).ok()?;
-    let has_t = is_bound(copy.get(name("t")?)?);
-    Some(has_t && copy.get(name("s")?).is_none())
-}
-
-#[test]
-fn of_known_templates(rt: HostRuntime) -> Result<(), Fail> {
-    let alloc = rt.alloc();
-    let known = templates(alloc, &["t"]).ok_or(Memory)?;
-    assert!(rt;
-        is_right(
-            templates_copied(alloc, &known),
-            templates_copied(alloc, &known)
-        )
-    );
-    let mut known = known;
-    let first = inserted(alloc, &mut known, "s");
-    let second = inserted(alloc, &mut known, "s");
-    assert!(rt; is_right(first, second));
-    Ok(())
 }
 
 fn is_strategy(steps: &[Step]) -> bool {
@@ -362,131 +333,69 @@ fn is_strategy(steps: &[Step]) -> bool {
     }
 }
 
-fn service_copied(alloc: Global, spec: &ServiceSpec) -> Option<bool> {
-    let copy = spec.copy(alloc).ok()?;
-    let background = copy.background?;
-    Some(is_strategy(copy.steps.as_slice()) && background.templates.as_slice().len() == 1)
-}
-
-fn steps_copied(alloc: Global, spec: &ServiceSpec) -> Option<bool> {
-    let copy = copy_steps(alloc, spec.steps.as_slice()).ok()?;
-    Some(is_strategy(copy.as_slice()))
-}
-
-fn strategy_checked(alloc: Global, spec: &ServiceSpec, known: &Templates) -> Option<bool> {
-    match Strategy::check(alloc, spec, known) {
-        Ok(strategy) => Some(is_strategy(strategy.steps())),
-        Err(fault) => refused(fault == CheckFault::Memory),
-    }
-}
-
-fn are_two(metrics: Option<&[Metric]>) -> bool {
-    match metrics {
-        Some(metrics) => metrics.len() == 2,
+fn is_service(spec: &ServiceSpec) -> bool {
+    match &spec.background {
+        Some(background) => {
+            is_strategy(spec.steps.as_slice()) && background.templates.as_slice().len() == 1
+        }
         None => false,
     }
 }
 
 // Whether the analysis of step 1 and that of the background have two metrics each.
 fn has_both(bound: &Bound) -> bool {
-    are_two(bound.metrics(Some(1))) && are_two(bound.metrics(None))
+    match (bound.metrics(Some(1)), bound.metrics(None)) {
+        (Some(one), Some(other)) => one.len() == 2 && other.len() == 2,
+        _ => false,
+    }
 }
 
-fn strategy_bound(alloc: Global, strategy: &Strategy, known: &Templates) -> Option<bool> {
-    match strategy.bind(alloc, known) {
+fn has_none(bound: &Bound) -> bool {
+    bound.metrics(Some(1)).is_none() && bound.metrics(None).is_none()
+}
+
+fn is_checked(alloc: Global, asked: &Asked) -> Option<bool> {
+    match Strategy::check(alloc, &asked.spec, &asked.known) {
+        Ok(strategy) => Some(is_strategy(strategy.steps())),
+        Err(fault) => refused(fault == CheckFault::Memory),
+    }
+}
+
+fn is_bound_by(alloc: Global, asked: &Asked) -> Option<bool> {
+    match asked.strategy.bind(alloc, &asked.known) {
         Ok(bound) => Some(has_both(&bound)),
         Err(fault) => refused(fault == CheckFault::Memory),
     }
 }
 
-fn bound_to(alloc: Global, strategy: &Strategy, known: &Templates) -> Option<bool> {
-    Some(has_both(&strategy.bound_to(alloc, known).ok()?))
-}
-
-fn unbound(alloc: Global, strategy: &Strategy) -> Option<bool> {
-    let bound = strategy.unbound(alloc).ok()?;
-    Some(bound.metrics(Some(1)).is_none() && bound.metrics(None).is_none())
-}
-
-fn looked_up(alloc: Global, strategy: &Strategy) -> Option<bool> {
-    let start = command(alloc, "start v2")?;
-    let names = start.names_looked_up(alloc, Some(strategy)).ok()?;
-    match names.as_slice() {
-        [one, other] => Some(one.as_str() == "t" && other.as_str() == "t"),
-        _ => Some(false),
+fn are_t(names: &[Name]) -> bool {
+    match names {
+        [one, other] => one.as_str() == "t" && other.as_str() == "t",
+        _ => false,
     }
 }
 
-// A service's spec, templates that it names, and the strategy that was checked.
-#[derive(Drop)]
-struct Asked {
-    spec: ServiceSpec,
-    known: Templates,
-    strategy: Strategy,
+fn are_looked_up(alloc: Global, strategy: &Strategy) -> Option<bool> {
+    let start = command(alloc, "start v2")?;
+    let names = start.names_looked_up(alloc, Some(strategy)).ok()?;
+    Some(are_t(names.as_slice()))
 }
 
-fn asked_for(alloc: Global) -> Option<Asked> {
-    let spec = service_spec(alloc, SERVICE)?;
-    let known = templates(alloc, &["t"])?;
-    let strategy = Strategy::check(alloc, &spec, &known).ok()?;
-    Some(Asked {
-        spec,
-        known,
-        strategy,
-    })
-}
-
-#[test]
-fn of_strategies(rt: HostRuntime) -> Result<(), Fail> {
-    let alloc = rt.alloc();
+// The calls on a strategy.
+fn of_strategy(alloc: Global, asked: &Asked, call: u32) -> Option<bool> {
     let Asked {
         spec,
         known,
         strategy,
-    } = asked_for(alloc).ok_or(Memory)?;
-    assert!(rt; is_right(service_copied(alloc, &spec), service_copied(alloc, &spec)));
-    assert!(rt; is_right(steps_copied(alloc, &spec), steps_copied(alloc, &spec)));
-    assert!(rt;
-        is_right(
-            strategy_checked(alloc, &spec, &known),
-            strategy_checked(alloc, &spec, &known),
-        )
-    );
-    assert!(rt;
-        is_right(
-            strategy_bound(alloc, &strategy, &known),
-            strategy_bound(alloc, &strategy, &known),
-        )
-    );
-    assert!(rt;
-        is_right(
-            bound_to(alloc, &strategy, &known),
-            bound_to(alloc, &strategy, &known),
-        )
-    );
-    assert!(rt; is_right(unbound(alloc, &strategy), unbound(alloc, &strategy)));
-    assert!(rt; is_right(looked_up(alloc, &strategy), looked_up(alloc, &strategy)));
-    Ok(())
-}
-
-fn revisions(alloc: Global, bound: &Bound) -> Option<bool> {
-    let found = bound.revisions(alloc).ok()?;
-    Some(found.as_slice().len() == 2)
-}
-
-fn no_analysis(alloc: Global, bound: &Bound) -> Option<bool> {
-    let found = bound.analysis_or_none(alloc, Some(0)).ok()?;
-    Some(found.metrics().is_empty())
-}
-
-fn none_made(alloc: Global) -> Option<bool> {
-    Some(BoundAnalysis::none(alloc).ok()?.revisions().is_empty())
-}
-
-fn made_distinct(alloc: Global, revisions: &[Revision], first: Name) -> Option<bool> {
-    match distinct(alloc, revisions).ok()?.as_slice() {
-        [one, other] => Some(one.template == first && one.number == 3 && other.number == 5),
-        _ => Some(false),
+    } = asked;
+    match call {
+        0 => Some(is_service(&spec.copy(alloc).ok()?)),
+        1 => Some(is_strategy(copy_steps(alloc, spec.steps.as_slice()).ok()?.as_slice())),
+        2 => is_checked(alloc, asked),
+        3 => is_bound_by(alloc, asked),
+        4 => Some(has_both(&strategy.bound_to(alloc, known).ok()?)),
+        5 => Some(has_none(&strategy.unbound(alloc).ok()?)),
+        _ => are_looked_up(alloc, strategy),
     }
 }
 
@@ -494,26 +403,67 @@ fn revision(template: Name, number: u32) -> Revision {
     Revision { template, number }
 }
 
-// Two revisions of one template, and one of another.
-fn three() -> Option<(Name, [Revision; 3])> {
+// Two revisions of one template, and one of another: two of them are distinct.
+fn are_distinct(alloc: Global) -> Option<bool> {
     let (t, s) = (name("t")?, name("s")?);
-    Some((t, [revision(t, 3), revision(t, 4), revision(s, 5)]))
+    let three = [revision(t, 3), revision(t, 4), revision(s, 5)];
+    match distinct(alloc, &three).ok()?.as_slice() {
+        [one, other] => Some(one.template == t && one.number == 3 && other.number == 5),
+        _ => Some(false),
+    }
+}
+
+// The calls on what a strategy is bound to.
+fn of_binding(alloc: Global, bound: &Bound, call: u32) -> Option<bool> {
+    match call {
+        0 => Some(bound.revisions(alloc).ok()?.as_slice().len() == 2),
+        1 => Some(
+            bound
+                .analysis_or_none(alloc, Some(0))
+                .ok()?
+                .metrics()
+                .is_empty(),
+        ),
+        2 => Some(BoundAnalysis::none(alloc).ok()?.revisions().is_empty()),
+        _ => are_distinct(alloc),
+    }
+}
+
+fn check_asked(rt: &impl Abort, alloc: Global, asked: &Asked, bound: &Bound) {
+    let known = &asked.known;
+    for call in 0..7 {
+        assert!(rt;
+            is_right(
+                of_template(alloc, known, call),
+                of_template(alloc, known, call)
+            ),
+            "template {call}"
+        );
+        assert!(rt;
+            is_right(
+                of_strategy(alloc, asked, call),
+                of_strategy(alloc, asked, call)
+            ),
+            "strategy {call}"
+        );
+    }
+    for call in 0..4 {
+        assert!(rt;
+            is_right(
+                of_binding(alloc, bound, call),
+                of_binding(alloc, bound, call)
+            ),
+            "binding {call}"
+        );
+    }
 }
 
 #[test]
-fn of_bindings(rt: HostRuntime) -> Result<(), Fail> {
+fn of_plans(rt: HostRuntime) -> Result<(), Fail> {
     let alloc = rt.alloc();
-    let asked = asked_for(alloc).ok_or(Memory)?;
+    let mut asked = asked_for(alloc).ok_or(Memory)?;
     let bound = asked.strategy.bound_to(alloc, &asked.known)?;
-    assert!(rt; is_right(revisions(alloc, &bound), revisions(alloc, &bound)));
-    assert!(rt; is_right(no_analysis(alloc, &bound), no_analysis(alloc, &bound)));
-    assert!(rt; is_right(none_made(alloc), none_made(alloc)));
-    let (first, three) = three().ok_or("names")?;
-    assert!(rt;
-        is_right(
-            made_distinct(alloc, &three, first),
-            made_distinct(alloc, &three, first),
-        )
-    );
+    check_asked(&rt, alloc, &asked, &bound);
+    check_inserted(&rt, alloc, &mut asked.known);
     Ok(())
 }

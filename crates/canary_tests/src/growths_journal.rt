@@ -1,22 +1,21 @@
 //! Each call of canary_records, canary_journal and canary_sending that asks for memory, made twice
 //! on the same arguments, as in growths.rt. A call that may not be made again on what it left is
-//! made anew.
-ghost use Rattle.std.specs.Prelude.{IfSome};
-ghost use Rattle.canary_records.specs.Texts.{HasNoLf};
+//! made anew. A text is added to a file in records.rt.
+ghost use Rattle.canary_sending.specs.Keeping.{IsKept};
 
 use crate::growths::{is_right, refused};
-use crate::settling::{answering, journal, reply, send, wish};
+use crate::journals::found;
+use crate::records::{FILE, device};
+use crate::settling::{Fated, answering, entry_of, journal, reply, send};
 use canary_base::error::Memory;
-use canary_base::lists::Text;
-use canary_base::names::Name;
 use canary_canonical::form::FormFault;
 use canary_journal::entry::Entry;
 use canary_journal::journal::Journal;
 use canary_journal::meaning::{Meaning, meaning_of};
 use canary_journal::{lines, reading};
-use canary_records::device::DeviceFault;
+use canary_records::device::{Device, DeviceFault};
 use canary_records::memory::MemoryDevice;
-use canary_records::store::{Store, recover};
+use canary_records::store::recover;
 use canary_records::texts;
 use canary_sending::kept::{KeepFault, KeptJournal, Opened, begin, open};
 use canary_sending::network;
@@ -24,9 +23,6 @@ use canary_testing::asked::name;
 use std::alloc::Global;
 use std::process::Abort;
 use std::test::Fail;
-
-/// A file in which the journal of ops begins, of whom the desk had settled four requests.
-const FILE: &str = "+{\"begun\":{\"caller\":\"ops\",\"settled\":4}}\n-";
 
 /// The line of a wish whose body is p.
 const ASKED: &str = "{\"asked\":{\"body\":\"p\",\"intent\":\"p\",\"key\":null,\"number\":5}}";
@@ -46,11 +42,6 @@ fn texts_read(alloc: Global) -> Option<bool> {
     }
 }
 
-fn device(alloc: Global, file: &str) -> Option<MemoryDevice> {
-    let bytes = Vec::from_slice(alloc, file.as_bytes()).ok()?;
-    Some(MemoryDevice::new(alloc, bytes))
-}
-
 fn recovered(alloc: Global, device: &mut MemoryDevice) -> Option<bool> {
     match recover(alloc, device) {
         Ok(Some(found)) => Some(found.texts.as_slice().len() == 1),
@@ -59,63 +50,9 @@ fn recovered(alloc: Global, device: &mut MemoryDevice) -> Option<bool> {
     }
 }
 
-fn begun_line(alloc: Global) -> Option<Text>
-    ensures { IfSome result HasNoLf }
-{
-    let caller = ops()?;
-    match lines::line(alloc, &Entry::Begun { caller, settled: 4 }) {
-        Ok(line) => Some(line),
-        Err(Memory) => None,
-    }
-}
-
-// Whether a text is added to an empty file.
-fn added(alloc: Global) -> Option<bool> {
-    let line = begun_line(alloc)?;
-    let mut device = device(alloc, "")?;
-    let found = recover(alloc, &mut device).ok()??;
-    let mut store = Store {
-        device,
-        gate: found.gate,
-    };
-    match store.append(alloc, &line) {
-        Ok(()) => Some(store.device.bytes() == FILE.as_bytes()),
-        Err(fault) => refused(fault == DeviceFault::Memory),
-    }
-}
-
-#[test]
-fn of_records(rt: HostRuntime) -> Result<(), Fail> {
-    let alloc = rt.alloc();
-    assert!(rt; is_right(texts_read(alloc), texts_read(alloc)));
-    let mut left = device(alloc, "+{}\n-+half").ok_or(Memory)?;
-    let first = recovered(alloc, &mut left);
-    assert!(rt; is_right(first, recovered(alloc, &mut left)));
-    assert!(rt; is_right(added(alloc), added(alloc)));
-    Ok(())
-}
-
-fn ops() -> Option<Name> {
-    name("ops")
-}
-
-// Whether a journal is that of ops, with nothing asked.
-fn is_begun(journal: Result<Journal, FormFault>) -> Option<bool> {
-    match journal {
-        Ok(journal) => Some(journal.number() == 5 && journal.pending().is_none()),
-        Err(fault) => refused(fault == FormFault::Memory),
-    }
-}
-
-fn asked(alloc: Global) -> Option<Entry> {
-    Some(Entry::Asked {
-        number: 5,
-        wish: wish(alloc, "p")?,
-    })
-}
-
-fn line_told(alloc: Global, entry: &Entry) -> Option<bool> {
-    Some(lines::line(alloc, entry).ok()?.as_str() == ASKED)
+fn line_told(alloc: Global) -> Option<bool> {
+    let entry = entry_of(alloc, 5, "p")?;
+    Some(lines::line(alloc, &entry).ok()?.as_str() == ASKED)
 }
 
 fn line_read(alloc: Global) -> Option<bool> {
@@ -123,6 +60,79 @@ fn line_read(alloc: Global) -> Option<bool> {
         Ok(Entry::Asked { number, wish }) => Some(number == 5 && wish.body.as_str() == "p"),
         Ok(_) => Some(false),
         Err(fault) => refused(fault == FormFault::Memory),
+    }
+}
+
+fn meant(alloc: Global) -> Option<bool> {
+    let body = "{\"code\":\"ahead\",\"expected\":5}";
+    Some(meaning_of(alloc, 409, body).ok()? == Meaning::Ahead(5))
+}
+
+// Whether the first line of a query is that.
+fn query_told(alloc: Global) -> Option<bool> {
+    let query = network::query(alloc, "/services/web").ok()?;
+    let (first, rest) = query.as_str().split_once("\r\n")?;
+    Some(first == "GET /services/web HTTP/1.1" && rest.ends_with("\r\n\r\n"))
+}
+
+fn opened(alloc: Global) -> Option<bool> {
+    match open(alloc, device(alloc, FILE)?) {
+        Ok(Opened::Begun(kept)) => Some(kept.journal.number() == 5),
+        Ok(Opened::New(_)) => Some(false),
+        Err(fault) => refused(fault == KeepFault::Memory),
+    }
+}
+
+fn begun(alloc: Global) -> Option<bool> {
+    let ops = name("ops")?;
+    let Ok(Opened::New(store)) = open(alloc, device(alloc, "")?) else {
+        return None;
+    };
+    match begin(alloc, store, ops, 4) {
+        Ok(kept) => Some(kept.store.device.bytes() == FILE.as_bytes()),
+        Err(fault) => refused(fault == KeepFault::Memory),
+    }
+}
+
+// Whether a wish is kept, and is settled then.
+fn is_kept<D: Device>(
+    alloc: Global,
+    network: &mut Fated<'_>,
+    kept: &mut KeptJournal<D>,
+) -> Option<bool>
+    requires { IsKept D.seen D.may_leave kept.old }
+{
+    if let Err(fault) = kept.keep(alloc, entry_of(alloc, 5, "p")?) {
+        return refused(fault == KeepFault::Memory);
+    }
+    let is_pending = kept.journal.pending().is_some();
+    let is_settled = send(alloc, network, kept, 1)?;
+    if network.was_refused {
+        None
+    } else {
+        Some(is_pending && is_settled)
+    }
+}
+
+fn kept(alloc: Global) -> Option<bool> {
+    let mut network = answering(alloc)?;
+    let mut kept = journal(alloc, device(alloc, FILE)?)?;
+    is_kept(alloc, &mut network, &mut kept)
+}
+
+// The calls, each on arguments that are made anew.
+fn of_journal(alloc: Global, call: u32) -> Option<bool> {
+    match call {
+        0 => texts_read(alloc),
+        1 => Some(found(reading::journal_in(alloc, FILE.as_bytes()))? == (5, 0, false)),
+        2 => line_told(alloc),
+        3 => line_read(alloc),
+        4 => meant(alloc),
+        5 => Some(network::request(alloc, name("ops")?, 5, "p").ok()?.as_str() == REQUEST),
+        6 => query_told(alloc),
+        7 => opened(alloc),
+        8 => begun(alloc),
+        _ => kept(alloc),
     }
 }
 
@@ -139,15 +149,10 @@ fn is_settled(alloc: Global, journal: &mut Journal) -> Option<bool> {
     }
 }
 
-fn meant(alloc: Global) -> Option<bool> {
-    let body = "{\"code\":\"ahead\",\"expected\":5}";
-    Some(meaning_of(alloc, 409, body).ok()? == Meaning::Ahead(5))
-}
-
 // The journal of ops with a wish that is pending.
 fn pending(alloc: Global) -> Option<Journal> {
-    let mut journal = Journal::begun(alloc, ops()?, 4)?;
-    let entry = asked(alloc)?;
+    let mut journal = Journal::begun(alloc, name("ops")?, 4)?;
+    let entry = entry_of(alloc, 5, "p")?;
     if journal.refusal(&entry).is_some() {
         return None;
     }
@@ -155,79 +160,24 @@ fn pending(alloc: Global) -> Option<Journal> {
     Some(journal)
 }
 
+fn check_kept(rt: &impl Abort, alloc: Global, device: &mut MemoryDevice, journal: &mut Journal) {
+    for call in 0..10 {
+        assert!(rt;
+            is_right(of_journal(alloc, call), of_journal(alloc, call)),
+            "{call}"
+        );
+    }
+    let first = recovered(alloc, device);
+    assert!(rt; is_right(first, recovered(alloc, device)));
+    let first = is_settled(alloc, journal);
+    assert!(rt; is_right(first, is_settled(alloc, journal)));
+}
+
 #[test]
 fn of_journals(rt: HostRuntime) -> Result<(), Fail> {
     let alloc = rt.alloc();
-    let first = is_begun(reading::journal_in(alloc, FILE.as_bytes()));
-    assert!(rt; is_right(first, is_begun(reading::journal_in(alloc, FILE.as_bytes()))));
-    let entry = asked(alloc).ok_or(Memory)?;
-    assert!(rt; is_right(line_told(alloc, &entry), line_told(alloc, &entry)));
-    assert!(rt; is_right(line_read(alloc), line_read(alloc)));
-    assert!(rt; is_right(meant(alloc), meant(alloc)));
+    let mut left = device(alloc, "+{}\n-+half").ok_or(Memory)?;
     let mut journal = pending(alloc).ok_or(Memory)?;
-    let first = is_settled(alloc, &mut journal);
-    assert!(rt; is_right(first, is_settled(alloc, &mut journal)));
-    Ok(())
-}
-
-fn request_told(alloc: Global) -> Option<bool> {
-    Some(network::request(alloc, ops()?, 5, "p").ok()?.as_str() == REQUEST)
-}
-
-fn query_told(alloc: Global) -> Option<bool> {
-    let query = network::query(alloc, "/services/web").ok()?;
-    let (first, rest) = query.as_str().split_once("\r\n")?;
-    Some(first == "GET /services/web HTTP/1.1" && rest.ends_with("\r\n\r\n"))
-}
-
-fn opened(alloc: Global) -> Option<bool> {
-    match open(alloc, device(alloc, FILE)?) {
-        Ok(Opened::Begun(kept)) => Some(kept.journal.number() == 5),
-        Ok(Opened::New(_)) => Some(false),
-        Err(fault) => refused(fault == KeepFault::Memory),
-    }
-}
-
-fn begun(alloc: Global) -> Option<bool> {
-    let Ok(Opened::New(store)) = open(alloc, device(alloc, "")?) else {
-        return None;
-    };
-    match begin(alloc, store, ops()?, 4) {
-        Ok(kept) => Some(kept.store.device.bytes() == FILE.as_bytes()),
-        Err(fault) => refused(fault == KeepFault::Memory),
-    }
-}
-
-// Whether a wish is kept.
-fn kept(alloc: Global) -> Option<bool> {
-    let mut kept = journal(alloc, device(alloc, FILE)?)?;
-    match kept.keep(alloc, asked(alloc)?) {
-        Ok(()) => Some(kept.journal.pending().is_some()),
-        Err(fault) => refused(fault == KeepFault::Memory),
-    }
-}
-
-// Whether what is pending is settled.
-fn settled(alloc: Global) -> Option<bool> {
-    let mut kept = journal(alloc, device(alloc, FILE)?)?;
-    kept.keep(alloc, asked(alloc)?).ok()?;
-    let mut network = answering(alloc)?;
-    let is_settled = send(alloc, &mut network, &mut kept, 1)?;
-    if network.was_refused {
-        None
-    } else {
-        Some(is_settled)
-    }
-}
-
-#[test]
-fn of_sending(rt: HostRuntime) -> Result<(), Fail> {
-    let alloc = rt.alloc();
-    assert!(rt; is_right(request_told(alloc), request_told(alloc)));
-    assert!(rt; is_right(query_told(alloc), query_told(alloc)));
-    assert!(rt; is_right(opened(alloc), opened(alloc)));
-    assert!(rt; is_right(begun(alloc), begun(alloc)));
-    assert!(rt; is_right(kept(alloc), kept(alloc)));
-    assert!(rt; is_right(settled(alloc), settled(alloc)));
+    check_kept(&rt, alloc, &mut left, &mut journal);
     Ok(())
 }

@@ -6,8 +6,6 @@ use canary_canonical::form::FormFault;
 use canary_journal::journal::Journal;
 use canary_journal::reading;
 use std::alloc::Global;
-use std::process::Abort;
-use std::test::Fail;
 
 /// The journal of ops, of whom the desk had settled four requests. It asked a promotion, which was
 /// refused, then a full promotion, and in its place an abort.
@@ -70,7 +68,7 @@ const WRONG: &str = "\
 {\"instead\":{\"body\":\"d\",\"number\":1}}";
 
 /// The number that is pending, and how many are kept; none if memory was refused.
-fn found(journal: Result<Journal, FormFault>) -> Option<(u32, usize, bool)> {
+pub(crate) fn found(journal: Result<Journal, FormFault>) -> Option<(u32, usize, bool)> {
     match journal {
         Ok(journal) => Some((
             journal.number(),
@@ -87,7 +85,7 @@ fn read(alloc: Global, bytes: &[u8]) -> Option<(u32, usize, bool)> {
 }
 
 #[test]
-fn a_file_is_whole_or_refused(rt: HostRuntime) -> Result<(), Fail> {
+fn a_file_is_whole_or_refused(rt: HostRuntime) {
     let bytes = FILE.as_bytes();
     assert!(rt; read(rt.alloc(), bytes) == Some((6, 1, true)));
     for kept in 0..bytes.len() {
@@ -96,7 +94,6 @@ fn a_file_is_whole_or_refused(rt: HostRuntime) -> Result<(), Fail> {
             "{kept}"
         );
     }
-    Ok(())
 }
 
 fn torn(alloc: Global, kept: usize) -> Option<(u32, usize, bool)> {
@@ -107,12 +104,11 @@ fn torn(alloc: Global, kept: usize) -> Option<(u32, usize, bool)> {
 }
 
 #[test]
-fn a_record_counts_once_its_gate_is_open(rt: HostRuntime) -> Result<(), Fail> {
+fn a_record_counts_once_its_gate_is_open(rt: HostRuntime) {
     for kept in 0..NEXT.len() + 1 {
         let found = torn(rt.alloc(), kept).or(torn(rt.alloc(), kept));
         assert!(rt; found == Some((6, 1, true)), "{kept}");
     }
-    Ok(())
 }
 
 /// The lines of a journal; none if memory was refused.
@@ -136,10 +132,9 @@ fn refuses_last(alloc: Global, journal: &str) -> Option<bool> {
 }
 
 #[test]
-fn lines_that_may_not_stand_there(rt: HostRuntime) -> Result<(), Fail> {
+fn lines_that_may_not_stand_there(rt: HostRuntime) {
     for journal in WRONG.split("\n\n") {
         let refused = refuses_last(rt.alloc(), journal).or(refuses_last(rt.alloc(), journal));
         assert!(rt; refused == Some(true), "{journal}");
     }
-    Ok(())
 }

@@ -3,7 +3,8 @@
 //!
 //! A row is the status of its answer, and what is sent (canary_testing's `sent`).
 
-use canary_once::book::Book;
+use crate::growths::refused;
+use canary_once::book::{Book, BookFault};
 use canary_once::event::Answer;
 use canary_once::memory::MemoryBook;
 use canary_once::run::run;
@@ -11,7 +12,20 @@ use canary_testing::asked::name;
 use canary_testing::sent::event;
 use std::alloc::Global;
 use std::process::Abort;
-use std::test::Fail;
+
+/// The status of a row, and what it sends.
+pub(crate) fn parts(row: &str) -> Option<(u16, &str)> {
+    let (status, asked) = row.split_once(' ')?;
+    Some((status.parse().ok()?, asked))
+}
+
+/// Whether an answer has this status; none where it is 503 for memory.
+pub(crate) fn has_status(answer: &Answer, status: u16) -> Option<bool> {
+    match answer {
+        Answer::Replied(reply) => Some(reply.status.code() == status),
+        Answer::Unavailable(fault) => refused(*fault == BookFault::Memory),
+    }
+}
 
 /// The answer to a copy of what is asked, or none where memory was refused before it.
 pub(crate) fn answer(alloc: Global, book: &mut MemoryBook, asked: &str) -> Option<Answer> {
@@ -20,53 +34,38 @@ pub(crate) fn answer(alloc: Global, book: &mut MemoryBook, asked: &str) -> Optio
 }
 
 /// How many requests of the caller ops are settled.
-fn settled(book: &mut MemoryBook) -> Option<u32> {
+pub(crate) fn settled(book: &mut MemoryBook) -> Option<u32> {
     book.settled(&name("ops")?).ok()
 }
 
-/// Whether the answer to a row has its status; none where it was answered 503 or not at all, since
-/// memory was refused.
-fn is_answered(alloc: Global, book: &mut MemoryBook, row: &str) -> Result<Option<bool>, Fail> {
-    let (status, asked) = row.split_once(' ').ok_or("a row")?;
-    let status: u16 = status.parse()?;
-    match answer(alloc, book, asked) {
-        Some(answer) if answer.status() != 503 => Ok(Some(answer.status() == status)),
-        _ => Ok(None),
-    }
+/// Whether the answer to a row has its status; none where memory was refused.
+fn is_answered(alloc: Global, book: &mut MemoryBook, row: &str) -> Option<bool> {
+    let (status, asked) = parts(row)?;
+    has_status(&answer(alloc, book, asked)?, status)
 }
 
-/// Sends a row, and once more where it was answered 503 or not at all: then nothing was settled.
-/// How many times more it was sent.
-fn send(rt: &impl Abort, alloc: Global, book: &mut MemoryBook, row: &str) -> Result<u32, Fail> {
+/// Whether a row is answered with its status, at once or when it is sent once more since memory was
+/// refused: then nothing was settled. No more than one allocation is refused, so no more than one
+/// row is sent twice.
+fn is_sent(alloc: Global, book: &mut MemoryBook, row: &str, again: &mut u32) -> bool {
     let before = settled(book);
-    if let Some(is_so) = is_answered(alloc, book, row)? {
-        assert!(rt; is_so, "{row}");
-        return Ok(0);
+    if let Some(is_so) = is_answered(alloc, book, row) {
+        return is_so;
     }
-    assert!(rt; settled(book) == before);
-    assert!(rt; is_answered(alloc, book, row)? == Some(true), "{row}");
-    Ok(1)
+    *again = again.saturating_add(1);
+    *again == 1 && settled(book) == before && is_answered(alloc, book, row) == Some(true)
 }
 
-/// Sends the rows of a story. No more than one allocation is refused, so no more than one row is
-/// sent twice.
-fn send_rows(
-    rt: &impl Abort,
-    alloc: Global,
-    book: &mut MemoryBook,
-    story: &str,
-) -> Result<(), Fail> {
-    let mut again = 0u32;
+fn send_rows(rt: &impl Abort, alloc: Global, book: &mut MemoryBook, story: &str) {
+    let mut again = 0;
     for row in story.lines() {
-        again = again.saturating_add(send(rt, alloc, book, row)?);
+        assert!(rt; is_sent(alloc, book, row, &mut again), "{row}");
     }
-    assert!(rt; again <= 1, "{story}");
-    Ok(())
 }
 
 /// Sends the rows of a story to a new book.
-pub(crate) fn send_story(rt: &impl Abort, alloc: Global, story: &str) -> Result<MemoryBook, Fail> {
+pub(crate) fn send_story(rt: &impl Abort, alloc: Global, story: &str) -> MemoryBook {
     let mut book = MemoryBook::new(alloc);
-    send_rows(rt, alloc, &mut book, story)?;
-    Ok(book)
+    send_rows(rt, alloc, &mut book, story);
+    book
 }

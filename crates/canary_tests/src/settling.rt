@@ -19,8 +19,6 @@ use canary_sending::network::{Heard, Network, Why};
 use canary_sending::settle::{Unsettled, settle};
 use canary_testing::asked::name;
 use std::alloc::Global;
-use std::process::Abort;
-use std::test::Fail;
 
 /// What becomes of messages, one letter for each, and after these all are answered; and what acted
 /// then, each body one letter, with `late` if the first reply came late.
@@ -57,7 +55,7 @@ struct Desk {
     acted: String,
 }
 
-pub(crate) fn text(alloc: Global, text: &str) -> Option<Text> {
+fn text(alloc: Global, text: &str) -> Option<Text> {
     Some(Text::of(String::from_str(alloc, text).ok()?))
 }
 
@@ -201,32 +199,26 @@ impl Network for Fated<'_> {
     fn pause(&mut self, _tried: u32, _why: Why) {}
 }
 
-pub(crate) fn wish(alloc: Global, body: &str) -> Option<Wish> {
-    Some(Wish {
+/// The entry by which a body is asked under a number; i is asked in place of another one. None if
+/// memory was refused.
+pub(crate) fn entry_of(alloc: Global, number: u32, body: &str) -> Option<Entry> {
+    let asked = text(alloc, body)?;
+    if body == "i" {
+        return Some(Entry::Instead {
+            number,
+            body: asked,
+        });
+    }
+    let wish = Wish {
         intent: text(alloc, body)?,
         key: None,
-        body: text(alloc, body)?,
-    })
+        body: asked,
+    };
+    Some(Entry::Asked { number, wish })
 }
 
-/// Keeps an entry, and sends what is pending, so often at most; whether it is settled then. None if
-/// memory was refused, or the device failed.
-fn keep_and_send<N: Network, D: Device>(
-    alloc: Global,
-    network: &mut N,
-    kept: &mut KeptJournal<D>,
-    entry: Entry,
-    tries: u32,
-) -> Option<bool>
-    requires { IsKept D.seen D.may_leave kept.old }
-    ensures { IfSome result (λ _. IsKept D.seen D.may_leave kept.new) }
-{
-    match kept.keep(alloc, entry) {
-        Ok(()) => send(alloc, network, kept, tries),
-        Err(_) => None,
-    }
-}
-
+/// Sends what is pending, so often at most; whether it is settled then. None if memory was refused,
+/// or the device failed.
 pub(crate) fn send<N: Network, D: Device>(
     alloc: Global,
     network: &mut N,
@@ -244,6 +236,7 @@ pub(crate) fn send<N: Network, D: Device>(
     }
 }
 
+/// Keeps what asks a body, and sends it.
 fn ask<N: Network, D: Device>(
     alloc: Global,
     network: &mut N,
@@ -254,26 +247,9 @@ fn ask<N: Network, D: Device>(
     requires { IsKept D.seen D.may_leave kept.old }
     ensures { IfSome result (λ _. IsKept D.seen D.may_leave kept.new) }
 {
-    let wish = wish(alloc, body)?;
-    let number = kept.journal.number();
-    let entry = Entry::Asked { number, wish };
-    keep_and_send(alloc, network, kept, entry, tries)
-}
-
-fn ask_instead<N: Network, D: Device>(
-    alloc: Global,
-    network: &mut N,
-    kept: &mut KeptJournal<D>,
-    body: &str,
-    tries: u32,
-) -> Option<bool>
-    requires { IsKept D.seen D.may_leave kept.old }
-    ensures { IfSome result (λ _. IsKept D.seen D.may_leave kept.new) }
-{
-    let body = text(alloc, body)?;
-    let number = kept.journal.number();
-    let entry = Entry::Instead { number, body };
-    keep_and_send(alloc, network, kept, entry, tries)
+    let entry = entry_of(alloc, kept.journal.number(), body)?;
+    kept.keep(alloc, entry).ok()?;
+    send(alloc, network, kept, tries)
 }
 
 /// Sends what is pending, if anything is.
@@ -316,11 +292,9 @@ fn tell<N: Network, D: Device>(
 ) -> Option<bool>
     requires { IsKept D.seen D.may_leave kept.old }
 {
-    let is_settled = ask(alloc, network, kept, "p", 2)?;
-    if is_settled {
-        return ask(alloc, network, kept, "q", 4);
+    if !ask(alloc, network, kept, "p", 2)? {
+        let _ = ask(alloc, network, kept, "i", 4)?;
     }
-    let _ = ask_instead(alloc, network, kept, "i", 4)?;
     ask(alloc, network, kept, "q", 4)
 }
 
@@ -355,7 +329,7 @@ fn is_late(journal: &Journal) -> bool {
     }
 }
 
-pub(crate) fn network<'a>(alloc: Global, fates: &'a str) -> Fated<'a> {
+fn network<'a>(alloc: Global, fates: &'a str) -> Fated<'a> {
     Fated {
         desk: Desk {
             acted: String::new(alloc),
@@ -393,32 +367,37 @@ pub(crate) fn journal<D: Device + Drop>(alloc: Global, device: D) -> Option<Kept
     }
 }
 
-/// Whether a row holds; none if memory was refused.
-fn holds(alloc: Global, row: &str) -> Option<bool> {
-    let (fates, then) = row.split_once(' ')?;
+/// Whether what acted is told by the rest of a row, and its replies are kept; none if memory was
+/// refused.
+fn is_told(network: &Fated<'_>, journal: &Journal, then: &str) -> Option<bool> {
     let (acted, late) = match then.strip_suffix(" late") {
         Some(acted) => (acted, true),
         None => (then, false),
     };
-    let mut network = network(alloc, fates);
-    let mut kept = journal(alloc, MemoryDevice::new(alloc, Vec::new(alloc)))?;
-    let is_settled = tell(alloc, &mut network, &mut kept)?;
     if network.was_refused {
         return None;
     }
-    let is_so = has_replies(&kept.journal, acted) && is_late(&kept.journal) == late;
-    Some(is_settled && is_so && network.desk.acted.as_str() == acted)
+    let is_so = has_replies(journal, acted) && is_late(journal) == late;
+    Some(is_so && network.desk.acted.as_str() == acted)
+}
+
+/// Whether a row holds; none if memory was refused.
+fn holds(alloc: Global, row: &str) -> Option<bool> {
+    let (fates, then) = row.split_once(' ')?;
+    let mut network = network(alloc, fates);
+    let mut kept = journal(alloc, MemoryDevice::new(alloc, Vec::new(alloc)))?;
+    let is_settled = tell(alloc, &mut network, &mut kept)?;
+    Some(is_told(&network, &kept.journal, then)? && is_settled)
 }
 
 #[test]
-fn each_number_acts_once(rt: HostRuntime) -> Result<(), Fail> {
+fn each_number_acts_once(rt: HostRuntime) {
     for row in FATES.lines() {
         assert!(rt;
             holds(rt.alloc(), row).or(holds(rt.alloc(), row)) == Some(true),
             "{row}"
         );
     }
-    Ok(())
 }
 
 /// A file of which each call fails after so many. What it is asked for then it does by no half, by
@@ -492,14 +471,25 @@ impl Device for Failing<'_> {
     }
 }
 
-/// Goes on by the journal that a device has, until p and q are settled; whether it has their
-/// replies then. None if the device failed, or memory was refused.
+/// Sends what is pending, and what of p and q was not asked; whether their replies are kept then.
+/// None if the device failed, or memory was refused.
+fn finish<N: Network, D: Device>(
+    alloc: Global,
+    network: &mut N,
+    kept: &mut KeptJournal<D>,
+) -> Option<bool>
+    requires { IsKept D.seen D.may_leave kept.old }
+{
+    let _ = send_pending(alloc, network, kept)?;
+    let _ = ask_unless(alloc, network, kept, 0, "p")?;
+    let _ = ask_unless(alloc, network, kept, 1, "q")?;
+    Some(has_replies(&kept.journal, "pq"))
+}
+
+/// Goes on by the journal that a device has, until p and q are settled.
 fn go_on<N: Network, D: Device + Drop>(alloc: Global, network: &mut N, device: D) -> Option<bool> {
     let mut kept = journal(alloc, device)?;
-    let _ = send_pending(alloc, network, &mut kept)?;
-    let _ = ask_unless(alloc, network, &mut kept, 0, "p")?;
-    let _ = ask_unless(alloc, network, &mut kept, 1, "q")?;
-    Some(has_replies(&kept.journal, "pq"))
+    finish(alloc, network, &mut kept)
 }
 
 /// The file, failing after so many calls.
@@ -527,7 +517,7 @@ fn survives(alloc: Global, left: u32, halves: usize) -> Option<bool> {
 }
 
 #[test]
-fn a_device_that_fails_is_opened_again(rt: HostRuntime) -> Result<(), Fail> {
+fn a_device_that_fails_is_opened_again(rt: HostRuntime) {
     for left in 0..26 {
         for halves in 0..3 {
             let first = survives(rt.alloc(), left, halves);
@@ -535,5 +525,4 @@ fn a_device_that_fails_is_opened_again(rt: HostRuntime) -> Result<(), Fail> {
             assert!(rt; is_so == Some(true), "{left} {halves}");
         }
     }
-    Ok(())
 }

@@ -1,4 +1,5 @@
 //! What is printed of faults, and of names where a program is looked into.
+use canary_base::error::Memory;
 use canary_base::names::{Label, Name};
 use canary_canonical::form::FormFault;
 use canary_condition::condition::ConditionFault;
@@ -10,37 +11,44 @@ use canary_testing::rows::says;
 use std::alloc::Global;
 use std::test::Fail;
 
-#[test]
-fn words_of_texts(rt: HostRuntime) -> Result<(), Fail> {
-    let alloc = rt.alloc();
-    let deep = "more than 32 round brackets open at one place";
-    let range = "a number outside a signed 64-bit number";
-    assert!(rt; says(alloc, &ConditionFault::Syntax, "not a condition")?);
-    assert!(rt; says(alloc, &ConditionFault::TooDeep, deep)?);
-    assert!(rt; says(alloc, &ConditionFault::NumberRange, range)?);
-    assert!(rt; says(alloc, &ConditionFault::Memory, "out of memory")?);
-    assert!(rt; says(alloc, &ConditionFault::TooLong, "more than 1,024 bytes")?);
-    assert!(rt; says(alloc, &FormFault::Unreadable, "the value has another form")?);
-    assert!(rt; says(alloc, &FormFault::Memory, "out of memory")?);
-    Ok(())
+/// What is printed of each value of `is_said`, in its order.
+const WORDS: &str = "\
+not a condition
+more than 32 round brackets open at one place
+a number outside a signed 64-bit number
+out of memory
+more than 1,024 bytes
+the value has another form
+out of memory
+the strategy is refused: bad-strategy
+out of memory
+the template is refused: bad-condition
+out of memory
+the parts make no service
+out of memory
+the store failed";
+
+/// Whether a value is printed so.
+fn is_said(alloc: Global, value: usize, words: &str) -> Result<bool, Memory> {
+    match value {
+        0 => says(alloc, &ConditionFault::Syntax, words),
+        1 => says(alloc, &ConditionFault::TooDeep, words),
+        2 => says(alloc, &ConditionFault::NumberRange, words),
+        3 => says(alloc, &ConditionFault::Memory, words),
+        4 => says(alloc, &ConditionFault::TooLong, words),
+        5 => says(alloc, &FormFault::Unreadable, words),
+        6 => says(alloc, &FormFault::Memory, words),
+        7 => says(alloc, &CheckFault::Refused(Refusal::BadStrategy), words),
+        8 => says(alloc, &CheckFault::Memory, words),
+        9 => says(alloc, &BindFault::Refused(Refusal::BadCondition), words),
+        10 => says(alloc, &BindFault::Memory, words),
+        11 => says(alloc, &PartsFault::Broken, words),
+        12 => says(alloc, &BookFault::Memory, words),
+        _ => says(alloc, &BookFault::Storage, words),
+    }
 }
 
-#[test]
-fn words_of_faults(rt: HostRuntime) -> Result<(), Fail> {
-    let alloc = rt.alloc();
-    let refused = CheckFault::Refused(Refusal::BadStrategy);
-    assert!(rt; says(alloc, &refused, "the strategy is refused: bad-strategy")?);
-    assert!(rt; says(alloc, &CheckFault::Memory, "out of memory")?);
-    let refused = BindFault::Refused(Refusal::BadCondition);
-    assert!(rt; says(alloc, &refused, "the template is refused: bad-condition")?);
-    assert!(rt; says(alloc, &BindFault::Memory, "out of memory")?);
-    assert!(rt; says(alloc, &PartsFault::Broken, "the parts make no service")?);
-    assert!(rt; says(alloc, &BookFault::Memory, "out of memory")?);
-    assert!(rt; says(alloc, &BookFault::Storage, "the store failed")?);
-    Ok(())
-}
-
-// Whether they show as texts in quotes; none where memory was refused.
+// Whether names show as texts in quotes; none where memory was refused.
 fn are_shown(alloc: Global) -> Option<bool> {
     let name = Name::read("web-2".as_bytes())?;
     let label = Label::read("V1.2".as_bytes())?;
@@ -49,7 +57,11 @@ fn are_shown(alloc: Global) -> Option<bool> {
 }
 
 #[test]
-fn names_are_shown(rt: HostRuntime) {
+fn words_are_printed(rt: HostRuntime) -> Result<(), Fail> {
     let alloc = rt.alloc();
+    for (value, words) in WORDS.lines().enumerate() {
+        assert!(rt; is_said(alloc, value, words)?, "{words}");
+    }
     assert!(rt; are_shown(alloc).or(are_shown(alloc)) == Some(true));
+    Ok(())
 }

@@ -1,6 +1,7 @@
 -- The command lines that the desk takes, by clap's definition of a simple command.
-use Rattle.std.specs.Prelude.{◌≡◌, ◌≢◌, ◌⊎◌, ℕ, Bool, true, false, List, [], ◌∷◌, Option, Some, None, codes}
-use Rattle.std.specs.Prelude.{option_map, option_and_then, unwrap_or, IfSome, if◌then◌else◌}
+use Rattle.std.specs.Prelude.{◌≡◌, ◌≢◌, ◌⊎◌, ℕ, Bool, true, false, List, [], ◌∷◌, Option, Some}
+use Rattle.std.specs.Prelude.{None, codes, option_map, option_and_then, unwrap_or, IfSome}
+use Rattle.std.specs.Prelude.{if◌then◌else◌}
 use Rattle.std.specs.Option.{option_map_or}
 use Rattle.std.specs.Str.{bytes_eq}
 use Rattle.std.specs.Str.Parse.{digits_value, without_leading_plus}
@@ -80,7 +81,7 @@ flag name = record (new_rule name) {
   action = Some SetTrue;
 }
 
--- what the code has for an option or a word
+-- the rule of a row in the code's tables of options and words
 abbrev pub rule_for : Part → Rule
 rule_for (part.Moment name _) = moment_option name.now
 rule_for (part.Number name _ most _) = number_option name.now most
@@ -92,7 +93,7 @@ rule_for (part.OptionalWord name _ _) = optional_word name.now
 rule_for (part.SomeWords name _ _) = text_words name.now
 rule_for (part.MoreWords name _ _) = more_words name.now
 
--- with these, in turn
+-- with these rows, in turn
 abbrev pub with_parts : App → List Part → App
 with_parts a [] = a
 with_parts a (p ∷ ps) = with_parts (with_rule a (rule_for p)) ps

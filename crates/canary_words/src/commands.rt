@@ -6,11 +6,11 @@ ghost use Rattle.canary_words.specs.CommandLine.{pipe_command, serve_command, im
 ghost use Rattle.canary_words.specs.CommandLine.{history_command, export_command, status_command};
 ghost use Rattle.canary_words.specs.CommandLine.{page_command, backup_command, migrate_command};
 ghost use Rattle.canary_words.specs.CommandLine.{check_command, flag, moment_option, number_option};
-ghost use Rattle.canary_words.specs.CommandLine.{text_option, text_word, text_words, optional_word};
-ghost use Rattle.canary_words.specs.CommandLine.{with_numbers, with_value, with_client_commands};
-ghost use Rattle.canary_words.specs.CommandLine.{do_command, get_command, watch_command};
-ghost use Rattle.canary_words.specs.CommandLine.{send_command, due_command, with_desk_options};
-ghost use Rattle.canary_words.specs.CommandLine.{rule_for, with_parts, argo_command, more_words};
+ghost use Rattle.canary_words.specs.CommandLine.{text_option, text_words, with_numbers, with_value};
+ghost use Rattle.canary_words.specs.CommandLine.{with_client_commands, do_command, get_command};
+ghost use Rattle.canary_words.specs.CommandLine.{watch_command, send_command, due_command};
+ghost use Rattle.canary_words.specs.CommandLine.{with_desk_options, rule_for, with_parts};
+ghost use Rattle.canary_words.specs.CommandLine.{argo_command, more_words};
 
 use crate::help;
 use canary_base::moments::LAST_MOMENT;
@@ -390,8 +390,7 @@ fn command<'a>(alloc: Global, name: &'a str, about: &'a str, help: &'a str) -> C
     Command::new(alloc, name).about(about).after_help(help)
 }
 
-// A command with the options of each client, where this is the help of `--timeout`, and with these
-// parts.
+// A command with the options of each client, of which `--timeout` has this help, and these parts.
 fn with_client_parts<'a>(
     alloc: Global,
     client: Command<'a>,

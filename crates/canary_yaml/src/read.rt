@@ -121,8 +121,8 @@ pub fn json_of(alloc: Global, bytes: &[u8]) -> Result<Option<String>, Fault>
 {
     match Value::from_slice(alloc, bytes) {
         Ok(_) => Ok(None),
-        Err(fault) if fault.is_memory() => Err(Fault::Memory),
-        Err(fault) if is_meant_as_json(bytes) => Err(no_json(&fault)),
+        Err(why) if why.is_memory() => Err(Fault::Memory),
+        Err(why) if is_meant_as_json(bytes) => Err(no_json(&why)),
         Err(_) => Ok(Some(json_of_one(alloc, bytes)?)),
     }
 }

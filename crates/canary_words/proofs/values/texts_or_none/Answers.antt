@@ -15,4 +15,4 @@ pub returns-in-None : goal.returns-in-None
 returns-in-None c =
     let got = texts_or_left_out (found_of c.args.matches.now) c.args.name.now c.get_strs.result c.get_strs.ensures in
     let same = ap (λ o. unwrap_or (option_map (λ s. map (λ v. v.now) s.now) o) []) (sym c.in-None.is) in
-    c.of.ensures ∙ (c.new.ensures ∙ (same ∙ got))
+    c.of.ensures ∙ (c.new.ensures.items ∙ (same ∙ got))

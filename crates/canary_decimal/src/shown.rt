@@ -1,0 +1,227 @@
+//! Labels of metrics that are measured in decimals, and numbers under them, as people read them.
+//!
+//! ```text
+//! label  := name ending
+//! ending := ".e" places ["n"] [shape]
+//! shape  := "f" | "p" digits | "l" digits
+//! ```
+//!
+//! The places are 6 to 18. A number is in units of 10^-places; with `n` the least number stands for
+//! NaN; with `l` the first value of a list is the length of what was measured, which is whole. A
+//! label with no such ending is of whole numbers.
+ghost use Rattle.std.specs.Prelude.{◌≡◌, ℕ, Bool, ◌<◌, ◌≤◌, List, MatchOption, option_map, drop};
+ghost use Rattle.std.specs.Prelude.{length, Some, codes};
+ghost use Rattle.canary_decimal.specs.Endings.{by_letter, shape_of, with_shape, with_nan};
+ghost use Rattle.canary_decimal.specs.Endings.{of_one_digit, of_two_digits, of_places, units_of};
+ghost use Rattle.canary_decimal.specs.Endings.{IsLabelOf, IsShownAs, is_nan, places_at, is_length};
+
+use crate::point::{MOST_BYTES, with_point};
+use crate::reading::is_digits;
+use arrayvec::ArrayString;
+
+/// In which units the numbers of a metric are reported.
+#[derive(Clone, Copy, Debug, PartialEq, Eq)]
+pub struct Units {
+    /// A number is in units of 10^-places. More than 18 are as 18.
+    pub places: usize,
+    /// Whether the least number stands for NaN.
+    pub nan: bool,
+    /// Whether the first value of a list is a length, which is whole.
+    pub length: bool,
+}
+
+/// Those of whole numbers.
+pub const WHOLE: Units = Units {
+    places: 0,
+    nan: false,
+    length: false,
+};
+
+/// A label as people read it.
+#[derive(Clone, Copy, Debug)]
+pub struct Shown<'a> {
+    /// What stands before the ending.
+    pub name: &'a str,
+    /// What the ending says.
+    pub units: Units,
+}
+
+impl Shown<'_> {
+    /// The label without its ending, and what that says; none if it has no such ending.
+    pub fn of(label: &str) -> Option<Shown<'_>>
+        ensures { MatchOption result
+            ((name : List ℕ) (units : Units) → IsLabelOf label.now name units → ⊥)
+            (λ shown. IsLabelOf label.now shown.name.now shown.units) }
+    {
+        let (place, units) = ending_of(label.as_bytes())?;
+        Some(Shown {
+            name: &label[..place],
+            units,
+        })
+    }
+
+    /// The label without its ending, and what that says; or the label, of whole numbers.
+    pub fn or_whole(label: &str) -> Shown<'_> {
+        match Shown::of(label) {
+            Some(shown) => shown,
+            None => Shown {
+                name: label,
+                units: WHOLE,
+            },
+        }
+    }
+}
+
+impl Units {
+    /// What people read in place of a number that is reported, at that place of a list or, if none
+    /// is given, alone: `NaN`, or the number with its point put back.
+    pub fn text(self, place: Option<u64>, number: i64) -> ArrayString<MOST_BYTES>
+        ensures { IsShownAs self place number result.bytes }
+    {
+        if self.is_nan(place, number) {
+            return nan();
+        }
+        with_point(number, self.places_at(place))
+    }
+
+    /// Whether a number that is reported there stands for NaN.
+    pub fn is_nan(self, place: Option<u64>, number: i64) -> bool
+        ensures { result ≡ is_nan self place number }
+    {
+        self.nan && number == i64::MIN && !self.is_length(place)
+    }
+
+    // How many digits of a number that is reported there stand after the point.
+    fn places_at(self, place: Option<u64>) -> usize
+        ensures value { result ≡ places_at self place }
+        ensures few { result ≤ 18 }
+    {
+        if self.is_length(place) {
+            return 0;
+        }
+        self.places.min(18)
+    }
+
+    // Whether what is reported there is a length.
+    fn is_length(self, place: Option<u64>) -> bool
+        ensures { result ≡ is_length self place }
+    {
+        self.length && place == Some(0)
+    }
+}
+
+fn nan() -> ArrayString<MOST_BYTES>
+    ensures { result.bytes ≡ codes "NaN" }
+{
+    let mut text = ArrayString::new();
+    text.push_str("NaN");
+    text
+}
+
+// The place at which the ending of a label begins, and what that says.
+fn ending_of(label: &[u8]) -> Option<(usize, Units)>
+    ensures { MatchOption result
+        ((place : ℕ) (units : Units) → 0 < place → units_of (drop place label.now) ≡ Some units → ⊥)
+        (λ found. (0 < found.0) × (found.0 < length label.now)
+        × (units_of (drop found.0 label.now) ≡ Some found.1)) }
+{
+    for place in 1..label.len() {
+        if let Some(units) = units_of(&label[place..]) {
+            return Some((place, units));
+        }
+    }
+    None
+}
+
+// What an ending says.
+fn units_of(ending: &[u8]) -> Option<Units>
+    ensures { result ≡ units_of ending.now }
+{
+    match ending {
+        [b'.', b'e', rest @ ..] => of_places(rest),
+        _ => None,
+    }
+}
+
+// What an ending says from its places on.
+fn of_places(rest: &[u8]) -> Option<Units>
+    ensures { result ≡ of_places rest.now }
+{
+    match rest {
+        [b'1', rest @ ..] => of_two_digits(rest),
+        rest => of_one_digit(rest),
+    }
+}
+
+// With 10 to 18 places, from their second digit on.
+fn of_two_digits(rest: &[u8]) -> Option<Units>
+    ensures { result ≡ of_two_digits rest.now }
+{
+    match rest {
+        [digit, rest @ ..] if b'0' <= *digit && *digit <= b'8' => {
+            with_nan(10 + (*digit - b'0') as usize, rest)
+        }
+        _ => None,
+    }
+}
+
+// With 6 to 9 places.
+fn of_one_digit(rest: &[u8]) -> Option<Units>
+    ensures { result ≡ of_one_digit rest.now }
+{
+    match rest {
+        [digit, rest @ ..] if b'6' <= *digit && *digit <= b'9' => {
+            with_nan((*digit - b'0') as usize, rest)
+        }
+        _ => None,
+    }
+}
+
+// What stands behind the places.
+fn with_nan(places: usize, rest: &[u8]) -> Option<Units>
+    ensures { result ≡ with_nan places rest.now }
+{
+    match rest {
+        [b'n', shape @ ..] => with_shape(places, true, shape),
+        shape => with_shape(places, false, shape),
+    }
+}
+
+fn with_shape(places: usize, nan: bool, shape: &[u8]) -> Option<Units>
+    ensures { result ≡ with_shape places nan shape.now }
+{
+    match shape_of(shape) {
+        Some(length) => Some(Units {
+            places,
+            nan,
+            length,
+        }),
+        None => None,
+    }
+}
+
+// Whether values with this shape begin with a length; none if it is no shape.
+fn shape_of(shape: &[u8]) -> Option<bool>
+    ensures { result ≡ shape_of shape.now }
+{
+    match shape {
+        [] => Some(false),
+        [letter, rest @ ..] => by_letter(*letter, rest),
+    }
+}
+
+fn by_letter(letter: u8, rest: &[u8]) -> Option<bool>
+    ensures { result ≡ by_letter letter rest.now }
+{
+    if letter == b'f' && rest.is_empty() {
+        return Some(false);
+    }
+    if letter == b'p' && is_digits(rest) {
+        return Some(false);
+    }
+    if letter == b'l' && is_digits(rest) {
+        Some(true)
+    } else {
+        None
+    }
+}
