@@ -158,7 +158,7 @@ TEXTS = {
     "refused metrics": lambda: listed(*[analysis(f"t{at}", [
         metric(f"m{to}", "result > x") for to in range(30)]) for at in range(200)]),
     "a mapping in lines": lambda: "kind: Rollout\nspec:\n" + "".join(
-        f"  k{at}: [{at}]\n" for at in range(60000)),
+        f"  k{at}: [{at}]\n" for at in range(59000)),
     "a refused line at the end": lambda: json_lines() + "---\nkind: Experiment\n",
 }
 

@@ -128,13 +128,19 @@ def try_lists(trial):
             if findings:
                 expect(f"{row}: what is made", made_of(found),
                        {"plan": [], "services": [], "templates": []})
-    with faults:
-        _, found = in_json(trial, ["-"], listed(JOB, rollout("web", "smoke", "load")).encode())
-        (only,) = found["findings"]
-        expect("the place in a List", (only["path"], only["line"]), (
-            "items[1].spec.strategy.canary.steps[0].analysis.templates[1].templateName", 39))
+    load = rollout("web", "smoke", "load")
+    scaled = rollout("web", "smoke")
+    scaled["spec"]["strategy"]["canary"]["steps"].append({"setCanaryScale": {"replicas": 2}})
+    path = "items[1].spec.strategy.canary.steps"
+    for row, manifest, wanted in (
+            ("what is translated", load, (f"{path}[0].analysis.templates[1].templateName", 39, 39)),
+            ("what is checked", scaled, (f"{path}[1].setCanaryScale", 42, 35))):
+        with faults:
+            _, found = in_json(trial, ["-"], listed(JOB, manifest).encode())
+            expect(f"the place in a List, of {row}", [
+                (it["path"], it["line"], it["column"]) for it in found["findings"]], [wanted])
     faults.end()
-    return f"{len(rows) + 1} lists"
+    return f"{len(rows) + 2} lists"
 
 
 def try_many_findings(trial):
