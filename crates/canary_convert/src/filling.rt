@@ -114,10 +114,20 @@ fn push_argument(
             Ok(true)
         }
         lacking => {
-            work.tell(alloc, place, &["{{args.", name, "}} ", lacking.lack()])?;
+            tell_lack(alloc, work, place, name, lacking.lack())?;
             Ok(false)
         }
     }
+}
+
+fn tell_lack(
+    alloc: Global,
+    work: &mut Work,
+    place: Place,
+    name: &str,
+    lack: &str,
+) -> Result<(), Memory> {
+    work.tell(alloc, place, &["{{args.", name, "}} ", lack])
 }
 
 fn push_given(alloc: Global, mode: Mode, value: &Value, out: &mut String) -> Result<(), Memory> {

@@ -365,10 +365,18 @@ fn tell_fault(
         Fault::Refused(Finding { why, at }) if text == text_at(spot.metric, key) => {
             work.findings.tell(alloc, place, Some(at), &[why.text()])
         }
-        Fault::Refused(Finding { why, .. }) => {
-            work.tell(alloc, place, &[why.text(), " (filled in: ", text, ")"])
-        }
+        Fault::Refused(Finding { why, .. }) => tell_filled(alloc, work, place, why.text(), text),
     }
+}
+
+fn tell_filled(
+    alloc: Global,
+    work: &mut Work,
+    place: Place,
+    why: &str,
+    text: &str,
+) -> Result<(), Memory> {
+    work.tell(alloc, place, &[why, " (filled in: ", text, ")"])
 }
 
 // ---- the desk's metric

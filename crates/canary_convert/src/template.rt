@@ -87,20 +87,22 @@ pub(crate) fn convert_template(alloc: Global, work: &mut Work, case: &Case) -> R
 
 fn write_name(alloc: Global, work: &mut Work, case: &Case, out: &mut String) -> Result<(), Memory> {
     push_made_name(case, out)?;
-    if Name::read(out.as_bytes()).is_none()
-        && Name::read(case.template.name().as_bytes()).is_some()
+    look_at_name(alloc, work, case, out.as_str())
+}
+
+// Adds that this is no name, if that of the template itself is one.
+fn look_at_name(alloc: Global, work: &mut Work, case: &Case, name: &str) -> Result<(), Memory> {
+    if Name::read(name.as_bytes()).is_some()
+        || Name::read(case.template.name().as_bytes()).is_none()
     {
-        let place = case.template.place().at("metadata.name");
-        work.tell(
-            alloc,
-            place,
-            &[
-                out.as_str(),
-                " is no name of a template: write shorter ones",
-            ],
-        )?;
+        return Ok(());
     }
-    Ok(())
+    let place = case.template.place().at("metadata.name");
+    work.tell(
+        alloc,
+        place,
+        &[name, " is no name of a template: write shorter ones"],
+    )
 }
 
 /// Appends the name of the desk's template for this case: if the desk reads what arguments fill in,
@@ -161,11 +163,11 @@ fn spot_of<'a>(case: &Case<'a>, index: usize, metric: &'a Value) -> Spot<'a> {
     }
 }
 
-fn push_metrics(
+fn push_metrics<'a>(
     alloc: Global,
     work: &mut Work,
-    case: &Case,
-    metrics: &Vec<Value>,
+    case: &Case<'a>,
+    metrics: &'a Vec<Value>,
     out: &mut String,
 ) -> Result<(), Memory> {
     for (index, metric) in metrics.iter().enumerate() {
@@ -189,11 +191,11 @@ fn plan_metrics(alloc: Global, work: &mut Work, case: &Case, name: &str) -> Resu
 
 // ---- dry runs
 
-fn push_dry_run(
+fn push_dry_run<'a>(
     alloc: Global,
     work: &mut Work,
-    case: &Case,
-    metrics: &Vec<Value>,
+    case: &Case<'a>,
+    metrics: &'a Vec<Value>,
     out: &mut String,
 ) -> Result<(), Memory> {
     let Some(spec) = member(case.template.value, "spec") else {
@@ -214,12 +216,12 @@ fn push_dry_run(
     Ok(())
 }
 
-fn push_mark(
+fn push_mark<'a>(
     alloc: Global,
     work: &mut Work,
-    case: &Case,
+    case: &Case<'a>,
     place: Place,
-    metrics: &Vec<Value>,
+    metrics: &'a Vec<Value>,
     name: &str,
     out: &mut String,
 ) -> Result<(), Memory> {
@@ -235,11 +237,11 @@ fn push_mark(
     }
 }
 
-fn push_marked_metric(
+fn push_marked_metric<'a>(
     alloc: Global,
     work: &mut Work,
-    case: &Case,
-    metrics: &Vec<Value>,
+    case: &Case<'a>,
+    metrics: &'a Vec<Value>,
     index: usize,
     out: &mut String,
 ) -> Result<(), Memory> {
