@@ -1,4 +1,4 @@
-manifests 175
+manifests 177
 
 # Texts.
 between ...
