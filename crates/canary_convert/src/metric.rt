@@ -109,16 +109,16 @@ fn only_key(value: &Value) -> &str {
     let Some(members) = value.as_object() else {
         return "";
     };
-    let mut only = "";
+    let mut only = None;
     for (key, member) in members.iter() {
         if !member.is_null() {
-            if !only.is_empty() {
+            if only.is_some() {
                 return "";
             }
-            only = key.as_str();
+            only = Some(key.as_str());
         }
     }
-    only
+    only.unwrap_or("")
 }
 
 fn has_condition(metric: &Value) -> bool {
