@@ -1,7 +1,7 @@
 //! The values of a template's arguments.
 use crate::documents::Document;
 use crate::filling::{has_place, has_place_of};
-use crate::json::{is_any_of, member, push_key, push_value, text_at};
+use crate::json::{list_at, member, push_key, push_value, text_at};
 use crate::place::Place;
 use crate::work::Work;
 use canary_base::error::Memory;
@@ -45,6 +45,15 @@ pub(crate) enum Given<'a> {
 }
 
 impl<'a> Given<'a> {
+    /// Whether there is a value, or the argument is not listed.
+    pub(crate) fn is_given(self) -> bool {
+        match self {
+            Given::Value(_) => true,
+            Given::Unlisted => true,
+            _ => false,
+        }
+    }
+
     /// What it lacks, and what to write.
     pub(crate) fn lack(self) -> &'static str {
         match self {
@@ -62,7 +71,7 @@ impl<'a> Given<'a> {
 
 /// What the argument of that name is given: by the analysis, or else by the template.
 pub(crate) fn given_to<'a>(case: &Case<'a>, name: &str) -> Given<'a> {
-    let Some(own) = named(case.template.in_spec("args"), name) else {
+    let Some(own) = named(case.template.list("args"), name) else {
         return Given::Unlisted;
     };
     match given_by_analysis(case, name) {
@@ -75,15 +84,15 @@ fn given_by_analysis<'a>(case: &Case<'a>, name: &str) -> Given<'a> {
     let Some((_, analysis)) = case.used_by else {
         return Given::Nothing;
     };
-    match named(member(analysis, "args"), name) {
+    match named(list_at(analysis, "args"), name) {
         Some(argument) => given_by(case, argument),
         None => Given::Nothing,
     }
 }
 
 // The argument of that name in a list.
-fn named<'a>(arguments: Option<&'a Value>, name: &str) -> Option<&'a Value> {
-    for argument in arguments?.as_array()? {
+fn named<'a>(arguments: Option<&'a Vec<Value>>, name: &str) -> Option<&'a Value> {
+    for argument in arguments? {
         if text_at(argument, "name") == name {
             return Some(argument);
         }
@@ -181,13 +190,16 @@ fn tell_argument(
     if Label::read(text_at(argument, "name").as_bytes()).is_none() {
         work.tell(alloc, place.end("name"), &[NAME])?;
     }
-    if member(argument, "value").is_some_and(|value| !is_plain(value)) {
-        work.tell(alloc, place.end("value"), &["expected a text"])?;
+    match member(argument, "value") {
+        Some(value) if !is_plain(value) => {
+            work.tell(alloc, place.end("value"), &["expected a text"])?;
+        }
+        _ => {}
     }
-    if member(argument, "valueFrom").is_some_and(|source| !is_source(source)) {
-        work.tell(alloc, place.end("valueFrom"), &[SOURCE])?;
+    match member(argument, "valueFrom") {
+        Some(source) if !is_source(source) => work.tell(alloc, place.end("valueFrom"), &[SOURCE]),
+        _ => Ok(()),
     }
-    Ok(())
 }
 
 fn is_source(source: &Value) -> bool {
@@ -197,10 +209,8 @@ fn is_source(source: &Value) -> bool {
     if let Some(secret) = member(source, "secretKeyRef") {
         return !text_at(secret, "name").is_empty() && !text_at(secret, "key").is_empty();
     }
-    is_any_of(
-        &["Latest", "Stable"],
-        text_at(source, "podTemplateHashValue"),
-    )
+    let hash = text_at(source, "podTemplateHashValue");
+    hash == "Latest" || hash == "Stable"
 }
 
 /// Appends the arguments that are known only as the agent measures, and of which the provider has a
@@ -211,11 +221,7 @@ pub(crate) fn push_late(
     provider: &str,
     out: &mut String,
 ) -> Result<(), Memory> {
-    let Some(arguments) = case
-        .template
-        .in_spec("args")
-        .and_then(|list| list.as_array())
-    else {
+    let Some(arguments) = case.template.list("args") else {
         return Ok(());
     };
     for argument in arguments {

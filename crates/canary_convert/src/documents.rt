@@ -28,14 +28,9 @@ impl<'a> Document<'a> {
         }
     }
 
-    /// What stands under that key of its `spec`.
-    pub(crate) fn in_spec(&self, key: &str) -> Option<&'a Value> {
-        member(member(self.value, "spec")?, key)
-    }
-
-    /// The metrics of a template.
-    pub(crate) fn metrics(&self) -> Option<&'a Vec<Value>> {
-        self.in_spec("metrics")?.as_array()
+    /// The list under that key of its `spec`.
+    pub(crate) fn list(&self, key: &str) -> Option<&'a Vec<Value>> {
+        list_at(member(self.value, "spec")?, key)
     }
 
     /// Where it stands.

@@ -10,7 +10,7 @@ use serde_json::Value;
 use std::alloc::Global;
 
 /// In what text places are filled in.
-#[derive(Clone, Copy, PartialEq, Eq)]
+#[derive(Clone, Copy)]
 pub(crate) enum Mode {
     /// A text as it is, that the desk reads.
     Plain,
@@ -22,7 +22,12 @@ pub(crate) enum Mode {
 
 /// Whether the text has a place.
 pub(crate) fn has_place(text: &str) -> bool {
-    text.split("}}").any(|piece| place_in(piece).is_some())
+    for piece in text.split("}}") {
+        if place_in(piece).is_some() {
+            return true;
+        }
+    }
+    false
 }
 
 /// Whether the text has a place for that argument.
@@ -109,7 +114,7 @@ fn push_argument(
             push_given(alloc, mode, value, out)?;
             Ok(true)
         }
-        Given::Late(_) if mode == Mode::Late => {
+        Given::Late(_) if matches!(mode, Mode::Late) => {
             push_place(name, out)?;
             Ok(true)
         }
@@ -132,7 +137,7 @@ fn tell_lack(
 
 fn push_given(alloc: Global, mode: Mode, value: &Value, out: &mut String) -> Result<(), Memory> {
     match value.as_str() {
-        Some(text) if mode == Mode::Plain => Ok(out.push_str(text)?),
+        Some(text) if matches!(mode, Mode::Plain) => Ok(out.push_str(text)?),
         Some(text) => push_escaped(alloc, out, text),
         None => push_value(alloc, out, value),
     }
@@ -148,12 +153,12 @@ fn push_place(name: &str, out: &mut String) -> Result<(), Memory> {
 /// Whether each place of the text can be filled in, but for those of arguments that the template
 /// does not list.
 pub(crate) fn is_given(case: &Case, text: &str) -> bool {
-    text.split("}}").all(|piece| is_piece_given(case, piece))
-}
-
-fn is_piece_given(case: &Case, piece: &str) -> bool {
-    let Some((_, name)) = place_in(piece) else {
-        return true;
-    };
-    matches!(given_to(case, name), Given::Value(_) | Given::Unlisted)
+    for piece in text.split("}}") {
+        if let Some((_, name)) = place_in(piece) {
+            if !given_to(case, name).is_given() {
+                return false;
+            }
+        }
+    }
+    true
 }

@@ -68,7 +68,12 @@ impl Findings {
     }
 
     fn has(&self, finding: &Finding) -> bool {
-        self.list.iter().any(|known| known.is_same(finding))
+        for known in &self.list {
+            if known.is_same(finding) {
+                return true;
+            }
+        }
+        false
     }
 
     /// Adds a last one that counts those that were left out, if there are any; or `Memory`.

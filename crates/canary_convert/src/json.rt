@@ -134,7 +134,12 @@ pub(crate) fn push_others(
 
 /// Whether it is one of these.
 pub(crate) fn is_any_of(known: &[&str], key: &str) -> bool {
-    known.iter().any(|name| *name == key)
+    for name in known {
+        if *name == key {
+            return true;
+        }
+    }
+    false
 }
 
 /// Appends how a manifest begins, up to the members of its `spec`.

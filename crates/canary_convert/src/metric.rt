@@ -15,10 +15,15 @@ use canary_base::names::Label;
 use serde_json::Value;
 use std::alloc::Global;
 
-const CONDITIONS: [&str; 2] = ["successCondition", "failureCondition"];
+const SUCCESS: &str = "successCondition";
 
-// The members that the desk reads, but for the name and the conditions.
-const OTHERS: [&str; 8] = [
+const FAILURE: &str = "failureCondition";
+
+// The members that the desk reads, the name and the conditions first.
+const DESK: [&str; 11] = [
+    "name",
+    SUCCESS,
+    FAILURE,
     "interval",
     "initialDelay",
     "count",
@@ -50,20 +55,22 @@ pub(crate) struct Called {
 
 /// Whether a member that the desk reads has a place.
 pub(crate) fn has_desk_place(metric: &Value) -> bool {
-    CONDITIONS.iter().any(|key| has_place(text_at(metric, key)))
-        || OTHERS.iter().any(|key| has_place(text_at(metric, key)))
-        || has_place(text_at(metric, "name"))
+    for key in DESK {
+        if has_place(text_at(metric, key)) {
+            return true;
+        }
+    }
+    false
 }
 
 /// Whether each place in a member that the desk reads can be filled in.
 pub(crate) fn is_desk_given(case: &Case, metric: &Value) -> bool {
-    CONDITIONS
-        .iter()
-        .all(|key| is_given(case, text_at(metric, key)))
-        && OTHERS
-            .iter()
-            .all(|key| is_given(case, text_at(metric, key)))
-        && is_given(case, text_at(metric, "name"))
+    for key in DESK {
+        if !is_given(case, text_at(metric, key)) {
+            return false;
+        }
+    }
+    true
 }
 
 // ---- names and forms
@@ -102,22 +109,20 @@ fn only_key(value: &Value) -> &str {
     let Some(members) = value.as_object() else {
         return "";
     };
-    let mut only = "";
+    let mut only = None;
     for (key, member) in members.iter() {
         if !member.is_null() {
-            if !only.is_empty() {
+            if only.is_some() {
                 return "";
             }
-            only = key.as_str();
+            only = Some(key.as_str());
         }
     }
-    only
+    only.unwrap_or("")
 }
 
 fn has_condition(metric: &Value) -> bool {
-    CONDITIONS
-        .iter()
-        .any(|key| !text_at(metric, key).is_empty())
+    !text_at(metric, SUCCESS).is_empty() || !text_at(metric, FAILURE).is_empty()
 }
 
 // The name, with its places filled in. If it is none, this is told.
@@ -149,28 +154,34 @@ fn read_name(
 
 // Whether it ends as `form::Form::suffix` writes it.
 fn is_suffixed(name: &str) -> bool {
-    let Some((_, end)) = name.rsplit_once(".e") else {
-        return false;
-    };
-    let shape = without_digits(end);
-    if shape.len() == end.len() {
-        return false;
-    }
-    let shape = shape.strip_prefix("n").unwrap_or(shape);
-    shape.is_empty() || shape == "f" || is_counted(shape)
-}
-
-fn without_digits(text: &str) -> &str {
-    text.trim_start_matches(|letter: char| letter.is_ascii_digit())
-}
-
-// Whether it is the letter of a shape with a number.
-fn is_counted(shape: &str) -> bool {
-    let counted = shape.strip_prefix("p").or(shape.strip_prefix("l"));
-    match counted {
-        Some(count) => !count.is_empty() && without_digits(count).is_empty(),
+    match name.rsplit_once(".e") {
+        Some((_, end)) => {
+            let places = without_shape(end);
+            are_digits(places.strip_suffix("n").unwrap_or(places))
+        }
         None => false,
     }
+}
+
+// The text without the letter and the number of a shape at its end.
+fn without_shape(end: &str) -> &str {
+    for letter in ["p", "l"] {
+        if let Some((front, count)) = end.rsplit_once(letter) {
+            if are_digits(count) {
+                return front;
+            }
+        }
+    }
+    end.strip_suffix("f").unwrap_or(end)
+}
+
+fn are_digits(text: &str) -> bool {
+    for byte in text.as_bytes() {
+        if !byte.is_ascii_digit() {
+            return false;
+        }
+    }
+    !text.is_empty()
 }
 
 // Appends the text under that key, with its places filled in. If it is no text, or a place cannot
@@ -183,12 +194,16 @@ fn push_plain(
     out: &mut String,
 ) -> Result<bool, Memory> {
     let place = spot.place.end(key);
-    if member(spot.metric, key).is_some_and(|member| !member.is_string()) {
-        work.tell(alloc, place, &["expected a text"])?;
-        return Ok(false);
+    match member(spot.metric, key) {
+        Some(member) if !member.is_string() => {
+            work.tell(alloc, place, &["expected a text"])?;
+            Ok(false)
+        }
+        _ => {
+            let text = text_at(spot.metric, key);
+            push_filled(alloc, work, &spot.case, place, Mode::Plain, text, out)
+        }
     }
-    let text = text_at(spot.metric, key);
-    push_filled(alloc, work, &spot.case, place, Mode::Plain, text, out)
 }
 
 /// How the metric is called at the desk. If it cannot be called anything, this is told.
@@ -269,8 +284,8 @@ fn fill_conditions(
     spot: &Spot,
     conditions: &mut Conditions,
 ) -> Result<bool, Memory> {
-    let success = push_plain(alloc, work, spot, CONDITIONS[0], &mut conditions.success)?;
-    let failure = push_plain(alloc, work, spot, CONDITIONS[1], &mut conditions.failure)?;
+    let success = push_plain(alloc, work, spot, SUCCESS, &mut conditions.success)?;
+    let failure = push_plain(alloc, work, spot, FAILURE, &mut conditions.failure)?;
     Ok(success && failure)
 }
 
@@ -287,15 +302,8 @@ fn form_of_conditions(
     if success.is_empty() && failure.is_empty() {
         return Ok(Some(unconditional_form(kind)));
     }
-    let first = with_condition(alloc, work, spot, CONDITIONS[0], none, success)?;
-    let both = with_condition(
-        alloc,
-        work,
-        spot,
-        CONDITIONS[1],
-        first.unwrap_or(none),
-        failure,
-    )?;
+    let first = with_condition(alloc, work, spot, SUCCESS, none, success)?;
+    let both = with_condition(alloc, work, spot, FAILURE, first.unwrap_or(none), failure)?;
     match (first, both) {
         (Some(_), Some(needs)) => form_of_needs(alloc, work, spot, needs),
         _ => Ok(None),
@@ -395,8 +403,8 @@ pub(crate) fn push_metric(
     out.push_str("{\"name\":")?;
     push_text(alloc, out, called.label.as_str())?;
     push_conditions(alloc, work, spot, called, out)?;
-    for key in OTHERS {
-        push_desk_member(alloc, work, spot, key, out)?;
+    for key in &DESK[3..] {
+        push_desk_member(alloc, work, spot, *key, out)?;
     }
     out.push_str("}")?;
     Ok(())
@@ -411,16 +419,16 @@ fn push_conditions(
 ) -> Result<(), Memory> {
     match called.form {
         Some(form) => {
-            push_translated(alloc, work, spot, CONDITIONS[0], form, out)?;
-            push_translated(alloc, work, spot, CONDITIONS[1], form, out)
+            push_translated(alloc, work, spot, SUCCESS, form, out)?;
+            push_translated(alloc, work, spot, FAILURE, form, out)
         }
         None if member(spot.metric, "provider").is_some() => {
-            push_key(out, CONDITIONS[0])?;
+            push_key(out, SUCCESS)?;
             push_text(alloc, out, "result == 1")
         }
         None => {
-            push_desk_member(alloc, work, spot, CONDITIONS[0], out)?;
-            push_desk_member(alloc, work, spot, CONDITIONS[1], out)
+            push_desk_member(alloc, work, spot, SUCCESS, out)?;
+            push_desk_member(alloc, work, spot, FAILURE, out)
         }
     }
 }

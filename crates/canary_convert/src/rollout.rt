@@ -2,7 +2,7 @@
 use crate::arguments::{Case, tell_arguments};
 use crate::documents::{Document, index_of};
 use crate::json::{
-    member, push_comma, push_head, push_key, push_member, push_others, push_text, text_at,
+    list_at, member, push_comma, push_head, push_key, push_member, push_others, text_at,
 };
 use crate::place::Place;
 use crate::template::{convert_template, push_made_name};
@@ -186,7 +186,7 @@ fn push_analysis(
     push_others(alloc, out, used.analysis, &["args", "templates"])?;
     push_key(out, "templates")?;
     out.push_str("[")?;
-    match member(used.analysis, "templates").and_then(|list| list.as_array()) {
+    match list_at(used.analysis, "templates") {
         Some(templates) => push_templates(alloc, work, used, templates, out)?,
         None => work.tell(alloc, place.part(used.templates), &[TEMPLATES])?,
     }
@@ -220,7 +220,7 @@ fn template_of<'a>(
     named: &Value,
 ) -> Result<Option<Document<'a>>, Memory> {
     let name = text_at(named, "templateName");
-    if member(named, "clusterScope").is_some_and(|scope| scope.as_bool().unwrap_or(false)) {
+    if is_of_the_cluster(named) {
         work.tell(alloc, place.end("clusterScope"), &[CLUSTER])?;
         return Ok(None);
     }
@@ -242,6 +242,13 @@ fn template_of<'a>(
             )?;
             Ok(None)
         }
+    }
+}
+
+fn is_of_the_cluster(named: &Value) -> bool {
+    match member(named, "clusterScope") {
+        Some(scope) => scope.as_bool().unwrap_or(false),
+        None => false,
     }
 }
 

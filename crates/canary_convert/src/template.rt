@@ -117,18 +117,28 @@ pub(crate) fn push_made_name(case: &Case, out: &mut String) -> Result<(), Memory
 }
 
 fn has_desk_places(template: &Document) -> bool {
-    match template.metrics() {
-        Some(metrics) => metrics.iter().any(has_desk_place),
-        None => false,
+    let Some(metrics) = template.list("metrics") else {
+        return false;
+    };
+    for metric in metrics {
+        if has_desk_place(metric) {
+            return true;
+        }
     }
+    false
 }
 
 /// Whether each place that the desk reads can be filled in.
 pub(crate) fn is_ready(case: &Case) -> bool {
-    match case.template.metrics() {
-        Some(metrics) => metrics.iter().all(|metric| is_desk_given(case, metric)),
-        None => true,
+    let Some(metrics) = case.template.list("metrics") else {
+        return true;
+    };
+    for metric in metrics {
+        if !is_desk_given(case, metric) {
+            return false;
+        }
     }
+    true
 }
 
 fn write_template(
@@ -142,7 +152,7 @@ fn write_template(
     push_head(alloc, out, manifest, "AnalysisTemplate", made.name.as_str())?;
     push_key(out, "metrics")?;
     out.push_str("[")?;
-    if let Some(metrics) = case.template.metrics() {
+    if let Some(metrics) = case.template.list("metrics") {
         push_metrics(alloc, work, case, metrics, out)?;
         out.push_str("]")?;
         push_dry_run(alloc, work, case, metrics, out)?;
@@ -177,7 +187,7 @@ fn push_metrics<'a>(
 }
 
 fn plan_metrics(alloc: Global, work: &mut Work, case: &Case, name: &str) -> Result<(), Memory> {
-    let Some(metrics) = case.template.metrics() else {
+    let Some(metrics) = case.template.list("metrics") else {
         return Ok(());
     };
     if case.used_by.is_none() {

@@ -209,7 +209,12 @@ impl Work {
 
     /// Whether a Rollout names the template of that document.
     pub(crate) fn is_used(&self, index: usize) -> bool {
-        self.used.iter().any(|used| *used == index)
+        for used in &self.used {
+            if *used == index {
+                return true;
+            }
+        }
+        false
     }
 
     /// The object under that key. If there is something else, this is told.
