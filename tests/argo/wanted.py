@@ -264,5 +264,5 @@ REFUSED = {
         provider(26, 92, "expected an object with one provider: write a metric for each"),
         (105, 27, "spec.strategy.canary.steps[1].analysis.templates[1].templateName",
          "AnalysisTemplate elsewhere is in none of the files"),
-    ], nan=(48, 5, "spec.metrics[12]")),
+    ]),
 }
