@@ -30,9 +30,10 @@ impl Found {
         })
     }
 
-    fn add_line(&mut self, line: &str) -> Result<(), Memory> {
+    fn add_line(&mut self, alloc: Global, line: &str) -> Result<(), Memory> {
         self.text.push_str("\n")?;
-        self.text.push_str(line)?;
+        self.text
+            .push_str(shown(alloc, line, Form::Line)?.as_str())?;
         Ok(())
     }
 }
@@ -41,7 +42,7 @@ impl Found {
 #[derive(Drop)]
 pub struct Findings {
     pub list: Vec<Found>,
-    pub more: usize,
+    pub more: u64,
 }
 
 // The most findings that are kept.
@@ -61,12 +62,22 @@ impl Findings {
         self.list.is_empty()
     }
 
+    /// Whether one more is kept, and not counted alone.
+    pub(crate) fn has_room(&self) -> bool {
+        self.list.len() < MOST
+    }
+
+    /// Counts so many more.
+    pub(crate) fn count(&mut self, more: u64) {
+        self.more = self.more.saturating_add(more);
+    }
+
     /// Adds one, or counts it; or `Memory`.
     pub fn add(&mut self, found: Found) -> Result<(), Memory> {
-        if self.list.len() < MOST {
+        if self.has_room() {
             self.list.push(found)?;
         } else {
-            self.more = self.more.saturating_add(1);
+            self.count(1);
         }
         Ok(())
     }
@@ -80,12 +91,12 @@ impl Findings {
     }
 
     /// Adds a line to the last finding, unless that is counted alone; or `Memory`.
-    pub(crate) fn add_to_last(&mut self, line: &str) -> Result<(), Memory> {
+    pub(crate) fn add_to_last(&mut self, alloc: Global, line: &str) -> Result<(), Memory> {
         if self.more > 0 {
             return Ok(());
         }
         match self.list.last_mut() {
-            Some(last) => last.add_line(line),
+            Some(last) => last.add_line(alloc, line),
             None => Ok(()),
         }
     }
@@ -102,8 +113,8 @@ impl Findings {
         Ok(text)
     }
 
-    /// Appends a list in JSON of objects with `column`, `file`, `line`, `path` and `text`; or
-    /// `Memory`.
+    /// Appends a list in JSON of objects with `column`, `file`, `line`, `path` and `text`, without
+    /// those that are counted; or `Memory`.
     pub fn push_json(
         &self,
         alloc: Global,

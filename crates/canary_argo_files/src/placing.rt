@@ -1,25 +1,60 @@
 //! Where a part of a document stands in its file.
 use crate::found::Found;
-use crate::reading::{ArgoFile, Manifests};
+use crate::reading::Manifests;
 use canary_base::error::Memory;
+use canary_convert::source::Source;
+use canary_markup::shown::{Form, shown};
 use canary_yaml::fault::Fault as Refusal;
 use canary_yaml::places::{Place, Step, place_of};
 use std::alloc::Global;
 
-/// What is found in the document of that place, at that path of it; or `Memory`.
+/// What is found in the document of that place, at that path of it; or `Memory`. What a terminal
+/// would take for a command is escaped.
 pub(crate) fn found_at(
     alloc: Global,
     manifests: &Manifests,
     source: usize,
     path: &str,
-    text: String,
+    text: &str,
 ) -> Result<Found, Memory> {
     let Some(document) = manifests.sources.get(source) else {
         return found(alloc, 0, Place { line: 1, column: 1 }, path, text);
     };
     let file = document.file as usize;
-    let place = place_in(alloc, manifests.files.as_slice(), file, document.line, path)?;
+    let bytes = bytes_of(manifests, source, document);
+    let place = place_in(alloc, bytes, document.line, path)?;
     found(alloc, file, place, path, text)
+}
+
+// The bytes of a document, up to the next one of its file.
+fn bytes_of<'a>(manifests: &'a Manifests, source: usize, document: &Source) -> &'a [u8] {
+    let Some(file) = manifests.files.get(document.file as usize) else {
+        return &[];
+    };
+    let rest = from_line(file.bytes.as_slice(), document.line);
+    match manifests.sources.get(source.saturating_add(1)) {
+        Some(next) if next.file == document.file => {
+            let after = from_line(
+                rest,
+                next.line.saturating_sub(document.line).saturating_add(1),
+            );
+            rest.get(..rest.len().saturating_sub(after.len()))
+                .unwrap_or(rest)
+        }
+        _ => rest,
+    }
+}
+
+// The bytes from that line on, from 1.
+fn from_line(bytes: &[u8], line: usize) -> &[u8] {
+    let mut rest = bytes;
+    for _ in 1..line {
+        let Some(end) = rest.iter().position(|byte| *byte == b'\n') else {
+            return &[];
+        };
+        rest = rest.get(end.saturating_add(1)..).unwrap_or(&[]);
+    }
+    rest
 }
 
 fn found(
@@ -27,35 +62,28 @@ fn found(
     file: usize,
     place: Place,
     path: &str,
-    text: String,
+    text: &str,
 ) -> Result<Found, Memory> {
     let Place { line, column } = place;
     Ok(Found {
         file,
         line,
         column,
-        path: String::from_str(alloc, path)?,
-        text,
+        path: shown(alloc, path, Form::Line)?,
+        text: shown(alloc, text, Form::Line)?,
     })
 }
 
-// The place of that path in the document that begins in that line: its front, if the text of a file
-// in JSON is not YAML, too.
-fn place_in(
-    alloc: Global,
-    files: &[ArgoFile],
-    file: usize,
-    line: usize,
-    path: &str,
-) -> Result<Place, Memory> {
-    let bytes = match files.get(file) {
-        Some(file) => file.bytes.as_slice(),
-        None => &[],
-    };
+// The place of that path in the document of these bytes, which begins in that line: its front, if the
+// text of a file in JSON is not YAML, too.
+fn place_in(alloc: Global, bytes: &[u8], line: usize, path: &str) -> Result<Place, Memory> {
     let mut steps = Vec::new(alloc);
     push_steps(&mut steps, path)?;
-    match place_of(alloc, bytes, line, steps.as_slice()) {
-        Ok(place) => Ok(place),
+    match place_of(alloc, bytes, 1, steps.as_slice()) {
+        Ok(place) => Ok(Place {
+            line: place.line.saturating_add(line).saturating_sub(1),
+            column: place.column,
+        }),
         Err(Refusal::Memory) => Err(Memory),
         Err(_) => Ok(Place { line, column: 1 }),
     }

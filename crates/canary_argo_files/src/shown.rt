@@ -88,13 +88,23 @@ pub fn json_of(
     out.push_str(",\"notes\":")?;
     translated.notes.push_json(alloc, &mut out, manifests)?;
     out.push_str(",\"plan\":")?;
-    push_plan(alloc, &mut out, translated.made.plan.as_slice())?;
+    push_plan(alloc, &mut out, counted(translated, &translated.made.plan))?;
     out.push_str(",\"services\":")?;
-    push_manifests(&mut out, translated.made.services.as_slice())?;
+    push_manifests(&mut out, counted(translated, &translated.made.services))?;
     out.push_str(",\"templates\":")?;
-    push_manifests(&mut out, translated.made.templates.as_slice())?;
-    out.push_str("}\n")?;
-    Ok(out)
+    push_manifests(&mut out, counted(translated, &translated.made.templates))?;
+    out.push_str("}")?;
+    let mut line = shown(alloc, out.as_str(), Form::Json)?;
+    line.push_str("\n")?;
+    Ok(line)
+}
+
+// What is made, if that counts: nothing, if anything is found.
+fn counted<'a, T: Drop>(translated: &Translated, made: &'a Vec<T>) -> &'a [T] {
+    if translated.is_found() {
+        return &[];
+    }
+    made.as_slice()
 }
 
 fn push_manifests(out: &mut String, made: &[Made]) -> Result<(), Memory> {
@@ -112,7 +122,7 @@ fn push_manifests(out: &mut String, made: &[Made]) -> Result<(), Memory> {
 /// The plan as a list in JSON, or `Memory`.
 pub fn plan_of(alloc: Global, translated: &Translated) -> Result<String, Memory> {
     let mut out = String::new(alloc);
-    push_plan(alloc, &mut out, translated.made.plan.as_slice())?;
+    push_plan(alloc, &mut out, counted(translated, &translated.made.plan))?;
     Ok(out)
 }
 

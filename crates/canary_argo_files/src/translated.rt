@@ -49,14 +49,15 @@ pub fn translate(alloc: Global, manifests: &Manifests) -> Result<Translated, Mem
     let mut found = Findings::new(alloc);
     found.add_all(alloc, &manifests.found)?;
     add_placed(alloc, &mut found, manifests, made.findings.as_slice())?;
+    found.count(made.more_findings);
     add_checked(alloc, &mut found, manifests, made.templates.as_slice())?;
     add_checked(alloc, &mut found, manifests, made.services.as_slice())?;
     if is_empty(&made) && found.is_empty() {
-        let nothing = String::from_str(alloc, NOTHING)?;
-        found.add(found_at(alloc, manifests, 0, "", nothing)?)?;
+        found.add(found_at(alloc, manifests, 0, "", NOTHING)?)?;
     }
     let mut notes = Findings::new(alloc);
     add_placed(alloc, &mut notes, manifests, made.notes.as_slice())?;
+    notes.count(made.more_notes);
     let are_taken = are_taken(alloc, made.templates.as_slice())?
         && are_taken(alloc, made.services.as_slice())?;
     Ok(Translated {
@@ -102,8 +103,8 @@ fn add_placed(
 ) -> Result<(), Memory> {
     for finding in findings {
         let text = text_of(alloc, finding)?;
-        let source = finding.source as usize;
-        list.add(found_at(alloc, manifests, source, finding.path.as_str(), text)?)?;
+        let (source, path) = (finding.source as usize, finding.path.as_str());
+        list.add(found_at(alloc, manifests, source, path, text.as_str())?)?;
     }
     Ok(())
 }
@@ -144,14 +145,37 @@ fn add_lines(
 ) -> Result<(), Memory> {
     for line in lines.lines() {
         if line.starts_with("    ") {
-            list.add_to_last(line)?;
+            list.add_to_last(alloc, line)?;
+        } else if list.has_room() {
+            add_line(alloc, list, manifests, made, line)?;
         } else {
-            let (path, text) = split(line);
-            let text = String::from_str(alloc, text)?;
-            list.add(found_at(alloc, manifests, made.source as usize, path, text)?)?;
+            list.count(1);
         }
     }
     Ok(())
+}
+
+// Adds what a line of a check finds.
+fn add_line(
+    alloc: Global,
+    list: &mut Findings,
+    manifests: &Manifests,
+    made: &Made,
+    line: &str,
+) -> Result<(), Memory> {
+    let (path, text) = split(line);
+    let whole = path_in(alloc, made.path.as_str(), path)?;
+    list.add(found_at(alloc, manifests, made.source as usize, whole.as_str(), text)?)
+}
+
+// The path in a source of what stands at a path of a document there.
+fn path_in(alloc: Global, document: &str, path: &str) -> Result<String, Memory> {
+    let point = if document.is_empty() || path.is_empty() {
+        ""
+    } else {
+        "."
+    };
+    Ok(format!(in alloc; "{document}{point}{path}")?)
 }
 
 // The path that a line of a check begins with, and what follows it.

@@ -82,7 +82,7 @@ fn write_to(rt: &HostRuntime, translated: &Translated, out: &Option<Text>) -> Re
         return Ok(());
     };
     let folder = folder.as_str();
-    if create_dir_all(rt, folder).is_err() {
+    if folder.is_empty() || create_dir_all(rt, folder).is_err() {
         return Err(Fault::File);
     }
     write_each(rt, folder, translated.made.templates.as_slice(), "template")?;

@@ -42,6 +42,7 @@ outcome_of stop.ForeverUntil = Words
 outcome_of stop.Manifest = Words
 outcome_of stop.Argo = Words
 outcome_of stop.ArgoCommand = Words
+outcome_of stop.ArgoNothing = Words
 outcome_of stop.Header = Words
 outcome_of stop.OtherCaller = Words
 outcome_of stop.ReportInstead = Words

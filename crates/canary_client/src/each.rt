@@ -22,19 +22,24 @@ pub(crate) struct Named {
 /// Rollout, of Argo's manifests in these files. What is found in them goes to `errors`.
 ///
 /// # Errors
-/// `Argo` if the words are no such command, or anything is found; `NoVersion`, `BadVersion`; `File`
-/// if a file cannot be read; `Manifest` if the desk takes no body of that length; `Memory`.
+/// `ArgoCommand` if the words are no such command, `Argo` if anything is found, `ArgoNothing` if the
+/// files have no template, or no Rollout; `NoVersion`, `BadVersion`; `File` if a file cannot be
+/// read; `Manifest` if the desk takes no body of that length; `Memory`.
 pub(crate) fn commands_of<P: Files + AllocGlobal, F: Write>(
     rt: &P,
     words: &AskedCommand,
     errors: &mut F,
 ) -> Result<Vec<Named>, Stop> {
     let files = files_of(rt.alloc(), words)?;
-    match words.kind.as_str() {
-        "template" => templates(rt, files.as_slice(), errors),
-        "service" => services(rt, files, errors),
-        _ => Err(Stop::ArgoCommand),
+    let commands = match words.kind.as_str() {
+        "template" => templates(rt, files.as_slice(), errors)?,
+        "service" => services(rt, files, errors)?,
+        _ => return Err(Stop::ArgoCommand),
+    };
+    if commands.is_empty() {
+        return Err(Stop::ArgoNothing);
     }
+    Ok(commands)
 }
 
 // The words that follow the kind of the command.
@@ -99,6 +104,9 @@ fn made_of<P: Files + AllocGlobal, F: Write>(
     files: &[Text],
     errors: &mut F,
 ) -> Result<Converted, Stop> {
+    if files.is_empty() {
+        return Err(Stop::ArgoCommand);
+    }
     let mut nothing: &[u8] = &[];
     let manifests = match read_files(rt, files, &mut nothing) {
         Ok(manifests) => manifests,

@@ -94,8 +94,10 @@ pub enum Stop {
     Manifest,
     /// Something was found in manifests of Argo Rollouts.
     Argo,
-    /// What is translated is neither a template nor a service.
+    /// What is translated is neither a template nor a service, or no file is given.
     ArgoCommand,
+    /// The files have nothing of what is asked for.
+    ArgoNothing,
     /// The first record of a measurement file is another.
     Header,
     /// The journal is another caller's.
@@ -178,7 +180,7 @@ impl Stop {
             Stop::NoVersion | Stop::BadVersion | Stop::BadMetric => Outcome::Words,
             Stop::BadService | Stop::Part | Stop::ForeverUntil => Outcome::Words,
             Stop::Status | Stop::Manifest | Stop::Header => Outcome::Words,
-            Stop::Argo | Stop::ArgoCommand => Outcome::Words,
+            Stop::Argo | Stop::ArgoCommand | Stop::ArgoNothing => Outcome::Words,
             Stop::OtherCaller | Stop::ReportInstead | Stop::KeyInstead => Outcome::Words,
             Stop::NoService | Stop::NoRun | Stop::NoMetric | Stop::Query => Outcome::Refused,
             Stop::NotBegun | Stop::NoDesk | Stop::Unanswered => Outcome::Pending,
@@ -243,6 +245,7 @@ impl Stop {
             Stop::Manifest => "the desk would not take this manifest: 'canary check' says why",
             Stop::Argo => "nothing was sent: these manifests are not translated",
             Stop::ArgoCommand => "--argo takes template FILE.. or service FILE.. VERSION",
+            Stop::ArgoNothing => "nothing was sent: no such manifest is in these files",
             Stop::Header => "the first record of the file is not the header of a measurement file",
             Stop::OtherCaller => "this journal is another caller's",
             Stop::ReportInstead => "a report cannot be asked in the place of another command",

@@ -226,13 +226,19 @@ pub(crate) fn push_late(
     };
     for argument in arguments {
         let name = text_at(argument, "name");
-        match given_to(case, name) {
-            Given::Late(source) if has_place_of(provider, name) => {
-                push_key(out, name)?;
-                push_value(alloc, out, source)?;
-            }
-            _ => {}
+        if has_place_of(provider, name) {
+            push_if_late(alloc, given_to(case, name), name, out)?;
         }
     }
     Ok(())
+}
+
+fn push_if_late(alloc: Global, given: Given, name: &str, out: &mut String) -> Result<(), Memory> {
+    match given {
+        Given::Late(source) => {
+            push_key(out, name)?;
+            push_value(alloc, out, source)
+        }
+        _ => Ok(()),
+    }
 }

@@ -5,6 +5,7 @@ ghost use Rattle.canary_convert.specs.Making.{IsAllOrNothing};
 use crate::arguments::Case;
 use crate::documents::{Document, documents_of, index_of};
 use crate::finding::Finding;
+use crate::place::Place;
 use crate::rollout::convert_rollout;
 use crate::source::Source;
 use crate::template::{convert_template, is_ready, tell_template};
@@ -26,7 +27,15 @@ pub struct Converted {
     pub findings: Vec<Finding>,
     /// What was left out, or means something else here.
     pub notes: Vec<Finding>,
+    /// How many findings, and how many notes, came after these: of each there are 100 at most.
+    pub more_findings: u64,
+    pub more_notes: u64,
 }
+
+// The most documents: what is looked up among them is looked up one by one.
+const MOST_DOCUMENTS: usize = 1_000;
+
+const DOCUMENTS: &str = "more than 1,000 documents: convert fewer at a time";
 
 const KINDS: &str = "expected AnalysisTemplate, Rollout or List";
 
@@ -87,6 +96,9 @@ pub fn convert(alloc: Global, sources: &[Source]) -> Result<Converted, Memory>
 
 fn convert_sources(alloc: Global, work: &mut Work, sources: &[Source]) -> Result<(), Memory> {
     let documents = documents_of(alloc, sources)?;
+    if documents.len() > MOST_DOCUMENTS {
+        return work.tell(alloc, Place::of(0, None), &[DOCUMENTS]);
+    }
     convert_documents(alloc, work, documents.as_slice())
 }
 
@@ -119,6 +131,7 @@ fn outcome_of(alloc: Global, work: Work) -> Converted
         plan,
         ..
     } = work;
+    let (more_findings, more_notes) = (findings.more, notes.more);
     let (findings, notes) = (findings.list, notes.list);
     if findings.is_empty() {
         return Converted {
@@ -127,6 +140,8 @@ fn outcome_of(alloc: Global, work: Work) -> Converted
             plan,
             findings,
             notes,
+            more_findings,
+            more_notes,
         };
     }
     Converted {
@@ -135,6 +150,8 @@ fn outcome_of(alloc: Global, work: Work) -> Converted
         plan: Vec::new(alloc),
         findings,
         notes,
+        more_findings,
+        more_notes,
     }
 }
 

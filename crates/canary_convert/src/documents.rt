@@ -70,7 +70,7 @@ pub(crate) fn documents_of<'a>(
 // The items of a list of documents.
 fn items_of(value: &Value) -> Option<&Vec<Value>> {
     if text_at(value, "kind") == "List" {
-        list_at(value, "items")
+        member(value, "items")?.as_array()
     } else {
         None
     }

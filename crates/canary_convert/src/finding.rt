@@ -23,8 +23,8 @@ pub struct Finding {
 #[derive(Drop)]
 pub(crate) struct Findings {
     pub(crate) list: Vec<Finding>,
-    // How many came after these.
-    more: u64,
+    /// How many came after these.
+    pub(crate) more: u64,
 }
 
 impl Findings {
@@ -74,23 +74,6 @@ impl Findings {
             }
         }
         false
-    }
-
-    /// Adds a last one that counts those that were left out, if there are any; or `Memory`.
-    pub(crate) fn close(&mut self, alloc: Global) -> Result<(), Memory> {
-        if self.more == 0 {
-            return Ok(());
-        }
-        let mut last = Finding {
-            source: 0,
-            path: String::new(alloc),
-            text: String::new(alloc),
-            at: None,
-        };
-        let more = self.more;
-        write!(last.text, "and {more} more")?;
-        self.list.push(last)?;
-        Ok(())
     }
 }
 

@@ -22,9 +22,18 @@ pub(crate) fn text_at<'a>(value: &'a Value, key: &str) -> &'a str {
     }
 }
 
-/// The list under that key.
+// The most items of a list: no list in a manifest of the desk has more, and what is looked up in one
+// is looked up item by item.
+const MOST_ITEMS: usize = 64;
+
+/// The list under that key; none if it has more than 64 items.
 pub(crate) fn list_at<'a>(value: &'a Value, key: &str) -> Option<&'a Vec<Value>> {
-    member(value, key)?.as_array()
+    list_in(member(value, key)?)
+}
+
+/// The list that this is; none if it has more than 64 items.
+pub(crate) fn list_in(value: &Value) -> Option<&Vec<Value>> {
+    value.as_array().filter(|list| list.len() <= MOST_ITEMS)
 }
 
 /// Appends a comma, unless what follows is the first member or item.

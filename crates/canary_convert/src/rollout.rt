@@ -52,6 +52,7 @@ pub(crate) fn convert_rollout(
         rollout: *rollout,
     };
     let mut made = Made::new(alloc, rollout.source);
+    rollout.place().write(&mut made.path)?;
     made.name.push_str(rollout.name())?;
     push_rollout(alloc, work, &site, &mut made.json)?;
     work.services.push(made)?;

@@ -284,8 +284,8 @@ tep":1,"templates":[{"templateName":"t"}]}}}}}
 [1,1,1,1,1,1,1,1,1,1,1,1,1,1,1,1,1,1,1,1,1,1,1,1,1,1,1,1,1,1,1,1,1,1,1,1,1,1,1,1,1,1,1,1,1,1,1,
 1,1,1,1,1,1,1,1,1,1,1,1,1,1,1,1,1,1,1,1,1,1,1,1,1,1,1,1,1,1,1,1,1,1,1,1,1,1,1,1,1,1,1,1,1,1,1,1,
 1,1,1,1,1,1,1]
-=> 101 findings
-=> finding 0 : and 2 more
+=> 100 findings
+=> 0 planned, 2 more
 => finding 99 kind
 => !finding 100"#;
 
@@ -360,7 +360,8 @@ fn push_counts(out: &mut String, converted: &Converted) -> Result<(), Memory> {
         out,
         "{findings} findings, {notes} notes, {templates} templates, "
     )?;
-    write!(out, "{services} services, {planned} planned\n")?;
+    let more = converted.more_findings;
+    write!(out, "{services} services, {planned} planned, {more} more\n")?;
     Ok(())
 }
 

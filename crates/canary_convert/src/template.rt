@@ -12,7 +12,7 @@ use canary_base::names::Name;
 use serde_json::Value;
 use std::alloc::Global;
 
-const METRICS: &str = "expected a list of metrics";
+const METRICS: &str = "expected a list of metrics, 64 at most";
 
 const RETENTION: &str = "ignored: the desk keeps every measurement";
 
@@ -79,6 +79,7 @@ fn index_of(metrics: &Vec<Value>, name: &str) -> Option<usize> {
 /// Adds the desk's template for this case, and how its metrics are measured; or `Memory`.
 pub(crate) fn convert_template(alloc: Global, work: &mut Work, case: &Case) -> Result<(), Memory> {
     let mut made = Made::new(alloc, case.template.source);
+    case.template.place().write(&mut made.path)?;
     write_name(alloc, work, case, &mut made.name)?;
     write_template(alloc, work, case, &mut made)?;
     plan_metrics(alloc, work, case, made.name.as_str())?;

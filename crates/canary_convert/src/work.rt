@@ -1,6 +1,6 @@
 //! What was made and found so far.
 use crate::finding::{Finding, Findings};
-use crate::json::member;
+use crate::json::{list_in, member};
 use crate::place::Place;
 use canary_base::error::Memory;
 use serde_json::Value;
@@ -11,6 +11,8 @@ use std::alloc::Global;
 pub struct Made {
     /// The index of the source.
     pub source: u32,
+    /// The keys that lead to its document in the source: `items[3]` of a list, else empty.
+    pub path: String,
     /// The name of the template or the service.
     pub name: String,
     /// The manifest, one text of JSON.
@@ -87,6 +89,7 @@ impl Made {
     pub(crate) fn new(alloc: Global, source: u32) -> Made {
         Made {
             source,
+            path: String::new(alloc),
             name: String::new(alloc),
             json: String::new(alloc),
         }
@@ -165,8 +168,7 @@ impl Work {
         if let Some(place) = self.nan {
             self.note(alloc, place, &[NAN])?;
         }
-        self.findings.close(alloc)?;
-        self.notes.close(alloc)
+        Ok(())
     }
 
     /// Adds a template, or `Memory`. If there is another one of its name, this is told.
@@ -235,7 +237,7 @@ impl Work {
         }
     }
 
-    /// The list under that key. If there is something else, this is told.
+    /// The list under that key, of at most 64 items. If there is something else, this is told.
     pub(crate) fn list_at<'a>(
         &mut self,
         alloc: Global,
@@ -243,13 +245,13 @@ impl Work {
         value: &'a Value,
         key: &str,
     ) -> Result<Option<&'a Vec<Value>>, Memory> {
-        match member(value, key) {
-            Some(list) if list.is_array() => Ok(list.as_array()),
-            Some(_) => {
-                self.tell(alloc, place, &["expected a list"])?;
-                Ok(None)
-            }
-            None => Ok(None),
+        let Some(member) = member(value, key) else {
+            return Ok(None);
+        };
+        let found = list_in(member);
+        if found.is_none() {
+            self.tell(alloc, place, &["expected a list, of 64 items at most"])?;
         }
+        Ok(found)
     }
 }
