@@ -123,7 +123,7 @@ impl Manifests {
 
 fn source(file: usize, line: usize, value: Value) -> Source {
     Source {
-        file: file as u32,
+        file: u32::try_from(file).unwrap_or(u32::MAX),
         line,
         value,
     }

@@ -41,9 +41,9 @@ impl Translated {
 /// of a manifest finds nothing in what is made, so a desk takes it.
 pub fn translate(alloc: Global, manifests: &Manifests) -> Result<Translated, Memory>
     ensures templates { IfOk result (λ t.
-        IsTrue t.are_taken → IsTrue (are_taken t.made.templates)) }
+        IsTrue t.are_taken → IsTrue (are_taken t.made.templates.items)) }
     ensures services { IfOk result (λ t.
-        IsTrue t.are_taken → IsTrue (are_taken t.made.services)) }
+        IsTrue t.are_taken → IsTrue (are_taken t.made.services.items)) }
 {
     let made = convert(alloc, sources_of(manifests))?;
     let mut found = Findings::new(alloc);
