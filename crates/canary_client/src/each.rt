@@ -75,7 +75,7 @@ fn templates<P: Files + AllocGlobal, F: Write>(
     let mut commands = Vec::new(alloc);
     for template in &made.templates {
         let asking = template_asking(alloc, template.json.as_str())?;
-        commands.push(named(alloc, template, asking)?)?;
+        commands.push(with_name(alloc, template, asking)?)?;
     }
     Ok(commands)
 }
@@ -93,7 +93,7 @@ fn services<P: Files + AllocGlobal, F: Write>(
     let mut commands = Vec::new(alloc);
     for service in &made.services {
         let asking = service_asking(alloc, service.json.as_str(), version.as_str())?;
-        commands.push(named(alloc, service, asking)?)?;
+        commands.push(with_name(alloc, service, asking)?)?;
     }
     Ok(commands)
 }
@@ -125,7 +125,7 @@ fn made_of<P: Files + AllocGlobal, F: Write>(
     Ok(made)
 }
 
-fn named(alloc: Global, made: &Made, asking: Asking) -> Result<Named, Stop> {
+fn with_name(alloc: Global, made: &Made, asking: Asking) -> Result<Named, Stop> {
     let name = String::from_str(alloc, made.name.as_str())?;
     Ok(Named { name, asking })
 }
