@@ -4,7 +4,7 @@ ghost use Rattle.std.specs.Prelude.{IsTrue};
 ghost use Rattle.canary_metric.specs.Measurements.{is_measured};
 
 use crate::fault::Fault;
-use crate::timing::{Work, time};
+use crate::timing::{Work, nanos_of, time};
 use canary_base::durations::Seconds;
 use canary_base::moments::Moment;
 use canary_base::names::Label;
@@ -12,6 +12,7 @@ use canary_condition::outcome::Phase;
 use canary_metric::metric::{Metric, MetricSettings};
 use canary_metric::tally::Tally;
 use std::alloc::Global;
+use std::time::Instant;
 
 // The tallies among which the phases are asked in turn.
 const TALLIES: usize = 4;
@@ -48,22 +49,16 @@ fn print_size(
     };
     let filled = time(rt, &mut filling, fillings)?;
     let tallies = filling.tallies;
-    let asked = time(
-        rt,
-        &mut Asking {
-            tallies,
-            metric,
-            round: 0,
-        },
-        work,
-    )?;
+    let start = Instant::now(rt)?;
+    let running = count_running(&tallies, metric, work);
+    let nanos = nanos_of(start.elapsed(rt)?);
     let additions = rate(
         u64::from(fillings).saturating_mul(u64::from(size)),
         filled.nanos,
     );
-    let phases = rate(u64::from(work), asked.nanos);
+    let phases = rate(u64::from(work), nanos);
     println!(rt; "{size:>12} {additions:>14} {phases:>14}")?;
-    if asked.wanted > work {
+    if running > work {
         println!(rt; "more phases than were asked")?;
     }
     Ok(())
@@ -105,20 +100,15 @@ impl Work for Filling {
     }
 }
 
-// Tallies whose phases are asked in turn.
-#[derive(Clone, Copy)]
-struct Asking<'a> {
-    tallies: [Tally; TALLIES],
-    metric: &'a Metric,
-    round: u32,
-}
-
-impl Work for Asking<'_> {
-    fn done(&mut self, _: Global) -> bool {
-        let place = self.round as usize % TALLIES;
-        self.round = self.round.saturating_add(1);
-        self.tallies[place].phase(self.metric, false) == Phase::Running
+// How many of so many phases are Running. The tallies are asked in turn.
+fn count_running(tallies: &[Tally; TALLIES], metric: &Metric, rounds: u32) -> u32 {
+    let mut running = 0u32;
+    for round in 0..rounds {
+        if tallies[round as usize % TALLIES].phase(metric, false) == Phase::Running {
+            running = running.saturating_add(1);
+        }
     }
+    running
 }
 
 fn filled(size: u32, round: u32, begin: Moment) -> Tally {
