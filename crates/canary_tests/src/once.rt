@@ -83,14 +83,19 @@ const TWO_RUNS: &str = "200 ops 1 0 template t m,success=result>9
 200 ops 4 0 retry
 200 agent 2 0 report 2 m:1:0:5";
 
-/// What is then asked, with the status of its answer.
+/// What is then asked, with the status of its answer; and what is asked after that, if the release
+/// goes on, and if it is aborted.
 const ASKED: &str = "\
 200 ? 0 service web
 200 ? 0 history web
 200 ? 0 run web 1
 404 ? 0 run web 3
 200 ops 3 0 start v2
-200 ops 5 0 abort";
+";
+
+const ABORTED: &str = "200 ops 5 0 abort";
+
+const NOT_ABORTED: &str = "422 ops 5 0 abort";
 
 /// Whether a row is answered by the function for its kind; none where memory was refused.
 fn is_answered(alloc: Global, book: &mut MemoryBook, row: &str) -> Option<bool> {
@@ -162,7 +167,7 @@ fn page(book: &mut MemoryBook, from: u64, most: u32) -> Option<(usize, (u32, u32
     Some((page.len(), place(page.first()), place(page.last())))
 }
 
-fn check_book(rt: &impl Abort, alloc: Global, book: &mut MemoryBook) {
+fn check_book(rt: &impl Abort, alloc: Global, book: &mut MemoryBook, last: &str) {
     for (from, most, told) in [
         (0, 256, (2, (1, 1), (2, 1))),
         (1, 1, (1, (2, 1), (2, 1))),
@@ -171,7 +176,7 @@ fn check_book(rt: &impl Abort, alloc: Global, book: &mut MemoryBook) {
         let found = page(book, from, most).or(page(book, from, most));
         assert!(rt; found == Some(told), "{from} {most}");
     }
-    for row in ASKED.lines() {
+    for row in ASKED.lines().chain(last.lines()) {
         let first = is_answered(alloc, book, row);
         assert!(rt; is_right(first, is_answered(alloc, book, row)), "{row}");
         let first = is_copied(alloc, book, row);
@@ -185,8 +190,8 @@ fn check_book(rt: &impl Abort, alloc: Global, book: &mut MemoryBook) {
 
 #[test]
 fn of_books(rt: HostRuntime) {
-    for story in [TWO_RUNS, RELEASE] {
+    for (story, last) in [(TWO_RUNS, NOT_ABORTED), (RELEASE, ABORTED)] {
         let mut book = send_story(&rt, rt.alloc(), story);
-        check_book(&rt, rt.alloc(), &mut book);
+        check_book(&rt, rt.alloc(), &mut book, last);
     }
 }
