@@ -167,6 +167,13 @@ fn page(book: &mut MemoryBook, from: u64, most: u32) -> Option<(usize, (u32, u32
     Some((page.len(), place(page.first()), place(page.last())))
 }
 
+fn check_row(rt: &impl Abort, alloc: Global, book: &mut MemoryBook, row: &str) {
+    let first = is_answered(alloc, book, row);
+    assert!(rt; is_right(first, is_answered(alloc, book, row)), "{row}");
+    let first = is_copied(alloc, book, row);
+    assert!(rt; is_right(first, is_copied(alloc, book, row)), "{row}");
+}
+
 fn check_book(rt: &impl Abort, alloc: Global, book: &mut MemoryBook, last: &str) {
     for (from, most, told) in [
         (0, 256, (2, (1, 1), (2, 1))),
@@ -176,12 +183,10 @@ fn check_book(rt: &impl Abort, alloc: Global, book: &mut MemoryBook, last: &str)
         let found = page(book, from, most).or(page(book, from, most));
         assert!(rt; found == Some(told), "{from} {most}");
     }
-    for row in ASKED.lines().chain(last.lines()) {
-        let first = is_answered(alloc, book, row);
-        assert!(rt; is_right(first, is_answered(alloc, book, row)), "{row}");
-        let first = is_copied(alloc, book, row);
-        assert!(rt; is_right(first, is_copied(alloc, book, row)), "{row}");
+    for row in ASKED.lines() {
+        check_row(rt, alloc, book, row);
     }
+    check_row(rt, alloc, book, last);
     for call in 0..4 {
         let first = of_book(alloc, book, call);
         assert!(rt; is_right(first, of_book(alloc, book, call)), "{call}");
