@@ -9,16 +9,18 @@ use Rattle.canary_condition.specs.declared.condition.Comparison.{Comparison}
 use Rattle.canary_condition.specs.Spelling.{Level}
 use Rattle.canary_decimal.specs.declared.decimal.ShortDecimal.{ShortDecimal}
 use Rattle.canary_argo.specs.declared.condition.Item.{Item}
-use Rattle.canary_argo.specs.declared.condition.Item.TheVariants.{Or as OrItem, And as AndItem, Not as NotItem, Open as OpenGroup, Close as CloseGroup, Compare as CompareItem, NaN as NaNItem}
+use Rattle.canary_argo.specs.declared.condition.Item.TheVariants.{Or as OrItem, And as AndItem, Not as NotItem, Open as OpenGroup, Close as CloseGroup, Compare as CompareItem, NaN as NaNItem, Inf as InfItem}
+use Rattle.canary_argo.specs.declared.condition.Amount.{Amount}
+use Rattle.canary_argo.specs.declared.condition.Function.TheVariants.{AsFloat, AsInt}
+use Rattle.canary_argo.specs.declared.condition.Look.{Look}
 use Rattle.canary_argo.specs.declared.condition.Place.{Place}
-use Rattle.canary_argo.specs.declared.condition.Place.TheVariants.{Whole, Item as ItemPlace, Length}
 use Rattle.canary_argo.specs.declared.condition.Test.{Test}
 use Rattle.canary_argo.specs.declared.condition.Token.{Token}
-use Rattle.canary_argo.specs.declared.condition.Token.TheVariants.{Compares, OrSign, AndSign, NotSign, Open, Close, OpenItem, CloseItem, ResultWord, AsFloatWord, LenWord, NaNWord, Number}
-use Rattle.canary_argo.specs.Spelling.{place_tokens, value_tokens, test_tokens, nan_tokens, Spells}
-use Rattle.canary_argo.specs.Grouping.{natural, index_of, place_at, after_result, closed, front_value, with_number, with_value, turned_test, front_test, nan_item, front_item, item_tokens, all_tokens, SpellsItems}
+use Rattle.canary_argo.specs.declared.condition.Token.TheVariants.{Compares, OrSign, AndSign, NotSign, Open, Close, OpenItem, CloseItem, ResultWord, AsFloatWord, AsIntWord, DefaultWord, LenWord, NaNWord, InfWord, Comma, Number}
+use Rattle.canary_argo.specs.Spelling.{place_tokens, value_tokens, bracketed, look_tokens, amount_tokens, test_tokens, nan_tokens, inf_tokens, Spells}
+use Rattle.canary_argo.specs.Grouping.{natural, index_of, place_at, after_result, closed, defaulted, front_value, within, in_brackets, front_look, front_amount, with_amount, after_look, with_look, after_amount, look_first, amount_first, front_test, nan_item, inf_item, test_or_open, front_item, item_tokens, all_tokens, SpellsItems}
 use Rattle.canary_argo.specs.Trees.{Tree}
-use Rattle.canary_argo.specs.Trees.Tree.{Or, And, Not, Bracket, Compare, IsNaN}
+use Rattle.canary_argo.specs.Trees.Tree.{Or, And, Not, Bracket, Compare, IsNaN, IsInf}
 
 -- ---- places
 
@@ -48,20 +50,64 @@ after_holds ts = refl
 
 -- ---- values
 
-abbrev ValueAt : List Token → Option ((Bool × Place) × List Token) → Type 0
+abbrev ValueAt : List Token → Option (Look × List Token) → Type 0
 ValueAt ts None = Unit {0}
-ValueAt ts (Some v) = ts ≡ value_tokens v.0.0 v.0.1 ++ v.1
+ValueAt ts (Some v) = (v.0.bracketed ≡ false) × (ts ≡ value_tokens v.0.function v.0.place ++ v.1)
 
-closed_holds : (place : Place) (ts rest : List Token) → ResultWord ∷ ts ≡ place_tokens place ++ rest → ValueAt (AsFloatWord ∷ Open ∷ ResultWord ∷ ts) (closed place rest)
-closed_holds place ts (Close ∷ rest) e =
-    ap (λ (r : List Token). AsFloatWord ∷ Open ∷ r) (e ∙ sym (append_assoc (place_tokens place) (Close ∷ []) rest))
-closed_holds place ts rest e = tt
+float_holds : (place : Place) (ts rest : List Token) → ResultWord ∷ ts ≡ place_tokens place ++ rest → ValueAt (AsFloatWord ∷ Open ∷ ResultWord ∷ ts) (closed AsFloat place rest)
+float_holds place ts (Close ∷ rest) e =
+    (refl, ap (λ (r : List Token). AsFloatWord ∷ Open ∷ r) (e ∙ sym (append_assoc (place_tokens place) (Close ∷ []) rest)))
+float_holds place ts rest e = tt
+
+int_holds : (place : Place) (ts rest : List Token) → ResultWord ∷ ts ≡ place_tokens place ++ rest → ValueAt (AsIntWord ∷ Open ∷ ResultWord ∷ ts) (closed AsInt place rest)
+int_holds place ts (Close ∷ rest) e =
+    (refl, ap (λ (r : List Token). AsIntWord ∷ Open ∷ r) (e ∙ sym (append_assoc (place_tokens place) (Close ∷ []) rest)))
+int_holds place ts rest e = tt
+
+default_holds : (place : Place) (ts rest : List Token) → ResultWord ∷ ts ≡ place_tokens place ++ rest → ValueAt (DefaultWord ∷ Open ∷ ResultWord ∷ ts) (defaulted place rest)
+default_holds place ts (Comma ∷ Number d ∷ Close ∷ rest) e =
+    (refl, ap (λ (r : List Token). DefaultWord ∷ Open ∷ r) (e ∙ sym (append_assoc (place_tokens place) (Comma ∷ Number d ∷ Close ∷ []) rest)))
+default_holds place ts rest e = tt
 
 value_holds : (ts : List Token) → ValueAt ts (front_value ts)
-value_holds (ResultWord ∷ ts) = after_holds ts
-value_holds (AsFloatWord ∷ Open ∷ ResultWord ∷ ts) = closed_holds (after_result ts).0 ts (after_result ts).1 (after_holds ts)
-value_holds (LenWord ∷ Open ∷ ResultWord ∷ Close ∷ ts) = refl
+value_holds (ResultWord ∷ ts) = (refl, after_holds ts)
+value_holds (AsFloatWord ∷ Open ∷ ResultWord ∷ ts) = float_holds (after_result ts).0 ts (after_result ts).1 (after_holds ts)
+value_holds (AsIntWord ∷ Open ∷ ResultWord ∷ ts) = int_holds (after_result ts).0 ts (after_result ts).1 (after_holds ts)
+value_holds (DefaultWord ∷ Open ∷ ResultWord ∷ ts) = default_holds (after_result ts).0 ts (after_result ts).1 (after_holds ts)
+value_holds (LenWord ∷ Open ∷ ResultWord ∷ Close ∷ ts) = (refl, refl)
 value_holds ts = tt
+
+-- ---- operands, in brackets or not
+
+abbrev LookAt : List Token → Option (Look × List Token) → Type 0
+LookAt ts None = Unit {0}
+LookAt ts (Some v) = ts ≡ look_tokens v.0 ++ v.1
+
+within_holds : (ts : List Token) (v : Look) (rest : List Token) → ts ≡ value_tokens v.function v.place ++ rest → LookAt (Open ∷ ts) (within v rest)
+within_holds ts v (Close ∷ rest) e =
+    ap (λ (r : List Token). Open ∷ r) (e ∙ sym (append_assoc (value_tokens v.function v.place) (Close ∷ []) rest))
+within_holds ts v rest e = tt
+
+brackets_hold : (ts : List Token) (v : Option (Look × List Token)) → ValueAt ts v → LookAt (Open ∷ ts) (in_brackets v)
+brackets_hold ts None h = tt
+brackets_hold ts (Some v) h = within_holds ts v.0 v.1 h.1
+
+plain_holds : (ts : List Token) (v : Option (Look × List Token)) → ValueAt ts v → LookAt ts v
+plain_holds ts None h = tt
+plain_holds ts (Some v) h = h.1 ∙ ap (λ (b : Bool). bracketed b (value_tokens v.0.function v.0.place) ++ v.1) (sym h.0)
+
+look_holds : (ts : List Token) → LookAt ts (front_look ts)
+look_holds (Open ∷ ts) = brackets_hold ts (front_value ts) (value_holds ts)
+look_holds ts = plain_holds ts (front_value ts) (value_holds ts)
+
+abbrev AmountAt : List Token → Option (Amount × List Token) → Type 0
+AmountAt ts None = Unit {0}
+AmountAt ts (Some n) = ts ≡ amount_tokens n.0 ++ n.1
+
+amount_holds : (ts : List Token) → AmountAt ts (front_amount ts)
+amount_holds (Number d ∷ ts) = refl
+amount_holds (Open ∷ Number d ∷ Close ∷ ts) = refl
+amount_holds ts = tt
 
 -- ---- comparisons
 
@@ -69,21 +115,37 @@ abbrev TestAt : List Token → Option (Test × List Token) → Type 0
 TestAt ts None = Unit {0}
 TestAt ts (Some t) = ts ≡ test_tokens t.0 ++ t.1
 
-number_holds : (ts : List Token) (value : Bool × Place) (rest : List Token) → ts ≡ value_tokens value.0 value.1 ++ rest → TestAt ts (with_number value rest)
-number_holds ts value (Compares c ∷ Number d ∷ rest) e = e ∙ sym (append_assoc (value_tokens value.0 value.1) (Compares c ∷ Number d ∷ []) rest)
-number_holds ts value rest e = tt
+-- a value or a number, the sign, and the other one
+joined : (ts front sign back rest behind : List Token) → ts ≡ front ++ rest → rest ≡ sign ++ behind → (end : List Token) → behind ≡ back ++ end → ts ≡ (front ++ (sign ++ back)) ++ end
+joined ts front sign back rest behind e f end g =
+    e ∙ ap (λ (r : List Token). front ++ r) (f ∙ ap (λ (r : List Token). sign ++ r) g ∙ sym (append_assoc sign back end)) ∙ sym (append_assoc front (sign ++ back) end)
 
-with_value_holds : (ts : List Token) (v : Option ((Bool × Place) × List Token)) → ValueAt ts v → TestAt ts (with_value v)
-with_value_holds ts None h = tt
-with_value_holds ts (Some v) h = number_holds ts v.0 v.1 h
+with_amount_holds : (ts : List Token) (v : Look) (c : Comparison) (behind : List Token) (n : Option (Amount × List Token)) → ts ≡ look_tokens v ++ Compares c ∷ behind → AmountAt behind n → TestAt ts (with_amount v c n)
+with_amount_holds ts v c behind None e h = tt
+with_amount_holds ts v c behind (Some n) e h = joined ts (look_tokens v) (Compares c ∷ []) (amount_tokens n.0) (Compares c ∷ behind) behind e refl n.1 h
 
-turned_holds : (d : ShortDecimal) (c : Comparison) (ts : List Token) (v : Option ((Bool × Place) × List Token)) → ValueAt ts v → TestAt (Number d ∷ Compares c ∷ ts) (turned_test c d v)
-turned_holds d c ts None h = tt
-turned_holds d c ts (Some v) h = ap (λ (r : List Token). Number d ∷ Compares c ∷ r) h
+after_look_holds : (ts : List Token) (v : Look) (rest : List Token) → ts ≡ look_tokens v ++ rest → TestAt ts (after_look v rest)
+after_look_holds ts v (Compares c ∷ behind) e = with_amount_holds ts v c behind (front_amount behind) e (amount_holds behind)
+after_look_holds ts v rest e = tt
+
+with_look_holds : (ts : List Token) (n : Amount) (c : Comparison) (behind : List Token) (v : Option (Look × List Token)) → ts ≡ amount_tokens n ++ Compares c ∷ behind → LookAt behind v → TestAt ts (with_look n c v)
+with_look_holds ts n c behind None e h = tt
+with_look_holds ts n c behind (Some v) e h = joined ts (amount_tokens n) (Compares c ∷ []) (look_tokens v.0) (Compares c ∷ behind) behind e refl v.1 h
+
+after_amount_holds : (ts : List Token) (n : Amount) (rest : List Token) → ts ≡ amount_tokens n ++ rest → TestAt ts (after_amount n rest)
+after_amount_holds ts n (Compares c ∷ behind) e = with_look_holds ts n c behind (front_look behind) e (look_holds behind)
+after_amount_holds ts n rest e = tt
+
+look_first_holds : (ts : List Token) (v : Option (Look × List Token)) → LookAt ts v → TestAt ts (look_first v)
+look_first_holds ts None h = tt
+look_first_holds ts (Some v) h = after_look_holds ts v.0 v.1 h
+
+amount_first_holds : (ts : List Token) (n : Option (Amount × List Token)) → AmountAt ts n → TestAt ts (amount_first n ts)
+amount_first_holds ts None h = look_first_holds ts (front_look ts) (look_holds ts)
+amount_first_holds ts (Some n) h = after_amount_holds ts n.0 n.1 h
 
 test_holds : (ts : List Token) → TestAt ts (front_test ts)
-test_holds (Number d ∷ Compares c ∷ ts) = turned_holds d c ts (front_value ts) (value_holds ts)
-test_holds ts = with_value_holds ts (front_value ts) (value_holds ts)
+test_holds ts = amount_first_holds ts (front_amount ts) (amount_holds ts)
 
 -- ---- groups
 
@@ -100,30 +162,31 @@ nan_holds place ts (Close ∷ rest) e =
     ap (λ (r : List Token). NaNWord ∷ Open ∷ r) (e ∙ sym (append_assoc (place_tokens place) (Close ∷ []) rest))
 nan_holds place ts rest e = tt
 
+inf_holds : (place : Place) (ts rest : List Token) → ResultWord ∷ ts ≡ place_tokens place ++ rest → ItemAt (InfWord ∷ Open ∷ ResultWord ∷ ts) (inf_item place rest)
+inf_holds place ts (Close ∷ rest) e =
+    (ap (λ (r : List Token). InfWord ∷ Open ∷ r) (e ∙ sym (append_assoc (place_tokens place) (Close ∷ []) rest)))
+inf_holds place ts rest e = tt
+
+or_open : (ts : List Token) (t : Option (Test × List Token)) → TestAt (Open ∷ ts) t → ItemAt (Open ∷ ts) (test_or_open t ts)
+or_open ts None h = refl
+or_open ts (Some t) h = h
+
 item_holds : (ts : List Token) → ItemAt ts (front_item ts)
 item_holds (OrSign ∷ ts) = refl
 item_holds (AndSign ∷ ts) = refl
 item_holds (NotSign ∷ ts) = refl
-item_holds (Open ∷ ts) = refl
+item_holds (Open ∷ ts) = or_open ts (front_test (Open ∷ ts)) (test_holds (Open ∷ ts))
 item_holds (Close ∷ ts) = refl
 item_holds (NaNWord ∷ Open ∷ ResultWord ∷ ts) = nan_holds (after_result ts).0 ts (after_result ts).1 (after_holds ts)
+item_holds (InfWord ∷ Open ∷ ResultWord ∷ ts) = inf_holds (after_result ts).0 ts (after_result ts).1 (after_holds ts)
 item_holds ts = as_item ts (front_test ts) (test_holds ts)
 
 pub item_is : (ts rest : List Token) (item : Item) → Some (item, rest) ≡ front_item ts → ts ≡ item_tokens item ++ rest
 item_is ts rest item e = subst (ItemAt ts) (sym e) (item_holds ts)
 
-some_place : (p : Place) → 1 ≤ length (place_tokens p)
-some_place Whole = omega arith
-some_place (ItemPlace i) = omega arith
-some_place Length = omega arith
-
-some_value : (b : Bool) (p : Place) (rest : List Token) → 1 ≤ length (value_tokens b p ++ rest)
-some_value false p rest = omega (arith, length-append (place_tokens p) rest, some_place p)
-some_value true p rest = omega arith
-
-some_test : (b f : Bool) (p : Place) (c : Comparison) (d : ShortDecimal) → 1 ≤ length (test_tokens (record { place = p; as_float = f; comparison = c; number = d; turned = b }))
-some_test true f p c d = omega arith
-some_test false f p c d = some_value f p (Compares c ∷ Number d ∷ [])
+some_test : (b : Bool) (v : Look) (c : Comparison) (n : Amount) → 1 ≤ length (test_tokens (record { look = v; comparison = c; amount = n; turned = b }))
+some_test true v c n = omega (arith, length-append (amount_tokens n) (Compares c ∷ look_tokens v))
+some_test false v c n = omega (arith, length-append (look_tokens v) (Compares c ∷ amount_tokens n))
 
 some_tokens : (item : Item) → 1 ≤ length (item_tokens item)
 some_tokens OrItem = omega arith
@@ -132,7 +195,8 @@ some_tokens NotItem = omega arith
 some_tokens OpenGroup = omega arith
 some_tokens CloseGroup = omega arith
 some_tokens (NaNItem place) = omega arith
-some_tokens (CompareItem t) = some_test t.turned t.as_float t.place t.comparison t.number
+some_tokens (InfItem place) = omega arith
+some_tokens (CompareItem t) = some_test t.turned t.look t.comparison t.amount
 
 -- a group takes a token at least
 pub item_shorter : (ts rest : List Token) (item : Item) → Some (item, rest) ≡ front_item ts → length rest < length ts
@@ -158,3 +222,4 @@ spelled_tokens (Bracket a) level items (inside, e, ha) =
     (all_tokens inside, ap all_tokens e ∙ ap (λ (r : List Token). Open ∷ r) (flat_map-append item_tokens inside (CloseGroup ∷ [])), spelled_tokens a _ inside ha)
 spelled_tokens (Compare test) level items e = ap all_tokens e ∙ append-nil (test_tokens test)
 spelled_tokens (IsNaN place) level items e = ap all_tokens e ∙ append-nil (nan_tokens place)
+spelled_tokens (IsInf place) level items e = ap all_tokens e ∙ append-nil (inf_tokens place)

@@ -2,5 +2,7 @@ mod Words
 mod Groups
 mod Skeletons
 mod Printed
+mod Cutting
 mod SameValues
 mod Suffixes
+mod Apart

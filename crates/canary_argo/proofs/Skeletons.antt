@@ -17,12 +17,12 @@ use Rattle.canary_condition.specs.Spelling.Level.{AtOr, AtAnd, AtNot}
 use Rattle.canary_condition.specs.Trees.{Tree as DeskTree}
 use Rattle.canary_condition.specs.Trees.Tree.{Or as DeskOr, And as DeskAnd, Not as DeskNot, Bracket as DeskBracket, Compare as DeskCompare}
 use Rattle.canary_argo.specs.declared.condition.Item.{Item}
-use Rattle.canary_argo.specs.declared.condition.Item.TheVariants.{Or as OrItem, And as AndItem, Not as NotItem, Open as OpenGroup, Close as CloseGroup, Compare as CompareItem, NaN as NaNItem}
+use Rattle.canary_argo.specs.declared.condition.Item.TheVariants.{Or as OrItem, And as AndItem, Not as NotItem, Open as OpenGroup, Close as CloseGroup, Compare as CompareItem, NaN as NaNItem, Inf as InfItem}
 use Rattle.canary_argo.specs.Grouping.{is_not, is_test, are_closed, SpellsItems}
 use Rattle.canary_argo.specs.Spelling.{IsClosed}
 use Rattle.canary_argo.specs.Translating.{skeleton_of}
 use Rattle.canary_argo.specs.Trees.{Tree}
-use Rattle.canary_argo.specs.Trees.Tree.{Or, And, Not, Bracket, Compare, IsNaN}
+use Rattle.canary_argo.specs.Trees.Tree.{Or, And, Not, Bracket, Compare, IsNaN, IsInf}
 
 abbrev sign_tokens : Item → List Token
 sign_tokens OrItem = OrSign ∷ []
@@ -32,6 +32,7 @@ sign_tokens OpenGroup = Open ∷ []
 sign_tokens CloseGroup = Close ∷ []
 sign_tokens (CompareItem test) = Digits (pos 1) ∷ Compares Less ∷ Digits (pos 1) ∷ []
 sign_tokens (NaNItem place) = Digits (pos 1) ∷ Compares Less ∷ Digits (pos 1) ∷ []
+sign_tokens (InfItem place) = Digits (pos 1) ∷ Compares Less ∷ Digits (pos 1) ∷ []
 
 abbrev all_signs : List Item → List Token
 all_signs items = flat_map sign_tokens items
@@ -48,6 +49,8 @@ signs_after (CloseGroup ∷ items) = ap (option_map (λ (ts : List Token). Close
 signs_after (CompareItem test ∷ items) =
     ap (λ (r : Option (List Token)). option_map (λ (ts : List Token). Digits (pos 1) ∷ ts) (option_map (λ (ts : List Token). Compares Less ∷ ts) (option_map (λ (ts : List Token). Digits (pos 1) ∷ ts) r))) (signs_after items)
 signs_after (NaNItem place ∷ items) =
+    ap (λ (r : Option (List Token)). option_map (λ (ts : List Token). Digits (pos 1) ∷ ts) (option_map (λ (ts : List Token). Compares Less ∷ ts) (option_map (λ (ts : List Token). Digits (pos 1) ∷ ts) r))) (signs_after items)
+signs_after (InfItem place ∷ items) =
     ap (λ (r : Option (List Token)). option_map (λ (ts : List Token). Digits (pos 1) ∷ ts) (option_map (λ (ts : List Token). Compares Less ∷ ts) (option_map (λ (ts : List Token). Digits (pos 1) ∷ ts) r))) (signs_after items)
 
 pub signs_of : (items : List Item) → tokens_of (skeleton_of items) ≡ Some (all_signs items)
@@ -93,6 +96,7 @@ some_signs OpenGroup = omega arith
 some_signs CloseGroup = omega arith
 some_signs (CompareItem test) = omega arith
 some_signs (NaNItem place) = omega arith
+some_signs (InfItem place) = omega arith
 
 none_left : (items : List Item) → all_signs items ≡ [] → items ≡ []
 none_left [] e = refl
@@ -137,6 +141,7 @@ split_at x s (NotItem ∷ ys) front rest is e = at_one x NotItem s NotSign ys fr
 split_at x s (OpenGroup ∷ ys) front rest is e = at_one x OpenGroup s Open ys front rest is refl refl e (λ f d. split_at x s ys f rest is d)
 split_at x s (CloseGroup ∷ ys) front rest is e = at_one x CloseGroup s Close ys front rest is refl refl e (λ f d. split_at x s ys f rest is d)
 split_at x s (NaNItem p ∷ ys) front rest is e = at_test x (NaNItem p) s ys front rest is refl e (λ f d. split_at x s ys f rest is d)
+split_at x s (InfItem p ∷ ys) front rest is e = at_test x (InfItem p) s ys front rest is refl e (λ f d. split_at x s ys f rest is d)
 split_at x s (CompareItem t ∷ ys) front rest is e = at_test x (CompareItem t) s ys front rest is refl e (λ f d. split_at x s ys f rest is d)
 
 -- the same of a sign that stands first
@@ -224,6 +229,9 @@ compare_unspelled n level (CloseGroup ∷ ys) x y c front rest closed hx hy e = 
 compare_unspelled n level (NaNItem p ∷ ys) x y c front rest closed hx hy e =
     let alone = alone_by (NaNItem p) ys x y c front rest hx hy e in
     (IsNaN p, ap (λ (l : List Item). NaNItem p ∷ l) alone, λ _. tt)
+compare_unspelled n level (InfItem p ∷ ys) x y c front rest closed hx hy e =
+    let alone = alone_by (InfItem p) ys x y c front rest hx hy e in
+    (IsInf p, ap (λ (l : List Item). InfItem p ∷ l) alone, λ _. tt)
 compare_unspelled n level (CompareItem t ∷ ys) x y c front rest closed hx hy e =
     let alone = alone_by (CompareItem t) ys x y c front rest hx hy e in
     (Compare t, ap (λ (l : List Item). CompareItem t ∷ l) alone, λ after. false≢true (sym (ap (λ (b : Bool). if b && true then false else are_closed false ys) after) ∙ closed))

@@ -7,15 +7,19 @@ use Rattle.canary_condition.specs.Spelling.{Level, has_or, has_and, has_not}
 use Rattle.canary_condition.specs.Spelling.Level.{AtOr, AtAnd, AtNot}
 use Rattle.canary_decimal.specs.declared.decimal.ShortDecimal.{ShortDecimal}
 use Rattle.canary_argo.specs.declared.condition.Item.{Item}
-use Rattle.canary_argo.specs.declared.condition.Item.TheVariants.{Or as OrItem, And as AndItem, Not as NotItem, Open as OpenGroup, Close as CloseGroup, Compare as CompareItem, NaN as NaNItem}
+use Rattle.canary_argo.specs.declared.condition.Item.TheVariants.{Or as OrItem, And as AndItem, Not as NotItem, Open as OpenGroup, Close as CloseGroup, Compare as CompareItem, NaN as NaNItem, Inf as InfItem}
+use Rattle.canary_argo.specs.declared.condition.Amount.{Amount}
+use Rattle.canary_argo.specs.declared.condition.Function.{Function}
+use Rattle.canary_argo.specs.declared.condition.Function.TheVariants.{Plain, AsFloat, AsInt, Default}
+use Rattle.canary_argo.specs.declared.condition.Look.{Look}
 use Rattle.canary_argo.specs.declared.condition.Place.{Place}
 use Rattle.canary_argo.specs.declared.condition.Place.TheVariants.{Whole, Item as ItemPlace, Length}
 use Rattle.canary_argo.specs.declared.condition.Test.{Test}
 use Rattle.canary_argo.specs.declared.condition.Token.{Token}
-use Rattle.canary_argo.specs.declared.condition.Token.TheVariants.{Compares, OrSign, AndSign, NotSign, Open, Close, OpenItem, CloseItem, ResultWord, AsFloatWord, LenWord, NaNWord, Number}
-use Rattle.canary_argo.specs.Spelling.{test_tokens, nan_tokens, IsClosed}
+use Rattle.canary_argo.specs.declared.condition.Token.TheVariants.{Compares, OrSign, AndSign, NotSign, Open, Close, OpenItem, CloseItem, ResultWord, AsFloatWord, AsIntWord, DefaultWord, LenWord, NaNWord, InfWord, Comma, Number}
+use Rattle.canary_argo.specs.Spelling.{test_tokens, nan_tokens, inf_tokens, IsClosed}
 use Rattle.canary_argo.specs.Trees.{Tree}
-use Rattle.canary_argo.specs.Trees.Tree.{Or, And, Not, Bracket, Compare, IsNaN}
+use Rattle.canary_argo.specs.Trees.Tree.{Or, And, Not, Bracket, Compare, IsNaN, IsInf}
 
 abbrev pub natural : ℤ → Option ℕ
 natural (pos n) = Some n
@@ -36,53 +40,108 @@ after_result (OpenItem ∷ Number d ∷ CloseItem ∷ ts) =
 after_result ts = (Whole, ts)
 
 -- a value, and what follows it
-abbrev pub closed : Place → List Token → Option ((Bool × Place) × List Token)
-closed place (Close ∷ ts) = Some ((true, place), ts)
-closed place ts = None
+abbrev pub plain_look : Function → Place → Look
+plain_look function place = record { place = place; function = function; bracketed = false }
 
-abbrev pub front_value : List Token → Option ((Bool × Place) × List Token)
-front_value (ResultWord ∷ ts) = Some ((false, (after_result ts).0), (after_result ts).1)
+abbrev pub closed : Function → Place → List Token → Option (Look × List Token)
+closed function place (Close ∷ ts) = Some (plain_look function place, ts)
+closed function place ts = None
+
+abbrev pub defaulted : Place → List Token → Option (Look × List Token)
+defaulted place (Comma ∷ Number d ∷ Close ∷ ts) = Some (plain_look (Default d) place, ts)
+defaulted place ts = None
+
+abbrev pub front_value : List Token → Option (Look × List Token)
+front_value (ResultWord ∷ ts) = Some (plain_look Plain (after_result ts).0, (after_result ts).1)
 front_value (AsFloatWord ∷ Open ∷ ResultWord ∷ ts) =
-    closed (after_result ts).0 (after_result ts).1
-front_value (LenWord ∷ Open ∷ ResultWord ∷ Close ∷ ts) = Some ((false, Length), ts)
+    closed AsFloat (after_result ts).0 (after_result ts).1
+front_value (AsIntWord ∷ Open ∷ ResultWord ∷ ts) =
+    closed AsInt (after_result ts).0 (after_result ts).1
+front_value (DefaultWord ∷ Open ∷ ResultWord ∷ ts) =
+    defaulted (after_result ts).0 (after_result ts).1
+front_value (LenWord ∷ Open ∷ ResultWord ∷ Close ∷ ts) = Some (plain_look Plain Length, ts)
 front_value ts = None
 
-abbrev pub made : Bool → Bool × Place → Comparison → ShortDecimal → Test
-made turned value c d =
-    record { place = value.1; as_float = value.0; comparison = c; number = d; turned = turned }
+-- the same in brackets
+abbrev pub within : Look → List Token → Option (Look × List Token)
+within v (Close ∷ ts) =
+    Some (record { place = v.place; function = v.function; bracketed = true }, ts)
+within v ts = None
 
--- the comparison of a value with the number that follows it
-abbrev pub with_number : Bool × Place → List Token → Option (Test × List Token)
-with_number value (Compares c ∷ Number d ∷ ts) = Some (made false value c d, ts)
-with_number value ts = None
+abbrev pub in_brackets : Option (Look × List Token) → Option (Look × List Token)
+in_brackets None = None
+in_brackets (Some v) = within v.0 v.1
 
-abbrev pub with_value : Option ((Bool × Place) × List Token) → Option (Test × List Token)
-with_value None = None
-with_value (Some v) = with_number v.0 v.1
+abbrev pub front_look : List Token → Option (Look × List Token)
+front_look (Open ∷ ts) = in_brackets (front_value ts)
+front_look ts = front_value ts
 
--- the comparison of a number with the value that follows it
-abbrev pub turned_test : Comparison → ShortDecimal → Option ((Bool × Place) × List Token)
-    → Option (Test × List Token)
-turned_test c d None = None
-turned_test c d (Some v) = Some (made true v.0 c d, v.1)
+-- a number, and what follows it
+abbrev pub amount_of : Bool → ShortDecimal → Amount
+amount_of brackets d = record { number = d; bracketed = brackets }
 
+abbrev pub front_amount : List Token → Option (Amount × List Token)
+front_amount (Number d ∷ ts) = Some (amount_of false d, ts)
+front_amount (Open ∷ Number d ∷ Close ∷ ts) = Some (amount_of true d, ts)
+front_amount ts = None
+
+abbrev pub made : Bool → Look → Comparison → Amount → Test
+made turned v c n = record { look = v; comparison = c; amount = n; turned = turned }
+
+-- the comparison of a value with the number that follows its sign
+abbrev pub with_amount : Look → Comparison → Option (Amount × List Token) → Option (Test × List Token)
+with_amount v c None = None
+with_amount v c (Some n) = Some (made false v c n.0, n.1)
+
+abbrev pub after_look : Look → List Token → Option (Test × List Token)
+after_look v (Compares c ∷ ts) = with_amount v c (front_amount ts)
+after_look v ts = None
+
+-- the comparison of a number with the value that follows its sign
+abbrev pub with_look : Amount → Comparison → Option (Look × List Token) → Option (Test × List Token)
+with_look n c None = None
+with_look n c (Some v) = Some (made true v.0 c n, v.1)
+
+abbrev pub after_amount : Amount → List Token → Option (Test × List Token)
+after_amount n (Compares c ∷ ts) = with_look n c (front_look ts)
+after_amount n ts = None
+
+abbrev pub look_first : Option (Look × List Token) → Option (Test × List Token)
+look_first None = None
+look_first (Some v) = after_look v.0 v.1
+
+abbrev pub amount_first : Option (Amount × List Token) → List Token → Option (Test × List Token)
+amount_first None ts = look_first (front_look ts)
+amount_first (Some n) ts = after_amount n.0 n.1
+
+-- the comparison at the front, and what follows it
 abbrev pub front_test : List Token → Option (Test × List Token)
-front_test (Number d ∷ Compares c ∷ ts) = turned_test c d (front_value ts)
-front_test ts = with_value (front_value ts)
+front_test ts = amount_first (front_amount ts) ts
 
 -- `isNaN` of a place, and what follows it
 abbrev pub nan_item : Place → List Token → Option (Item × List Token)
 nan_item place (Close ∷ ts) = Some (NaNItem place, ts)
 nan_item place ts = None
 
+-- `isInf` of a place, and what follows it
+abbrev pub inf_item : Place → List Token → Option (Item × List Token)
+inf_item place (Close ∷ ts) = Some (InfItem place, ts)
+inf_item place ts = None
+
+-- a comparison that begins with a bracket, or the bracket alone
+abbrev pub test_or_open : Option (Test × List Token) → List Token → Option (Item × List Token)
+test_or_open (Some t) ts = Some (CompareItem t.0, t.1)
+test_or_open None ts = Some (OpenGroup, ts)
+
 -- the group at the front, and what follows it
 abbrev pub front_item : List Token → Option (Item × List Token)
 front_item (OrSign ∷ ts) = Some (OrItem, ts)
 front_item (AndSign ∷ ts) = Some (AndItem, ts)
 front_item (NotSign ∷ ts) = Some (NotItem, ts)
-front_item (Open ∷ ts) = Some (OpenGroup, ts)
+front_item (Open ∷ ts) = test_or_open (front_test (Open ∷ ts)) ts
 front_item (Close ∷ ts) = Some (CloseGroup, ts)
 front_item (NaNWord ∷ Open ∷ ResultWord ∷ ts) = nan_item (after_result ts).0 (after_result ts).1
+front_item (InfWord ∷ Open ∷ ResultWord ∷ ts) = inf_item (after_result ts).0 (after_result ts).1
 front_item ts = option_map (λ (r : Test × List Token). (CompareItem r.0, r.1)) (front_test ts)
 
 abbrev pub item_tokens : Item → List Token
@@ -93,6 +152,7 @@ item_tokens OpenGroup = Open ∷ []
 item_tokens CloseGroup = Close ∷ []
 item_tokens (CompareItem test) = test_tokens test
 item_tokens (NaNItem place) = nan_tokens place
+item_tokens (InfItem place) = inf_tokens place
 
 abbrev pub all_tokens : List Item → List Token
 all_tokens items = flat_map item_tokens items
@@ -127,3 +187,4 @@ SpellsItems (Bracket a) level items =
     × SpellsItems a AtOr inside
 SpellsItems (Compare test) level items = items ≡ CompareItem test ∷ []
 SpellsItems (IsNaN place) level items = items ≡ NaNItem place ∷ []
+SpellsItems (IsInf place) level items = items ≡ InfItem place ∷ []

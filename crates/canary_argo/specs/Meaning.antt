@@ -1,5 +1,5 @@
 -- What a condition of Argo Rollouts says of what was measured.
-use Rattle.std.specs.Prelude.{pos, Bool, true, false, Option, Some, None, List, length, slice_get}
+use Rattle.std.specs.Prelude.{ℕ, suc, ◌/◌, ◌^◌, ℤ, pos, negsuc, neg_ℤ, Bool, true, false, Option, Some, None, List, length, slice_get}
 use Rattle.canary_condition.specs.declared.condition.Comparison.{Comparison}
 use Rattle.canary_condition.specs.declared.condition.Comparison.TheVariants.{NotEqual}
 use Rattle.canary_condition.specs.declared.condition.Verdict3.{Verdict3}
@@ -7,11 +7,13 @@ use Rattle.canary_condition.specs.declared.condition.Verdict3.TheVariants.{True,
 use Rattle.canary_condition.specs.Meaning.{compares, verdict_of_test, or_of, and_of, not_of}
 use Rattle.canary_decimal.specs.Exactness.{Fraction, compares_exactly}
 use Rattle.canary_decimal.specs.Short.{fraction_of}
+use Rattle.canary_argo.specs.declared.condition.Function.{Function}
+use Rattle.canary_argo.specs.declared.condition.Function.TheVariants.{Plain, AsFloat, AsInt, Default}
 use Rattle.canary_argo.specs.declared.condition.Place.{Place}
 use Rattle.canary_argo.specs.declared.condition.Place.TheVariants.{Whole, Item, Length}
 use Rattle.canary_argo.specs.declared.condition.Test.{Test}
 use Rattle.canary_argo.specs.Trees.{Tree}
-use Rattle.canary_argo.specs.Trees.Tree.{Or, And, Not, Bracket, Compare, IsNaN}
+use Rattle.canary_argo.specs.Trees.Tree.{Or, And, Not, Bracket, Compare, IsNaN, IsInf}
 
 -- a value that a provider gives
 pub data Given : Type 0 where
@@ -49,7 +51,7 @@ in_order false f x y = f x y
 -- nothing is a fault.
 abbrev pub test_value : Test → Option Given → Verdict3
 test_value t (Some (Decimal x)) =
-    verdict_of_test (in_order t.turned (compares_exactly t.comparison) x (fraction_of t.number))
+    verdict_of_test (in_order t.turned (compares_exactly t.comparison) x (fraction_of t.amount.number))
 test_value t (Some NotANumber) = verdict_of_test (compares_nan t.comparison)
 test_value t (Some Infinite) =
     verdict_of_test (in_order t.turned (compares t.comparison) (pos 1) (pos 0))
@@ -58,6 +60,24 @@ test_value t (Some MinusInfinite) =
 test_value t (Some Nothing) = Fault
 test_value t None = Fault
 
+-- a decimal, cut off towards 0
+abbrev pub whole_of : ℤ → ℕ → ℤ
+whole_of (pos n) unit = pos (n / unit)
+whole_of (negsuc n) unit = neg_ℤ (pos (suc n / unit))
+
+abbrev pub cut_off : Fraction → Fraction
+cut_off x = record { whole = whole_of x.whole (10 ^ x.places); places = 0 }
+
+-- What a function makes of a value, or none if that is a fault. `asFloat` of a number is that
+-- number, and `asInt` of what is no decimal a fault.
+abbrev pub applied : Function → Option Given → Option Given
+applied Plain given = given
+applied AsFloat given = given
+applied AsInt (Some (Decimal x)) = Some (Decimal (cut_off x))
+applied AsInt given = None
+applied (Default d) (Some Nothing) = Some (Decimal (fraction_of d))
+applied (Default d) given = given
+
 -- what `isNaN` says of a value
 abbrev pub nan_value : Option Given → Verdict3
 nan_value (Some NotANumber) = True
@@ -65,11 +85,21 @@ nan_value (Some Nothing) = Fault
 nan_value (Some given) = False
 nan_value None = Fault
 
--- the value of a tree at what was measured; `asFloat` of a number is that number
+-- what `isInf` says of a value
+abbrev pub inf_value : Option Given → Verdict3
+inf_value (Some Infinite) = True
+inf_value (Some MinusInfinite) = True
+inf_value (Some Nothing) = Fault
+inf_value (Some given) = False
+inf_value None = Fault
+
+-- the value of a tree at what was measured
 abbrev pub argo_value : Tree → Measured → Verdict3
 argo_value (Or a b) m = or_of (argo_value a m) (argo_value b m)
 argo_value (And a b) m = and_of (argo_value a m) (argo_value b m)
 argo_value (Not a) m = not_of (argo_value a m)
 argo_value (Bracket a) m = argo_value a m
-argo_value (Compare test) m = test_value test (given_at test.place m)
+argo_value (Compare test) m =
+    test_value test (applied test.look.function (given_at test.look.place m))
 argo_value (IsNaN place) m = nan_value (given_at place m)
+argo_value (IsInf place) m = inf_value (given_at place m)

@@ -3,6 +3,8 @@ use Rattle.std.specs.Prelude.{◌≡◌, ◌≢◌, ℕ, ℤ, pos, negsuc, Bool,
 use Rattle.canary_condition.specs.declared.outcome.Value.{Value}
 use Rattle.canary_condition.specs.declared.outcome.Value.TheVariants.{Whole as WholeResult, List as ListResult}
 use Rattle.canary_decimal.specs.Exactness.{StandsFor}
+use Rattle.canary_decimal.specs.declared.shown.Beside.{Beside}
+use Rattle.canary_decimal.specs.declared.shown.Beside.TheVariants.{Nothing as NothingBeside, NaN as NaNBeside, Infinite as InfiniteBeside, Null as NullBeside}
 use Rattle.canary_decimal.specs.declared.reading.Reading.{Reading}
 use Rattle.canary_decimal.specs.declared.reading.Reading.TheVariants.{Number, NotANumber as NotANumberRead, Infinite as InfiniteRead, MinusInfinite as MinusInfiniteRead}
 use Rattle.canary_argo.specs.declared.form.Form.{Form}
@@ -12,42 +14,66 @@ use Rattle.canary_argo.specs.Meaning.{Given, Measured}
 use Rattle.canary_argo.specs.Meaning.Given.{Decimal, NotANumber, Infinite, MinusInfinite, Nothing}
 use Rattle.canary_argo.specs.Meaning.Measured.{One, Several}
 
--- what is reported of NaN, if it is reported
+-- what is reported of what is no decimal, where it is reported
 abbrev pub nan : ℤ
 nan = negsuc 9223372036854775807
 
--- no number that is reported of a decimal is that of NaN, if NaN is reported
-abbrev pub IsApart : Bool → ℤ → Type 0
-IsApart true z = z ≢ nan
-IsApart false z = Unit {0}
+abbrev pub minus_infinite : ℤ
+minus_infinite = negsuc 9223372036854775806
+
+abbrev pub null : ℤ
+null = negsuc 9223372036854775805
+
+abbrev pub infinite : ℤ
+infinite = pos 9223372036854775807
+
+abbrev pub has_nan : Beside → Bool
+has_nan NothingBeside = false
+has_nan beside = true
+
+abbrev pub has_infinite : Beside → Bool
+has_infinite InfiniteBeside = true
+has_infinite NullBeside = true
+has_infinite beside = false
+
+abbrev pub has_null : Beside → Bool
+has_null NullBeside = true
+has_null beside = false
+
+-- no number that is reported of a decimal is one of these, where they are reported
+abbrev pub IsApart : Beside → ℤ → Type 0
+IsApart NothingBeside z = Unit {0}
+IsApart NaNBeside z = z ≢ nan
+IsApart InfiniteBeside z = (z ≢ nan) × ((z ≢ minus_infinite) × (z ≢ infinite))
+IsApart NullBeside z = (z ≢ nan) × ((z ≢ minus_infinite) × ((z ≢ infinite) × (z ≢ null)))
 
 -- The number stands for the value, in units of 10^-n. What is no decimal is reported as a failure,
--- for which no number stands, but for NaN if that is reported.
-abbrev pub Stands : Bool → ℕ → Given → ℤ → Type 0
-Stands with_nan n (Decimal x) z = StandsFor z x n × IsApart with_nan z
-Stands with_nan n NotANumber z = (with_nan ≡ true) × (z ≡ nan)
-Stands with_nan n Infinite z = ⊥
-Stands with_nan n MinusInfinite z = ⊥
-Stands with_nan n Nothing z = ⊥
+-- for which no number stands, but for what is reported beside decimals.
+abbrev pub Stands : Beside → ℕ → Given → ℤ → Type 0
+Stands beside n (Decimal x) z = StandsFor z x n × IsApart beside z
+Stands beside n NotANumber z = (has_nan beside ≡ true) × (z ≡ nan)
+Stands beside n Infinite z = (has_infinite beside ≡ true) × (z ≡ infinite)
+Stands beside n MinusInfinite z = (has_infinite beside ≡ true) × (z ≡ minus_infinite)
+Stands beside n Nothing z = (has_null beside ≡ true) × (z ≡ null)
 
-abbrev pub AllStand : Bool → ℕ → List Given → List ℤ → Type 0
-AllStand with_nan n [] [] = Unit {0}
-AllStand with_nan n (g ∷ gs) (z ∷ zs) = Stands with_nan n g z × AllStand with_nan n gs zs
-AllStand with_nan n [] (z ∷ zs) = ⊥
-AllStand with_nan n (g ∷ gs) [] = ⊥
+abbrev pub AllStand : Beside → ℕ → List Given → List ℤ → Type 0
+AllStand beside n [] [] = Unit {0}
+AllStand beside n (g ∷ gs) (z ∷ zs) = Stands beside n g z × AllStand beside n gs zs
+AllStand beside n [] (z ∷ zs) = ⊥
+AllStand beside n (g ∷ gs) [] = ⊥
 
-abbrev pub IsReportedAs : Bool → ℕ → Shape → Measured → Value → Type 0
-IsReportedAs with_nan n OneShape (One g) (WholeResult z) = Stands with_nan n g z
-IsReportedAs with_nan n First (Several (g ∷ gs)) (WholeResult z) = Stands with_nan n g z
-IsReportedAs with_nan n (SeveralShape most) (Several gs) (ListResult zs) =
-    AllStand with_nan n (take most gs) zs
-IsReportedAs with_nan n (LengthShape most) (Several gs) (ListResult (z ∷ zs)) =
-    (z ≡ pos (length gs)) × AllStand with_nan n (take most gs) zs
-IsReportedAs with_nan n shape m v = ⊥
+abbrev pub IsReportedAs : Beside → ℕ → Shape → Measured → Value → Type 0
+IsReportedAs beside n OneShape (One g) (WholeResult z) = Stands beside n g z
+IsReportedAs beside n First (Several (g ∷ gs)) (WholeResult z) = Stands beside n g z
+IsReportedAs beside n (SeveralShape most) (Several gs) (ListResult zs) =
+    AllStand beside n (take most gs) zs
+IsReportedAs beside n (LengthShape most) (Several gs) (ListResult (z ∷ zs)) =
+    (z ≡ pos (length gs)) × AllStand beside n (take most gs) zs
+IsReportedAs beside n shape m v = ⊥
 
 -- in this form the value is what is reported of what was measured
 abbrev pub IsReported : Form → Measured → Value → Type 0
-IsReported form m v = IsReportedAs form.nan form.places form.shape m v
+IsReported form m v = IsReportedAs form.beside form.places form.shape m v
 
 -- a value as it was read
 abbrev pub given_of : Reading → Given

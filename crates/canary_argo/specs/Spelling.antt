@@ -2,21 +2,28 @@
 --     or      := and  { ("||" | "or") and }
 --     and     := not  { ("&&" | "and") not }
 --     not     := ("!" | "not") (not, but no comparison) | atom
---     atom    := "(" or ")" | value compare number | number compare value | "isNaN" "(" place ")"
---     value   := place | "asFloat" "(" place ")"
+--     atom    := "(" or ")" | look compare amount | amount compare look
+--                | ("isNaN" | "isInf") "(" place ")"
+--     look    := value | "(" value ")"
+--     amount  := number | "(" number ")"
+--     value   := place | ("asFloat" | "asInt") "(" place ")" | "default" "(" place "," number ")"
 --     place   := "result" | "result" "[" digits "]" | "len" "(" "result" ")"
 -- Argo negates the operand that follows a `not`, and not a comparison. The relation splits the
 -- whole text at each level.
 use Rattle.std.specs.Prelude.{◌≡◌, List, [], ◌∷◌, ◌++◌, Bool, true, false, IsTrue, pos, if◌then◌else◌}
 use Rattle.canary_condition.specs.Spelling.{Level, has_or, has_and, has_not}
 use Rattle.canary_condition.specs.Spelling.Level.{AtOr, AtAnd, AtNot}
+use Rattle.canary_argo.specs.declared.condition.Amount.{Amount}
+use Rattle.canary_argo.specs.declared.condition.Function.{Function}
+use Rattle.canary_argo.specs.declared.condition.Function.TheVariants.{Plain, AsFloat, AsInt, Default}
+use Rattle.canary_argo.specs.declared.condition.Look.{Look}
 use Rattle.canary_argo.specs.declared.condition.Place.{Place}
 use Rattle.canary_argo.specs.declared.condition.Place.TheVariants.{Whole, Item, Length}
 use Rattle.canary_argo.specs.declared.condition.Test.{Test}
 use Rattle.canary_argo.specs.declared.condition.Token.{Token}
-use Rattle.canary_argo.specs.declared.condition.Token.TheVariants.{Compares, OrSign, AndSign, NotSign, Open, Close, OpenItem, CloseItem, ResultWord, AsFloatWord, LenWord, NaNWord, Number}
+use Rattle.canary_argo.specs.declared.condition.Token.TheVariants.{Compares, OrSign, AndSign, NotSign, Open, Close, OpenItem, CloseItem, ResultWord, AsFloatWord, AsIntWord, DefaultWord, LenWord, NaNWord, InfWord, Comma, Number}
 use Rattle.canary_argo.specs.Trees.{Tree}
-use Rattle.canary_argo.specs.Trees.Tree.{Or, And, Not, Bracket, Compare, IsNaN}
+use Rattle.canary_argo.specs.Trees.Tree.{Or, And, Not, Bracket, Compare, IsNaN, IsInf}
 
 abbrev pub place_tokens : Place → List Token
 place_tokens Whole = ResultWord ∷ []
@@ -24,18 +31,34 @@ place_tokens (Item i) =
     ResultWord ∷ OpenItem ∷ Number (record { whole = pos i; places = 0 }) ∷ CloseItem ∷ []
 place_tokens Length = LenWord ∷ Open ∷ ResultWord ∷ Close ∷ []
 
-abbrev pub value_tokens : Bool → Place → List Token
-value_tokens false place = place_tokens place
-value_tokens true place = AsFloatWord ∷ Open ∷ place_tokens place ++ Close ∷ []
+abbrev pub value_tokens : Function → Place → List Token
+value_tokens Plain place = place_tokens place
+value_tokens AsFloat place = AsFloatWord ∷ Open ∷ place_tokens place ++ Close ∷ []
+value_tokens AsInt place = AsIntWord ∷ Open ∷ place_tokens place ++ Close ∷ []
+value_tokens (Default d) place =
+    DefaultWord ∷ Open ∷ place_tokens place ++ Comma ∷ Number d ∷ Close ∷ []
+
+-- the tokens, in brackets or not
+abbrev pub bracketed : Bool → List Token → List Token
+bracketed false ts = ts
+bracketed true ts = Open ∷ ts ++ Close ∷ []
+
+abbrev pub look_tokens : Look → List Token
+look_tokens v = bracketed v.bracketed (value_tokens v.function v.place)
+
+abbrev pub amount_tokens : Amount → List Token
+amount_tokens n = bracketed n.bracketed (Number n.number ∷ [])
 
 abbrev pub test_tokens : Test → List Token
 test_tokens t =
-    let value = value_tokens t.as_float t.place in
-    if t.turned then Number t.number ∷ Compares t.comparison ∷ value
-    else value ++ Compares t.comparison ∷ Number t.number ∷ []
+    if t.turned then amount_tokens t.amount ++ Compares t.comparison ∷ look_tokens t.look
+    else look_tokens t.look ++ Compares t.comparison ∷ amount_tokens t.amount
 
 abbrev pub nan_tokens : Place → List Token
 nan_tokens place = NaNWord ∷ Open ∷ place_tokens place ++ Close ∷ []
+
+abbrev pub inf_tokens : Place → List Token
+inf_tokens place = InfWord ∷ Open ∷ place_tokens place ++ Close ∷ []
 
 -- not a comparison
 abbrev pub IsClosed : Tree → Type 0
@@ -57,6 +80,7 @@ Spells (Bracket a) level ts =
     (inside : List Token) × (ts ≡ Open ∷ inside ++ Close ∷ []) × Spells a AtOr inside
 Spells (Compare test) level ts = ts ≡ test_tokens test
 Spells (IsNaN place) level ts = ts ≡ nan_tokens place
+Spells (IsInf place) level ts = ts ≡ inf_tokens place
 
 -- the text is this condition
 abbrev pub IsArgo : List Token → Tree → Type 0

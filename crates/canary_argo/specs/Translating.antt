@@ -1,5 +1,5 @@
 -- The desk's condition for one of Argo Rollouts.
-use Rattle.std.specs.Prelude.{◌≡◌, ◌==◌, nat_lt, nat_le, ◌&&◌, ◌^◌, ℕ, suc, ℤ, Bool, true, false, if◌then◌else◌, List, [], ◌++◌, Option, Some, None, is_some, codes}
+use Rattle.std.specs.Prelude.{◌≡◌, ◌==◌, nat_lt, nat_le, not, ◌&&◌, ◌||◌, ◌^◌, ◌+◌, ◌-◌, ◌/◌, ℕ, suc, ℤ, pos, neg_ℤ, ◌-ℤ◌, int_lt, Bool, true, false, if◌then◌else◌, List, [], ◌++◌, Option, Some, None, is_some, codes}
 use Rattle.std.specs.Int.RustNames.{unsigned_abs}
 use Rattle.std.specs.List.{flat_map}
 use Rattle.std.specs.Fmt.{signed_decimal, decimal}
@@ -8,13 +8,15 @@ use Rattle.canary_condition.specs.declared.condition.Comparison.TheVariants.{Equ
 use Rattle.canary_condition.specs.declared.condition.Operand.{Operand}
 use Rattle.canary_condition.specs.declared.condition.Operand.TheVariants.{Whole as WholeOperand, Item as ItemOperand, Number as NumberOperand}
 use Rattle.canary_condition.specs.declared.outcome.Value.{Value}
-use Rattle.canary_condition.specs.Meaning.{value}
+use Rattle.canary_condition.specs.Meaning.{compares, value}
 use Rattle.canary_condition.specs.Trees.{Tree as DeskTree}
 use Rattle.canary_condition.specs.Reading.{IsConditionText}
 use Rattle.canary_decimal.specs.declared.decimal.ShortDecimal.{ShortDecimal}
 use Rattle.canary_decimal.specs.Short.{short_constant}
 use Rattle.canary_argo.specs.declared.condition.Item.{Item}
-use Rattle.canary_argo.specs.declared.condition.Item.TheVariants.{Or, And, Not, Open, Close, Compare, NaN}
+use Rattle.canary_argo.specs.declared.condition.Item.TheVariants.{Or, And, Not, Open, Close, Compare, NaN, Inf}
+use Rattle.canary_argo.specs.declared.condition.Function.{Function}
+use Rattle.canary_argo.specs.declared.condition.Function.TheVariants.{Plain, AsFloat, AsInt, Default}
 use Rattle.canary_argo.specs.declared.condition.Place.{Place}
 use Rattle.canary_argo.specs.declared.condition.Place.TheVariants.{Whole, Item as ItemPlace, Length as LengthPlace}
 use Rattle.canary_argo.specs.declared.condition.Test.{Test}
@@ -22,12 +24,13 @@ use Rattle.canary_argo.specs.declared.form.Form.{Form}
 use Rattle.canary_argo.specs.declared.form.Shape.{Shape}
 use Rattle.canary_argo.specs.declared.form.Shape.TheVariants.{One, First, Several, Length as LengthShape}
 use Rattle.canary_argo.specs.declared.translating.DeskAtom.{DeskAtom}
+use Rattle.canary_argo.specs.declared.translating.DeskAtom.TheVariants.{One as OneTest, Both, Either, All}
 use Rattle.canary_argo.specs.declared.translating.DeskTest.{DeskTest}
 use Rattle.canary_argo.specs.Grouping.{SpellsItems}
 use Rattle.canary_condition.specs.Spelling.Level.{AtOr}
 use Rattle.canary_argo.specs.Meaning.{Measured, argo_value}
-use Rattle.canary_argo.specs.Reporting.{nan, IsReported}
-use Rattle.canary_argo.specs.Tokens.{IsMadeOf}
+use Rattle.canary_argo.specs.Reporting.{nan, minus_infinite, infinite, null, has_nan, has_infinite, has_null, IsReported}
+use Rattle.canary_argo.specs.Tokens.{IsMadeOf, is_held}
 use Rattle.canary_argo.specs.Spelling.{IsArgo}
 use Rattle.canary_argo.specs.Trees.{Tree}
 use Rattle.canary_argo.specs.declared.condition.Token.{Token}
@@ -80,8 +83,8 @@ made c (Some operand) (Some constant) =
 -- the desk's comparison for one of Argo's, with the value first
 abbrev pub desk_test : Form → Test → Option DeskTest
 desk_test form t =
-    made (in_turn t.turned t.comparison) (desk_place form.shape t.place)
-    (constant_at t.place t.number form.places)
+    made (in_turn t.turned t.comparison) (desk_place form.shape t.look.place)
+    (constant_at t.look.place t.amount.number form.places)
 
 -- the comparison that keeps NaN from being below a constant
 abbrev pub guard : DeskTest → DeskTest
@@ -92,32 +95,170 @@ is_below Less = true
 is_below AtMost = true
 is_below c = false
 
+abbrev pub is_not_equal : Comparison → Bool
+is_not_equal NotEqual = true
+is_not_equal c = false
+
+abbrev pub guarded_by : Bool → DeskTest → DeskAtom
+guarded_by true t = Both t (guard t)
+guarded_by false t = OneTest t
+
 -- the desk's comparison, guarded if NaN would be below its constant
 abbrev pub guarded : Bool → Option DeskTest → Option DeskAtom
 guarded with_nan None = None
-guarded with_nan (Some t) =
-    Some (record { test = t; guarded = with_nan && is_below t.comparison })
+guarded with_nan (Some t) = Some (guarded_by (with_nan && is_below t.comparison) t)
 
--- what the desk asks for one of Argo's comparisons
-abbrev pub compare_atom : Form → Test → Option DeskAtom
-compare_atom form t = guarded form.nan (desk_test form t)
+abbrev pub is_value : Place → Bool
+is_value LengthPlace = false
+is_value place = true
+
+-- where null is reported, each value has its `default`
+abbrev pub plain_atom : Form → Test → Option DeskAtom
+plain_atom form t =
+    if has_null form.beside && is_value t.look.place then None
+    else guarded (has_nan form.beside) (desk_test form t)
+
+-- ---- `asInt`: comparisons with whole numbers of the value that is not cut off
+
+-- the least whole number that is not below a number, and the least above it, in these units
+abbrev pub least_from : ℤ → ℕ → ℤ
+least_from z unit =
+    if int_lt (pos 0) z then pos ((unsigned_abs z - 1) / unit + 1)
+    else neg_ℤ (pos (unsigned_abs z / unit))
+
+abbrev pub least_above : ℤ → ℕ → ℤ
+least_above z unit =
+    if int_lt z (pos 0) then neg_ℤ (pos ((unsigned_abs z - 1) / unit))
+    else pos (unsigned_abs z / unit + 1)
+
+-- What is cut off to a whole number k at least, above 0, is k at least; and else it is above k - 1.
+abbrev pub edge_of : ℤ → ℤ
+edge_of k = if int_lt (pos 0) k then k else k -ℤ pos 1
+
+-- whether what is cut off reaches k, or stays below it
+abbrev pub edge_sign : Bool → ℤ → Comparison
+edge_sign true k = if int_lt (pos 0) k then AtLeast else Greater
+edge_sign false k = if int_lt (pos 0) k then Less else AtMost
+
+abbrev pub edge_test : Bool → Place → ℤ → Test
+edge_test reaches place k =
+    record {
+      look = record { place = place; function = Plain; bracketed = false };
+      comparison = edge_sign reaches k;
+      amount = record {
+        number = record { whole = edge_of k; places = 0 };
+        bracketed = false;
+      };
+      turned = false;
+    }
+
+abbrev pub one_test : Option DeskTest → Option DeskAtom
+one_test None = None
+one_test (Some t) = Some (OneTest t)
+
+abbrev pub both_tests : Option DeskTest → Option DeskTest → Option DeskAtom
+both_tests None second = None
+both_tests (Some t) None = None
+both_tests (Some t) (Some u) = Some (Both t u)
+
+abbrev pub either_test : Option DeskTest → Option DeskTest → Option DeskAtom
+either_test None second = None
+either_test (Some t) None = None
+either_test (Some t) (Some u) = Some (Either t u)
+
+-- what is asked of the value, by the least numbers from a constant on and above it
+abbrev pub int_asked : Form → Place → Comparison → ℤ → ℤ → Option DeskAtom
+int_asked form place Equal from above =
+    both_tests (desk_test form (edge_test true place from))
+    (desk_test form (edge_test false place above))
+int_asked form place NotEqual from above =
+    either_test (desk_test form (edge_test false place from))
+    (desk_test form (edge_test true place above))
+int_asked form place Less from above = one_test (desk_test form (edge_test false place from))
+int_asked form place AtMost from above = one_test (desk_test form (edge_test false place above))
+int_asked form place Greater from above = one_test (desk_test form (edge_test true place above))
+int_asked form place AtLeast from above = one_test (desk_test form (edge_test true place from))
+
+abbrev pub int_atom : Form → Test → Option DeskAtom
+int_atom form t =
+    if not (has_nan form.beside) && is_held t.amount.number
+    then int_asked form t.look.place (in_turn t.turned t.comparison)
+    (least_from t.amount.number.whole (10 ^ t.amount.number.places))
+    (least_above t.amount.number.whole (10 ^ t.amount.number.places))
+    else None
 
 -- the operand for a place that is no length
 abbrev pub desk_value : Shape → Place → Option Operand
 desk_value shape LengthPlace = None
 desk_value shape place = desk_place shape place
 
+-- ---- `default`: what is reported of null lies below each constant
+
+abbrev pub at_null : Comparison → DeskTest → DeskTest
+at_null c t = record { operand = t.operand; comparison = c; constant = null }
+
+-- null as well, or not
+abbrev pub except_null : Bool → DeskTest → DeskAtom
+except_null true t = All t (guard t) (at_null NotEqual t)
+except_null false t = Both t (at_null NotEqual t)
+
+-- whether null is wanted, where the comparison alone takes it, or does not
+abbrev pub null_by : Bool → Bool → DeskTest → DeskAtom
+null_by true true t = guarded_by (is_below t.comparison) t
+null_by true false t = except_null (is_below t.comparison) t
+null_by false true t = Either t (at_null Equal t)
+null_by false false t = guarded_by (is_below t.comparison) t
+
+abbrev pub takes_null : Comparison → Bool
+takes_null c = is_below c || is_not_equal c
+
+abbrev pub with_null : Option ℤ → Option DeskTest → Option DeskAtom
+with_null None t = None
+with_null (Some z) None = None
+with_null (Some z) (Some t) =
+    Some (null_by (takes_null t.comparison) (compares t.comparison z t.constant) t)
+
+-- the desk's comparison of a place that is no length
+abbrev pub value_test : Form → Test → Option DeskTest
+value_test form t =
+    made (in_turn t.turned t.comparison) (desk_value form.shape t.look.place)
+    (constant_of t.amount.number form.places)
+
+abbrev pub default_atom : Form → ShortDecimal → Test → Option DeskAtom
+default_atom form d t =
+    if has_null form.beside then with_null (constant_of d form.places) (value_test form t) else None
+
+-- what the desk asks for one of Argo's comparisons
+abbrev pub function_atom : Function → Form → Test → Option DeskAtom
+function_atom Plain form t = plain_atom form t
+function_atom AsFloat form t = plain_atom form t
+function_atom AsInt form t = int_atom form t
+function_atom (Default d) form t = default_atom form d t
+
+abbrev pub compare_atom : Form → Test → Option DeskAtom
+compare_atom form t = function_atom t.look.function form t
+
 abbrev pub nan_at : Option Operand → Option DeskAtom
 nan_at None = None
-nan_at (Some o) =
-    Some (record {
-      test = record { operand = o; comparison = Equal; constant = nan };
-      guarded = false;
-    })
+nan_at (Some o) = Some (OneTest (record { operand = o; comparison = Equal; constant = nan }))
 
 -- what the desk asks for `isNaN` of a place
 abbrev pub nan_atom : Form → Place → Option DeskAtom
-nan_atom form place = if form.nan then nan_at (desk_value form.shape place) else None
+nan_atom form place =
+    if has_nan form.beside && not (has_null form.beside) then nan_at (desk_value form.shape place)
+    else None
+
+abbrev pub inf_at : Option Operand → Option DeskAtom
+inf_at None = None
+inf_at (Some o) =
+    Some (Either (record { operand = o; comparison = Equal; constant = infinite })
+    (record { operand = o; comparison = Equal; constant = minus_infinite }))
+
+-- what the desk asks for `isInf` of a place
+abbrev pub inf_atom : Form → Place → Option DeskAtom
+inf_atom form place =
+    if has_infinite form.beside && not (has_null form.beside)
+    then inf_at (desk_value form.shape place) else None
 
 -- ---- the text
 
@@ -138,15 +279,24 @@ abbrev pub test_text : Option DeskTest → List ℕ
 test_text None = []
 test_text (Some t) = operand_text t.operand ++ (sign_text t.comparison ++ signed_decimal t.constant)
 
-abbrev pub atom_words : Bool → DeskTest → List ℕ
-atom_words false t = test_text (Some t)
-atom_words true t =
-    codes "(" ++ (test_text (Some t)
-    ++ (codes " && " ++ (test_text (Some (guard t)) ++ codes ")")))
+abbrev pub joined_text : DeskTest → List ℕ → DeskTest → List ℕ
+joined_text t sign u =
+    codes "(" ++ (test_text (Some t) ++ (sign ++ (test_text (Some u) ++ codes ")")))
+
+abbrev pub all_text : DeskTest → DeskTest → DeskTest → List ℕ
+all_text t u w =
+    codes "(" ++ (test_text (Some t) ++ (codes " && " ++ (test_text (Some u)
+    ++ (codes " && " ++ (test_text (Some w) ++ codes ")")))))
+
+abbrev pub atom_words : DeskAtom → List ℕ
+atom_words (OneTest t) = test_text (Some t)
+atom_words (Both t u) = joined_text t (codes " && ") u
+atom_words (Either t u) = joined_text t (codes " || ") u
+atom_words (All t u w) = all_text t u w
 
 abbrev pub atom_text : Option DeskAtom → List ℕ
 atom_text None = []
-atom_text (Some a) = atom_words a.guarded a.test
+atom_text (Some a) = atom_words a
 
 abbrev pub sign_words : Item → List ℕ
 sign_words Or = codes " || "
@@ -156,15 +306,18 @@ sign_words Open = codes "("
 sign_words Close = codes ")"
 sign_words (Compare t) = []
 sign_words (NaN place) = []
+sign_words (Inf place) = []
 
 abbrev pub item_text : Form → Item → List ℕ
 item_text form (Compare t) = atom_text (compare_atom form t)
 item_text form (NaN place) = atom_text (nan_atom form place)
+item_text form (Inf place) = atom_text (inf_atom form place)
 item_text form item = sign_words item
 
 abbrev pub fits : Form → Item → Bool
 fits form (Compare t) = is_some (compare_atom form t)
 fits form (NaN place) = is_some (nan_atom form place)
+fits form (Inf place) = is_some (inf_atom form place)
 fits form item = true
 
 abbrev pub text_of : Form → List Item → List ℕ
@@ -180,6 +333,7 @@ skeleton_text Open = codes "( "
 skeleton_text Close = codes ") "
 skeleton_text (Compare t) = codes "1<1 "
 skeleton_text (NaN place) = codes "1<1 "
+skeleton_text (Inf place) = codes "1<1 "
 
 abbrev pub skeleton_of : List Item → List ℕ
 skeleton_of items = flat_map skeleton_text items

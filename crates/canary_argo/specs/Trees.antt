@@ -10,3 +10,4 @@ pub data Tree : Type 0 where
   Bracket : (a : Tree) → Tree
   Compare : (test : Test) → Tree
   IsNaN : (place : Place) → Tree
+  IsInf : (place : Place) → Tree

@@ -13,14 +13,42 @@ pub enum Place {
     Length,
 }
 
+/// The function in which a value stands.
+#[derive(Clone, Copy)]
+pub enum Function {
+    /// None.
+    Plain,
+    /// `asFloat(..)`.
+    AsFloat,
+    /// `asInt(..)`: the value is cut off towards 0.
+    AsInt,
+    /// `default(.., number)`: the number in place of null.
+    Default(ShortDecimal),
+}
+
+/// A value that was measured, as a comparison has it.
+#[derive(Clone, Copy)]
+pub struct Look {
+    pub place: Place,
+    pub function: Function,
+    /// Whether brackets stand round it.
+    pub bracketed: bool,
+}
+
+/// A number, as a comparison has it.
+#[derive(Clone, Copy)]
+pub struct Amount {
+    pub number: ShortDecimal,
+    /// Whether brackets stand round it.
+    pub bracketed: bool,
+}
+
 /// A comparison of a value that was measured with a number.
 #[derive(Clone, Copy)]
 pub struct Test {
-    pub place: Place,
-    /// Whether the value stands in `asFloat(..)`.
-    pub as_float: bool,
+    pub look: Look,
     pub comparison: Comparison,
-    pub number: ShortDecimal,
+    pub amount: Amount,
     /// Whether the number stands first.
     pub turned: bool,
 }
@@ -48,10 +76,18 @@ pub enum Token {
     ResultWord,
     /// `asFloat`.
     AsFloatWord,
+    /// `asInt`.
+    AsIntWord,
+    /// `default`.
+    DefaultWord,
     /// `len`.
     LenWord,
     /// `isNaN`.
     NaNWord,
+    /// `isInf`.
+    InfWord,
+    /// `,`.
+    Comma,
     /// A number of at most 15 digits, with its sign.
     Number(ShortDecimal),
 }
@@ -67,4 +103,6 @@ pub enum Item {
     Compare(Test),
     /// `isNaN(..)`.
     NaN(Place),
+    /// `isInf(..)`.
+    Inf(Place),
 }

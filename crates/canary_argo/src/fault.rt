@@ -8,7 +8,8 @@ use std::alloc::AllocFailed;
 pub enum Refusal {
     /// A byte that begins nothing of a condition.
     Byte,
-    /// A number in another form, or with more than 15 digits, or with more than 17 after the point.
+    /// A number in another form, or with more than 15 digits, or with more than 17 after the point,
+    /// once it is written out.
     Number,
     /// `+`, `-`, `*`, `/`, `%` or `^`.
     Arithmetic,
@@ -54,6 +55,10 @@ pub enum Refusal {
     Range,
     /// A length compared with a number that is not whole, or has more than 15 digits.
     Fraction,
+    /// `asInt` beside `isNaN` or `isInf`.
+    AsInt,
+    /// `default` beside a value without it.
+    Default,
     /// More than 1,024 bytes once it is translated, or more than 32 brackets open at one place.
     Length,
 }
@@ -68,12 +73,12 @@ impl Refusal {
             Refusal::Text => "a text: have the query give 1 or 0, and compare with 1",
             Refusal::Member => "a member: put the path into the provider's jsonPath",
             Refusal::Pipe => "a pipe: do it in the query",
-            Refusal::Choice => "a choice: write a condition without ? : and ??",
+            Refusal::Choice => "a choice: write default(result, 0) for ??, and no ? :",
             Refusal::Argument => "an argument without a value: give it one in the Rollout's args",
             Refusal::In => "in: write result == 1 || result == 2, and so on",
             Refusal::Matching => "a text: have the query give 1 or 0, and compare with 1",
             Refusal::Truth => "a truth: have the query give 1 or 0, and write == 1",
-            Refusal::Nil => "nil: leave it out, since no value is an Error",
+            Refusal::Nil => "nil: write default(result, 0) at each value, or leave it out",
             Refusal::Function => "this function: do it in the query",
             Refusal::Name => "a name: a condition knows result alone",
             Refusal::TwoResults => "two results: put their quotient or difference into the query",
@@ -86,6 +91,8 @@ impl Refusal {
             Refusal::Shape => "result beside result[0]: write one of the two",
             Refusal::Range => "this number is too large for the digits after the points",
             Refusal::Fraction => "a length is whole: write a whole number",
+            Refusal::AsInt => "asInt beside isNaN or isInf: leave asInt out",
+            Refusal::Default => "default beside a value without it: write it at each value",
             Refusal::Length => "this condition is too long: write it shorter",
         }
     }

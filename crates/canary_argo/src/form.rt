@@ -1,19 +1,19 @@
 //! How the values of a metric are reported.
 ghost use Rattle.std.specs.Prelude.{◌≡◌, ◌≤◌, ◌++◌, OnOk, string_bytes};
 ghost use Rattle.canary_argo.specs.Labels.{shape_text, has_length, suffix_of, units_of};
-ghost use Rattle.canary_decimal.specs.Endings.{nan_text, IsEnding, IsShape};
+ghost use Rattle.canary_argo.specs.Reporting.{has_nan, has_infinite, has_null};
+ghost use Rattle.canary_decimal.specs.Endings.{beside_text, IsEnding, IsShape};
 
-use crate::condition::{Item, Place, Test};
+use crate::condition::{Function, Item, Place, Test};
 use crate::fault::{Fault, Refusal};
 use crate::{items, lexer};
 use canary_base::error::Memory;
+use canary_decimal::decimal::ShortDecimal;
+use canary_decimal::shown::Beside;
 use std::alloc::Global;
 
 /// The least places of a form.
 pub const LEAST_PLACES: usize = 6;
-
-/// What is reported of NaN. No multiple lies there.
-pub const NAN: i64 = i64::MIN;
 
 /// The most values of a list.
 pub const MOST_VALUES: u64 = 16;
@@ -36,8 +36,8 @@ pub enum Shape {
 pub struct Form {
     pub places: usize,
     pub shape: Shape,
-    /// Whether NaN is reported, as `NAN`; otherwise it is a failure.
-    pub nan: bool,
+    /// What is reported beside decimals; the rest is a failure.
+    pub beside: Beside,
 }
 
 /// What the conditions of a metric look at.
@@ -53,6 +53,12 @@ pub struct Needs {
     length: bool,
     // Whether NaN is asked for.
     nan: bool,
+    // Whether an infinity is asked for.
+    infinite: bool,
+    // Whether a value stands in `default`.
+    default: bool,
+    // Whether a value stands without it.
+    bare: bool,
 }
 
 impl Needs {
@@ -64,18 +70,39 @@ impl Needs {
             most: 0,
             length: false,
             nan: false,
+            infinite: false,
+            default: false,
+            bare: false,
         }
     }
 
     // With one more comparison.
     fn with(self, test: Test) -> Needs {
-        let needs = self.with_place(test.place);
-        if matches!(test.place, Place::Length) {
+        let needs = self.with_place(test.look.place);
+        if matches!(test.look.place, Place::Length) {
             return needs;
         }
+        needs
+            .with_function(test.look.function)
+            .with_number(test.amount.number)
+    }
+
+    // With one more number.
+    fn with_number(self, number: ShortDecimal) -> Needs {
         Needs {
-            places: self.places.max(test.number.places.saturating_add(1)),
-            ..needs
+            places: self.places.max(number.places.saturating_add(1)),
+            ..self
+        }
+    }
+
+    // With one more value, in this function.
+    fn with_function(self, function: Function) -> Needs {
+        match function {
+            Function::Default(number) => Needs {
+                default: true,
+                ..self.with_number(number)
+            },
+            _ => Needs { bare: true, ..self },
         }
     }
 
@@ -103,6 +130,12 @@ impl Needs {
             Item::Compare(test) => self.with(test),
             Item::NaN(place) => Needs {
                 nan: true,
+                bare: true,
+                ..self.with_place(place)
+            },
+            Item::Inf(place) => Needs {
+                infinite: true,
+                bare: true,
                 ..self.with_place(place)
             },
             _ => self,
@@ -129,9 +162,26 @@ impl Needs {
         Ok(self.with_items(items.as_slice()))
     }
 
+    // What is reported beside decimals.
+    fn beside(self) -> Beside {
+        if self.default {
+            Beside::Null
+        } else if self.infinite {
+            Beside::Infinite
+        } else if self.nan {
+            Beside::NaN
+        } else {
+            Beside::Nothing
+        }
+    }
+
     /// The form in which the values are reported. `Shape` if `result` stands beside `result[i]` or
-    /// `len(result)`, and `Place` if there is no room for a place in a list of 16 values.
+    /// `len(result)`, `Place` if there is no room for a place in a list of 16 values, and `Default`
+    /// if a value stands in `default`, and one without it.
     pub fn form(self) -> Result<Form, Refusal> {
+        if self.default && self.bare {
+            return Err(Refusal::Default);
+        }
         if self.whole && (self.length || self.most > 0) {
             return Err(Refusal::Shape);
         }
@@ -152,22 +202,37 @@ impl Needs {
         Ok(Form {
             places: self.places,
             shape,
-            nan: self.nan,
+            beside: self.beside(),
         })
     }
 }
 
 impl Form {
+    /// That of decimals alone, in the least places.
+    pub fn plain(shape: Shape) -> Form {
+        Form {
+            places: LEAST_PLACES,
+            shape,
+            beside: Beside::Nothing,
+        }
+    }
+
+    /// Whether NaN is reported; otherwise it is a failure.
+    pub fn has_nan(self) -> bool {
+        has_nan(self.beside)
+    }
+
     /// Appends what a label of a metric ends in whose values are reported in this form: `.e6` for
     /// one number in millionths, `.e6f` for the first value of a list, `.e6p2` for two of them, and
-    /// `.e6l1` for its length and the first; with `n` after the places if NaN is reported.
+    /// `.e6l1` for its length and the first; after the places with `n` if NaN is reported, `i` if
+    /// the infinities are, too, and `s` if also null is.
     pub fn suffix(self, out: &mut String) -> Result<(), Memory>
         ensures text { OnOk result (string_bytes out.new ≡ string_bytes out.old ++ suffix_of self) }
         ensures ending { OnOk result (6 ≤ self.places → self.places ≤ 18
             → IsEnding (suffix_of self) (units_of self)) }
     {
-        let nan = nan_text(self.nan);
-        write!(out, ".e{}{nan}", self.places)?;
+        let beside = beside_text(self.beside);
+        write!(out, ".e{}{beside}", self.places)?;
         self.shape.suffix(out)
     }
 }
@@ -188,8 +253,34 @@ impl Shape {
     }
 }
 
-fn nan_text(nan: bool) -> &'static str
-    ensures { result.now ≡ nan_text nan }
+fn beside_text(beside: Beside) -> &'static str
+    ensures { result.now ≡ beside_text beside }
 {
-    if nan { "n" } else { "" }
+    match beside {
+        Beside::Nothing => "",
+        Beside::NaN => "n",
+        Beside::Infinite => "i",
+        Beside::Null => "s",
+    }
+}
+
+// Whether NaN is reported.
+pub(crate) fn has_nan(beside: Beside) -> bool
+    ensures { result ≡ has_nan beside }
+{
+    !matches!(beside, Beside::Nothing)
+}
+
+// Whether the infinities are reported.
+pub(crate) fn has_infinite(beside: Beside) -> bool
+    ensures { result ≡ has_infinite beside }
+{
+    matches!(beside, Beside::Infinite | Beside::Null)
+}
+
+// Whether null is reported.
+pub(crate) fn has_null(beside: Beside) -> bool
+    ensures { result ≡ has_null beside }
+{
+    matches!(beside, Beside::Null)
 }

@@ -1,11 +1,14 @@
 //! From tokens to groups: comparisons, and the signs and brackets between them.
 ghost use Rattle.std.specs.Prelude.{◌≡◌, IfOk, false, option_map};
-ghost use Rattle.canary_argo.specs.Grouping.{index_of, after_result, closed, front_value, made};
-ghost use Rattle.canary_argo.specs.Grouping.{with_number, turned_test, front_test, front_item};
-ghost use Rattle.canary_argo.specs.Grouping.{nan_item};
+ghost use Rattle.canary_argo.specs.Grouping.{index_of, after_result, plain_look, closed};
+ghost use Rattle.canary_argo.specs.Grouping.{front_value, within, in_brackets, front_look};
+ghost use Rattle.canary_argo.specs.Grouping.{amount_of, front_amount, made, with_amount};
+ghost use Rattle.canary_argo.specs.Grouping.{after_look, with_look, after_amount, look_first};
+ghost use Rattle.canary_argo.specs.Grouping.{front_test, nan_item, inf_item, test_or_open};
+ghost use Rattle.canary_argo.specs.Grouping.{defaulted, front_item};
 ghost use Rattle.canary_argo.specs.Grouping.{all_tokens, is_not, is_test, are_closed};
 
-use crate::condition::{Item, Place, Test, Token};
+use crate::condition::{Amount, Function, Item, Look, Place, Test, Token};
 use crate::fault::{Fault, Finding};
 use crate::{lexer, naming};
 use canary_condition::condition::Comparison;
@@ -41,24 +44,47 @@ pub(crate) fn after_result(tokens: &[Token]) -> (Place, &[Token])
     (Place::Whole, tokens)
 }
 
-// The place in `asFloat(..)`, and what follows it.
-fn closed(place: Place, tokens: &[Token]) -> Option<((bool, Place), &[Token])>
-    ensures { option_map (λ r. (r.0, r.1.now)) result ≡ closed place tokens.now }
+// A value without brackets.
+fn plain_look(function: Function, place: Place) -> Look
+    ensures { result ≡ plain_look function place }
+{
+    Look {
+        place,
+        function,
+        bracketed: false,
+    }
+}
+
+// The place in a function, and what follows it.
+fn closed(function: Function, place: Place, tokens: &[Token]) -> Option<(Look, &[Token])>
+    ensures { option_map (λ r. (r.0, r.1.now)) result ≡ closed function place tokens.now }
 {
     match tokens {
-        [Token::Close, rest @ ..] => Some(((true, place), rest)),
+        [Token::Close, rest @ ..] => Some((plain_look(function, place), rest)),
+        _ => None,
+    }
+}
+
+// The place in `default(..)`, and what follows it.
+fn defaulted(place: Place, tokens: &[Token]) -> Option<(Look, &[Token])>
+    ensures { option_map (λ r. (r.0, r.1.now)) result ≡ defaulted place tokens.now }
+{
+    match tokens {
+        [Token::Comma, Token::Number(number), Token::Close, rest @ ..] => {
+            Some((plain_look(Function::Default(*number), place), rest))
+        }
         _ => None,
     }
 }
 
 // The value at the front, and what follows it.
-fn front_value(tokens: &[Token]) -> Option<((bool, Place), &[Token])>
+fn front_value(tokens: &[Token]) -> Option<(Look, &[Token])>
     ensures { option_map (λ r. (r.0, r.1.now)) result ≡ front_value tokens.now }
 {
     match tokens {
         [Token::ResultWord, rest @ ..] => {
             let (place, rest) = after_result(rest);
-            Some(((false, place), rest))
+            Some((plain_look(Function::Plain, place), rest))
         }
         [
             Token::AsFloatWord,
@@ -67,7 +93,20 @@ fn front_value(tokens: &[Token]) -> Option<((bool, Place), &[Token])>
             rest @ ..,
         ] => {
             let (place, rest) = after_result(rest);
-            closed(place, rest)
+            closed(Function::AsFloat, place, rest)
+        }
+        [Token::AsIntWord, Token::Open, Token::ResultWord, rest @ ..] => {
+            let (place, rest) = after_result(rest);
+            closed(Function::AsInt, place, rest)
+        }
+        [
+            Token::DefaultWord,
+            Token::Open,
+            Token::ResultWord,
+            rest @ ..,
+        ] => {
+            let (place, rest) = after_result(rest);
+            defaulted(place, rest)
         }
         [
             Token::LenWord,
@@ -75,64 +114,151 @@ fn front_value(tokens: &[Token]) -> Option<((bool, Place), &[Token])>
             Token::ResultWord,
             Token::Close,
             rest @ ..,
-        ] => { Some(((false, Place::Length), rest)) }
+        ] => { Some((plain_look(Function::Plain, Place::Length), rest)) }
         _ => None,
     }
 }
 
-fn made(turned: bool, value: (bool, Place), comparison: Comparison, number: ShortDecimal) -> Test
-    ensures { result ≡ made turned value comparison number }
+// A value that brackets stand round, and what follows them.
+fn within(look: Look, tokens: &[Token]) -> Option<(Look, &[Token])>
+    ensures { option_map (λ r. (r.0, r.1.now)) result ≡ within look tokens.now }
+{
+    match tokens {
+        [Token::Close, rest @ ..] => {
+            let look = Look {
+                place: look.place,
+                function: look.function,
+                bracketed: true,
+            };
+            Some((look, rest))
+        }
+        _ => None,
+    }
+}
+
+// The same from its first token on.
+fn in_brackets(tokens: &[Token]) -> Option<(Look, &[Token])>
+    ensures { option_map (λ r. (r.0, r.1.now)) result ≡ in_brackets (front_value tokens.now) }
+{
+    let (look, rest) = front_value(tokens)?;
+    within(look, rest)
+}
+
+// The value at the front, in brackets or not, and what follows it.
+fn front_look(tokens: &[Token]) -> Option<(Look, &[Token])>
+    ensures { option_map (λ r. (r.0, r.1.now)) result ≡ front_look tokens.now }
+{
+    match tokens {
+        [Token::Open, rest @ ..] => in_brackets(rest),
+        _ => front_value(tokens),
+    }
+}
+
+fn amount_of(bracketed: bool, number: ShortDecimal) -> Amount
+    ensures { result ≡ amount_of bracketed number }
+{
+    Amount { number, bracketed }
+}
+
+// The number at the front, in brackets or not, and what follows it.
+fn front_amount(tokens: &[Token]) -> Option<(Amount, &[Token])>
+    ensures { option_map (λ r. (r.0, r.1.now)) result ≡ front_amount tokens.now }
+{
+    match tokens {
+        [Token::Number(number), rest @ ..] => Some((amount_of(false, *number), rest)),
+        [Token::Open, Token::Number(number), Token::Close, rest @ ..] => {
+            Some((amount_of(true, *number), rest))
+        }
+        _ => None,
+    }
+}
+
+fn made(turned: bool, look: Look, comparison: Comparison, amount: Amount) -> Test
+    ensures { result ≡ made turned look comparison amount }
 {
     Test {
-        place: value.1,
-        as_float: value.0,
+        look,
         comparison,
-        number,
+        amount,
         turned,
     }
 }
 
-// The comparison of a value with the number that follows it, and what follows that.
-fn with_number(value: (bool, Place), tokens: &[Token]) -> Option<(Test, &[Token])>
-    ensures { option_map (λ r. (r.0, r.1.now)) result ≡ with_number value tokens.now }
+// The comparison of a value with the number that follows its sign, and what follows that.
+fn with_amount(look: Look, comparison: Comparison, tokens: &[Token]) -> Option<(Test, &[Token])>
+    ensures { option_map (λ r. (r.0, r.1.now)) result
+        ≡ with_amount look comparison (front_amount tokens.now) }
+{
+    let (amount, rest) = front_amount(tokens)?;
+    Some((made(false, look, comparison, amount), rest))
+}
+
+// The same from the sign on.
+fn after_look(look: Look, tokens: &[Token]) -> Option<(Test, &[Token])>
+    ensures { option_map (λ r. (r.0, r.1.now)) result ≡ after_look look tokens.now }
 {
     match tokens {
-        [
-            Token::Compares(comparison),
-            Token::Number(number),
-            rest @ ..,
-        ] => { Some((made(false, value, *comparison, *number), rest)) }
+        [Token::Compares(comparison), rest @ ..] => with_amount(look, *comparison, rest),
         _ => None,
     }
 }
 
-// The comparison of a number with the value that follows it, and what follows that.
-fn turned_test(
-    comparison: Comparison,
-    number: ShortDecimal,
-    tokens: &[Token],
-) -> Option<(Test, &[Token])>
+// The comparison of a number with the value that follows its sign, and what follows that.
+fn with_look(amount: Amount, comparison: Comparison, tokens: &[Token]) -> Option<(Test, &[Token])>
     ensures { option_map (λ r. (r.0, r.1.now)) result
-        ≡ turned_test comparison number (front_value tokens.now) }
+        ≡ with_look amount comparison (front_look tokens.now) }
 {
-    let (value, rest) = front_value(tokens)?;
-    Some((made(true, value, comparison, number), rest))
+    let (look, rest) = front_look(tokens)?;
+    Some((made(true, look, comparison, amount), rest))
+}
+
+// The same from the sign on.
+fn after_amount(amount: Amount, tokens: &[Token]) -> Option<(Test, &[Token])>
+    ensures { option_map (λ r. (r.0, r.1.now)) result ≡ after_amount amount tokens.now }
+{
+    match tokens {
+        [Token::Compares(comparison), rest @ ..] => with_look(amount, *comparison, rest),
+        _ => None,
+    }
+}
+
+// The comparison with its value first.
+fn look_first(tokens: &[Token]) -> Option<(Test, &[Token])>
+    ensures { option_map (λ r. (r.0, r.1.now)) result ≡ look_first (front_look tokens.now) }
+{
+    let (look, rest) = front_look(tokens)?;
+    after_look(look, rest)
 }
 
 // The comparison at the front, and what follows it.
 fn front_test(tokens: &[Token]) -> Option<(Test, &[Token])>
     ensures { option_map (λ r. (r.0, r.1.now)) result ≡ front_test tokens.now }
 {
-    if let [
-        Token::Number(number),
-        Token::Compares(comparison),
-        rest @ ..,
-    ] = tokens
-    {
-        return turned_test(*comparison, *number, rest);
+    match front_amount(tokens) {
+        Some((amount, rest)) => after_amount(amount, rest),
+        None => look_first(tokens),
     }
-    let (value, rest) = front_value(tokens)?;
-    with_number(value, rest)
+}
+
+// `isInf` of a place, and what follows it.
+fn inf_item(place: Place, tokens: &[Token]) -> Option<(Item, &[Token])>
+    ensures { option_map (λ r. (r.0, r.1.now)) result ≡ inf_item place tokens.now }
+{
+    match tokens {
+        [Token::Close, rest @ ..] => Some((Item::Inf(place), rest)),
+        _ => None,
+    }
+}
+
+// A comparison that begins with a bracket, or the bracket alone, and what follows it.
+fn test_or_open<'a>(tokens: &'a [Token], behind: &'a [Token]) -> Option<(Item, &'a [Token])>
+    ensures { option_map (λ r. (r.0, r.1.now)) result
+        ≡ test_or_open (front_test tokens.now) behind.now }
+{
+    match front_test(tokens) {
+        Some((test, rest)) => Some((Item::Compare(test), rest)),
+        None => Some((Item::Open, behind)),
+    }
 }
 
 // `isNaN` of a place, and what follows it.
@@ -153,11 +279,15 @@ fn front_item(tokens: &[Token]) -> Option<(Item, &[Token])>
         [Token::OrSign, rest @ ..] => Some((Item::Or, rest)),
         [Token::AndSign, rest @ ..] => Some((Item::And, rest)),
         [Token::NotSign, rest @ ..] => Some((Item::Not, rest)),
-        [Token::Open, rest @ ..] => Some((Item::Open, rest)),
+        [Token::Open, rest @ ..] => test_or_open(tokens, rest),
         [Token::Close, rest @ ..] => Some((Item::Close, rest)),
         [Token::NaNWord, Token::Open, Token::ResultWord, rest @ ..] => {
             let (place, rest) = after_result(rest);
             nan_item(place, rest)
+        }
+        [Token::InfWord, Token::Open, Token::ResultWord, rest @ ..] => {
+            let (place, rest) = after_result(rest);
+            inf_item(place, rest)
         }
         _ => {
             let (test, rest) = front_test(tokens)?;

@@ -1,13 +1,19 @@
 //! From a text to its tokens.
-ghost use Rattle.std.specs.Prelude.{◌≡◌, ◌≤◌, ◌<◌, IfOk, IfSome, length, option_map, position};
+ghost use Rattle.std.specs.Prelude.{◌≡◌, ◌≤◌, ◌<◌, ◌++◌, IfOk, OnOk, IfSome, length, option_map};
+ghost use Rattle.std.specs.Prelude.{position};
 ghost use Rattle.std.specs.List.{position_or_len};
 ghost use Rattle.std.specs.Str.{bytes_eq};
 ghost use Rattle.canary_argo.specs.Tokens.{is_blank, unblanked};
 ghost use Rattle.canary_argo.specs.Tokens.{is_word_byte, ends_word, front_word};
-ghost use Rattle.canary_argo.specs.Tokens.{after_word, is_held, held, number_of, number_token};
+ghost use Rattle.canary_argo.specs.Tokens.{after_word, goes_on, number_len, front_number};
+ghost use Rattle.canary_argo.specs.Tokens.{after_number, signed_number, after_signed};
+ghost use Rattle.canary_argo.specs.Tokens.{is_held, held, kept, begun, has_digit, has_point};
+ghost use Rattle.canary_argo.specs.Tokens.{written, decimal_of, hex_digit, with_hex, hex_of};
+ghost use Rattle.canary_argo.specs.Tokens.{whole_number, unsigned_number};
+ghost use Rattle.canary_argo.specs.Tokens.{number_of, number_token};
 ghost use Rattle.canary_argo.specs.Tokens.{keyword_token, long_symbol, short_symbol, front_symbol};
 ghost use Rattle.canary_argo.specs.Tokens.{before, front_token, IsFront};
-ghost use Rattle.canary_argo.specs.Tokens.{IsMadeOf, signed_word, after_signed};
+ghost use Rattle.canary_argo.specs.Tokens.{IsMadeOf};
 
 use crate::condition::Token;
 use crate::fault::Fault;
@@ -73,19 +79,51 @@ fn split_word(text: &[u8]) -> (&[u8], &[u8])
     text.split_at(word_len(text))
 }
 
+// Whether a number goes on with a byte after another one.
+fn goes_on(previous: u8, byte: u8) -> bool
+    ensures { result ≡ goes_on previous byte }
+{
+    is_word_byte(byte) || ((previous == b'e' || previous == b'E') && (byte == b'+' || byte == b'-'))
+}
+
+// The length of the number that a text begins with.
+fn number_len(text: &[u8]) -> usize
+    ensures place { result ≡ number_len 0 text.now }
+    ensures within { result ≤ length text.now }
+{
+    let mut previous = 0;
+    let mut count = 0;
+    for byte in text {
+        if !goes_on(previous, *byte) {
+            return count;
+        }
+        previous = *byte;
+        count += 1;
+    }
+    count
+}
+
+// The number that a text begins with, and what follows it.
+fn split_number(text: &[u8]) -> (&[u8], &[u8])
+    ensures word { result.0.now ≡ front_number text.now }
+    ensures after { result.1.now ≡ after_number text.now }
+{
+    text.split_at(number_len(text))
+}
+
 // The same of a text that begins with a sign.
 fn split_signed(text: &[u8]) -> (&[u8], &[u8])
-    ensures word { result.0.now ≡ signed_word text.now }
+    ensures word { result.0.now ≡ signed_number text.now }
     ensures after { result.1.now ≡ after_signed text.now }
 {
     match text {
         [] => (text, text),
-        [_, rest @ ..] => text.split_at(1 + word_len(rest)),
+        [_, rest @ ..] => text.split_at(1 + number_len(rest)),
     }
 }
 
 // Whether a number has few enough digits.
-fn is_held(number: ShortDecimal) -> bool
+pub(crate) fn is_held(number: ShortDecimal) -> bool
     ensures { result ≡ is_held number }
 {
     number.whole.unsigned_abs() < LEAST_TOO_LONG && number.places <= MOST_PLACES
@@ -100,13 +138,153 @@ fn held(number: Option<ShortDecimal>) -> Option<ShortDecimal>
     }
 }
 
+// Whether a digit stands first.
+fn has_digit(word: &[u8]) -> bool
+    ensures { result ≡ has_digit word.now }
+{
+    match word {
+        [] => false,
+        [first, ..] => first.is_ascii_digit(),
+    }
+}
+
+// Whether a point stands first, and a digit after it.
+fn has_point(word: &[u8]) -> bool
+    ensures { result ≡ has_point word.now }
+{
+    match word {
+        [] => false,
+        [first, rest @ ..] => *first == b'.' && has_digit(rest),
+    }
+}
+
+// The sign, and a `0` before a point that stands first.
+fn begun(minus: bool, point: bool) -> &'static str
+    ensures { result.now ≡ begun minus point }
+{
+    match (minus, point) {
+        (true, true) => "-0",
+        (true, false) => "-",
+        (false, true) => "0",
+        (false, false) => "",
+    }
+}
+
+// Appends a byte of a decimal, without `_`.
+fn push_kept(out: &mut Vec<u8>, byte: u8) -> Result<(), Memory>
+    ensures { OnOk result (out.new.items ≡ out.old.items ++ kept byte) }
+{
+    if byte != b'_' {
+        out.push(byte)?;
+    }
+    Ok(())
+}
+
+// A decimal as canary_decimal reads it.
+fn written(alloc: Global, minus: bool, word: &[u8]) -> Result<Vec<u8>, Memory>
+    ensures { IfOk result (λ text. text.items ≡ written minus word.now) }
+{
+    let mut text = Vec::new(alloc);
+    text.extend_from_slice(begun(minus, has_point(word)).as_bytes())?;
+    for byte in word {
+        push_kept(&mut text, *byte)?;
+    }
+    Ok(text)
+}
+
+// The decimal that a word without a sign spells.
+fn decimal_of(alloc: Global, minus: bool, word: &[u8]) -> Result<Option<ShortDecimal>, Memory>
+    ensures { IfOk result (λ found. found ≡ decimal_of minus word.now) }
+{
+    if !has_digit(word) && !has_point(word) {
+        return Ok(None);
+    }
+    let text = written(alloc, minus, word)?;
+    match decimal(alloc, text.as_slice())? {
+        Some(number) => Ok(held(number.short())),
+        None => Ok(None),
+    }
+}
+
+fn hex_digit(byte: u8) -> Option<u64>
+    ensures value { result ≡ hex_digit byte }
+    ensures small { IfSome result (λ digit. digit < 16) }
+{
+    if b'0' <= byte && byte <= b'9' {
+        Some(u64::from(byte - b'0'))
+    } else if b'a' <= byte && byte <= b'f' {
+        Some(u64::from(byte - b'a') + 10)
+    } else if b'A' <= byte && byte <= b'F' {
+        Some(u64::from(byte - b'A') + 10)
+    } else {
+        None
+    }
+}
+
+// A number with one more hexadecimal digit, if it has few enough digits.
+fn with_hex(number: Option<u64>, byte: u8) -> Option<u64>
+    ensures { result ≡ with_hex number byte }
+{
+    let number = number?;
+    if byte == b'_' {
+        return Some(number);
+    }
+    let digit = hex_digit(byte)?;
+    if number < LEAST_TOO_LONG {
+        Some(number * 16 + digit)
+    } else {
+        None
+    }
+}
+
+// The number of hexadecimal digits.
+fn hex_of(word: &[u8]) -> Option<u64>
+    ensures { result ≡ hex_of word.now }
+{
+    let [first, digits @ ..] = word else {
+        return None;
+    };
+    let mut number = hex_digit(*first);
+    for byte in digits {
+        number = with_hex(number, *byte);
+    }
+    number
+}
+
+// A whole number, if it has few enough digits.
+fn whole_number(minus: bool, number: Option<u64>) -> Option<ShortDecimal>
+    ensures { result ≡ whole_number minus number }
+{
+    let number = number?;
+    if number >= LEAST_TOO_LONG {
+        return None;
+    }
+    let whole = number as i64;
+    Some(ShortDecimal {
+        whole: if minus { -whole } else { whole },
+        places: 0,
+    })
+}
+
+// The number that a word without a sign spells.
+fn unsigned_number(alloc: Global, minus: bool, word: &[u8]) -> Result<Option<ShortDecimal>, Memory>
+    ensures { IfOk result (λ found. found ≡ unsigned_number minus word.now) }
+{
+    match word {
+        [zero, mark, digits @ ..] if *zero == b'0' && (*mark == b'x' || *mark == b'X') => {
+            Ok(whole_number(minus, hex_of(digits)))
+        }
+        _ => decimal_of(alloc, minus, word),
+    }
+}
+
 // The number that a word spells.
 fn number_of(alloc: Global, word: &[u8]) -> Result<Option<ShortDecimal>, Memory>
     ensures { IfOk result (λ found. found ≡ number_of word.now) }
 {
-    match decimal(alloc, word)? {
-        Some(number) => Ok(held(number.short())),
-        None => Ok(None),
+    match word {
+        [b'-', rest @ ..] => unsigned_number(alloc, true, rest),
+        _ => unsigned_number(alloc, false, word),
     }
 }
 
@@ -137,10 +315,16 @@ fn keyword_token(word: &[u8]) -> Option<Token>
         Some(Token::NotSign)
     } else if is_same(word, "asFloat") {
         Some(Token::AsFloatWord)
+    } else if is_same(word, "asInt") {
+        Some(Token::AsIntWord)
     } else if is_same(word, "len") {
         Some(Token::LenWord)
     } else if is_same(word, "isNaN") {
         Some(Token::NaNWord)
+    } else if is_same(word, "isInf") {
+        Some(Token::InfWord)
+    } else if is_same(word, "default") {
+        Some(Token::DefaultWord)
     } else {
         None
     }
@@ -171,6 +355,7 @@ fn short_symbol(byte: u8) -> Option<Token>
         b')' => Some(Token::Close),
         b'[' => Some(Token::OpenItem),
         b']' => Some(Token::CloseItem),
+        b',' => Some(Token::Comma),
         _ => None,
     }
 }
@@ -197,7 +382,7 @@ fn before(rest: &[u8], token: Option<Token>) -> Option<(Token, &[u8])>
     Some((token?, rest))
 }
 
-// The token of a number at the front, which begins with a `-` or a digit, and what follows it.
+// The token of a number at the front, and what follows it.
 fn front_number<'a>(
     alloc: Global,
     text: &[u8],
@@ -218,8 +403,8 @@ fn front_token(alloc: Global, text: &[u8]) -> Result<Option<(Token, &[u8])>, Mem
     let [first, ..] = text else {
         return Ok(None);
     };
-    if first.is_ascii_digit() {
-        let (word, rest) = split_word(text);
+    if first.is_ascii_digit() || *first == b'.' {
+        let (word, rest) = split_number(text);
         return front_number(alloc, word, rest);
     }
     if *first == b'-' {

@@ -1,6 +1,6 @@
 //! What stands where a condition of Argo Rollouts is not translated. No clause says which refusal
 //! it is; the tests do.
-use crate::condition::{Item, Place, Token};
+use crate::condition::{Function, Item, Place, Token};
 use crate::fault::Refusal;
 use crate::items::after_result;
 
@@ -61,7 +61,11 @@ pub(crate) fn of_text(text: &[u8], word: &[u8], rest: &[u8]) -> Refusal {
 fn begins_value(token: Token) -> bool {
     matches!(
         token,
-        Token::ResultWord | Token::AsFloatWord | Token::LenWord
+        Token::ResultWord
+            | Token::AsFloatWord
+            | Token::AsIntWord
+            | Token::DefaultWord
+            | Token::LenWord
     )
 }
 
@@ -98,22 +102,36 @@ fn of_value(behind: Option<&[Token]>) -> Refusal {
     match behind {
         None => Refusal::Truth,
         Some([first, ..]) if begins_value(*first) => Refusal::TwoResults,
+        Some([Token::Open, first, ..]) if begins_value(*first) => Refusal::TwoResults,
         Some(_) => Refusal::Comparison,
     }
+}
+
+// The number of the brackets round an operand.
+fn brackets_in(bracketed: bool) -> usize {
+    if bracketed { 2 } else { 0 }
 }
 
 // The number of the tokens of a group.
 fn tokens_in(item: Item) -> usize {
     match item {
         Item::Compare(test) => {
-            let place = match test.place {
+            let place = match test.look.place {
                 Place::Whole => 3,
                 Place::Item(_) | Place::Length => 6,
             };
-            if test.as_float { place + 3 } else { place }
+            let function: usize = match test.look.function {
+                Function::Plain => 0,
+                Function::AsFloat | Function::AsInt => 3,
+                Function::Default(_) => 5,
+            };
+            function
+                .saturating_add(place)
+                .saturating_add(brackets_in(test.look.bracketed))
+                .saturating_add(brackets_in(test.amount.bracketed))
         }
-        Item::NaN(Place::Whole) => 4,
-        Item::NaN(_) => 7,
+        Item::NaN(Place::Whole) | Item::Inf(Place::Whole) => 4,
+        Item::NaN(_) | Item::Inf(_) => 7,
         _ => 1,
     }
 }
@@ -145,7 +163,7 @@ fn after_item(item: Item, wanted: bool, opened: usize) -> Option<(bool, usize)> 
     match item {
         Item::Not if wanted => Some((true, opened)),
         Item::Open if wanted => Some((true, opened.saturating_add(1))),
-        Item::Compare(_) | Item::NaN(_) if wanted => Some((false, opened)),
+        Item::Compare(_) | Item::NaN(_) | Item::Inf(_) if wanted => Some((false, opened)),
         Item::Or | Item::And if !wanted => Some((true, opened)),
         Item::Close if !wanted && opened > 0 => Some((false, opened - 1)),
         _ => None,

@@ -2,7 +2,7 @@
 ghost use Rattle.std.specs.Prelude.{◌≡◌, ◌++◌, OnOk, IfOk, is_some, true, string_bytes};
 ghost use Rattle.std.specs.List.{list_all};
 ghost use Rattle.std.specs.Fmt.{signed_decimal};
-ghost use Rattle.canary_argo.specs.Translating.{atom_words, atom_text};
+ghost use Rattle.canary_argo.specs.Translating.{joined_text, all_text, atom_words, atom_text};
 ghost use Rattle.canary_argo.specs.Translating.{operand_text, sign_text};
 ghost use Rattle.canary_argo.specs.Translating.{test_text, item_text, sign_words};
 ghost use Rattle.canary_argo.specs.Translating.{text_of, fits};
@@ -11,7 +11,7 @@ ghost use Rattle.canary_argo.specs.Translating.{skeleton_text, skeleton_of};
 use crate::condition::Item;
 use crate::fault::{Fault, Refusal};
 use crate::form::Form;
-use crate::translating::{DeskAtom, DeskTest, compare_atom, guard, nan_atom, why_not};
+use crate::translating::{DeskAtom, DeskTest, compare_atom, inf_atom, nan_atom, why_not};
 use canary_base::error::Memory;
 use canary_condition::condition::{Comparison, Operand};
 use canary_condition::outcome::Value;
@@ -67,14 +67,40 @@ fn push_test(out: &mut String, test: DeskTest) -> Result<(), Memory>
     Ok(())
 }
 
-// Appends a comparison with its guard.
-fn push_guarded(out: &mut String, test: DeskTest) -> Result<(), Memory>
-    ensures { OnOk result (string_bytes out.new ≡ string_bytes out.old ++ atom_words true test) }
+// Appends two comparisons with a sign between them, in brackets.
+fn push_joined(
+    out: &mut String,
+    first: DeskTest,
+    sign: &str,
+    second: DeskTest,
+) -> Result<(), Memory>
+    ensures { OnOk result
+        (string_bytes out.new ≡ string_bytes out.old ++ joined_text first sign.now second) }
 {
     out.push_str("(")?;
-    push_test(out, test)?;
+    push_test(out, first)?;
+    out.push_str(sign)?;
+    push_test(out, second)?;
+    out.push_str(")")?;
+    Ok(())
+}
+
+// Appends three comparisons with `&&` between them, in brackets.
+fn push_all(
+    out: &mut String,
+    first: DeskTest,
+    second: DeskTest,
+    third: DeskTest,
+) -> Result<(), Memory>
+    ensures { OnOk result
+        (string_bytes out.new ≡ string_bytes out.old ++ all_text first second third) }
+{
+    out.push_str("(")?;
+    push_test(out, first)?;
     out.push_str(" && ")?;
-    push_test(out, guard(test))?;
+    push_test(out, second)?;
+    out.push_str(" && ")?;
+    push_test(out, third)?;
     out.push_str(")")?;
     Ok(())
 }
@@ -84,10 +110,11 @@ fn push_atom(out: &mut String, atom: DeskAtom) -> Result<(), Memory>
     ensures { OnOk result
         (string_bytes out.new ≡ string_bytes out.old ++ atom_text (Some atom)) }
 {
-    if atom.guarded {
-        push_guarded(out, atom.test)
-    } else {
-        push_test(out, atom.test)
+    match atom {
+        DeskAtom::One(test) => push_test(out, test),
+        DeskAtom::Both(first, second) => push_joined(out, first, " && ", second),
+        DeskAtom::Either(first, second) => push_joined(out, first, " || ", second),
+        DeskAtom::All(first, second, third) => push_all(out, first, second, third),
     }
 }
 
@@ -114,7 +141,7 @@ fn sign_words(item: Item) -> &'static str
         Item::Not => "not ",
         Item::Open => "(",
         Item::Close => ")",
-        Item::Compare(_) | Item::NaN(_) => "",
+        Item::Compare(_) | Item::NaN(_) | Item::Inf(_) => "",
     }
 }
 
@@ -137,6 +164,7 @@ fn push_item(out: &mut String, form: Form, item: Item) -> Result<(), Fault>
     match item {
         Item::Compare(test) => push_found(out, compare_atom(form, test), why_not(form, test)),
         Item::NaN(place) => push_found(out, nan_atom(form, place), Refusal::Shape),
+        Item::Inf(place) => push_found(out, inf_atom(form, place), Refusal::Shape),
         sign => push_words(out, sign_words(sign)),
     }
 }
@@ -163,7 +191,7 @@ fn skeleton_text(item: Item) -> &'static str
         Item::Not => "not ",
         Item::Open => "( ",
         Item::Close => ") ",
-        Item::Compare(_) | Item::NaN(_) => "1<1 ",
+        Item::Compare(_) | Item::NaN(_) | Item::Inf(_) => "1<1 ",
     }
 }
 

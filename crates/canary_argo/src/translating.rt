@@ -2,15 +2,25 @@
 ghost use Rattle.std.specs.Prelude.{◌≡◌};
 ghost use Rattle.canary_argo.specs.Translating.{desk_place, turned, in_turn, constant_of, made};
 ghost use Rattle.canary_argo.specs.Translating.{length_of, constant_at, desk_test};
-ghost use Rattle.canary_argo.specs.Translating.{guard, is_below, guarded, compare_atom};
-ghost use Rattle.canary_argo.specs.Translating.{desk_value, nan_atom};
+ghost use Rattle.std.specs.Prelude.{◌<◌, ◌≤◌, ◌^◌, ◌*◌, ◌-◌, min, unsigned_abs};
+ghost use Rattle.canary_decimal.specs.Exactness.{signed};
+ghost use Rattle.canary_argo.specs.Translating.{guard, is_below, guarded_by, guarded, plain_atom};
+ghost use Rattle.canary_argo.specs.Translating.{least_from, least_above, edge_of, edge_sign};
+ghost use Rattle.canary_argo.specs.Translating.{edge_test, one_test, both_tests, either_test};
+ghost use Rattle.canary_argo.specs.Translating.{int_asked, int_atom, compare_atom};
+ghost use Rattle.canary_condition.specs.declared.condition.Comparison.TheVariants.{Equal};
+ghost use Rattle.canary_condition.specs.Meaning.{compares};
+ghost use Rattle.canary_argo.specs.Translating.{desk_value, nan_atom, inf_atom, at_null};
+ghost use Rattle.canary_argo.specs.Translating.{is_not_equal, takes_null, except_null, null_by};
+ghost use Rattle.canary_argo.specs.Translating.{with_null, value_test, default_atom, is_value};
 
-use crate::condition::{Item, Place, Test};
+use crate::condition::{Amount, Function, Item, Look, Place, Test};
 use crate::fault::Refusal;
-use crate::form::{Form, MOST_VALUES, NAN, Shape};
-use crate::lexer::LEAST_TOO_LONG;
+use crate::form::{Form, MOST_VALUES, Shape, has_infinite, has_nan, has_null};
+use crate::lexer::{LEAST_TOO_LONG, is_held};
 use canary_condition::condition::{Comparison, Operand};
 use canary_decimal::decimal::{MOST_PLACES, ShortDecimal};
+use canary_decimal::shown::{INFINITE, MINUS_INFINITE, NAN, NULL};
 
 // A comparison of a value that is reported with a constant.
 #[derive(Clone, Copy)]
@@ -20,11 +30,13 @@ pub(crate) struct DeskTest {
     pub(crate) constant: i64,
 }
 
-// What the desk asks: the comparison, and with a guard also that the value is not NaN.
+// What the desk asks.
 #[derive(Clone, Copy)]
-pub(crate) struct DeskAtom {
-    pub(crate) test: DeskTest,
-    pub(crate) guarded: bool,
+pub(crate) enum DeskAtom {
+    One(DeskTest),
+    Both(DeskTest, DeskTest),
+    Either(DeskTest, DeskTest),
+    All(DeskTest, DeskTest, DeskTest),
 }
 
 // The operand for a place, if the shape has it.
@@ -119,22 +131,211 @@ fn is_below(comparison: Comparison) -> bool
     matches!(comparison, Comparison::Less | Comparison::AtMost)
 }
 
+fn guarded_by(is_guarded: bool, test: DeskTest) -> DeskAtom
+    ensures { result ≡ guarded_by is_guarded test }
+{
+    if is_guarded {
+        DeskAtom::Both(test, guard(test))
+    } else {
+        DeskAtom::One(test)
+    }
+}
+
 // The desk's comparison, guarded if NaN would be below its constant.
 fn guarded(nan: bool, test: Option<DeskTest>) -> Option<DeskAtom>
     ensures { result ≡ guarded nan test }
 {
     let test = test?;
-    Some(DeskAtom {
-        test,
-        guarded: nan && is_below(test.comparison),
-    })
+    Some(guarded_by(nan && is_below(test.comparison), test))
 }
 
-// What the desk asks for one of Argo's comparisons.
-pub(crate) fn compare_atom(form: Form, test: Test) -> Option<DeskAtom>
-    ensures { result ≡ compare_atom form test }
+// Whether a place is no length.
+fn is_value(place: Place) -> bool
+    ensures { result ≡ is_value place }
 {
-    guarded(form.nan, desk_test(form, test))
+    !matches!(place, Place::Length)
+}
+
+fn plain_atom(form: Form, test: Test) -> Option<DeskAtom>
+    ensures { result ≡ plain_atom form test }
+{
+    if has_null(form.beside) && is_value(test.look.place) {
+        return None;
+    }
+    guarded(has_nan(form.beside), desk_test(form, test))
+}
+
+// 10 to the power of so many places, or the greatest u64.
+fn power_of(places: usize) -> u64
+    ensures { result ≡ min (2 ^ 64 - 1) (1 * 10 ^ places) }
+{
+    let mut power: u64 = 1;
+    for _ in 0..places {
+        power = power.saturating_mul(10);
+    }
+    power
+}
+
+// 10 to the power of so many places.
+fn unit_of(places: usize) -> u64
+    requires { places ≤ 18 }
+    ensures value { result ≡ 10 ^ places }
+    ensures some { 0 < result }
+{
+    power_of(places)
+}
+
+// A number with its sign.
+fn with_sign(minus: bool, size: u64) -> i64
+    requires { size ≤ 10 ^ 15 }
+    ensures { result ≡ signed minus size }
+{
+    if minus { -(size as i64) } else { size as i64 }
+}
+
+// The least whole number that is not below a number, in these units.
+fn least_from(number: i64, unit: u64) -> i64
+    requires some { 0 < unit }
+    requires few { unsigned_abs number < 10 ^ 15 }
+    ensures { result ≡ least_from number unit }
+{
+    let size = number.unsigned_abs();
+    if 0 < number {
+        with_sign(false, (size - 1) / unit + 1)
+    } else {
+        with_sign(true, size / unit)
+    }
+}
+
+// The least whole number above a number, in these units.
+fn least_above(number: i64, unit: u64) -> i64
+    requires some { 0 < unit }
+    requires few { unsigned_abs number < 10 ^ 15 }
+    ensures { result ≡ least_above number unit }
+{
+    let size = number.unsigned_abs();
+    if number < 0 {
+        with_sign(true, (size - 1) / unit)
+    } else {
+        with_sign(false, size / unit + 1)
+    }
+}
+
+fn edge_of(number: i64) -> i64
+    requires { unsigned_abs number ≤ 10 ^ 15 }
+    ensures { result ≡ edge_of number }
+{
+    if 0 < number { number } else { number - 1 }
+}
+
+fn edge_sign(reaches: bool, number: i64) -> Comparison
+    ensures { result ≡ edge_sign reaches number }
+{
+    match (reaches, 0 < number) {
+        (true, true) => Comparison::AtLeast,
+        (true, false) => Comparison::Greater,
+        (false, true) => Comparison::Less,
+        (false, false) => Comparison::AtMost,
+    }
+}
+
+// The comparison that says whether the value, cut off towards 0, reaches a whole number, or stays
+// below it.
+fn edge_test(reaches: bool, place: Place, number: i64) -> Test
+    requires { unsigned_abs number ≤ 10 ^ 15 }
+    ensures { result ≡ edge_test reaches place number }
+{
+    Test {
+        look: Look {
+            place,
+            function: Function::Plain,
+            bracketed: false,
+        },
+        comparison: edge_sign(reaches, number),
+        amount: Amount {
+            number: ShortDecimal {
+                whole: edge_of(number),
+                places: 0,
+            },
+            bracketed: false,
+        },
+        turned: false,
+    }
+}
+
+fn one_test(test: Option<DeskTest>) -> Option<DeskAtom>
+    ensures { result ≡ one_test test }
+{
+    Some(DeskAtom::One(test?))
+}
+
+fn both_tests(first: Option<DeskTest>, second: Option<DeskTest>) -> Option<DeskAtom>
+    ensures { result ≡ both_tests first second }
+{
+    Some(DeskAtom::Both(first?, second?))
+}
+
+fn either_test(first: Option<DeskTest>, second: Option<DeskTest>) -> Option<DeskAtom>
+    ensures { result ≡ either_test first second }
+{
+    Some(DeskAtom::Either(first?, second?))
+}
+
+// The desk's comparison of a value with such a number.
+fn edge(form: Form, reaches: bool, place: Place, number: i64) -> Option<DeskTest>
+    requires { unsigned_abs number ≤ 10 ^ 15 }
+    ensures { result ≡ desk_test form (edge_test reaches place number) }
+{
+    desk_test(form, edge_test(reaches, place, number))
+}
+
+// What is asked of a value that is cut off, by the least whole numbers from a constant on and
+// above it.
+fn int_asked(
+    form: Form,
+    place: Place,
+    comparison: Comparison,
+    from: i64,
+    above: i64,
+) -> Option<DeskAtom>
+    requires from { unsigned_abs from ≤ 10 ^ 15 }
+    requires above { unsigned_abs above ≤ 10 ^ 15 }
+    ensures { result ≡ int_asked form place comparison from above }
+{
+    match comparison {
+        Comparison::Equal => both_tests(
+            edge(form, true, place, from),
+            edge(form, false, place, above),
+        ),
+        Comparison::NotEqual => either_test(
+            edge(form, false, place, from),
+            edge(form, true, place, above),
+        ),
+        Comparison::Less => one_test(edge(form, false, place, from)),
+        Comparison::AtMost => one_test(edge(form, false, place, above)),
+        Comparison::Greater => one_test(edge(form, true, place, above)),
+        Comparison::AtLeast => one_test(edge(form, true, place, from)),
+    }
+}
+
+// What the desk asks for a comparison of a value that is cut off.
+fn int_atom(form: Form, test: Test) -> Option<DeskAtom>
+    ensures { result ≡ int_atom form test }
+{
+    let number = test.amount.number;
+    if has_nan(form.beside) || !is_held(number) {
+        return None;
+    }
+    let unit = unit_of(number.places);
+    let from = least_from(number.whole, unit);
+    let above = least_above(number.whole, unit);
+    int_asked(
+        form,
+        test.look.place,
+        in_turn(test.turned, test.comparison),
+        from,
+        above,
+    )
 }
 
 // The operand for a place that is no length.
@@ -147,21 +348,148 @@ fn desk_value(shape: Shape, place: Place) -> Option<Operand>
     }
 }
 
+// The same value compared with what is reported of null.
+fn at_null(comparison: Comparison, test: DeskTest) -> DeskTest
+    ensures { result ≡ at_null comparison test }
+{
+    DeskTest {
+        operand: test.operand,
+        comparison,
+        constant: NULL,
+    }
+}
+
+fn is_not_equal(comparison: Comparison) -> bool
+    ensures { result ≡ is_not_equal comparison }
+{
+    matches!(comparison, Comparison::NotEqual)
+}
+
+// Whether what is reported of null passes a comparison.
+fn takes_null(comparison: Comparison) -> bool
+    ensures { result ≡ takes_null comparison }
+{
+    is_below(comparison) || is_not_equal(comparison)
+}
+
+// Not null, which the comparison takes.
+fn except_null(is_guarded: bool, test: DeskTest) -> DeskAtom
+    ensures { result ≡ except_null is_guarded test }
+{
+    let other = at_null(Comparison::NotEqual, test);
+    if is_guarded {
+        DeskAtom::All(test, guard(test), other)
+    } else {
+        DeskAtom::Both(test, other)
+    }
+}
+
+// What the desk asks, by whether the comparison takes null, and whether null is wanted.
+fn null_by(takes: bool, wanted: bool, test: DeskTest) -> DeskAtom
+    ensures { result ≡ null_by takes wanted test }
+{
+    match (takes, wanted) {
+        (true, false) => except_null(is_below(test.comparison), test),
+        (false, true) => DeskAtom::Either(test, at_null(Comparison::Equal, test)),
+        (true, true) => guarded_by(is_below(test.comparison), test),
+        (false, false) => guarded_by(is_below(test.comparison), test),
+    }
+}
+
+fn holds(comparison: Comparison, first: i64, second: i64) -> bool
+    ensures { result ≡ compares comparison first second }
+{
+    match comparison {
+        Comparison::Equal => first == second,
+        Comparison::NotEqual => first != second,
+        Comparison::Less => first < second,
+        Comparison::AtMost => first <= second,
+        Comparison::Greater => first > second,
+        Comparison::AtLeast => first >= second,
+    }
+}
+
+fn with_null(number: Option<i64>, test: Option<DeskTest>) -> Option<DeskAtom>
+    ensures { result ≡ with_null number test }
+{
+    let number = number?;
+    let test = test?;
+    let wanted = holds(test.comparison, number, test.constant);
+    Some(null_by(takes_null(test.comparison), wanted, test))
+}
+
+// The desk's comparison of a place that is no length.
+fn value_test(form: Form, test: Test) -> Option<DeskTest>
+    ensures { result ≡ value_test form test }
+{
+    made(
+        in_turn(test.turned, test.comparison),
+        desk_value(form.shape, test.look.place),
+        constant_of(test.amount.number, form.places),
+    )
+}
+
+// What the desk asks for a comparison of a value with a number in place of null.
+fn default_atom(form: Form, number: ShortDecimal, test: Test) -> Option<DeskAtom>
+    ensures { result ≡ default_atom form number test }
+{
+    if !has_null(form.beside) {
+        return None;
+    }
+    with_null(constant_of(number, form.places), value_test(form, test))
+}
+
+// What the desk asks for one of Argo's comparisons.
+pub(crate) fn compare_atom(form: Form, test: Test) -> Option<DeskAtom>
+    ensures { result ≡ compare_atom form test }
+{
+    match test.look.function {
+        Function::Plain | Function::AsFloat => plain_atom(form, test),
+        Function::AsInt => int_atom(form, test),
+        Function::Default(number) => default_atom(form, number, test),
+    }
+}
+
 // What the desk asks for `isNaN` of a place.
 pub(crate) fn nan_atom(form: Form, place: Place) -> Option<DeskAtom>
     ensures { result ≡ nan_atom form place }
 {
-    if !form.nan {
+    if !has_nan(form.beside) || has_null(form.beside) {
         return None;
     }
     let operand = desk_value(form.shape, place)?;
-    Some(DeskAtom {
-        test: DeskTest {
-            operand,
-            comparison: Comparison::Equal,
-            constant: NAN,
-        },
-        guarded: false,
+    Some(DeskAtom::One(equal_to(operand, NAN)))
+}
+
+fn equal_to(operand: Operand, constant: i64) -> DeskTest
+    ensures { result ≡ record { operand = operand; comparison = Equal; constant = constant } }
+{
+    DeskTest {
+        operand,
+        comparison: Comparison::Equal,
+        constant,
+    }
+}
+
+// What the desk asks for `isInf` of a place.
+pub(crate) fn inf_atom(form: Form, place: Place) -> Option<DeskAtom>
+    ensures { result ≡ inf_atom form place }
+{
+    if !has_infinite(form.beside) || has_null(form.beside) {
+        return None;
+    }
+    let operand = desk_value(form.shape, place)?;
+    let infinite = equal_to(operand, INFINITE);
+    Some(DeskAtom::Either(infinite, equal_to(operand, MINUS_INFINITE)))
+}
+
+fn made(comparison: Comparison, operand: Option<Operand>, constant: Option<i64>) -> Option<DeskTest>
+    ensures { result ≡ made comparison operand constant }
+{
+    Some(DeskTest {
+        operand: operand?,
+        comparison,
+        constant: constant?,
     })
 }
 
@@ -169,20 +497,24 @@ pub(crate) fn nan_atom(form: Form, place: Place) -> Option<DeskAtom>
 fn desk_test(form: Form, test: Test) -> Option<DeskTest>
     ensures { result ≡ desk_test form test }
 {
-    let operand = desk_place(form.shape, test.place)?;
-    let constant = constant_at(test.place, test.number, form.places)?;
-    Some(DeskTest {
-        operand,
-        comparison: in_turn(test.turned, test.comparison),
-        constant,
-    })
+    made(
+        in_turn(test.turned, test.comparison),
+        desk_place(form.shape, test.look.place),
+        constant_at(test.look.place, test.amount.number, form.places),
+    )
+}
+
+// Whether `asInt` stands beside `isNaN` or `isInf`.
+fn is_beside(form: Form, test: Test) -> bool {
+    has_nan(form.beside) && matches!(test.look.function, Function::AsInt)
 }
 
 // Why the desk has no comparison for one of Argo's.
 pub(crate) fn why_not(form: Form, test: Test) -> Refusal {
-    match desk_place(form.shape, test.place) {
+    match desk_place(form.shape, test.look.place) {
         None => Refusal::Shape,
-        Some(_) if matches!(test.place, Place::Length) => Refusal::Fraction,
+        Some(_) if is_beside(form, test) => Refusal::AsInt,
+        Some(_) if matches!(test.look.place, Place::Length) => Refusal::Fraction,
         Some(_) => Refusal::Range,
     }
 }
@@ -192,6 +524,7 @@ fn is_unfit(form: Form, item: Item) -> bool {
     match item {
         Item::Compare(test) => compare_atom(form, test).is_none(),
         Item::NaN(place) => nan_atom(form, place).is_none(),
+        Item::Inf(place) => inf_atom(form, place).is_none(),
         _ => false,
     }
 }

@@ -4,12 +4,16 @@
 //! or      := and  { ("||" | "or") and }
 //! and     := not  { ("&&" | "and") not }
 //! not     := ("!" | "not") (not, but no comparison) | atom
-//! atom    := "(" or ")" | value compare number | number compare value | "isNaN" "(" place ")"
-//! value   := place | "asFloat" "(" place ")"
+//! atom    := "(" or ")" | look compare amount | amount compare look
+//!            | ("isNaN" | "isInf") "(" place ")"
+//! look    := value | "(" value ")"
+//! amount  := number | "(" number ")"
+//! value   := place | ("asFloat" | "asInt") "(" place ")" | "default" "(" place "," number ")"
 //! place   := "result" | "result" "[" digits "]" | "len" "(" "result" ")"
 //! ```
 //!
-//! A number is a decimal of at most 15 digits, at most 17 of them after the point.
+//! A number has at most 15 digits, at most 17 of them after the point, once it is written out:
+//! `0.95`, `-.5`, `1e-3`, `1_000`, `0x1F`.
 ghost use Rattle.std.specs.Prelude.{◌≡◌, IfOk, OnOk, string_bytes};
 ghost use Rattle.canary_condition.specs.Reading.{IsConditionText};
 ghost use Rattle.canary_condition.specs.Trees.{Tree};
@@ -59,9 +63,8 @@ fn translated(alloc: Global, form: Form, items: &[Item]) -> Result<String, Fault
 fn place_of(form: Form, items: &[Item], finding: Finding) -> usize {
     match finding.why {
         Refusal::Brackets => naming::place_of_misfit(items),
-        Refusal::Shape | Refusal::Range | Refusal::Fraction => translating::place_of_unfit(
-            form, items,
-        ),
+        Refusal::Shape | Refusal::Range | Refusal::Fraction | Refusal::AsInt =>
+            translating::place_of_unfit(form, items),
         _ => finding.at,
     }
 }

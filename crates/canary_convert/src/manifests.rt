@@ -81,8 +81,10 @@ er {{args.api-token}}"}],"jsonPath":"{$.data.score}","url":"http://j/?s=billing"
 "metadata":{"name":"loq"},
 "spec":{"strategy":{"canary":{"analysis":{"templates":[{"templateName":"loq"}],
 "args":[{"name":"n","value":"loq"}]}}}}}]
-=> 1 findings, 0 notes, 0 templates, 0 services, 0 planned
-=> finding 0 spec.metrics[0].successCondition: this function: do it in the query @0
+=> 0 findings, 0 notes
+=> "metrics":[{"name":"error-rate.e6s","successCondition":"(result <= 10000 && result != -9223372
+036854775808)"}]
+=> plan loq error-rate.e6s loq error-rate datadog {"datadog":{"query":"sum:e{service:loq}"}} {}
 
 [{"kind":"AnalysisTemplate","metadata":{"name":"loq"},"spec":{"args":[{"name":"n"}],
 "metrics":[{"name":"error-rate","successCondition":"result <= 0.01",

@@ -8,7 +8,7 @@ use crate::json::{member, push_comma, push_key, push_text, quoted, text_at};
 use crate::place::Place;
 use crate::work::{Planned, Work};
 use canary_argo::fault::{Fault, Finding};
-use canary_argo::form::{Form, LEAST_PLACES, Needs, Shape};
+use canary_argo::form::{Form, Needs, Shape};
 use canary_argo::translation::translate;
 use canary_base::error::Memory;
 use canary_base::names::Label;
@@ -152,12 +152,18 @@ fn read_name(
     Ok(None)
 }
 
+// Without the letter for what is reported beside decimals.
+fn without_letter(text: &str) -> &str {
+    let rest = text.strip_suffix("n").or(text.strip_suffix("i"));
+    rest.or(text.strip_suffix("s")).unwrap_or(text)
+}
+
 // Whether it ends as `form::Form::suffix` writes it.
 fn is_suffixed(name: &str) -> bool {
     match name.rsplit_once(".e") {
         Some((_, end)) => {
             let places = without_shape(end);
-            are_digits(places.strip_suffix("n").unwrap_or(places))
+            are_digits(without_letter(places))
         }
         None => false,
     }
@@ -312,15 +318,11 @@ fn form_of_conditions(
 
 // The form of a metric without a condition: Prometheus answers a list.
 fn unconditional_form(kind: &str) -> Form {
-    Form {
-        places: LEAST_PLACES,
-        shape: if kind == "prometheus" {
-            Shape::First
-        } else {
-            Shape::One
-        },
-        nan: false,
-    }
+    Form::plain(if kind == "prometheus" {
+        Shape::First
+    } else {
+        Shape::One
+    })
 }
 
 fn form_of_needs(
@@ -461,7 +463,7 @@ fn push_translation(
     }
     match quoted_translation(alloc, text, form) {
         Ok(condition) => {
-            if !form.nan {
+            if !form.has_nan() {
                 work.see_nan(spot.place);
             }
             push_key(out, key)?;

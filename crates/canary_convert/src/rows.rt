@@ -100,8 +100,10 @@ e u is in none of the files
 {"name":"h"},{"name":"iiiiiiiiiiiiiiiiiiiiiiiiiiiiiiiiiiiiiiiiiiiiiiiiiiiiiiiiiiii",
 "successCondition":"result[0] > 1","provider":{"prometheus":{"query":"up"}}},{"name":"j",
 "successCondition":"result > 1","failureCondition":"result[0] > 1",
-"provider":{"prometheus":{"query":"up"}}},{"name":"k.e6x"},{"name":"l.e"},{"name":"m.e6l"}]}}]
-=> 9 findings
+"provider":{"prometheus":{"query":"up"}}},{"name":"k.e6x"},{"name":"l.e"},{"name":"m.e6l"},
+{"name":"n.e6nl1"}]}}]
+=> 10 findings
+=> finding 0 spec.metrics[13].name: a name that ends
 => finding 0 spec.metrics[0].name: a name that ends as that of a translated metric
 => finding 0 spec.metrics[1].name: a name that ends
 => finding 0 spec.metrics[2].name: expected 1 to 63
@@ -168,7 +170,7 @@ rgs.d}} {{args.e}} }} {{"}}}]}},
 "valueFrom":{"podTemplateHashValue":"Latest"}},{"name":"s",
 "valueFrom":{"secretKeyRef":{"name":"s","key":"k"}}},{"name":"none"},{"name":"f",
 "valueFrom":{"fieldRef":{"fieldPath":"metadata.labels['x']"}}},{"name":"t",
-"value":"{{args.h}}"},{"name":"x","value":"1e-3"},{"name":"g",
+"value":"{{args.h}}"},{"name":"x","value":"1e"},{"name":"g",
 "valueFrom":{"fieldRef":{"fieldPath":"metadata"}}}],"metrics":[{"name":"m",
 "successCondition":"result > {{args.h}}","failureCondition":"result < {{args.s}}",
 "provider":{"prometheus":{"query":"up"}}},{"name":"n",
@@ -177,16 +179,18 @@ rgs.d}} {{args.e}} }} {{"}}}]}},
 "successCondition":"result > {{args.x}}","provider":{"prometheus":{"query":"up"}}},{"name":"q",
 "provider":{"prometheus":{"query":"{{args.g}}"}}},{"name":"r",
 "provider":{"prometheus":{"query":"{{args.none}} {{args.no}}"}}},{"name":"s",
-"interval":"{{args.none}}"}]}},{"kind":"Rollout","metadata":{"name":"web"},
+"interval":"{{args.none}}"},{"name":"t","interval":"{{args.h}}"}]}},{"kind":"Rollout",
+"metadata":{"name":"web"},
 "spec":{"strategy":{"canary":{"steps":[{"analysis":{"templates":[{"templateName":"t"}]}}]}}}}]
-=> 9 findings
+=> 10 findings
+=> finding 0 spec.metrics[7].interval: {{args.h}} is known only as the agent measures
 => finding 0 spec.metrics[0].successCondition: {{args.h}} is known only as the agent measures: w
 rite a constant
 => finding 0 spec.metrics[0].failureCondition: {{args.s}} is known only
 => finding 0 spec.metrics[1].provider: {{args.f}} is a field that the Rollout has not
 => finding 0 spec.metrics[2].provider: {{args.t}} has a value with {{args. in it
 => finding 0 spec.metrics[3].successCondition: this number: write 15 digits at most, as 0.95 (fi
-lled in: result > 1e-3)
+lled in: result > 1e)
 => finding 0 spec.metrics[4].provider: {{args.g}} is a field that
 => finding 0 spec.metrics[5].provider: {{args.none}} has no value: give it one in the args
 => finding 0 spec.metrics[5].provider: {{args.no}} is no argument of the template

@@ -7,10 +7,12 @@ use Rattle.std.proofs.lemmas.Bool.Decides.{nat_tests}
 use Rattle.std.proofs.lemmas.Fmt.{decimal_digit, decimal_step}
 use Rattle.std.proofs.lemmas.List.{drop_at, get_or-drop}
 use Rattle.std.proofs.lemmas.Option.{none-some, same_Some}
+use Rattle.canary_decimal.specs.declared.shown.Beside.{Beside}
+use Rattle.canary_decimal.specs.declared.shown.Beside.TheVariants.{Nothing, NaN, Infinite, Null}
 use Rattle.canary_decimal.specs.declared.shown.Units.{Units}
 use Rattle.canary_decimal.specs.Spelling.{IsDigits}
 use Rattle.canary_decimal.specs.Reader.{is_digits}
-use Rattle.canary_decimal.specs.Endings.{IsShape, nan_text, IsEnding, IsLabelOf, by_letter, shape_of, units_with, with_shape, with_nan, of_one_digit, of_two_digits, of_places, after_point, units_of}
+use Rattle.canary_decimal.specs.Endings.{IsShape, beside_text, IsEnding, IsLabelOf, by_letter, shape_of, units_with, with_shape, with_beside, of_one_digit, of_two_digits, of_places, after_point, units_of}
 use Rattle.canary_decimal.proofs.ReadsAll.{digits_from, is_digits_so}
 
 -- ---- each ending is read
@@ -23,31 +25,33 @@ shape_read false shape (inr (inr (ds, digits, e))) =
 shape_read true shape (ds, digits, e) =
     ap shape_of e ∙ ap (λ (t : Bool). if t then Some true else None) (is_digits_so ds digits)
 
-without_nan : (n : ℕ) (l : Bool) (shape : List ℕ) → IsShape l shape → with_nan n shape ≡ with_shape n false shape
-without_nan n false shape (inl e) = ap (with_nan n) e ∙ sym (ap (with_shape n false) e)
-without_nan n false shape (inr (inl e)) = ap (with_nan n) e ∙ sym (ap (with_shape n false) e)
-without_nan n false shape (inr (inr (ds, digits, e))) = ap (with_nan n) e ∙ sym (ap (with_shape n false) e)
-without_nan n true shape (ds, digits, e) = ap (with_nan n) e ∙ sym (ap (with_shape n false) e)
+without_letter : (n : ℕ) (l : Bool) (shape : List ℕ) → IsShape l shape → with_beside n shape ≡ with_shape n Nothing shape
+without_letter n false shape (inl e) = ap (with_beside n) e ∙ sym (ap (with_shape n Nothing) e)
+without_letter n false shape (inr (inl e)) = ap (with_beside n) e ∙ sym (ap (with_shape n Nothing) e)
+without_letter n false shape (inr (inr (ds, digits, e))) = ap (with_beside n) e ∙ sym (ap (with_shape n Nothing) e)
+without_letter n true shape (ds, digits, e) = ap (with_beside n) e ∙ sym (ap (with_shape n Nothing) e)
 
-nan_read : (n : ℕ) (nan l : Bool) (shape : List ℕ) → IsShape l shape → with_nan n (nan_text nan ++ shape) ≡ Some (units_with n nan l)
-nan_read n true l shape h = ap (option_map (units_with n true)) (shape_read l shape h)
-nan_read n false l shape h = without_nan n l shape h ∙ ap (option_map (units_with n false)) (shape_read l shape h)
+beside_read : (n : ℕ) (beside : Beside) (l : Bool) (shape : List ℕ) → IsShape l shape → with_beside n (beside_text beside ++ shape) ≡ Some (units_with n beside l)
+beside_read n Nothing l shape h = without_letter n l shape h ∙ ap (option_map (units_with n Nothing)) (shape_read l shape h)
+beside_read n NaN l shape h = ap (option_map (units_with n NaN)) (shape_read l shape h)
+beside_read n Infinite l shape h = ap (option_map (units_with n Infinite)) (shape_read l shape h)
+beside_read n Null l shape h = ap (option_map (units_with n Null)) (shape_read l shape h)
 
-one_digit_read : (n c : ℕ) (rest : List ℕ) → c ≡ 48 + n → 6 ≤ n → n ≤ 9 → of_places (c ∷ rest) ≡ with_nan n rest
+one_digit_read : (n c : ℕ) (rest : List ℕ) → c ≡ 48 + n → 6 ≤ n → n ≤ 9 → of_places (c ∷ rest) ≡ with_beside n rest
 one_digit_read n c rest e low high =
     let first : (c == 49) ≡ false = grind (arith, nat_tests) in
     let within : (nat_le 54 c && nat_le c 57) ≡ true = grind (arith, nat_tests) in
     let same : c - 48 ≡ n = omega arith in
     ap (λ (t : Bool). if t then of_two_digits rest else of_one_digit (c ∷ rest)) first
-    ∙ ap (λ (t : Bool). if t then with_nan (c - 48) rest else None) within
-    ∙ ap (λ (k : ℕ). with_nan k rest) same
+    ∙ ap (λ (t : Bool). if t then with_beside (c - 48) rest else None) within
+    ∙ ap (λ (k : ℕ). with_beside k rest) same
 
-two_digits_read : (n c : ℕ) (rest : List ℕ) → c ≡ 38 + n → 10 ≤ n → n ≤ 18 → of_places (49 ∷ c ∷ rest) ≡ with_nan n rest
+two_digits_read : (n c : ℕ) (rest : List ℕ) → c ≡ 38 + n → 10 ≤ n → n ≤ 18 → of_places (49 ∷ c ∷ rest) ≡ with_beside n rest
 two_digits_read n c rest e low high =
     let within : (nat_le 48 c && nat_le c 56) ≡ true = grind (arith, nat_tests) in
     let same : 10 + (c - 48) ≡ n = omega arith in
-    ap (λ (t : Bool). if t then with_nan (10 + (c - 48)) rest else None) within
-    ∙ ap (λ (k : ℕ). with_nan k rest) same
+    ap (λ (t : Bool). if t then with_beside (10 + (c - 48)) rest else None) within
+    ∙ ap (λ (k : ℕ). with_beside k rest) same
 
 ten_and : (n : ℕ) → 10 ≤ n → n ≤ 18 → decimal n ≡ 49 ∷ (38 + n) ∷ []
 ten_and n low high =
@@ -58,7 +62,7 @@ ten_and n low high =
     ∙ ap (λ (ds : List ℕ). ds ++ (48 + n % 10) ∷ []) (decimal_digit 1 (omega arith))
     ∙ ap (λ (c : ℕ). 49 ∷ c ∷ []) back
 
-places_read : (n : ℕ) (rest : List ℕ) → 6 ≤ n → n ≤ 18 → (n < 10) ⊎ (10 ≤ n) → of_places (decimal n ++ rest) ≡ with_nan n rest
+places_read : (n : ℕ) (rest : List ℕ) → 6 ≤ n → n ≤ 18 → (n < 10) ⊎ (10 ≤ n) → of_places (decimal n ++ rest) ≡ with_beside n rest
 places_read n rest low high (inl less) =
     ap (λ (ds : List ℕ). of_places (ds ++ rest)) (decimal_digit n less)
     ∙ one_digit_read n (48 + n) rest refl low (omega arith)
@@ -69,8 +73,8 @@ places_read n rest low high (inr more) =
 pub ending_read : (text : List ℕ) (u : Units) → IsEnding text u → units_of text ≡ Some u
 ending_read text u (low, high, (shape, is_shape, e)) =
     ap units_of e
-    ∙ places_read u.places (nan_text u.nan ++ shape) low high (cases_lt u.places 10)
-    ∙ nan_read u.places u.nan u.length shape is_shape
+    ∙ places_read u.places (beside_text u.beside ++ shape) low high (cases_lt u.places 10)
+    ∙ beside_read u.places u.beside u.length shape is_shape
 
 -- ---- what is read stands there
 
@@ -110,22 +114,33 @@ shape_sound (b ∷ rest) l e =
 -- what stands behind the places
 abbrev IsRest : ℕ → List ℕ → Units → Type 0
 IsRest n rest u =
-    (u.places ≡ n) × ((shape : List ℕ) × IsShape u.length shape × (rest ≡ nan_text u.nan ++ shape))
+    (u.places ≡ n) × ((shape : List ℕ) × IsShape u.length shape × (rest ≡ beside_text u.beside ++ shape))
 
-with_shape_sound : (n : ℕ) (nan : Bool) (shape rest : List ℕ) (u : Units) → rest ≡ nan_text nan ++ shape → with_shape n nan shape ≡ Some u → (o : Option Bool) → shape_of shape ≡ o → option_map (units_with n nan) o ≡ Some u → IsRest n rest u
-with_shape_sound n nan shape rest u e _ None is found = absurd (none-some u found)
-with_shape_sound n nan shape rest u e _ (Some l) is found =
-    subst (λ (v : Units). IsRest n rest v) (same_Some (units_with n nan l) u found) (refl, (shape, shape_sound shape l is, e))
+with_shape_sound : (n : ℕ) (beside : Beside) (shape rest : List ℕ) (u : Units) → rest ≡ beside_text beside ++ shape → with_shape n beside shape ≡ Some u → (o : Option Bool) → shape_of shape ≡ o → option_map (units_with n beside) o ≡ Some u → IsRest n rest u
+with_shape_sound n beside shape rest u e _ None is found = absurd (none-some u found)
+with_shape_sound n beside shape rest u e _ (Some l) is found =
+    subst (λ (v : Units). IsRest n rest v) (same_Some (units_with n beside l) u found) (refl, (shape, shape_sound shape l is, e))
 
-rest_sound : (n : ℕ) (rest : List ℕ) (u : Units) → with_nan n rest ≡ Some u → IsRest n rest u
-rest_sound n [] u e = with_shape_sound n false [] [] u refl e (shape_of []) refl e
-rest_sound n (b ∷ rest) u e =
-    elim (b == 110) as (λ t. (b == 110) ≡ t → (if t then with_shape n true rest else with_shape n false (b ∷ rest)) ≡ Some u → IsRest n (b ∷ rest) u) [
+-- the same of a letter that is read, if it stands there
+letter_sound : (n c : ℕ) (beside : Beside) (b : ℕ) (rest : List ℕ) (other : Option Units) (u : Units) → beside_text beside ≡ c ∷ [] → (other ≡ Some u → IsRest n (b ∷ rest) u) → (if b == c then with_shape n beside rest else other) ≡ Some u → IsRest n (b ∷ rest) u
+letter_sound n c beside b rest other u letter more e =
+    elim (b == c) as (λ t. (b == c) ≡ t → (if t then with_shape n beside rest else other) ≡ Some u → IsRest n (b ∷ rest) u) [
       | true ↦ λ at found.
-          let mark : b ≡ 110 = grind (arith, nat_tests) in
-          with_shape_sound n true rest (b ∷ rest) u (ap (λ (c : ℕ). c ∷ rest) mark) found (shape_of rest) refl found
-      | false ↦ λ _ found. with_shape_sound n false (b ∷ rest) (b ∷ rest) u refl found (shape_of (b ∷ rest)) refl found
+          let mark : b ≡ c = grind (arith, nat_tests) in
+          with_shape_sound n beside rest (b ∷ rest) u (ap (λ (k : ℕ). k ∷ rest) mark ∙ sym (ap (λ (t : List ℕ). t ++ rest) letter)) found (shape_of rest) refl found
+      | false ↦ λ _ found. more found
     ] refl e
+
+rest_sound : (n : ℕ) (rest : List ℕ) (u : Units) → with_beside n rest ≡ Some u → IsRest n rest u
+rest_sound n [] u e = with_shape_sound n Nothing [] [] u refl e (shape_of []) refl e
+rest_sound n (b ∷ rest) u e =
+    let plain : Option Units = with_shape n Nothing (b ∷ rest) in
+    let null : Option Units = if b == 115 then with_shape n Null rest else plain in
+    let infinite : Option Units = if b == 105 then with_shape n Infinite rest else null in
+    letter_sound n 110 NaN b rest infinite u refl
+    (letter_sound n 105 Infinite b rest null u refl
+    (letter_sound n 115 Null b rest plain u refl
+    (λ found. with_shape_sound n Nothing (b ∷ rest) (b ∷ rest) u refl found (shape_of (b ∷ rest)) refl found))) e
 
 -- the places, and what stands behind them
 abbrev IsPlaces : List ℕ → Units → Type 0
@@ -134,7 +149,7 @@ IsPlaces text u =
 
 one_digit_sound : (d : ℕ) (rest : List ℕ) (u : Units) → of_one_digit (d ∷ rest) ≡ Some u → IsPlaces (d ∷ rest) u
 one_digit_sound d rest u e =
-    elim (nat_le 54 d && nat_le d 57) as (λ t. (nat_le 54 d && nat_le d 57) ≡ t → (if t then with_nan (d - 48) rest else None) ≡ Some u → IsPlaces (d ∷ rest) u) [
+    elim (nat_le 54 d && nat_le d 57) as (λ t. (nat_le 54 d && nat_le d 57) ≡ t → (if t then with_beside (d - 48) rest else None) ≡ Some u → IsPlaces (d ∷ rest) u) [
       | true ↦ λ at found.
           let parts = and_parts (nat_le 54 d) (nat_le d 57) at in
           let low : 54 ≤ d = grind (arith, nat_tests) in
@@ -148,7 +163,7 @@ one_digit_sound d rest u e =
 two_digits_sound : (rest : List ℕ) (u : Units) → of_two_digits rest ≡ Some u → IsPlaces (49 ∷ rest) u
 two_digits_sound [] u e = absurd (none-some u e)
 two_digits_sound (d ∷ rest) u e =
-    elim (nat_le 48 d && nat_le d 56) as (λ t. (nat_le 48 d && nat_le d 56) ≡ t → (if t then with_nan (10 + (d - 48)) rest else None) ≡ Some u → IsPlaces (49 ∷ d ∷ rest) u) [
+    elim (nat_le 48 d && nat_le d 56) as (λ t. (nat_le 48 d && nat_le d 56) ≡ t → (if t then with_beside (10 + (d - 48)) rest else None) ≡ Some u → IsPlaces (49 ∷ d ∷ rest) u) [
       | true ↦ λ at found.
           let parts = and_parts (nat_le 48 d) (nat_le d 56) at in
           let low : 48 ≤ d = grind (arith, nat_tests) in
@@ -199,8 +214,8 @@ ending_sound text u e =
     let tail = p.3 in
     let is : u.places ≡ n = tail.2.0 in
     let shape : List ℕ = tail.2.1.0 in
-    let whole : text ≡ 46 ∷ 101 ∷ (decimal u.places ++ (nan_text u.nan ++ shape)) =
-    at.1 ∙ ap (λ (t : List ℕ). 46 ∷ 101 ∷ t) (tail.1 ∙ ap (λ (t : List ℕ). decimal n ++ t) tail.2.1.2 ∙ ap (λ (k : ℕ). decimal k ++ (nan_text u.nan ++ shape)) (sym is)) in
+    let whole : text ≡ 46 ∷ 101 ∷ (decimal u.places ++ (beside_text u.beside ++ shape)) =
+    at.1 ∙ ap (λ (t : List ℕ). 46 ∷ 101 ∷ t) (tail.1 ∙ ap (λ (t : List ℕ). decimal n ++ t) tail.2.1.2 ∙ ap (λ (k : ℕ). decimal k ++ (beside_text u.beside ++ shape)) (sym is)) in
     (omega (arith, p.1), omega (arith, p.2), (shape, tail.2.1.1, whole))
 
 -- ---- labels

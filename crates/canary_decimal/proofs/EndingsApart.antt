@@ -9,9 +9,11 @@ use Rattle.std.proofs.lemmas.Fmt.{digits_decimal}
 use Rattle.std.proofs.lemmas.List.{take_at, drop_at, get_or-drop}
 use Rattle.std.proofs.lemmas.List.Folds.{list_all_at, list_all-append}
 use Rattle.std.proofs.lemmas.Option.{same_Some}
+use Rattle.canary_decimal.specs.declared.shown.Beside.{Beside}
+use Rattle.canary_decimal.specs.declared.shown.Beside.TheVariants.{Nothing, NaN, Infinite, Null}
 use Rattle.canary_decimal.specs.declared.shown.Units.{Units}
 use Rattle.canary_decimal.specs.Reader.{is_either}
-use Rattle.canary_decimal.specs.Endings.{IsShape, nan_text, IsEnding, IsLabelOf, units_of}
+use Rattle.canary_decimal.specs.Endings.{IsShape, beside_text, IsEnding, IsLabelOf, units_of}
 use Rattle.canary_decimal.proofs.EndingLemmas.{ending_read}
 use Rattle.canary_decimal.proofs.PointLemmas.{own}
 use Rattle.canary_decimal.proofs.ReadsAll.{each_without, digit_no_point}
@@ -28,16 +30,18 @@ shape_plain false shape (inr (inl e)) = ap (list_all is_no_point) e
 shape_plain false shape (inr (inr (ds, digits, e))) = ap (list_all is_no_point) e ∙ no_points ds digits.1
 shape_plain true shape (ds, digits, e) = ap (list_all is_no_point) e ∙ no_points ds digits.1
 
-nan_plain : (nan : Bool) (shape : List ℕ) → list_all is_no_point shape ≡ true → list_all is_no_point (nan_text nan ++ shape) ≡ true
-nan_plain false shape h = h
-nan_plain true shape h = h
+beside_plain : (beside : Beside) (shape : List ℕ) → list_all is_no_point shape ≡ true → list_all is_no_point (beside_text beside ++ shape) ≡ true
+beside_plain Nothing shape h = h
+beside_plain NaN shape h = h
+beside_plain Infinite shape h = h
+beside_plain Null shape h = h
 
-tail_plain : (u : Units) (shape : List ℕ) → u.places ≤ 18 → IsShape u.length shape → list_all is_no_point (decimal u.places ++ (nan_text u.nan ++ shape)) ≡ true
+tail_plain : (u : Units) (shape : List ℕ) → u.places ≤ 18 → IsShape u.length shape → list_all is_no_point (decimal u.places ++ (beside_text u.beside ++ shape)) ≡ true
 tail_plain u shape few h =
     let digits = digits_decimal own u.places (omega arith) in
-    list_all-append is_no_point (decimal u.places) (nan_text u.nan ++ shape)
-    ∙ and_from (list_all is_no_point (decimal u.places)) (list_all is_no_point (nan_text u.nan ++ shape))
-    (no_points (decimal u.places) digits) (nan_plain u.nan shape (shape_plain u.length shape h))
+    list_all-append is_no_point (decimal u.places) (beside_text u.beside ++ shape)
+    ∙ and_from (list_all is_no_point (decimal u.places)) (list_all is_no_point (beside_text u.beside ++ shape))
+    (no_points (decimal u.places) digits) (beside_plain u.beside shape (shape_plain u.length shape h))
 
 -- behind its first byte an ending has no point
 no_point_at : (ending rest : List ℕ) (i : ℕ) → ending ≡ 46 ∷ rest → list_all is_no_point rest ≡ true → 0 < i → i < length ending → get_or ending i 0 ≡ 46 → ⊥
@@ -61,7 +65,7 @@ not_behind label first second a b u v ea eb (low, few, (shape, is_shape, e)) (_,
     let there : get_or a k 0 ≡ 46 = ap (λ (t : List ℕ). get_or t k 0) (sym front) ∙ get_or-drop (length first) label k 0 ∙ ap (λ (i : ℕ). get_or label i 0) place ∙ at in
     let whole : length first + length a ≡ length second + length b = sym (length-append first a) ∙ ap length (sym ea ∙ eb) ∙ length-append second b in
     let some : 0 < length b = omega (arith, ap length f) in
-    no_point_at a (101 ∷ (decimal u.places ++ (nan_text u.nan ++ shape))) k e (tail_plain u shape few is_shape) (omega arith) (omega arith) there
+    no_point_at a (101 ∷ (decimal u.places ++ (beside_text u.beside ++ shape))) k e (tail_plain u shape few is_shape) (omega arith) (omega arith) there
 
 pub one_ending : (label first second : List ℕ) (u v : Units) → IsLabelOf label first u → IsLabelOf label second v → (first ≡ second) × (u ≡ v)
 one_ending label first second u v (_, (a, ea, is)) (_, (b, eb, so)) =

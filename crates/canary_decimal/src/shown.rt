@@ -2,30 +2,67 @@
 //!
 //! ```text
 //! label  := name ending
-//! ending := ".e" places ["n"] [shape]
+//! ending := ".e" places ["n" | "i" | "s"] [shape]
 //! shape  := "f" | "p" digits | "l" digits
 //! ```
 //!
-//! The places are 6 to 18. A number is in units of 10^-places; with `n` the least number stands for
-//! NaN; with `l` the first value of a list is the length of what was measured, which is whole. A
+//! The places are 6 to 18. A number is in units of 10^-places. With `n` the least number stands for
+//! NaN; with `i` the next and the greatest one for the infinities, too; with `s` also the third for
+//! null. With `l` the first value of a list is the length of what was measured, which is whole. A
 //! label with no such ending is of whole numbers.
 ghost use Rattle.std.specs.Prelude.{◌≡◌, ℕ, Bool, ◌<◌, ◌≤◌, List, MatchOption, option_map, drop};
-ghost use Rattle.std.specs.Prelude.{length, Some, codes};
-ghost use Rattle.canary_decimal.specs.Endings.{by_letter, shape_of, with_shape, with_nan};
+ghost use Rattle.std.specs.Prelude.{length, Some};
+ghost use Rattle.canary_decimal.specs.Endings.{by_letter, shape_of, with_shape, with_beside};
 ghost use Rattle.canary_decimal.specs.Endings.{of_one_digit, of_two_digits, of_places, units_of};
 ghost use Rattle.canary_decimal.specs.Endings.{IsLabelOf, IsShownAs, is_nan, places_at, is_length};
+ghost use Rattle.canary_decimal.specs.Endings.{word_of, word_at, word_text, nan_or, infinite_or};
+ghost use Rattle.canary_decimal.specs.Endings.{null_of};
 
 use crate::point::{MOST_BYTES, with_point};
 use crate::reading::is_digits;
 use arrayvec::ArrayString;
+
+/// What is reported of a metric beside decimals.
+#[derive(Clone, Copy, Debug, PartialEq, Eq)]
+pub enum Beside {
+    /// Nothing.
+    Nothing,
+    /// NaN, as the least number.
+    NaN,
+    /// That, and the infinities, as the next and the greatest number.
+    Infinite,
+    /// These, and null, as the third.
+    Null,
+}
+
+/// What a number stands for that is no decimal.
+#[derive(Clone, Copy, Debug, PartialEq, Eq)]
+pub enum Word {
+    NaN,
+    MinusInfinite,
+    Null,
+    Infinite,
+}
+
+/// What is reported of NaN. No multiple lies there, nor at the next three.
+pub const NAN: i64 = i64::MIN;
+
+/// What is reported of the infinity below 0.
+pub const MINUS_INFINITE: i64 = i64::MIN + 1;
+
+/// What is reported of null.
+pub const NULL: i64 = i64::MIN + 2;
+
+/// What is reported of the infinity above 0.
+pub const INFINITE: i64 = i64::MAX;
 
 /// In which units the numbers of a metric are reported.
 #[derive(Clone, Copy, Debug, PartialEq, Eq)]
 pub struct Units {
     /// A number is in units of 10^-places. More than 18 are as 18.
     pub places: usize,
-    /// Whether the least number stands for NaN.
-    pub nan: bool,
+    /// What is reported beside decimals.
+    pub beside: Beside,
     /// Whether the first value of a list is a length, which is whole.
     pub length: bool,
 }
@@ -33,7 +70,7 @@ pub struct Units {
 /// Those of whole numbers.
 pub const WHOLE: Units = Units {
     places: 0,
-    nan: false,
+    beside: Beside::Nothing,
     length: false,
 };
 
@@ -74,21 +111,32 @@ impl Shown<'_> {
 
 impl Units {
     /// What people read in place of a number that is reported, at that place of a list or, if none
-    /// is given, alone: `NaN`, or the number with its point put back.
+    /// is given, alone: `NaN`, `null`, `+Inf` or `-Inf`, or the number with its point put back.
     pub fn text(self, place: Option<u64>, number: i64) -> ArrayString<MOST_BYTES>
         ensures { IsShownAs self place number result.bytes }
     {
-        if self.is_nan(place, number) {
-            return nan();
+        match self.word(place, number) {
+            Some(word) => written(word),
+            None => with_point(number, self.places_at(place)),
         }
-        with_point(number, self.places_at(place))
     }
 
-    /// Whether a number that is reported there stands for NaN.
+    /// Whether a number that is reported there stands for no decimal: for NaN, an infinity or null.
     pub fn is_nan(self, place: Option<u64>, number: i64) -> bool
         ensures { result ≡ is_nan self place number }
     {
-        self.nan && number == i64::MIN && !self.is_length(place)
+        self.word(place, number).is_some()
+    }
+
+    // What a number that is reported there stands for, if that is no decimal.
+    fn word(self, place: Option<u64>, number: i64) -> Option<Word>
+        ensures { result ≡ word_at self place number }
+    {
+        if self.is_length(place) {
+            None
+        } else {
+            word_of(self.beside, number)
+        }
     }
 
     // How many digits of a number that is reported there stand after the point.
@@ -110,11 +158,67 @@ impl Units {
     }
 }
 
-fn nan() -> ArrayString<MOST_BYTES>
-    ensures { result.bytes ≡ codes "NaN" }
+// What a number stands for, if that is no decimal.
+fn word_of(beside: Beside, number: i64) -> Option<Word>
+    ensures { result ≡ word_of beside number }
+{
+    match beside {
+        Beside::Nothing => None,
+        Beside::NaN => nan_or(number, None),
+        Beside::Infinite => nan_or(number, infinite_or(number, None)),
+        Beside::Null => nan_or(number, infinite_or(number, null_of(number))),
+    }
+}
+
+fn nan_or(number: i64, other: Option<Word>) -> Option<Word>
+    ensures { result ≡ nan_or number other }
+{
+    if number == NAN {
+        Some(Word::NaN)
+    } else {
+        other
+    }
+}
+
+fn infinite_or(number: i64, other: Option<Word>) -> Option<Word>
+    ensures { result ≡ infinite_or number other }
+{
+    if number == MINUS_INFINITE {
+        Some(Word::MinusInfinite)
+    } else if number == INFINITE {
+        Some(Word::Infinite)
+    } else {
+        other
+    }
+}
+
+fn null_of(number: i64) -> Option<Word>
+    ensures { result ≡ null_of number }
+{
+    if number == NULL {
+        Some(Word::Null)
+    } else {
+        None
+    }
+}
+
+fn name(word: Word) -> &'static str
+    ensures text { result.now ≡ word_text word }
+    ensures short { length result.now ≤ 4 }
+{
+    match word {
+        Word::NaN => "NaN",
+        Word::MinusInfinite => "-Inf",
+        Word::Null => "null",
+        Word::Infinite => "+Inf",
+    }
+}
+
+fn written(word: Word) -> ArrayString<MOST_BYTES>
+    ensures { result.bytes ≡ word_text word }
 {
     let mut text = ArrayString::new();
-    text.push_str("NaN");
+    text.push_str(name(word));
     text
 }
 
@@ -159,7 +263,7 @@ fn of_two_digits(rest: &[u8]) -> Option<Units>
 {
     match rest {
         [digit, rest @ ..] if b'0' <= *digit && *digit <= b'8' => {
-            with_nan(10 + (*digit - b'0') as usize, rest)
+            with_beside(10 + (*digit - b'0') as usize, rest)
         }
         _ => None,
     }
@@ -171,29 +275,31 @@ fn of_one_digit(rest: &[u8]) -> Option<Units>
 {
     match rest {
         [digit, rest @ ..] if b'6' <= *digit && *digit <= b'9' => {
-            with_nan((*digit - b'0') as usize, rest)
+            with_beside((*digit - b'0') as usize, rest)
         }
         _ => None,
     }
 }
 
 // What stands behind the places.
-fn with_nan(places: usize, rest: &[u8]) -> Option<Units>
-    ensures { result ≡ with_nan places rest.now }
+fn with_beside(places: usize, rest: &[u8]) -> Option<Units>
+    ensures { result ≡ with_beside places rest.now }
 {
     match rest {
-        [b'n', shape @ ..] => with_shape(places, true, shape),
-        shape => with_shape(places, false, shape),
+        [b'n', shape @ ..] => with_shape(places, Beside::NaN, shape),
+        [b'i', shape @ ..] => with_shape(places, Beside::Infinite, shape),
+        [b's', shape @ ..] => with_shape(places, Beside::Null, shape),
+        shape => with_shape(places, Beside::Nothing, shape),
     }
 }
 
-fn with_shape(places: usize, nan: bool, shape: &[u8]) -> Option<Units>
-    ensures { result ≡ with_shape places nan shape.now }
+fn with_shape(places: usize, beside: Beside, shape: &[u8]) -> Option<Units>
+    ensures { result ≡ with_shape places beside shape.now }
 {
     match shape_of(shape) {
         Some(length) => Some(Units {
             places,
-            nan,
+            beside,
             length,
         }),
         None => None,
