@@ -74,8 +74,8 @@ fn found(
     })
 }
 
-// The place of that path in the document of these bytes, which begins in that line: its front, if the
-// text of a file in JSON is not YAML, too.
+// The place of that path in the document of these bytes, which begins in that line: its front, if
+// the text of a file in JSON is not YAML, too.
 fn place_in(alloc: Global, bytes: &[u8], line: usize, path: &str) -> Result<Place, Memory> {
     let mut steps = Vec::new(alloc);
     push_steps(&mut steps, path)?;

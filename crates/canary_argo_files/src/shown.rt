@@ -8,8 +8,8 @@ use canary_markup::shown::{Form, shown};
 use serde_json::Value;
 use std::alloc::Global;
 
-/// What is found, in lines; or if nothing is, what is made: each template with its metrics and their
-/// conditions, each service, and how its metrics are measured. Or `Memory`.
+/// What is found, in lines; or if nothing is, what is made: each template with its metrics and
+/// their conditions, each service, and how its metrics are measured. Or `Memory`.
 pub fn text_of(
     alloc: Global,
     manifests: &Manifests,

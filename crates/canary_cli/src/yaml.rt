@@ -9,8 +9,8 @@ use std::alloc::Global;
 /// What a file of manifests holds.
 #[derive(Drop)]
 pub(crate) enum Reading {
-    /// A text in JSON, or one that is meant to be JSON: `{` begins it. kubectl takes such a text for
-    /// JSON, too.
+    /// A text in JSON, or one that is meant to be JSON: `{` begins it. kubectl takes such a text
+    /// for JSON, too.
     Json,
     /// Documents in YAML.
     Documents(Vec<Document>),
@@ -53,8 +53,8 @@ fn refused(alloc: Global, why: Refusal) -> Result<Reading, Fault> {
     }
 }
 
-/// Adds lines, each with the line in which its document begins, unless that is 0. A line that begins
-/// with four spaces belongs to the one before it.
+/// Adds lines, each with the line in which its document begins, unless that is 0. A line that
+/// begins with four spaces belongs to the one before it.
 pub(crate) fn add_lines(found: &mut String, lines: &str, line: usize) -> Result<(), Memory> {
     for text in lines.lines() {
         if line > 0 && !text.starts_with("    ") {

@@ -22,8 +22,8 @@ pub(crate) struct Named {
 /// Rollout, of Argo's manifests in these files. What is found in them goes to `errors`.
 ///
 /// # Errors
-/// `ArgoCommand` if the words are no such command, `Argo` if anything is found, `ArgoNothing` if the
-/// files have no template, or no Rollout; `NoVersion`, `BadVersion`; `File` if a file cannot be
+/// `ArgoCommand` if the words are no such command, `Argo` if anything is found, `ArgoNothing` if
+/// the files have no template, or no Rollout; `NoVersion`, `BadVersion`; `File` if a file cannot be
 /// read; `Manifest` if the desk takes no body of that length; `Memory`.
 pub(crate) fn commands_of<P: Files + AllocGlobal, F: Write>(
     rt: &P,

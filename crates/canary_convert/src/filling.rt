@@ -53,7 +53,8 @@ fn place_in(piece: &str) -> Option<(&str, &str)> {
     Some((before, name))
 }
 
-/// Appends the text with its places filled in. If one cannot be, this is told, and false answered.
+/// Appends the text with its places filled in. If one cannot be, it reports that,
+/// and returns false.
 pub(crate) fn push_filled(
     alloc: Global,
     work: &mut Work,

@@ -22,8 +22,8 @@ pub(crate) fn text_at<'a>(value: &'a Value, key: &str) -> &'a str {
     }
 }
 
-// The most items of a list: no list in a manifest of the desk has more, and what is looked up in one
-// is looked up item by item.
+// The most items of a list: no list in a manifest of the desk has more, and what is looked up in
+// one is looked up item by item.
 const MOST_ITEMS: usize = 64;
 
 /// The list under that key; none if it has more than 64 items.

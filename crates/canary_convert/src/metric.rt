@@ -85,7 +85,8 @@ const LABEL: &str = "expected 1 to 63 bytes of A-Z a-z 0-9 . _ -";
 
 const SUFFIXED: &str = "a name that ends as that of a translated metric: write another one";
 
-// The key of the provider, empty if there is none. If it is not asked, this is told.
+// The key of the provider, empty if there is none. If it is not asked, that is
+// reported.
 fn kind_of<'a>(alloc: Global, work: &mut Work, spot: &Spot<'a>) -> Result<Option<&'a str>, Memory> {
     let Some(provider) = member(spot.metric, "provider") else {
         return Ok(Some(""));
@@ -125,7 +126,7 @@ fn has_condition(metric: &Value) -> bool {
     !text_at(metric, SUCCESS).is_empty() || !text_at(metric, FAILURE).is_empty()
 }
 
-// The name, with its places filled in. If it is none, this is told.
+// The name, with its places filled in. If it is invalid, that is reported.
 fn name_of(alloc: Global, work: &mut Work, spot: &Spot) -> Result<Option<Label>, Memory> {
     let mut name = String::new(alloc);
     if !push_plain(alloc, work, spot, "name", &mut name)? {
@@ -191,7 +192,7 @@ fn are_digits(text: &str) -> bool {
 }
 
 // Appends the text under that key, with its places filled in. If it is no text, or a place cannot
-// be filled in, this is told, and false answered.
+// be filled in, that is reported, and false returned.
 fn push_plain(
     alloc: Global,
     work: &mut Work,
@@ -212,7 +213,8 @@ fn push_plain(
     }
 }
 
-/// How the metric is called at the desk. If it cannot be called anything, this is told.
+/// How the metric is called at the desk. If it has no valid name there, that is
+/// reported.
 pub(crate) fn call(alloc: Global, work: &mut Work, spot: &Spot) -> Result<Option<Called>, Memory> {
     let Some(kind) = kind_of(alloc, work, spot)? else {
         return Ok(None);
@@ -267,7 +269,8 @@ struct Conditions {
     failure: String,
 }
 
-// The form in which the values are reported. If a condition is not translated, this is told.
+// The form in which the values are reported. If a condition is not translated, that is
+// reported.
 fn form_of(
     alloc: Global,
     work: &mut Work,
@@ -391,7 +394,7 @@ fn tell_filled(
 
 // ---- the desk's metric
 
-/// Appends the metric as the desk reads it. What is wrong with it is told.
+/// Appends the metric as the desk reads it, and reports what is wrong with it.
 pub(crate) fn push_metric(
     alloc: Global,
     work: &mut Work,

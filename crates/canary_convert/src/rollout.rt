@@ -212,7 +212,7 @@ fn push_templates(
     Ok(())
 }
 
-// The template that an item of an analysis names. If there is none, this is told.
+// The template that an item of an analysis names. If there is none, that is reported.
 fn template_of<'a>(
     alloc: Global,
     work: &mut Work,

@@ -171,7 +171,7 @@ impl Work {
         Ok(())
     }
 
-    /// Adds a template, or `Memory`. If there is another one of its name, this is told.
+    /// Adds a template, or `Memory`. If there is another one of its name, it reports that.
     pub(crate) fn add_template(
         &mut self,
         alloc: Global,
@@ -186,7 +186,7 @@ impl Work {
     }
 
     /// Adds how a metric is measured, or `Memory`. If another metric of its service has its label,
-    /// and is measured otherwise, this is told.
+    /// and is measured otherwise, it reports that.
     pub(crate) fn plan(
         &mut self,
         alloc: Global,
@@ -219,7 +219,7 @@ impl Work {
         false
     }
 
-    /// The object under that key. If there is something else, this is told.
+    /// The object under that key. If there is something else, it reports that.
     pub(crate) fn object_at<'a>(
         &mut self,
         alloc: Global,
@@ -237,7 +237,7 @@ impl Work {
         }
     }
 
-    /// The list under that key, of at most 64 items. If there is something else, this is told.
+    /// The list under that key, of at most 64 items. If there is something else, it reports that.
     pub(crate) fn list_at<'a>(
         &mut self,
         alloc: Global,
