@@ -17,7 +17,5 @@ mod lexer;
 mod naming;
 mod printing;
 pub mod reporting;
-#[cfg(test)]
-mod rows;
 mod translating;
 pub mod translation;

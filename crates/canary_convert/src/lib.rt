@@ -14,13 +14,9 @@ mod documents;
 mod filling;
 pub mod finding;
 mod json;
-#[cfg(test)]
-mod manifests;
 mod metric;
 mod place;
 mod rollout;
-#[cfg(test)]
-mod rows;
 pub mod source;
 mod template;
 pub mod work;

@@ -17,6 +17,4 @@ pub mod decimal;
 pub mod laws;
 pub mod point;
 pub mod reading;
-#[cfg(test)]
-mod rows;
 pub mod shown;

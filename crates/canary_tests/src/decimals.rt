@@ -1,7 +1,7 @@
 //! What texts are read as, by rows that Python's fractions gave; and what is shown of numbers.
-use crate::reading::{Reading, read};
-use crate::shown::Shown;
 use canary_base::error::Memory;
+use canary_decimal::reading::{Reading, read};
+use canary_decimal::shown::Shown;
 use std::alloc::Global;
 use std::test::Fail;
 
