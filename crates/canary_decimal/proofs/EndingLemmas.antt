@@ -1,8 +1,8 @@
 -- Endings of labels: what is read is what stands there, and each ending is read.
 use Rattle.std.proofs.Common.{◌≡◌, ℕ, ◌+◌, ◌-◌, ◌<◌, ◌≤◌, Bool, true, false, List, [], ◌∷◌, ◌++◌, length, take, drop, take-append-drop, get_or, Option, Some, None, refl, sym, ap, ◌∙◌, subst, inl, inr, arith, length-take-le}
-use Rattle.std.specs.Prelude.{◌≢◌, ◌==◌, ◌&&◌, ◌/◌, ◌%◌, nat_le, option_map, if◌then◌else◌, ◌⊎◌, MatchOption}
+use Rattle.std.specs.Prelude.{◌==◌, ◌&&◌, ◌/◌, ◌%◌, nat_le, option_map, if◌then◌else◌, ◌⊎◌}
 use Rattle.std.specs.Fmt.{decimal}
-use Rattle.std.proofs.lemmas.Bool.{and_parts, and_from, cases_lt}
+use Rattle.std.proofs.lemmas.Bool.{and_parts, cases_lt}
 use Rattle.std.proofs.lemmas.Bool.Decides.{nat_tests}
 use Rattle.std.proofs.lemmas.Fmt.{decimal_digit, decimal_step}
 use Rattle.std.proofs.lemmas.List.{drop_at, get_or-drop}
@@ -12,7 +12,7 @@ use Rattle.canary_decimal.specs.declared.shown.Beside.TheVariants.{Nothing, NaN,
 use Rattle.canary_decimal.specs.declared.shown.Units.{Units}
 use Rattle.canary_decimal.specs.Spelling.{IsDigits}
 use Rattle.canary_decimal.specs.Reader.{is_digits}
-use Rattle.canary_decimal.specs.Endings.{IsShape, beside_text, IsEnding, IsLabelOf, by_letter, shape_of, units_with, with_shape, with_beside, of_one_digit, of_two_digits, of_places, after_point, units_of}
+use Rattle.canary_decimal.specs.Endings.{IsShape, beside_text, IsEnding, IsLabelOf, shape_of, units_with, with_shape, with_beside, of_one_digit, of_two_digits, of_places, units_of}
 use Rattle.canary_decimal.proofs.ReadsAll.{digits_from, is_digits_so}
 
 -- ---- each ending is read

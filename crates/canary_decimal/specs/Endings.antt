@@ -1,6 +1,6 @@
 -- What the label of a metric ends in whose numbers are reported in decimals, and how these numbers
 -- are shown.
-use Rattle.std.specs.Prelude.{◌≡◌, ℕ, ◌+◌, ◌-◌, ◌==◌, nat_le, ◌<◌, ◌≤◌, ◌&&◌, Bool, true, false, if◌then◌else◌, ◌⊎◌, ℤ, pos, negsuc, MatchOption, is_some, List, [], ◌∷◌, ◌++◌, length, drop, min, Option, Some, None, option_map, codes}
+use Rattle.std.specs.Prelude.{◌≡◌, ℕ, ◌+◌, ◌-◌, ◌==◌, nat_le, ◌<◌, ◌≤◌, ◌&&◌, Bool, true, false, if◌then◌else◌, ◌⊎◌, ℤ, pos, negsuc, MatchOption, is_some, List, [], ◌∷◌, ◌++◌, length, min, Option, Some, None, option_map, codes}
 use Rattle.std.specs.Ordering.{int_eq}
 use Rattle.std.specs.Fmt.{decimal}
 use Rattle.canary_decimal.specs.declared.shown.Beside.{Beside}

@@ -1,5 +1,5 @@
 -- A whole number of 10^-places, written with its point.
-use Rattle.std.specs.Prelude.{◌≡◌, ◌≢◌, ℕ, ◌*◌, ◌/◌, ◌%◌, ◌^◌, ◌<◌, ℤ, pos, int_lt, if◌then◌else◌, ◌*ℤ◌, ◌⊎◌, List, [], ◌∷◌, ◌++◌, length}
+use Rattle.std.specs.Prelude.{◌≡◌, ◌≢◌, ℕ, ◌*◌, ◌/◌, ◌%◌, ◌^◌, ℤ, pos, int_lt, if◌then◌else◌, ◌*ℤ◌, ◌⊎◌, List, ◌∷◌, ◌++◌, length}
 use Rattle.std.specs.Int.RustNames.{unsigned_abs}
 use Rattle.std.specs.Fmt.{decimal}
 use Rattle.std.specs.Str.Parse.{digits_value}

@@ -1,4 +1,4 @@
-use Rattle.std.proofs.Common.{◌≡◌, ◌+◌, ◌*◌, ◌<◌, ◌/◌, ◌%◌, ap, ◌∙◌, rules, arith}
+use Rattle.std.proofs.Common.{◌<◌, ap, ◌∙◌, rules, arith}
 use Rattle.arrayvec.specs.ArrayString.{ArrayString}
 use Rattle.canary_decimal.proofs.PointLemmas.{all_digits_found, digit_below, digit_taken, none_taken}
 use Rattle.canary_decimal.proofs.point.fraction.Goals as goal
