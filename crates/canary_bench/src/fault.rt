@@ -1,6 +1,4 @@
 //! Why a benchmark was not done.
-use canary_schema::fault::StoreFault;
-use sqlite::Error;
 use std::alloc::AllocError;
 use std::io;
 
@@ -38,17 +36,5 @@ impl From<io::Error> for Fault {
 impl From<AllocError> for Fault {
     fn from(_: AllocError) -> Fault {
         Fault::Refused
-    }
-}
-
-impl From<StoreFault> for Fault {
-    fn from(_: StoreFault) -> Fault {
-        Fault::Machine
-    }
-}
-
-impl From<Error> for Fault {
-    fn from(_: Error) -> Fault {
-        Fault::Machine
     }
 }

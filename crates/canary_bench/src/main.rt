@@ -1,13 +1,11 @@
 //! Prints figures of this machine. `canary_bench SUBJECT ROUNDS` measures one subject, so many
 //! times over: `condition`, `metric` or `machine`. `canary_bench register MOST STREAM`
 //! measures the book in memory, up to so many settled requests of a stream, and without a stream
-//! it prints the table's head. `canary_bench floor ROUNDS KIND FILE` measures the statements that
-//! settle a `tick` or a `report`, in a new file. With no words it prints nothing.
+//! it prints the table's head. With no words it prints nothing.
 #![tactic(auto)]
 
 mod condition;
 mod fault;
-mod floor;
 mod machine;
 mod metric;
 mod plans;
@@ -65,9 +63,6 @@ fn measure(rt: &HostRuntime, words: &[String]) -> Result<(), Fault> {
     }
     if subject == "register" {
         return register::measure(rt, rounds, of);
-    }
-    if subject == "floor" {
-        return floor::measure(rt, rounds, of, word(words, 4));
     }
     Err(Fault::Words)
 }
