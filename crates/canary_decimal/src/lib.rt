@@ -7,7 +7,7 @@
 //!
 //! In use (canary_argo, src/lexer.rt):
 //!
-//!     match decimal(alloc, word)? {
+//!     match decimal(alloc, text.as_slice())? {
 //!         Some(number) => Ok(held(number.short())),
 //!         None => Ok(None),
 //!     }
