@@ -85,7 +85,9 @@ impl Refusal {
             Refusal::TwoNumbers => "two numbers: leave the comparison out",
             Refusal::Chain => "a chain: write 1 < result && result < 5",
             Refusal::NotBeforeComparison => "! before a comparison: write !(result > 5)",
-            Refusal::Place => "this place of a list: write result[0], up to result[15]",
+            Refusal::Place => {
+                "this place of a list: write result[0], up to result[15]; with len(result), to [14]"
+            }
             Refusal::Comparison => "a comparison is wanted here, as result[0] >= 0.95",
             Refusal::Brackets => "signs or brackets that do not fit together",
             Refusal::Shape => "result beside result[0]: write one of the two",

@@ -59,6 +59,8 @@ pub struct Needs {
     default: bool,
     // Whether a value stands without it.
     bare: bool,
+    // Whether a value is compared as a decimal.
+    decimal: bool,
 }
 
 impl Needs {
@@ -73,7 +75,13 @@ impl Needs {
             infinite: false,
             default: false,
             bare: false,
+            decimal: false,
         }
+    }
+
+    /// Whether a value is compared as a decimal, so that NaN is false in Argo's comparison.
+    pub fn compares_decimals(self) -> bool {
+        self.decimal
     }
 
     // With one more comparison.
@@ -102,7 +110,12 @@ impl Needs {
                 default: true,
                 ..self.with_number(number)
             },
-            _ => Needs { bare: true, ..self },
+            Function::AsInt => Needs { bare: true, ..self },
+            Function::Plain | Function::AsFloat => Needs {
+                bare: true,
+                decimal: true,
+                ..self
+            },
         }
     }
 

@@ -464,15 +464,24 @@ fn push_translation(
     if text.is_empty() {
         return Ok(());
     }
+    if !form.has_nan() && compares_decimals(alloc, text)? {
+        work.see_nan(spot.place);
+    }
     match quoted_translation(alloc, text, form) {
         Ok(condition) => {
-            if !form.has_nan() {
-                work.see_nan(spot.place);
-            }
             push_key(out, key)?;
             Ok(out.push_str(condition.as_str())?)
         }
         Err(fault) => tell_fault(alloc, work, spot, key, text, fault),
+    }
+}
+
+// Whether a condition compares a decimal.
+fn compares_decimals(alloc: Global, text: &str) -> Result<bool, Memory> {
+    match Needs::none().with_condition(alloc, text) {
+        Ok(needs) => Ok(needs.compares_decimals()),
+        Err(Fault::Memory) => Err(Memory),
+        Err(Fault::Refused(_)) => Ok(false),
     }
 }
 
