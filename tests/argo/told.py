@@ -19,10 +19,12 @@ def table(name):
 
 
 def told(trial, words, place):
-    """The status, and what is made and found in JSON."""
+    """What is made of some files, and what is found in them, in JSON; the status tells which."""
     done = run(trial.program, ["argo", "--json", *words], cwd=place)
-    expect(f"argo {words[:3]}: its errors", done.errors, b"")
-    return done.status, json.loads(done.output)
+    found = json.loads(done.output)
+    expect(f"argo --json {' '.join(words[:3])}: status and errors", (done.status, done.errors),
+           (1 if found["findings"] else 0, b""))
+    return found
 
 
 # ---- conditions
@@ -44,7 +46,7 @@ def line_of(at, condition):
 
 
 def tell(trial, name, lines):
-    """The same of a List that has one in each line from the second line on."""
+    """What comes of a List that has a template in each line from the second line on."""
     place = folder_in(trial, name)
     write(os.path.join(place, "list.json"),
           '{"apiVersion": "v1", "kind": "List", "items": [\n' + ",\n".join(lines) + "\n]}\n")
@@ -61,7 +63,7 @@ def want_taken(trial, faults):
     """Each row that is taken: the label and the condition of the desk's metric."""
     rows = conditions("TAKEN")
     lines = [line_of(at, row[0]) for at, row in enumerate(rows)]
-    _, found = tell(trial, "taken", lines)
+    found = tell(trial, "taken", lines)
     with faults:
         texts = {rows[it["line"] - 2][0]: it["text"] for it in found["findings"]}
         expect("conditions that are taken, but for these", texts, {})
@@ -75,24 +77,35 @@ def want_taken(trial, faults):
     return len(rows)
 
 
+def by_row(findings):
+    """Findings by their rows, of which the first has the second line."""
+    found = {}
+    for it in findings:
+        found.setdefault(it["line"] - 2, []).append(it)
+    return found
+
+
+def finding_of(at, lines, byte, words):
+    """What is found in a row that is refused: at its condition, or at its metric."""
+    if byte == "-":
+        return place_of(at, lines, METRIC, "") | {"text": words}
+    return place_of(at, lines, CONDITION, ".successCondition") | {"text": f"byte {byte}: {words}"}
+
+
 def want_refused(trial, faults):
     """Each row that is refused: its one finding, with line and column, and the byte in the text."""
     rows = conditions("REFUSED")
     lines = [line_of(at, row[0]) for at, row in enumerate(rows)]
-    _, found = tell(trial, "refused", lines)
-    by_line = {}
-    for it in found.pop("findings"):
-        by_line.setdefault(it["line"] - 2, []).append(it)
+    found = tell(trial, "refused", lines)
+    findings = by_row(found.pop("findings"))
     with faults:
         expect("what is made of what is refused", found, NOTHING | {"notes": []})
-        expect("lines without a row", sorted(set(by_line) - set(range(len(rows)))), [])
+        expect("lines without a row", sorted(set(findings) - set(range(len(rows)))), [])
     for at, (condition, byte, words) in enumerate(rows):
-        wanted = words.strip() if byte == "-" else f"byte {byte}: {words.strip()}"
-        place = (place_of(at, lines, METRIC, "") if byte == "-" else
-                 place_of(at, lines, CONDITION, ".successCondition"))
+        wanted = finding_of(at, lines, byte, words.strip())
         with faults:
-            short = [it | {"text": it["text"][:len(wanted)]} for it in by_line.get(at, [])]
-            expect(condition, short, [place | {"text": wanted}])
+            expect(condition, [it | {"text": it["text"][:len(wanted["text"])]}
+                               for it in findings.get(at, [])], [wanted])
     return len(rows)
 
 
@@ -150,7 +163,8 @@ def want_places(title, documents, found):
         for it in told_of])
 
 
-def shown_place(kind, it):
+def line_for(kind, it):
+    """A finding or a note, with the number of its document."""
     return f"{kind} {it['file'].removesuffix('.json')} {it['path']}: {it['text']}"
 
 
@@ -165,8 +179,8 @@ def shown(found, more):
     lines += [" ".join(["plan", *(it[key] for key in (
         "service", "label", "template", "metric", "kind")), text_in_json(it["provider"]),
                         text_in_json(it["late"])]) for it in found["plan"]]
-    lines += [shown_place("finding", it) for it in found["findings"]]
-    lines += [shown_place("note", it) for it in found["notes"]]
+    lines += [line_for("finding", it) for it in found["findings"]]
+    lines += [line_for("note", it) for it in found["notes"]]
     return "".join(f"\n{line}" for line in lines)
 
 
@@ -184,14 +198,12 @@ def counted(trial, names, place):
 
 
 def want_conversion(trial, place, row):
-    """A document in a file, each, all in one run: each text that is wanted is there."""
+    """Each document is in a file of its own. Each text that is wanted is there, the places, too."""
     title, documents, wanted = row
     names = [f"{at}.json" for at in range(len(documents))]
     for name, document in zip(names, documents):
         write(os.path.join(place, name), text_in_json(document))
-    done = run(trial.program, ["argo", "--json", *names], cwd=place)
-    found = json.loads(done.output)
-    expect(f"{title}: its status", done.status, 1 if found["findings"] else 0)
+    found = told(trial, names, place)
     is_full = len(found["findings"]) == MOST
     text = shown(found, counted(trial, names, place) if is_full else "0")
     missing = [it for it in wanted if not is_shown(text, it)]
