@@ -11,10 +11,11 @@ import hostile
 import inputs
 import outputs
 import pairs
+import told
 from asked import Trial, Wrong
 
 STRACE_PARTS = ("try_empty_name",)
-MODULES = (examples, outputs, inputs, hostile, pairs)
+MODULES = (examples, told, outputs, inputs, hostile, pairs)
 
 
 def parts_of(module):

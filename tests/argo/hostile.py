@@ -15,7 +15,8 @@ FINDING = re.compile(r"-:[1-9][0-9]*:[1-9][0-9]*: \S.*|    .*|and [1-9][0-9]* mo
 PIECES = [b"\n", b"\n\n", b"---\n", b": ", b"- ", b"  ", b"{", b"}", b"[", b"]", b'"', b"'", b"|\n",
           b">\n", b"#", b"&a ", b"*a", b"!!str ", b"? ", b"\t", b"\0", b"\xff", b"\xe2\x80\xae",
           b"null", b"{{args.", b"}}", b"result", b"result[0]", b" && ", b"!", b"(", b")", b"0.95",
-          b"999999999999999", b"1e9", b"-", b"kind: Rollout\n", b"templates:\n", b"spec:\n"]
+          b"999999999999999", b"1e9", b"-", b"0x", b"_", b"asInt(", b"isInf(", b"default(", b", 0)",
+          b"kind: Rollout\n", b"templates:\n", b"spec:\n"]
 
 
 def changed(rng, text):
@@ -115,6 +116,16 @@ TEXTS = {
     "comparisons": lambda: of_condition(filled("result>1||", "", "result>1")),
     "blanks": lambda: of_condition(filled(" ", "result > ", "1")),
     "digits": lambda: of_condition(filled("1", "result > ")),
+    "a long exponent": lambda: of_condition(filled("9", "result > 1e")),
+    "a long exponent below 0": lambda: of_condition(filled("9", "result > 1e-")),
+    "a great exponent": lambda: of_condition("result > 1e999999999 || result > 1e-999999999"),
+    "zeros of an exponent": lambda: of_condition(filled("0", "result > 1e", "1")),
+    "hexadecimal digits": lambda: of_condition(filled("F", "result > 0x")),
+    "marks between digits": lambda: of_condition(filled("_", "result > 1", "0")),
+    "values with a default": lambda: of_condition(
+        filled("default(result,0)>1||", "", "default(result,0)>1")),
+    "whole numbers": lambda: of_condition(filled("asInt(result)==1||", "", "asInt(result)==1")),
+    "operands in brackets": lambda: of_condition(filled("(result)>(1)||", "", "(result)>(1)")),
     "zeros": lambda: of_condition(filled("0", "result > ", "1")),
     "places": lambda: of_condition("result > 1 || " + filled("{{args.a}} ")),
     "open places": lambda: of_condition(filled("{{args.")),

@@ -51,8 +51,8 @@ def try_standard_input(trial):
             status, found = in_json(trial, ["-"], stdin=opened)
         expect("a file as input", (status, made_of(found)), (0, wanted_of(EXAMPLE)))
     with faults:
-        _, found = in_json(trial, ["-"], read(example(trial, "datadog.yaml")))
-        expect("the name of the input", [it["file"] for it in found["findings"]], ["-"])
+        _, found = in_json(trial, ["-"], read(example(trial, "refused.yaml")))
+        expect("the name of the input", {it["file"] for it in found["findings"]}, {"-"})
     faults.end()
     return f"{len(TAKEN) + 2} inputs"
 
@@ -145,7 +145,7 @@ def try_lists(trial):
 
 def try_many_findings(trial):
     """A hundred findings are told, and the others are counted."""
-    metrics = [{"name": f"m{at}", "successCondition": "result > 1e-3",
+    metrics = [{"name": f"m{at}", "successCondition": "result > 1e-18",
                 "provider": {"web": {"url": "http://any/"}}} for at in range(30)]
     items = [{"kind": "AnalysisTemplate", "metadata": {"name": f"t{at}"},
               "spec": {"metrics": metrics}} for at in range(5)]

@@ -94,6 +94,8 @@ JUDGE = {"web": {
     "url": "http://judge.internal/api/v1/score?service=billing", "timeoutSeconds": 20,
     "headers": [{"key": "Authorization", "value": "Bearer {{args.api-token}}"}],
     "jsonPath": "{$.data.score}"}}
+LOQ = {"datadog": {"apiVersion": "v2", "interval": "5m",
+                   "query": "sum:requests.error.rate{service:loq}\n"}}
 APDEX = {"web": {"url": "http://apm.internal/apdex/profile", "jsonPath": "{$.apdex}"}}
 
 
@@ -183,6 +185,13 @@ TAKEN = {
         [("mail", "burn-rate.e8f", "budget", "burn-rate",
           prometheus("http://prometheus:9090", 'slo:burn:rate1h{app="mail"}'))],
         nan=(8, 5)),
+    "datadog.yaml": Taken(
+        {"loq-error-rate": [
+            {"name": "error-rate.e6s",
+             "successCondition": f"(result <= 10000 && result != {NAN_NUMBER})",
+             "interval": "5m", "count": 3, "failureLimit": 3}]},
+        {"loq": {"steps": [weight(50), pause("20m")], "analysis": named("loq-error-rate")}},
+        [("loq", "error-rate.e6s", "loq-error-rate", "error-rate", LOQ)]),
     "several-templates.yaml": Taken(
         {"apdex-for-profile": [
             {"name": "apdex.e6", "successCondition": "result >= 850000", "interval": "1m",
@@ -221,7 +230,6 @@ def provider(at, line, text):
 
 
 REFUSED = {
-    "datadog.yaml": Refused([success(0, 14, f"byte 1: {FUNCTION}")]),
     "dry-run-of-an-analysis.yaml": Refused([
         (32, 25, "spec.strategy.canary.steps[1].setCanaryScale",
          "expected no member but setWeight, pause or analysis (others are unsupported)\n"
@@ -238,16 +246,17 @@ REFUSED = {
         success(4, 25, "byte 11: arithmetic: do it in the query"),
         success(5, 28, "byte 1: two results: put their quotient or difference into the query"),
         success(6, 31, f"byte 1: {FUNCTION}"),
-        failure(7, 34, f"byte 1: {FUNCTION}"),
-        failure(8, 37, f"byte 1: {FUNCTION}"),
-        success(9, 40, f"byte 1: {FUNCTION}"),
+        failure(7, 34, "byte 1: asInt beside isNaN or isInf: leave asInt out"),
+        (36, 5, "spec.metrics[8]",
+         "default beside a value without it: write it at each value"),
+        success(9, 40, "byte 17: nil: write default(result, 0) at each value, or leave it out"),
         success(10, 43, f"byte 13: {NUMBER}"),
         success(11, 46, f"byte 13: {NUMBER}"),
         success(12, 49, "byte 20: this number is too large for the digits after the points"),
-        success(13, 52, "byte 2: a comparison is wanted here, as result[0] >= 0.95"),
+        success(13, 52, "byte 3: a comparison is wanted here, as result[0] >= 0.95"),
         success(14, 55, "byte 17: a chain: write 1 < result && result < 5"),
         success(15, 58, "byte 1: ! before a comparison: write !(result > 5)"),
-        success(16, 61, "byte 17: a choice: write a condition without ? : and ??"),
+        success(16, 61, "byte 17: a choice: write default(result, 0) for ??, and no ? :"),
         success(17, 64, "byte 8: in: write result == 1 || result == 2, and so on"),
         (66, 5, "spec.metrics[18]", "result beside result[0]: write one of the two"),
         (70, 5, "spec.metrics[19]", "this place of a list: write result[0], up to result[15]"),
