@@ -8,6 +8,7 @@ TEXT = "a text: have the query give 1 or 0, and compare with 1"
 TRUTH = "a truth: have the query give 1 or 0, and write == 1"
 FUNCTION = "this function: do it in the query"
 NUMBER = "this number: write 15 digits at most, as 0.95"
+PLACE = "this place of a list: write result[0], up to result[15]; with len(result), to [14]"
 NAN_NUMBER = -9223372036854775808
 
 
@@ -259,7 +260,7 @@ REFUSED = {
         success(16, 61, "byte 17: a choice: write default(result, 0) for ??, and no ? :"),
         success(17, 64, "byte 8: in: write result == 1 || result == 2, and so on"),
         (66, 5, "spec.metrics[18]", "result beside result[0]: write one of the two"),
-        (70, 5, "spec.metrics[19]", "this place of a list: write result[0], up to result[15]"),
+        (70, 5, "spec.metrics[19]", PLACE),
         success(20, 74, "{{args.threshold}} is no argument of the template: "
                         "add it to its spec.args"),
         success(21, 77, "{{args.limit}} has no value: "

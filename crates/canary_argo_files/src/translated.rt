@@ -13,7 +13,7 @@ use canary_convert::source::Source;
 use canary_convert::work::Made;
 use std::alloc::Global;
 
-const NOTHING: &str = "no AnalysisTemplate and no Rollout is here";
+const NOTHING: &str = "no Rollout is here, and no AnalysisTemplate that needs none";
 
 /// What files of manifests become.
 #[derive(Drop)]
@@ -184,7 +184,8 @@ fn split(line: &str) -> (&str, &str) {
     match end {
         Some(end) => {
             let (path, rest) = line.split_at(end);
-            (path, rest.strip_prefix(": ").unwrap_or(rest))
+            let text = rest.strip_prefix(": ").or(rest.strip_prefix(" "));
+            (path, text.unwrap_or(rest))
         }
         None => ("", line),
     }
