@@ -1,15 +1,20 @@
-//! The tests of the crates up to the register (`canary_once`), and of canary_decimal,
-//! canary_records, canary_journal and canary_sending: moments that fall, copies and other calls
-//! that no program makes, calls to which memory is refused, printed texts, decimals by exact
-//! fractions, files of journals, and messages over networks and devices that fail. Other worked
-//! rows stand in the `proofs/Rows` of the crates and in tests/stories, and what a contract says is
-//! not tested again. Tests stand in crates of their own, so that no other crate is proved twice.
+//! The tests of the crates up to the listener (canary_listen), and of canary_decimal,
+//! canary_records, canary_journal and canary_sending, that no program can show: moments and
+//! machine's clocks that fall, copies and other calls that no program makes, calls to which memory
+//! is refused, printed texts, decimals by exact fractions, files of journals, messages over
+//! networks and devices that fail, conversations whose readers and writers would block at each
+//! piece, and a store that fails once. Worked rows stand in the `proofs/Rows` of the crates and in
+//! tests/stories, scripts try the rest with the program (tests/cli, tests/listener), and what a
+//! contract says is not tested again. The tests stand in one crate of their own, so that no other
+//! crate is proved twice.
 #![tactic(auto)]
 
 #[cfg(test)]
 mod decimals;
 #[cfg(test)]
 mod growths;
+#[cfg(test)]
+mod growths_desk;
 #[cfg(test)]
 mod growths_journal;
 #[cfg(test)]
@@ -19,6 +24,8 @@ mod halves;
 #[cfg(test)]
 mod journals;
 #[cfg(test)]
+mod listen_wall_clock;
+#[cfg(test)]
 mod once;
 #[cfg(test)]
 mod records;
@@ -26,5 +33,9 @@ mod records;
 mod sending;
 #[cfg(test)]
 mod settling;
+#[cfg(test)]
+mod wire_conversation;
+#[cfg(test)]
+mod wire_faults;
 #[cfg(test)]
 mod words;
